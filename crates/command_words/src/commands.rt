@@ -4,6 +4,7 @@ ghost use Rattle.clap.specs.Simple.{Shape, app_of, new_app, shape_of, with_subco
 ghost use Rattle.clap.specs.Walk.{rule_of};
 ghost use Rattle.clap.specs.declared.builder.command.Command.TheViews.{out-Command};
 ghost use Rattle.command_words.specs.Commands.{the_program, the_program_alone};
+ghost use Rattle.command_words.specs.Inner.Built.{with_first_four, with_last_four, with_plan, with_sizes};
 ghost use Rattle.command_words.specs.Options.{flag_rule, number_rule, queue_rule, quiet_rule, the_draw, the_judging, the_stress};
 
 use crate::help;
@@ -19,15 +20,29 @@ use std::alloc::{AllocError, Global};
 pub(crate) fn the_command<'a>(alloc: Global) -> Result<Command<'a>, AllocError>
     ensures { IfOk result (λ c. app_of c ≡ the_program) }
 {
+    let half = with_first_four(alloc, program_alone(alloc))?;
+    with_last_four(alloc, half)
+}
+
+// The program with the first four of its subcommands.
+fn with_first_four<'a>(alloc: Global, app: Command<'a>) -> Result<Command<'a>, AllocError>
+    ensures { IfOk result (λ c. app_of c ≡ with_first_four (app_of app.entry)) }
+{
     let check = judging_command(alloc, "check", help::CHECK_ABOUT, help::CHECK_LONG);
-    let with_check = with(program_alone(alloc), check)?;
+    let with_check = with(app, check)?;
     let shrink = judging_command(alloc, "shrink", help::SHRINK_ABOUT, help::SHRINK_LONG);
     let with_shrink = with(with_check, shrink)?;
     let verify = plain_command(alloc, "verify", help::VERIFY_ABOUT, help::VERIFY_LONG);
     let with_verify = with(with_shrink, Ok(verify))?;
-    let with_draw = with(with_verify, draw_command(alloc))?;
+    with(with_verify, draw_command(alloc))
+}
+
+// The program with the last four too.
+fn with_last_four<'a>(alloc: Global, app: Command<'a>) -> Result<Command<'a>, AllocError>
+    ensures { IfOk result (λ c. app_of c ≡ with_last_four (app_of app.entry)) }
+{
     let convert = plain_command(alloc, "convert", help::CONVERT_ABOUT, help::CONVERT_LONG);
-    let with_convert = with(with_draw, Ok(convert))?;
+    let with_convert = with(app, Ok(convert))?;
     let stats = plain_command(alloc, "stats", help::STATS_ABOUT, help::STATS_LONG);
     let with_stats = with(with_convert, Ok(stats))?;
     let sim = judging_command(alloc, "sim", help::SIM_ABOUT, help::SIM_LONG);
@@ -119,7 +134,18 @@ fn stress_command<'a>(alloc: Global) -> Result<Command<'a>, AllocError>
     ensures shape { IfOk result (λ c. shape_of c ≡ the_stress) }
     ensures local { IfOk result (λ c. (out-Command c).has_globals ≡ false) }
 {
-    plain_command(alloc, "stress", help::STRESS_ABOUT, help::STRESS_LONG)
+    let command = plain_command(alloc, "stress", help::STRESS_ABOUT, help::STRESS_LONG);
+    let half = with_plan(alloc, command)?;
+    with_sizes(alloc, half)
+}
+
+// The subcommand with the queue, the workers, how many operations each makes, and the seed.
+fn with_plan<'a>(alloc: Global, command: Command<'a>) -> Result<Command<'a>, AllocError>
+    requires { (out-Command command).has_globals ≡ false }
+    ensures app { IfOk result (λ c. app_of c ≡ with_plan (app_of command.entry)) }
+    ensures local { IfOk result (λ c. (out-Command c).has_globals ≡ false) }
+{
+    command
         .arg(queue_option(alloc))?
         .arg(number_option(
             alloc,
@@ -135,7 +161,16 @@ fn stress_command<'a>(alloc: Global) -> Result<Command<'a>, AllocError>
             "1000",
             help::OPERATIONS_HELP,
         ))?
-        .arg(number_option(alloc, "seed", (0, MAX_SEED), "1", help::SEED_HELP))?
+        .arg(number_option(alloc, "seed", (0, MAX_SEED), "1", help::SEED_HELP))
+}
+
+// The subcommand with how many of a hundred operations enqueue, two sizes, and the flag for a quiet answer.
+fn with_sizes<'a>(alloc: Global, command: Command<'a>) -> Result<Command<'a>, AllocError>
+    requires { (out-Command command).has_globals ≡ false }
+    ensures app { IfOk result (λ c. app_of c ≡ with_sizes (app_of command.entry)) }
+    ensures local { IfOk result (λ c. (out-Command c).has_globals ≡ false) }
+{
+    command
         .arg(number_option(alloc, "percent", (0, 100), "50", help::PERCENT_HELP))?
         .arg(number_option(
             alloc,

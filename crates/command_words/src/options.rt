@@ -9,7 +9,7 @@ ghost use Rattle.command_words.specs.Inner.Options.{HasDistance, HasNumber, HasS
 use clap::ArgMatches;
 
 /// How a picture is drawn.
-#[derive(Clone, Copy, Debug, PartialEq, Eq)]
+#[derive(Clone, Copy, PartialEq, Eq)]
 pub enum PictureForm {
     /// An SVG document.
     Svg,
@@ -23,7 +23,7 @@ pub enum PictureForm {
 pub const MAX_AROUND: u64 = 1000;
 
 /// How `draw` draws.
-#[derive(Clone, Copy, Debug, PartialEq, Eq)]
+#[derive(Clone, Copy, PartialEq, Eq)]
 pub struct DrawOptions {
     pub form: PictureForm,
     /// Of a `NO`, how many events before and after the operations that show it are drawn; all of the history, if `None`.
@@ -102,7 +102,7 @@ fn is_given(text: &str) -> bool
 }
 
 /// What `stress` runs.
-#[derive(Clone, Copy, Debug, PartialEq, Eq)]
+#[derive(Clone, Copy, PartialEq, Eq)]
 pub struct StressOptions<'a> {
     /// The queue's name as it was written, which may be no queue's.
     pub queue: &'a str,

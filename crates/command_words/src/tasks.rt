@@ -12,7 +12,7 @@ use std::alloc::Global;
 use std::convert::AsStr;
 
 /// What the words ask for.
-#[derive(Clone, Copy, Debug, PartialEq, Eq)]
+#[derive(Clone, Copy, PartialEq, Eq)]
 pub enum Task<'a> {
     /// Read a history and print its verdict.
     Check,
@@ -33,7 +33,7 @@ pub enum Task<'a> {
 }
 
 /// What the words ask for, and how it is to be answered.
-#[derive(Clone, Copy, Debug, PartialEq, Eq)]
+#[derive(Clone, Copy, PartialEq, Eq)]
 pub struct Order<'a> {
     /// What is to be done.
     pub task: Task<'a>,

@@ -1,5 +1,5 @@
 -- From what is drawn of a history to what `draw` answers.
-use Rattle.std.proofs.Common.{◌≡◌, ◌<◌, Option, Some, None, arith, refl, sym, subst, inl, inr}
+use Rattle.std.proofs.Common.{◌≡◌, Option, Some, None, arith, refl, sym, subst, inl, inr}
 use Rattle.history_merge.specs.Initial.{HistoryView}
 use Rattle.history_merge.specs.Operations.{operations_of}
 use Rattle.verdicts.specs.declared.verifying.Claimed.{Claimed}

@@ -1,5 +1,5 @@
 -- What an error of the words leaves behind where nothing is wrong with them.
-use Rattle.std.proofs.Common.{◌≡◌, ℕ, List, [], Bool, true, false, Option, Some, None, inl, inr, refl, IfSome, subst, sym, ◌∙◌}
+use Rattle.std.proofs.Common.{◌≡◌, ◌⊎◌, ℕ, List, [], Bool, true, false, Option, Some, None, inl, inr, refl, IfSome, subst, sym, ◌∙◌}
 use Rattle.std.proofs.lemmas.Option.{same_Some}
 use Rattle.text_lines.specs.Input.{Ahead}
 use Rattle.clap.specs.Kinds.{Kinds, HasKind, IsAmong}
@@ -44,17 +44,35 @@ reads_out_of_memory quiet request e kinds (Some a) old new refused result none h
 
 -- ---- what was found is printed
 
-module _ (asked : Option Request) (given : Request) (is_given : asked ≡ Some given) (answer : Reply) (quiet : Bool) (old new : Option (List ℕ))
-    (refused : Bool) (result : ℕ) (printed : PrintsSaid quiet old new refused result answer) where
+-- an answer of a kind is one of that kind, or out of memory
+pub or_no_memory : (quiet : Bool) (IsAnswer : Reply → Type 0) (old new : Option (List ℕ)) (refused : Bool) (result : ℕ)
+    → PrintsOneOf quiet IsAnswer old new refused result → PrintsOneOf quiet (λ answer. IsAnswer answer ⊎ (answer ≡ memory_fault)) old new refused result
+or_no_memory quiet IsAnswer old new refused result p = record {
+  answer = p.answer;
+  right = inl p.right;
+  printed = p.printed;
+}
+
+-- what was found of the input
+pub printed_of : (given : Request) (answer : Reply) (quiet : Bool) (old new : Option (List ℕ)) (refused : Bool) (result : ℕ)
+    → PrintsSaid quiet old new refused result answer → (input : Option Ahead) → IfSome input (λ a. AnswersOf given a answer)
+    → IfSome input (λ a. PrintsOneOf quiet (AnswersOf given a) old new refused result)
+printed_of given answer quiet old new refused result printed None found = tt
+printed_of given answer quiet old new refused result printed (Some a) found = record {
+  answer = answer;
+  right = found;
+  printed = printed;
+}
+
+module _ (asked : Option Request) (given : Request) (is_given : asked ≡ Some given) (quiet : Bool) (old new : Option (List ℕ))
+    (refused : Bool) (result : ℕ) where
   -- of a command that reads
-  pub reads_printed : (request : Request) (input : Option Ahead) → asked ≡ Some request → IfSome input (λ a. AnswersOf given a answer)
+  pub reads_printed : (request : Request) (input : Option Ahead) → asked ≡ Some request
+      → IfSome input (λ a. PrintsOneOf quiet (AnswersOf given a) old new refused result)
       → IfSome input (λ a. PrintsOneOf quiet (AnswersOrNoMemory (AnswersOf request) a) old new refused result)
   reads_printed request None is found = tt
-  reads_printed request (Some a) is found = record {
-    answer = answer;
-    right = inl (subst (λ (r : Request). AnswersOf r a answer) (same_Some given request (sym is_given ∙ is)) found);
-    printed = printed;
-  }
+  reads_printed request (Some a) is found = or_no_memory quiet (AnswersOf request a) old new refused result
+      (subst (λ (r : Request). PrintsOneOf quiet (AnswersOf r a) old new refused result) (same_Some given request (sym is_given ∙ is)) found)
 
 -- requests of `stress` that are the same have the same settings
 pub same_settings : (s t : Settings) → stress s ≡ stress t → s ≡ t

@@ -17,7 +17,7 @@ use std::convert::AsStr;
 const MANY_EVENTS: usize = 2000;
 
 /// Which of the standard streams are terminals.
-#[derive(Clone, Copy, Debug, PartialEq, Eq)]
+#[derive(Clone, Copy)]
 pub struct Terminals {
     pub input: bool,
     pub output: bool,
@@ -139,12 +139,22 @@ fn complaint_of<'a>(
 /// A command that ended, and what it had.
 #[derive(Drop)]
 pub(crate) struct Ended<'b, 'a, S> {
-    pub task: Task<'a>,
+    pub order: &'b Order<'a>,
     pub outcome: &'b Outcome,
     pub status: u8,
     /// Its input, as far as that is kept.
     pub kept: &'b FrontKept<S>,
     pub shelf: &'b [NamedQueue<'a>],
+}
+
+/// The names of the queues: of the proved one, and of those on the shelf.
+fn names_on<'a>(alloc: Global, shelf: &[NamedQueue<'a>]) -> Result<Vec<&'a str>, AllocError> {
+    let mut names = Vec::new(alloc);
+    names.push("proved")?;
+    for shelved in shelf {
+        names.push(shelved.name)?;
+    }
+    Ok(names)
 }
 
 /// The message about a command that ended with a status which is no verdict's.
@@ -154,28 +164,20 @@ fn message_of<'b, 'a, S>(alloc: Global, ended: &Ended<'b, 'a, S>) -> Result<Stri
     let Some(fault) = fault_told(ended.outcome, ended.status) else {
         return sentence(alloc, &Complaint::Write);
     };
-    let mut names = Vec::new(alloc);
-    names.push("proved")?;
-    for shelved in ended.shelf {
-        names.push(shelved.name)?;
-    }
+    let names = names_on(alloc, ended.shelf)?;
     let given = Given {
-        reads: reads_of(name_of(&ended.task)).unwrap_or(Reads::History),
+        reads: reads_of(name_of(&ended.order.task)).unwrap_or(Reads::History),
         front: ended.kept.front(),
         is_whole: ended.kept.is_whole(),
     };
     sentence(
         alloc,
-        &complaint_of(fault, &ended.task, given, names.as_slice()),
+        &complaint_of(fault, &ended.order.task, given, names.as_slice()),
     )
 }
 
 /// Says why a command found nothing, or that its answer wasn't written; of a verdict nothing.
-pub(crate) fn say_why<'b, 'a, S, E: TextSink>(
-    alloc: Global,
-    ended: &Ended<'b, 'a, S>,
-    errors: &mut E,
-)
+fn say_why<'b, 'a, S, E: TextSink>(alloc: Global, ended: &Ended<'b, 'a, S>, errors: &mut E)
     ensures silent { ended.now.status ≤ 1 → errors.new ≡ errors.old }
     ensures said { 2 ≤ ended.now.status → E.has_refused errors.old ≡ false
         → SaysMessage (E.contents errors.old) (E.contents errors.new) (E.has_refused errors.new) }
@@ -186,7 +188,7 @@ pub(crate) fn say_why<'b, 'a, S, E: TextSink>(
 }
 
 /// Says to one who sits at the output how a long history is kept.
-pub(crate) fn say_how_to_keep<E: TextSink>(
+fn say_how_to_keep<E: TextSink>(
     alloc: Global,
     order: &Order<'_>,
     outcome: &Outcome,
@@ -208,6 +210,21 @@ pub(crate) fn say_how_to_keep<E: TextSink>(
             tell_made(&keeping(alloc, events as u64), errors);
         }
     }
+}
+
+/// Says what is to be said of a command that ended.
+pub(crate) fn say_at_end<'b, 'a, S, E: TextSink>(
+    alloc: Global,
+    ended: &Ended<'b, 'a, S>,
+    terminals: Terminals,
+    errors: &mut E,
+)
+    ensures silent { terminals.output ≡ false → ended.now.status ≤ 1 → errors.new ≡ errors.old }
+    ensures said { terminals.output ≡ false → 2 ≤ ended.now.status → E.has_refused errors.old ≡ false
+        → SaysMessage (E.contents errors.old) (E.contents errors.new) (E.has_refused errors.new) }
+{
+    say_why(alloc, ended, errors);
+    say_how_to_keep(alloc, ended.order, ended.outcome, terminals, errors);
 }
 
 /// Whether a word is an operand and no option.

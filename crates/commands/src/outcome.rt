@@ -8,14 +8,13 @@ use history_text::{TextFault, Version};
 use simulation::Rejections;
 use std::alloc::AllocError;
 use stress_run::RunFault;
-use thiserror::Error;
 use verdicts::Verdict;
 
 /// What a command found, to be printed; or why it found nothing.
 pub type Outcome = Result<Report, Fault>;
 
 /// What a command found.
-#[derive(Debug, Drop)]
+#[derive(Drop)]
 pub enum Report {
     /// A history, of which the verdict alone is to be shown.
     Judged(History, Verdict),
@@ -36,36 +35,28 @@ pub enum Report {
 }
 
 /// Why events are no complete history, and what clashes there, if that is known.
-#[derive(Clone, Copy, Debug, PartialEq, Eq, Error)]
-#[error("{fault}")]
+#[derive(Clone, Copy)]
 pub struct Incomplete {
     pub fault: HistoryFault,
     pub clash: Option<Clash>,
 }
 
 /// Why a command found nothing: what it was given is refused, or it failed.
-#[derive(Clone, Copy, Debug, PartialEq, Eq, Error)]
+#[derive(Clone, Copy)]
 pub enum Fault {
     /// The input is not the text that it should be, or it wasn't read whole.
-    #[error("{0}")]
     Text(TextFault),
     /// The events are no complete history, or there was no memory for one.
-    #[error("{0}")]
     History(Incomplete),
     /// The history or the verdict has more initial values, operations or lines than are drawn.
-    #[error("{name}", name = self.name())]
     Size,
     /// No queue has the name that was asked for.
-    #[error("{name}", name = self.name())]
     Queue,
     /// More operations were asked for than a run may have.
-    #[error("{name}", name = self.name())]
     Limit,
     /// Memory ran out.
-    #[error("{name}", name = self.name())]
     Memory,
     /// A run gave no history.
-    #[error("{0}")]
     Run(RunFault),
 }
 

@@ -1,10 +1,11 @@
 //! The command `stress` over the proved queue.
-ghost use Rattle.std.specs.Prelude.{◌≤◌, ◌*◌};
+ghost use Rattle.std.specs.Prelude.{◌≡◌, ◌≤◌, ◌*◌};
 ghost use Rattle.event_records.specs.declared.limits.TheConstants.{MAX_OPERATIONS};
+ghost use Rattle.workloads.specs.Seeds.{IsSeeded};
 ghost use Rattle.command_words.specs.Options.{settings_of, IsWithinRanges};
 ghost use Rattle.commands.specs.Answers.{ShowsNoViolation};
 ghost use Rattle.commands.specs.Outcomes.{answer_of, NamesPlaces};
-ghost use Rattle.commands.specs.Stressing.{RunsOrFails, StressesQueue, StressesUnshelved};
+ghost use Rattle.commands.specs.Stressing.{RunsOrFails, StressesQueue, StressesUnshelved, first_values};
 ghost use Rattle.queue_interface.specs.Answers.{AnswersInKind, TakesOrRefuses};
 
 use crate::check::PIECES;
@@ -73,7 +74,25 @@ fn run_proved_plan<'a, R: Threads + Wait + Sync>(
         options.percent,
     )?;
     let initial = first_values(alloc, options.initial)?;
-    let recorded = run_proved(rt, alloc, &initial, &plan, options.ring, TRIES)?;
+    run_planned(rt, alloc, &initial, &plan, options)
+}
+
+/// A run of the seed's plan on the proved queue, which is to hold these values first, and the verdict on what it recorded.
+fn run_planned<'a, R: Threads + Wait + Sync>(
+    rt: &R,
+    alloc: Global,
+    initial: &[u64],
+    plan: &Plan,
+    options: &StressOptions<'a>,
+) -> Outcome
+    requires ranges { IsWithinRanges (settings_of options.now) }
+    requires seeded { IsSeeded options.now.seed options.now.threads options.now.operations options.now.percent plan.now }
+    requires first { initial.now ≡ first_values options.now.initial }
+    ensures found { RunsOrFails AnswersInKind TakesOrRefuses (settings_of options.now) (answer_of result) }
+    ensures linearizable { ShowsNoViolation (answer_of result) }
+    ensures places { NamesPlaces result }
+{
+    let recorded = run_proved(rt, alloc, initial, plan, options.ring, TRIES)?;
     let history = recorded.history(alloc)?;
     let verdict = decide_par(rt, alloc, &history, PIECES)?;
     Ok(Report::Shown(run_version(options.initial), history, verdict))

@@ -1,5 +1,5 @@
 //! The built-in queues, each under its name.
-ghost use Rattle.std.specs.Prelude.{◌≡◌, IfOk, map};
+ghost use Rattle.std.specs.Prelude.{◌≡◌, ◌++◌, IfOk, OnOk, map, take, drop};
 ghost use Rattle.commands.specs.Shelf.{name_of, built_in_names};
 
 use event_records::{AnsweredDeq, AnsweredEnq, AskDeq, AskEnq};
@@ -101,14 +101,38 @@ pub fn built_ins<R: Wait + Drop + Copy>(rt: R, alloc: Global) -> Result<Vec<Buil
     ensures { IfOk result (λ queues. map name_of queues.items ≡ built_in_names) }
 {
     let mut queues = Vec::new(alloc);
+    push_right(rt, alloc, &mut queues)?;
+    push_wrong(rt, alloc, &mut queues)?;
+    Ok(queues)
+}
+
+/// Appends those that keep the order.
+fn push_right<R: Wait + Drop + Copy>(
+    rt: R,
+    alloc: Global,
+    queues: &mut Vec<BuiltIn<R>>,
+) -> Result<(), AllocError>
+    ensures { OnOk result (map name_of queues.new.items ≡ map name_of queues.old.items ++ take 4 built_in_names) }
+{
     queues.push(BuiltIn::Locked(LockedQueue::new(alloc, rt)))?;
     queues.push(BuiltIn::TwoLock(TwoLockQueue::new(alloc, rt)))?;
     queues.push(BuiltIn::Array(ArrayBack::new(alloc, rt, ARRAY_CAPACITY)?))?;
     queues.push(BuiltIn::Seg(SegBack::new(alloc, rt)?))?;
+    Ok(())
+}
+
+/// Appends those that are wrong.
+fn push_wrong<R: Wait + Drop + Copy>(
+    rt: R,
+    alloc: Global,
+    queues: &mut Vec<BuiltIn<R>>,
+) -> Result<(), AllocError>
+    ensures { OnOk result (map name_of queues.new.items ≡ map name_of queues.old.items ++ drop 4 built_in_names) }
+{
     queues.push(BuiltIn::Lifo(Lifo::new(alloc, rt)))?;
     queues.push(BuiltIn::Doubling(Doubling::new(alloc, rt)))?;
     queues.push(BuiltIn::Inventing(Inventing::new(alloc, rt)))?;
     queues.push(BuiltIn::Shy(Shy::new(alloc, rt)))?;
     queues.push(BuiltIn::Losing(Losing::new(alloc, rt)))?;
-    Ok(queues)
+    Ok(())
 }

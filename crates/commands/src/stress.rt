@@ -1,6 +1,7 @@
 //! `stress`: a recorded run of a queue, and its verdict.
 ghost use Rattle.std.specs.Prelude.{◌≡◌, ◌≢◌, ◌≤◌, ◌*◌, IfOk, IfSome, IfNone, All};
 ghost use Rattle.event_records.specs.declared.limits.TheConstants.{MAX_OPERATIONS, MAX_STRESS_INITIAL};
+ghost use Rattle.workloads.specs.Seeds.{IsSeeded};
 ghost use Rattle.command_words.specs.Options.{settings_of, IsWithinRanges};
 ghost use Rattle.commands.specs.Outcomes.{answer_of, NamesPlaces};
 ghost use Rattle.commands.specs.Stressing.{IsFirstNamed, RunsOrFails, Stresses, StressesQueue, first_values, run_version};
@@ -99,7 +100,25 @@ fn run_plan<'a, R: Threads + Sync>(
         options.percent,
     )?;
     let initial = first_values(alloc, options.initial)?;
-    let recorded = run_from(rt, alloc, queue, &initial, &plan, options.ring, TRIES)?;
+    run_planned(rt, alloc, queue, &initial, &plan, options)
+}
+
+/// A run of the seed's plan on this queue, which is to hold these values first, and the verdict on what it recorded.
+fn run_planned<'a, R: Threads + Sync>(
+    rt: &R,
+    alloc: Global,
+    queue: &dyn TestQueue,
+    initial: &[u64],
+    plan: &Plan,
+    options: &StressOptions<'a>,
+) -> Outcome
+    requires ranges { IsWithinRanges (settings_of options.now) }
+    requires seeded { IsSeeded options.now.seed options.now.threads options.now.operations options.now.percent plan.now }
+    requires first { initial.now ≡ first_values options.now.initial }
+    ensures found { RunsOrFails (may queue.now) (may_preload queue.now) (settings_of options.now) (answer_of result) }
+    ensures places { NamesPlaces result }
+{
+    let recorded = run_from(rt, alloc, queue, initial, plan, options.ring, TRIES)?;
     let history = recorded.history(alloc)?;
     let verdict = decide_par(rt, alloc, &history, PIECES)?;
     Ok(Report::Shown(run_version(options.initial), history, verdict))

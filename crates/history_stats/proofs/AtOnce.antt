@@ -1,7 +1,7 @@
 -- The most at once: a sweep over the tickets at which things come, and how many are gone by then.
-use Rattle.std.proofs.Common.{◌≡◌, ℕ, zero, suc, ◌+◌, ◌-◌, ◌<◌, ◌≤◌, ◌⊎◌, max, List, [], ◌∷◌, ◌++◌, length, get_or, map}
-use Rattle.std.proofs.Common.{Bool, true, false, cond, not, refl, sym, ◌∙◌, ap, subst, inl, inr, arith, nat_lt}
-use Rattle.std.specs.Prelude.{All, count_by, ◌&&◌}
+use Rattle.std.proofs.Common.{◌≡◌, ℕ, ◌+◌, ◌-◌, ◌<◌, ◌≤◌, ◌⊎◌, max, List, [], ◌∷◌, length, get_or, map}
+use Rattle.std.proofs.Common.{cond, not, refl, sym, ◌∙◌, ap, inl, inr, arith, nat_lt}
+use Rattle.std.specs.Prelude.{All, ◌&&◌}
 use Rattle.std.specs.List.Sorted.{IsNonDecreasing, IsPermutation}
 use Rattle.std.proofs.lemmas.Bool.{cases_lt}
 use Rattle.std.proofs.lemmas.Bool.Decides.{nat_tests}

@@ -13,7 +13,7 @@ use history_merge::History;
 use std::alloc::{AllocError, Global};
 
 /// What a history is like, in numbers.
-#[derive(Clone, Copy, Debug, PartialEq, Eq)]
+#[derive(Clone, Copy)]
 pub struct Statistics {
     /// The events.
     pub events: usize,

@@ -9,7 +9,7 @@ pub const MOST_DRAINED: u32 = MAX_RING as u32;
 pub type Steps = OwnedSlice<Step>;
 
 /// What a schedule's text says. It may have any numbers and steps; `read_schedule` returns those of a text.
-#[derive(Debug, Drop)]
+#[derive(Drop)]
 pub struct Schedule {
     /// How many threads the machine has.
     pub threads: usize,

@@ -4,7 +4,7 @@ use stress_run::RunFault;
 use text_lines::TextFault;
 
 /// What a command reads.
-#[derive(Clone, Copy, Debug, PartialEq, Eq)]
+#[derive(Clone, Copy, PartialEq, Eq)]
 pub enum Reads {
     /// A history, and nothing after it.
     History,
@@ -17,7 +17,7 @@ pub enum Reads {
 }
 
 /// What a command was given, as far as it is kept.
-#[derive(Clone, Copy, Debug, PartialEq, Eq)]
+#[derive(Clone, Copy)]
 pub struct Given<'a> {
     /// What it reads.
     pub reads: Reads,
@@ -28,7 +28,7 @@ pub struct Given<'a> {
 }
 
 /// What a message is about: why a command found nothing, or wrote nothing.
-#[derive(Clone, Copy, Debug, PartialEq, Eq)]
+#[derive(Clone, Copy)]
 pub enum Complaint<'a> {
     /// The input isn't the text that it should be.
     Text(TextFault, Given<'a>),

@@ -1,8 +1,8 @@
 //! Messages about events that are no complete history.
 use crate::complaints::Given;
 use crate::input::{line_of, lines_before};
-use crate::message::Message;
-use crate::quoting::quoted;
+use crate::message::Blank::{Number, Shown, Words};
+use crate::message::{Blank, Message};
 use event_records::What;
 use history_merge::{Clash, HistoryFault, Placed};
 use std::alloc::{AllocError, Global};
@@ -32,21 +32,25 @@ fn event_line(given: &Given<'_>, place: usize) -> u64 {
 }
 
 /// What is wrong with the event at a place, whose line is shown if it is kept.
-fn event_message(
+fn event_message<'a>(
     alloc: Global,
-    given: &Given<'_>,
+    given: &Given<'a>,
     place: usize,
-    what: &str,
+    what: &'a str,
 ) -> Result<Message, AllocError> {
     let number = event_line(given, place);
-    let said = match line_of(given, number) {
+    match line_of(given, number) {
         Some(line) => {
-            let shown = quoted(alloc, line)?;
-            format!(in alloc; "line {number}: {what}: '{shown}'")?
+            let blanks = [Number(number), Words(what), Shown(line)];
+            Message::of(alloc, "line {}: {}: '{}'", &blanks, "")
         }
-        None => format!(in alloc; "line {number}: {what}")?,
-    };
-    Ok(Message::alone(alloc, said))
+        None => Message::of(alloc, "line {}: {}", &[Number(number), Words(what)], ""),
+    }
+}
+
+/// The line of an event, as it fills a blank.
+fn line_blank(given: &Given<'_>, of: &Placed) -> Blank<'static> {
+    Number(event_line(given, of.place))
 }
 
 /// A ticket isn't above that of the event before.
@@ -56,12 +60,14 @@ fn order_message(
     before: &Placed,
     later: &Placed,
 ) -> Result<Message, AllocError> {
-    let (number, ticket) = (event_line(given, later.place), later.event.ticket);
-    let (first, last) = (event_line(given, before.place), before.event.ticket);
-    let said = format!(in alloc;
-        "line {number}: ticket {ticket} isn't above ticket {last} of line {first}"
-    )?;
-    Message::with_hint(alloc, said, BY_TICKET)
+    let blanks = [
+        line_blank(given, later),
+        Number(later.event.ticket),
+        Number(before.event.ticket),
+        line_blank(given, before),
+    ];
+    let sentence = "line {}: ticket {} isn't above ticket {} of line {}";
+    Message::of(alloc, sentence, &blanks, BY_TICKET)
 }
 
 /// A thread calls while its last call is pending.
@@ -71,13 +77,16 @@ fn calls_message(
     pending: &Placed,
     later: &Placed,
 ) -> Result<Message, AllocError> {
-    let (number, ticket) = (event_line(given, later.place), later.event.ticket);
-    let (first, last) = (event_line(given, pending.place), pending.event.ticket);
-    let thread = later.event.thread;
-    let said = format!(in alloc;
-        "line {number}: thread {thread} calls at ticket {ticket}, and its call at ticket {last} in line {first} hasn't returned"
-    )?;
-    Ok(Message::alone(alloc, said))
+    let blanks = [
+        line_blank(given, later),
+        Number(u64::from(later.event.thread)),
+        Number(later.event.ticket),
+        Number(pending.event.ticket),
+        line_blank(given, pending),
+    ];
+    let sentence =
+        "line {}: thread {} calls at ticket {}, and its call at ticket {} in line {} hasn't returned";
+    Message::of(alloc, sentence, &blanks, "")
 }
 
 /// The value that a call enqueues; of another event any.
@@ -95,13 +104,16 @@ fn values_message(
     first: &Placed,
     later: &Placed,
 ) -> Result<Message, AllocError> {
-    let (number, ticket) = (event_line(given, later.place), later.event.ticket);
-    let (before, last) = (event_line(given, first.place), first.event.ticket);
-    let value = value_of(later);
-    let said = format!(in alloc;
-        "line {number}: value {value} is enqueued at ticket {ticket}, and in line {before} at ticket {last} already"
-    )?;
-    Message::with_hint(alloc, said, DISTINCT)
+    let blanks = [
+        line_blank(given, later),
+        Number(value_of(later)),
+        Number(later.event.ticket),
+        line_blank(given, first),
+        Number(first.event.ticket),
+    ];
+    let sentence =
+        "line {}: value {} is enqueued at ticket {}, and in line {} at ticket {} already";
+    Message::of(alloc, sentence, &blanks, DISTINCT)
 }
 
 /// An initial value is enqueued.
@@ -111,12 +123,15 @@ fn initial_message(
     initial: usize,
     call: &Placed,
 ) -> Result<Message, AllocError> {
-    let (number, ticket) = (event_line(given, call.place), call.event.ticket);
-    let (value, first) = (value_of(call), initial_line(initial));
-    let said = format!(in alloc;
-        "line {number}: value {value} is enqueued at ticket {ticket}, and in the queue first, as line {first} says"
-    )?;
-    Message::with_hint(alloc, said, DISTINCT)
+    let blanks = [
+        line_blank(given, call),
+        Number(value_of(call)),
+        Number(call.event.ticket),
+        Number(initial_line(initial)),
+    ];
+    let sentence =
+        "line {}: value {} is enqueued at ticket {}, and in the queue first, as line {} says";
+    Message::of(alloc, sentence, &blanks, DISTINCT)
 }
 
 /// An initial value stands twice.
@@ -126,26 +141,50 @@ fn twice_message(
     earlier: usize,
     later: usize,
 ) -> Result<Message, AllocError> {
-    let (number, first) = (initial_line(later), initial_line(earlier));
-    let said = format!(in alloc;
-        "line {number}: the initial value {value} stands in line {first} too"
-    )?;
-    Message::with_hint(alloc, said, DISTINCT)
+    let blanks = [
+        Number(initial_line(later)),
+        Number(value),
+        Number(initial_line(earlier)),
+    ];
+    let sentence = "line {}: the initial value {} stands in line {} too";
+    Message::of(alloc, sentence, &blanks, DISTINCT)
+}
+
+/// An enqueue has no return.
+fn pending_enqueue(
+    alloc: Global,
+    given: &Given<'_>,
+    call: &Placed,
+    value: u64,
+) -> Result<Message, AllocError> {
+    let ticket = Number(call.event.ticket);
+    let thread = Number(u64::from(call.event.thread));
+    let blanks = [
+        line_blank(given, call),
+        ticket,
+        ticket,
+        thread,
+        Number(value),
+    ];
+    let sentence = "line {}: the call of ticket {} never returns: '{} {} call-enq {}'";
+    Message::of(alloc, sentence, &blanks, OPEN_CALLS)
+}
+
+/// A dequeue has no return.
+fn pending_dequeue(alloc: Global, given: &Given<'_>, call: &Placed) -> Result<Message, AllocError> {
+    let ticket = Number(call.event.ticket);
+    let thread = Number(u64::from(call.event.thread));
+    let blanks = [line_blank(given, call), ticket, ticket, thread];
+    let sentence = "line {}: the call of ticket {} never returns: '{} {} call-deq'";
+    Message::of(alloc, sentence, &blanks, OPEN_CALLS)
 }
 
 /// A call has no return.
 fn pending_message(alloc: Global, given: &Given<'_>, call: &Placed) -> Result<Message, AllocError> {
-    let number = event_line(given, call.place);
-    let (ticket, thread) = (call.event.ticket, call.event.thread);
-    let said = match call.event.what {
-        What::CallEnq(value) => format!(in alloc;
-            "line {number}: the call of ticket {ticket} never returns: '{ticket} {thread} call-enq {value}'"
-        )?,
-        _ => format!(in alloc;
-            "line {number}: the call of ticket {ticket} never returns: '{ticket} {thread} call-deq'"
-        )?,
-    };
-    Message::with_hint(alloc, said, OPEN_CALLS)
+    match call.event.what {
+        What::CallEnq(value) => pending_enqueue(alloc, given, call, value),
+        _ => pending_dequeue(alloc, given, call),
+    }
 }
 
 /// What a clash is.
@@ -177,8 +216,15 @@ fn fault_message(
             place,
             "a thread returns from another kind of call than it made",
         ),
-        HistoryFault::Memory => return Message::fixed(alloc, "memory ran out", ""),
-        _ => return Message::fixed(alloc, "memory ran out for saying which events clash", ""),
+        HistoryFault::Memory => return Message::of(alloc, "memory ran out", &[], ""),
+        _ => {
+            return Message::of(
+                alloc,
+                "memory ran out for saying which events clash",
+                &[],
+                "",
+            );
+        },
     };
     event_message(alloc, given, place, what)
 }

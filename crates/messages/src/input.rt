@@ -6,7 +6,7 @@ use event_records::MAX_INITIAL;
 use text_lines::{after_word, number_front};
 
 /// What a line of the input should be.
-#[derive(Clone, Copy, Debug, PartialEq, Eq)]
+#[derive(Clone, Copy)]
 pub(crate) enum Part {
     /// The first line of a history or a schedule.
     Header,

@@ -37,14 +37,34 @@ fn push_quoted(text: &mut String, byte: u8) -> Result<(), AllocError>
     }
 }
 
+/// Appends the bytes in printable ASCII: what isn't printable is escaped.
+fn push_printable(text: &mut String, bytes: &[u8]) -> Result<(), AllocError>
+    ensures { All IsPrintable (string_bytes text.old) → OnOk result (All IsPrintable (string_bytes text.new)) }
+{
+    for byte in bytes {
+        push_quoted(text, *byte)?;
+    }
+    Ok(())
+}
+
+/// Appends the bytes in printable ASCII, at most 60 of them, followed by three dots if there are more.
+pub(crate) fn push_shown(text: &mut String, bytes: &[u8]) -> Result<(), AllocError>
+    ensures { All IsPrintable (string_bytes text.old) → OnOk result (All IsPrintable (string_bytes text.new)) }
+{
+    let shown = &bytes[..bytes.len().min(MOST_QUOTED)];
+    push_printable(text, shown)?;
+    if shown.len() < bytes.len() {
+        text.push_str("...")?;
+    }
+    Ok(())
+}
+
 /// The bytes in printable ASCII: what isn't printable is escaped.
 pub(crate) fn printable(alloc: Global, bytes: &[u8]) -> Result<String, AllocError>
     ensures { IfOk result (λ text. All IsPrintable (string_bytes text)) }
 {
     let mut text = String::new(alloc);
-    for byte in bytes {
-        push_quoted(&mut text, *byte)?;
-    }
+    push_printable(&mut text, bytes)?;
     Ok(text)
 }
 
@@ -52,10 +72,7 @@ pub(crate) fn printable(alloc: Global, bytes: &[u8]) -> Result<String, AllocErro
 pub fn quoted(alloc: Global, bytes: &[u8]) -> Result<String, AllocError>
     ensures { IfOk result (λ text. All IsPrintable (string_bytes text)) }
 {
-    let shown = &bytes[..bytes.len().min(MOST_QUOTED)];
-    let mut text = printable(alloc, shown)?;
-    if shown.len() < bytes.len() {
-        text.push_str("...")?;
-    }
+    let mut text = String::new(alloc);
+    push_shown(&mut text, bytes)?;
     Ok(text)
 }

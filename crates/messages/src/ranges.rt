@@ -3,7 +3,7 @@ use crate::input::{Part, field_of, number_of};
 use event_records::{MAX_INITIAL, MAX_RING, MAX_THREAD, MAX_THREADS, MAX_TICKET, MIN_RING};
 
 /// A number that a line has to have.
-#[derive(Clone, Copy, Debug, PartialEq, Eq)]
+#[derive(Clone, Copy)]
 pub(crate) struct Ranged {
     /// Its name, as in docs/FORMATS.md.
     pub name: &'static str,

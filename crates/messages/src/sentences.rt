@@ -4,8 +4,9 @@ ghost use Rattle.messages.specs.Messages.{IsMessage, IsMessageLine};
 
 use crate::complaints::{Complaint, Reads};
 use crate::history_faults::history_message;
-use crate::message::Message;
-use crate::quoting::{printable, quoted};
+use crate::message::Blank::{Number, Shown, Words};
+use crate::message::{Message, filled};
+use crate::quoting::printable;
 use crate::text_faults::text_message;
 use event_records::MAX_OPERATIONS;
 use std::alloc::{AllocError, Global};
@@ -47,42 +48,40 @@ fn listed(alloc: Global, names: &[&str]) -> Result<String, AllocError> {
 
 /// No queue has the name.
 fn queue_message(alloc: Global, name: &str, names: &[&str]) -> Result<Message, AllocError> {
-    let shown = quoted(alloc, name.as_bytes())?;
-    let said = match nearest(alloc, name, names)? {
-        Some(other) => format!(in alloc; "there is no queue '{shown}': did you mean '{other}'?")?,
-        None => format!(in alloc; "there is no queue '{shown}'")?,
-    };
     let hint = listed(alloc, names)?;
-    Ok(Message { said, hint })
+    let shown = Shown(name.as_bytes());
+    match nearest(alloc, name, names)? {
+        Some(other) => {
+            let sentence = "there is no queue '{}': did you mean '{}'?";
+            Message::of(alloc, sentence, &[shown, Words(other)], &hint)
+        }
+        None => Message::of(alloc, "there is no queue '{}'", &[shown], &hint),
+    }
 }
 
 /// A run gave no history.
 fn run_message(alloc: Global, fault: RunFault) -> Result<Message, AllocError> {
     match fault {
-        RunFault::Memory => return Message::fixed(alloc, "memory ran out", ""),
-        RunFault::Limit => return Message::fixed(alloc, "the run is larger than a run may be", ""),
-        RunFault::Stalled(thread) => {
-            let said = format!(in alloc;
-                "the ring of thread {thread} stayed full: its events weren't collected in time"
-            )?;
-            return Message::with_hint(
-                alloc,
-                said,
-                "give it more room by --ring, or make fewer calls by --ops",
-            );
-        }
-        RunFault::CloseLost(thread) | RunFault::Uncertified(thread) => {
-            let said = format!(in alloc;
-                "the ring of thread {thread} didn't say that it is whole: the run can't be judged"
-            )?;
-            return Ok(Message::alone(alloc, said));
-        }
-        RunFault::Preload(place) => {
-            let said = format!(in alloc;
-                "the queue took {place} of the values that it is to hold first, and refused the next"
-            )?;
-            return Message::with_hint(alloc, said, "let it hold fewer first by --initial");
-        }
+        RunFault::Memory => Message::of(alloc, "memory ran out", &[], ""),
+        RunFault::Limit => Message::of(alloc, "the run is larger than a run may be", &[], ""),
+        RunFault::Stalled(thread) => Message::of(
+            alloc,
+            "the ring of thread {} stayed full: its events weren't collected in time",
+            &[Number(u64::from(thread))],
+            "give it more room by --ring, or make fewer calls by --ops",
+        ),
+        RunFault::CloseLost(thread) | RunFault::Uncertified(thread) => Message::of(
+            alloc,
+            "the ring of thread {} didn't say that it is whole: the run can't be judged",
+            &[Number(u64::from(thread))],
+            "",
+        ),
+        RunFault::Preload(place) => Message::of(
+            alloc,
+            "the queue took {} of the values that it is to hold first, and refused the next",
+            &[Number(place as u64)],
+            "let it hold fewer first by --initial",
+        ),
     }
 }
 
@@ -98,44 +97,50 @@ fn content(reads: Reads) -> &'static str {
 
 /// More operations than a run may have.
 fn limit_message(alloc: Global, threads: u64, operations: u64) -> Result<Message, AllocError> {
-    let count = threads.saturating_mul(operations);
-    let said = format!(in alloc;
-        "--threads {threads} times --ops {operations} is {count} operations: a run has at most {MAX_OPERATIONS}"
-    )?;
-    Ok(Message::alone(alloc, said))
+    let blanks = [
+        Number(threads),
+        Number(operations),
+        Number(threads.saturating_mul(operations)),
+        Number(MAX_OPERATIONS as u64),
+    ];
+    let sentence = "--threads {} times --ops {} is {} operations: a run has at most {}";
+    Message::of(alloc, sentence, &blanks, "")
+}
+
+/// A command that reads standard input has an operand.
+fn file_message(alloc: Global, command: &str, reads: Reads) -> Result<Message, AllocError> {
+    let blanks = [Words(content(reads)), Words(command)];
+    let sentence = "{} is read from standard input: fifobench {} < FILE";
+    Message::of(alloc, sentence, &blanks, "")
+}
+
+/// The history or the verdict is too large to be drawn.
+fn size_message(alloc: Global) -> Result<Message, AllocError> {
+    Message::of(
+        alloc,
+        "more than 400 operations, initial values or lines of a verdict aren't drawn",
+        &[],
+        "shrink the history first: fifobench shrink < FILE | fifobench draw",
+    )
 }
 
 /// The lines of a message, without the program's name.
 fn message_of(alloc: Global, complaint: &Complaint<'_>) -> Result<Message, AllocError> {
     match complaint {
-        Complaint::Text(fault, given) => return text_message(alloc, *fault, given),
+        Complaint::Text(fault, given) => text_message(alloc, *fault, given),
         Complaint::History(fault, clash, given) => {
-            return history_message(alloc, *fault, clash.as_ref(), given);
+            history_message(alloc, *fault, clash.as_ref(), given)
         }
-        Complaint::Size => {
-            let said =
-                "more than 400 operations, initial values or lines of a verdict aren't drawn";
-            return Message::fixed(
-                alloc,
-                said,
-                "shrink the history first: fifobench shrink < FILE | fifobench draw",
-            );
-        }
-        Complaint::Queue { name, names } => return queue_message(alloc, name, names),
+        Complaint::Size => size_message(alloc),
+        Complaint::Queue { name, names } => queue_message(alloc, name, names),
         Complaint::Limit {
             threads,
             operations,
-        } => return limit_message(alloc, *threads, *operations),
-        Complaint::Memory => return Message::fixed(alloc, "memory ran out", ""),
-        Complaint::Run(fault) => return run_message(alloc, *fault),
-        Complaint::Write => return Message::fixed(alloc, "standard output couldn't be written", ""),
-        Complaint::File { command, reads } => {
-            let content = content(*reads);
-            let said = format!(in alloc;
-                "{content} is read from standard input: fifobench {command} < FILE"
-            )?;
-            return Ok(Message::alone(alloc, said));
-        }
+        } => limit_message(alloc, *threads, *operations),
+        Complaint::Memory => Message::of(alloc, "memory ran out", &[], ""),
+        Complaint::Run(fault) => run_message(alloc, *fault),
+        Complaint::Write => Message::of(alloc, "standard output couldn't be written", &[], ""),
+        Complaint::File { command, reads } => file_message(alloc, command, *reads),
     }
 }
 
@@ -175,10 +180,9 @@ pub fn sentence<'a>(alloc: Global, complaint: &Complaint<'a>) -> Result<String, 
 pub fn greeting(alloc: Global, command: &str, reads: Reads) -> Result<String, AllocError>
     ensures { IfOk result (λ text. IsMessageLine (string_bytes text)) }
 {
-    let content = content(reads);
-    let said = format!(in alloc;
-        "reading {content} from the terminal; Ctrl-D ends it, fifobench {command} < FILE reads a file"
-    )?;
+    let blanks = [Words(content(reads)), Words(command)];
+    let sentence = "reading {} from the terminal; Ctrl-D ends it, fifobench {} < FILE reads a file";
+    let said = filled(alloc, sentence, &blanks)?;
     line_of(alloc, &said)
 }
 
@@ -186,8 +190,7 @@ pub fn greeting(alloc: Global, command: &str, reads: Reads) -> Result<String, Al
 pub fn keeping(alloc: Global, events: u64) -> Result<String, AllocError>
     ensures { IfOk result (λ text. IsMessageLine (string_bytes text)) }
 {
-    let said = format!(in alloc;
-        "{events} events were written; fifobench stress .. > FILE keeps them in a file"
-    )?;
+    let sentence = "{} events were written; fifobench stress .. > FILE keeps them in a file";
+    let said = filled(alloc, sentence, &[Number(events)])?;
     line_of(alloc, &said)
 }

@@ -2,9 +2,9 @@
 use crate::complaints::{Given, Reads};
 use crate::ends::{counted_in, cut_message, trailing_message};
 use crate::input::{Part, end_line, line_of, lines_before, part_of};
+use crate::message::Blank::{Number, Shown, Words};
 use crate::message::Message;
-use crate::quoting::quoted;
-use crate::ranges::first_wrong;
+use crate::ranges::{Ranged, first_wrong};
 use event_records::MAX_EVENTS;
 use std::alloc::{AllocError, Global};
 use text_lines::{LONGEST_LINE, TextFault};
@@ -67,115 +67,155 @@ fn hint_of(part: Part, line: &[u8]) -> &'static str {
     }
 }
 
-/// How many fields a line has, in words.
-fn fields_in(alloc: Global, line: &[u8]) -> Result<String, AllocError> {
-    if line.is_empty() {
-        return String::from_str(alloc, "an empty line");
-    }
-    let shown = quoted(alloc, line)?;
-    match line.split(|byte| *byte == b' ').count() {
-        1 => format!(in alloc; "1 field: '{shown}'"),
-        count => format!(in alloc; "{count} fields: '{shown}'"),
+/// What is to be done about a line that may end as those of other systems.
+fn hint_at_end(line: &[u8]) -> &'static str {
+    if line.ends_with(b"\r") {
+        CARRIAGE_RETURNS
+    } else {
+        ""
     }
 }
 
-/// The first line isn't that of the text.
-fn header_message(alloc: Global, given: &Given<'_>) -> Result<Message, AllocError> {
-    let expected = first_line_of(given.reads);
-    let line = line_of(given, 1).unwrap_or(b"");
-    let shown = quoted(alloc, line)?;
-    let said = format!(in alloc; "line 1: expected {expected}, found '{shown}'")?;
-    let hint = if line.ends_with(b"\r") {
+/// What is to be done about a first line.
+fn header_hint(reads: Reads, line: &[u8]) -> &'static str {
+    if line.ends_with(b"\r") {
         CARRIAGE_RETURNS
     } else if line.starts_with(b"fifo-pending") {
         "a history with open calls: examples/pending writes the histories that it can mean"
     } else if line.starts_with(b"fifo-schedule") {
         "a schedule goes to fifobench sim"
-    } else if line.starts_with(b"fifo-history") && given.reads == Reads::Schedule {
+    } else if line.starts_with(b"fifo-history") && reads == Reads::Schedule {
         "a history goes to fifobench check"
     } else {
         ""
-    };
-    Message::with_hint(alloc, said, hint)
+    }
+}
+
+/// The first line isn't that of the text.
+fn header_message(alloc: Global, given: &Given<'_>) -> Result<Message, AllocError> {
+    let line = line_of(given, 1).unwrap_or(b"");
+    Message::of(
+        alloc,
+        "line 1: expected {}, found '{}'",
+        &[Words(first_line_of(given.reads)), Shown(line)],
+        header_hint(given.reads, line),
+    )
+}
+
+/// How many fields a line has.
+fn fields_of(line: &[u8]) -> u64 {
+    line.split(|byte| *byte == b' ').count() as u64
+}
+
+/// The line has other words or another number of fields than this form.
+fn form_message<'a>(
+    alloc: Global,
+    number: u64,
+    form: &'a str,
+    line: &'a [u8],
+    hint: &str,
+) -> Result<Message, AllocError> {
+    let (number, form, fields) = (Number(number), Words(form), fields_of(line));
+    if line.is_empty() {
+        let sentence = "line {}: expected {}, found an empty line";
+        Message::of(alloc, sentence, &[number, form], hint)
+    } else if fields == 1 {
+        let sentence = "line {}: expected {}, found 1 field: '{}'";
+        Message::of(alloc, sentence, &[number, form, Shown(line)], hint)
+    } else {
+        let sentence = "line {}: expected {}, found {} fields: '{}'";
+        let blanks = [number, form, Number(fields), Shown(line)];
+        Message::of(alloc, sentence, &blanks, hint)
+    }
+}
+
+/// A line is longer than lines may be.
+fn long_message(alloc: Global, number: u64, line: &[u8]) -> Result<Message, AllocError> {
+    let blanks = [Number(number), Number(LONGEST_LINE as u64), Shown(line)];
+    Message::of(alloc, "line {} has more than {} bytes: '{}'", &blanks, "")
 }
 
 /// The line has other words or another number of fields.
 fn line_message(alloc: Global, number: u64, given: &Given<'_>) -> Result<Message, AllocError> {
-    let part = part_of(given, number);
-    let expected = form_of(part, given.reads);
     let Some(line) = line_of(given, number) else {
-        let said = format!(in alloc;
-            "line {number}: its words or the number of its fields aren't as they should be"
-        )?;
-        return Ok(Message::alone(alloc, said));
+        let sentence = "line {}: its words or the number of its fields aren't as they should be";
+        return Message::of(alloc, sentence, &[Number(number)], "");
     };
     if line.len() > LONGEST_LINE {
-        let shown = quoted(alloc, line)?;
-        let said = format!(in alloc;
-            "line {number} has more than {LONGEST_LINE} bytes: '{shown}'"
-        )?;
-        return Ok(Message::alone(alloc, said));
+        return long_message(alloc, number, line);
     }
-    let found = fields_in(alloc, line)?;
-    let said = format!(in alloc; "line {number}: expected {expected}, found {found}")?;
-    Message::with_hint(alloc, said, hint_of(part, line))
+    let part = part_of(given, number);
+    let form = form_of(part, given.reads);
+    form_message(alloc, number, form, line, hint_of(part, line))
+}
+
+/// The name of the first number field that has a fault; where there is none, that of the number in a last line.
+fn wrong_name(part: Part, reads: Reads, line: &[u8]) -> &'static str {
+    match first_wrong(part, line) {
+        Some((ranged, _)) => ranged.name,
+        None => counted_form(reads),
+    }
 }
 
 /// A number field of the line isn't a number.
 fn number_message(alloc: Global, number: u64, given: &Given<'_>) -> Result<Message, AllocError> {
     let Some(line) = line_of(given, number) else {
-        let said = format!(in alloc; "line {number}: a field that should be a number isn't")?;
-        return Ok(Message::alone(alloc, said));
+        let sentence = "line {}: a field that should be a number isn't";
+        return Message::of(alloc, sentence, &[Number(number)], "");
     };
-    let part = part_of(given, number);
-    let shown = quoted(alloc, line)?;
-    let name = match first_wrong(part, line) {
-        Some((ranged, _)) => ranged.name,
-        None => counted_form(given.reads),
-    };
-    let said = format!(in alloc;
-        "line {number}: {name} has to be a number in digits, without a 0 before others: '{shown}'"
-    )?;
-    let hint = if line.ends_with(b"\r") {
-        CARRIAGE_RETURNS
-    } else {
-        ""
-    };
-    Message::with_hint(alloc, said, hint)
+    let name = wrong_name(part_of(given, number), given.reads, line);
+    Message::of(
+        alloc,
+        "line {}: {} has to be a number in digits, without a 0 before others: '{}'",
+        &[Number(number), Words(name), Shown(line)],
+        hint_at_end(line),
+    )
+}
+
+/// A number field is out of its range.
+fn range_message(
+    alloc: Global,
+    number: u64,
+    ranged: Ranged,
+    field: &[u8],
+) -> Result<Message, AllocError> {
+    let blanks = [
+        Number(number),
+        Words(ranged.name),
+        Number(ranged.least),
+        Number(ranged.greatest),
+        Shown(field),
+    ];
+    let sentence = "line {}: {} has to be from {} to {}, found {}";
+    Message::of(alloc, sentence, &blanks, "")
 }
 
 /// A number of the line is out of its range, or the line is one too many.
 fn limit_message(alloc: Global, number: u64, given: &Given<'_>) -> Result<Message, AllocError> {
-    let part = part_of(given, number);
     let line = line_of(given, number).unwrap_or(b"");
-    let Some((ranged, field)) = first_wrong(part, line) else {
-        let said = format!(in alloc;
-            "line {number}: a number is out of its range, or there are more than {MAX_EVENTS} events or steps"
-        )?;
-        return Ok(Message::alone(alloc, said));
-    };
-    let shown = quoted(alloc, field)?;
-    let name = ranged.name;
-    let (least, greatest) = (ranged.least, ranged.greatest);
-    let said = format!(in alloc;
-        "line {number}: {name} has to be from {least} to {greatest}, found {shown}"
-    )?;
-    Ok(Message::alone(alloc, said))
+    match first_wrong(part_of(given, number), line) {
+        Some((ranged, field)) => range_message(alloc, number, ranged, field),
+        None => Message::of(
+            alloc,
+            "line {}: a number is out of its range, or there are more than {} events or steps",
+            &[Number(number), Number(MAX_EVENTS as u64)],
+            "",
+        ),
+    }
 }
 
 /// The last line counts something else.
 fn count_message(alloc: Global, given: &Given<'_>) -> Result<Message, AllocError> {
-    let things = counted_in(given.reads);
+    let things = Words(counted_in(given.reads));
     let Some(end) = end_line(given) else {
-        let said = format!(in alloc; "the last line doesn't count the {things} before it")?;
-        return Ok(Message::alone(alloc, said));
+        let sentence = "the last line doesn't count the {} before it";
+        return Message::of(alloc, sentence, &[things], "");
     };
     let count = end.saturating_sub(1).saturating_sub(lines_before(given));
-    let shown = quoted(alloc, line_of(given, end).unwrap_or(b""))?;
-    let said = format!(in alloc;
-        "line {end}: '{shown}' doesn't count the {things} before it, of which there are {count}"
-    )?;
-    Ok(Message::alone(alloc, said))
+    let line = line_of(given, end).unwrap_or(b"");
+    let blanks = [Number(end), Shown(line), things, Number(count)];
+    let sentence = "line {}: '{}' doesn't count the {} before it, of which there are {}";
+    Message::of(alloc, sentence, &blanks, "")
 }
 
 /// What a text's fault is.
@@ -185,14 +225,14 @@ pub(crate) fn text_message(
     given: &Given<'_>,
 ) -> Result<Message, AllocError> {
     match fault {
-        TextFault::Read => return Message::fixed(alloc, "standard input couldn't be read", ""),
-        TextFault::Header => return header_message(alloc, given),
-        TextFault::Line(number) => return line_message(alloc, number, given),
-        TextFault::Number(number) => return number_message(alloc, number, given),
-        TextFault::Limit(number) => return limit_message(alloc, number, given),
-        TextFault::Count => return count_message(alloc, given),
-        TextFault::Cut => return cut_message(alloc, given),
-        TextFault::Trailing => return trailing_message(alloc, given),
-        TextFault::Memory => return Message::fixed(alloc, "memory ran out", ""),
+        TextFault::Read => Message::of(alloc, "standard input couldn't be read", &[], ""),
+        TextFault::Header => header_message(alloc, given),
+        TextFault::Line(number) => line_message(alloc, number, given),
+        TextFault::Number(number) => number_message(alloc, number, given),
+        TextFault::Limit(number) => limit_message(alloc, number, given),
+        TextFault::Count => count_message(alloc, given),
+        TextFault::Cut => cut_message(alloc, given),
+        TextFault::Trailing => trailing_message(alloc, given),
+        TextFault::Memory => Message::of(alloc, "memory ran out", &[], ""),
     }
 }

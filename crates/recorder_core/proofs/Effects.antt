@@ -4,7 +4,7 @@ use Rattle.std.specs.Option.{option_map, option_map_or, option_and_then}
 use Rattle.history_merge.specs.declared.OpKind.{OpKind}
 use Rattle.history_merge.specs.Queue.{accept, accept_all}
 use Rattle.recorder_core.specs.declared.step.Step.{Step}
-use Rattle.recorder_core.specs.declared.step.Step.TheVariants.{AskEnq, AskDeq, Push, Effect, Say, Ret, Drain, Close}
+use Rattle.recorder_core.specs.declared.step.Step.TheVariants.{Effect}
 use Rattle.event_records.specs.declared.kind.Answer.TheVariants.{Empty as NoValue}
 use Rattle.recorder_core.specs.declared.pending.Request.{Request}
 use Rattle.recorder_core.specs.declared.pending.Request.TheVariants.{Enqueue, Dequeue}

@@ -8,7 +8,7 @@ use Rattle.std.proofs.lemmas.List.Elements.{All-head, All-tail}
 use Rattle.std.proofs.lemmas.List.Sorted.{IsPermutation-trans, IsPermutation-append_right}
 use Rattle.event_records.specs.declared.event.Event.{Event}
 use Rattle.event_records.specs.declared.event.What.{What}
-use Rattle.event_records.specs.declared.event.What.TheVariants.{CallEnq, RetEnq, RetNot, CallDeq, RetDeq, RetEmpty}
+use Rattle.event_records.specs.declared.event.What.TheVariants.{CallEnq, CallDeq}
 use Rattle.event_records.specs.Projection.{projection}
 use Rattle.event_records.specs.Turns.{TakesTurns, is_call}
 use Rattle.history_merge.specs.declared.operation.Operation.{Operation}

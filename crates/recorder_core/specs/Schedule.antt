@@ -7,7 +7,6 @@ use Rattle.std.specs.Prelude.{filter, find, drop, Option, None, Some, Result, Ok
 use Rattle.std.specs.List.{list_any}
 use Rattle.std.specs.Option.{option_map, option_map_or, is_none}
 use Rattle.event_records.specs.declared.event.Event.{Event}
-use Rattle.event_records.specs.declared.event.What.{What}
 use Rattle.event_records.specs.declared.event.What.TheVariants.{CallEnq, CallDeq}
 use Rattle.event_records.specs.declared.limits.TheConstants.{MAX_THREAD_OPERATIONS, MAX_OPERATIONS}
 use Rattle.event_records.specs.Question.{return_what, value_name}

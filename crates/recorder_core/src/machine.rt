@@ -24,7 +24,7 @@ use std::marker::Model;
 /// For each thread: whether it is closed, how many operations it asked, the pending one, the held event, the events
 /// in its ring and those collected. For all together: the next ticket, and the machine's queue, a list of values, its
 /// front first. The memory is in proportion to what is held.
-#[derive(Debug, Drop)]
+#[derive(Drop)]
 pub struct Machine {
     capacity: usize,
     threads: Vec<Thread>,

@@ -1,7 +1,7 @@
 use event_records::Answer;
 
 /// What an operation asks of the queue.
-#[derive(Clone, Copy, Debug, PartialEq, Eq)]
+#[derive(Clone, Copy)]
 pub enum Request {
     /// To take this value.
     Enqueue(u64),
@@ -10,7 +10,7 @@ pub enum Request {
 }
 
 /// An operation that has no return yet.
-#[derive(Clone, Copy, Debug, PartialEq, Eq)]
+#[derive(Clone, Copy)]
 pub struct Pending {
     pub request: Request,
     pub answer: Option<Answer>,

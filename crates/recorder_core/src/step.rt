@@ -2,7 +2,8 @@ ghost use Rattle.std.specs.Prelude.{◌≡◌, ◌≤◌, length};
 ghost use Rattle.recorder_core.specs.Names.{name_of};
 
 use event_records::Answer;
-use thiserror::Error;
+use std::error::Error;
+use std::fmt;
 
 /// One atomic step of one thread, whose number comes first.
 #[derive(Clone, Copy, Debug, PartialEq, Eq)]
@@ -42,8 +43,7 @@ pub enum Done {
 }
 
 /// Why a step is refused: of the reasons that apply to it, the one that stands first here.
-#[derive(Clone, Copy, Debug, PartialEq, Eq, Error)]
-#[error("{name}", name = self.name())]
+#[derive(Clone, Copy, Debug, PartialEq, Eq)]
 pub enum StepRefused {
     /// The machine has no thread of this number.
     NoThread,
@@ -93,3 +93,11 @@ impl StepRefused {
         }
     }
 }
+
+impl fmt::Display for StepRefused {
+    fn fmt<W: fmt::Write>(&self, f: &mut fmt::Formatter<W>) -> fmt::Result {
+        f.write_str(self.name())
+    }
+}
+
+impl Error for StepRefused {}

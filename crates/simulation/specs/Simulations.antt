@@ -1,5 +1,5 @@
 -- What the steps of a schedule do, tried one after another while no growth is refused.
-use Rattle.std.specs.Prelude.{◌≡◌, ℕ, ◌+◌, false, List, [], ◌∷◌, length, map, reverse}
+use Rattle.std.specs.Prelude.{◌≡◌, ◌+◌, false, List, [], ◌∷◌, length, map, reverse}
 use Rattle.std.specs.Result.{result_err}
 use Rattle.std.specs.Option.{option_map}
 use Rattle.recorder_core.specs.declared.step.Step.{Step}

@@ -23,7 +23,7 @@ pub struct Rejection {
 pub type Rejections = OwnedSlice<Rejection>;
 
 /// What the machine is after the last step of a schedule.
-#[derive(Debug, Drop)]
+#[derive(Drop)]
 pub enum Ending {
     /// Some thread isn't closed, or some ring isn't empty.
     Open,
@@ -32,7 +32,7 @@ pub enum Ending {
 }
 
 /// What a schedule did.
-#[derive(Debug, Drop)]
+#[derive(Drop)]
 pub struct Simulation {
     pub rejections: Rejections,
     pub ending: Ending,

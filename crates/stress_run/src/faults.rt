@@ -5,32 +5,27 @@ ghost use Rattle.stress_run.specs.Faults.{number_of, place_of, name_of, place_in
 
 use collector::CollectError;
 use std::alloc::AllocError;
-use thiserror::Error;
+use std::error::Error;
+use std::fmt;
 
 /// Why a run gave no history.
 ///
 /// Of several faults the one that stands first here counts, and of several threads with that fault the least.
-#[derive(Clone, Copy, Debug, PartialEq, Eq, Error)]
+#[derive(Clone, Copy, Debug, PartialEq, Eq)]
 pub enum RunFault {
     /// The capacity of the rings or the number of tries is out of range, or a queue may not hold such values before a
     /// run. No thread was started.
-    #[error("{name}", name = self.name())]
     Limit,
     /// Memory ran out, also of the collector while the workers ran.
-    #[error("{name}", name = self.name())]
     Memory,
     /// A push of this thread found no room in as many tries as it had.
-    #[error("{name} {0}", name = self.name())]
     Stalled(u8),
     /// The ring of this thread gave no close token.
-    #[error("{name} {0}", name = self.name())]
     CloseLost(u8),
     /// The token at its place didn't certify the ring of this thread.
-    #[error("{name} {0}", name = self.name())]
     Uncertified(u8),
     /// The queue didn't take the initial value at this place, from 0: it was full or out of memory. No thread was
     /// started.
-    #[error("{name} {0}", name = self.name())]
     Preload(usize),
 }
 
@@ -93,6 +88,18 @@ impl RunFault {
         number < others || (number == others && self.place_or_zero() <= other.place_or_zero())
     }
 }
+
+impl fmt::Display for RunFault {
+    fn fmt<W: fmt::Write>(&self, f: &mut fmt::Formatter<W>) -> fmt::Result {
+        f.write_str(self.name())?;
+        match self.place() {
+            Some(place) => write!(f, " {place}"),
+            None => Ok(()),
+        }
+    }
+}
+
+impl Error for RunFault {}
 
 impl From<AllocError> for RunFault {
     ghost from_gives = { λ _ fault. fault ≡ made.Memory };

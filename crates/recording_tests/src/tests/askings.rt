@@ -66,12 +66,11 @@ impl TestQueue for CountingQueue {
 fn is_asked_once(alloc: Global, kind: Kind) -> Result<bool, Fail> {
     let (tickets, mut worker, _drain) = lone_worker(alloc)?;
     let queue = CountingQueue::new();
-    let first = operate(&mut worker, &tickets, &queue, Kind::Enq);
-    let second = operate(&mut worker, &tickets, &queue, kind);
-    let third = operate(&mut worker, &tickets, &queue, kind);
+    let is_first_made = operate(&mut worker, &tickets, &queue, Kind::Enq).is_ok();
     let stalled = Err(WorkerFault::Stalled);
-    let ended = [first, second, third] == [Ok(()), stalled, stalled];
-    Ok(ended && queue.asked() == Some(1))
+    let is_stalled = operate(&mut worker, &tickets, &queue, kind) == stalled
+        && operate(&mut worker, &tickets, &queue, kind) == stalled;
+    Ok(is_first_made && is_stalled && queue.asked() == Some(1))
 }
 
 #[test]

@@ -61,15 +61,17 @@ fn holds(alloc: Global, queue: &dyn TestQueue, values: u64) -> Result<bool, Fail
     Ok(take(alloc, queue)? == What::RetEmpty)
 }
 
+// Whether a queue takes four values, and no fifth.
+fn takes_exactly_four(alloc: Global, queue: &dyn TestQueue) -> Result<bool, Fail> {
+    Ok(takes(alloc, queue, 4)? && put(alloc, queue, 4)? == What::RetNot)
+}
+
 #[test]
 fn a_full_array_takes_exactly_its_capacity(rt: HostRuntime) -> Result<(), Fail> {
-    let alloc = rt.alloc();
-    let queue = ArrayBack::new(alloc, rt, 4)?;
-    assert!(rt; takes(alloc, &queue, 4)?);
-    assert_eq!(rt; put(alloc, &queue, 4)?, What::RetNot);
-    assert!(rt; gives(alloc, &queue, 4)?);
-    assert!(rt; takes(alloc, &queue, 4)?);
-    assert_eq!(rt; put(alloc, &queue, 4)?, What::RetNot);
+    let queue = ArrayBack::new(rt.alloc(), rt, 4)?;
+    assert!(rt; takes_exactly_four(rt.alloc(), &queue)?);
+    assert!(rt; gives(rt.alloc(), &queue, 4)?);
+    assert!(rt; takes_exactly_four(rt.alloc(), &queue)?);
     Ok(())
 }
 

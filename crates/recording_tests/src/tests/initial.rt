@@ -1,14 +1,15 @@
 // What a queue holds before the first operation.
+ghost use Rattle.std.specs.Prelude.{◌≤◌};
+
 use super::filled::{put, take};
 use super::queues::ask_first;
 use super::runs::are_events_of;
 use event_records::What;
 use queue_interface::{
-    ArrayBack, Doubling, GateQueue, Inventing, Lifo, LockedQueue, Losing, ScriptQueue, SegBack,
-    Shy, TestQueue, TwoLockQueue,
+    ArrayBack, GateQueue, Lifo, LockedQueue, Losing, ScriptQueue, SegBack, TestQueue, TwoLockQueue,
 };
 use recorder_core::{Answer, Done, Machine, Step, are_initial_names};
-use std::alloc::Global;
+use std::alloc::{AllocError, Global};
 use std::test::Fail;
 use std::thread::Threads;
 use stress_run::{Recorded, RunFault, run_from};
@@ -53,10 +54,21 @@ fn names_of_initial_values_are_told(rt: HostRuntime) -> Result<(), Fail> {
     for (values, expected) in cases {
         assert_eq!(rt; are_initial_names(alloc, values)?, expected, "{values:?}");
     }
-    let most: Vec<u64> = (FIRST..FIRST + 100_000).collect(alloc)?;
-    assert!(rt; are_initial_names(alloc, &most)?);
-    let more: Vec<u64> = (FIRST..=FIRST + 100_000).collect(alloc)?;
-    assert!(rt; !are_initial_names(alloc, &more)?);
+    Ok(())
+}
+
+// Whether this many values in a row may be initial ones.
+fn are_names_in_a_row(alloc: Global, count: u64) -> Result<bool, AllocError>
+    requires { count ≤ 1000000 }
+{
+    let values: Vec<u64> = (FIRST..FIRST + count).collect(alloc)?;
+    are_initial_names(alloc, &values)
+}
+
+#[test]
+fn a_hundred_thousand_initial_values_are_the_most(rt: HostRuntime) -> Result<(), Fail> {
+    assert!(rt; are_names_in_a_row(rt.alloc(), 100_000)?);
+    assert!(rt; !are_names_in_a_row(rt.alloc(), 100_001)?);
     Ok(())
 }
 
@@ -80,9 +92,6 @@ fn queues_that_keep_the_order_give_the_first_first(rt: HostRuntime) -> Result<()
     assert!(rt; keeps_the_order(alloc, &TwoLockQueue::new(alloc, rt))?);
     assert!(rt; keeps_the_order(alloc, &ArrayBack::new(alloc, rt, 2)?)?);
     assert!(rt; keeps_the_order(alloc, &SegBack::new(alloc, rt)?)?);
-    assert!(rt; keeps_the_order(alloc, &Doubling::new(alloc, rt))?);
-    assert!(rt; keeps_the_order(alloc, &Inventing::new(alloc, rt))?);
-    assert!(rt; keeps_the_order(alloc, &Shy::new(alloc, rt))?);
     let last_first = (What::RetDeq(FIRST + 1), What::RetDeq(FIRST));
     assert_eq!(rt; preloaded(alloc, &Lifo::new(alloc, rt))?, last_first);
     Ok(())
@@ -97,20 +106,38 @@ fn a_full_array_refuses_a_value(rt: HostRuntime) -> Result<(), Fail> {
     Ok(())
 }
 
+// Whether four threads' first values are taken.
+fn takes_four(alloc: Global, queue: &dyn TestQueue) -> Result<bool, Fail> {
+    for thread in 0..4 {
+        if put(alloc, queue, thread)? != What::RetEnq {
+            return Ok(false);
+        }
+    }
+    Ok(true)
+}
+
+// What five dequeues answer.
+fn take_five(alloc: Global, queue: &dyn TestQueue) -> Result<Vec<What>, Fail> {
+    let mut found = Vec::new(alloc);
+    for _ in 0..5 {
+        found.push(take(alloc, queue)?)?;
+    }
+    Ok(found)
+}
+
 // The fourth enqueue is lost, whatever was put in beforehand.
 #[test]
 fn no_count_has_an_initial_value(rt: HostRuntime) -> Result<(), Fail> {
-    let alloc = rt.alloc();
-    let queue = Losing::new(alloc, rt);
-    assert!(rt; queue.preload(FIRST));
-    for thread in 0..4 {
-        assert_eq!(rt; put(alloc, &queue, thread)?, What::RetEnq);
-    }
-    assert_eq!(rt; take(alloc, &queue)?, What::RetDeq(FIRST));
-    for thread in 0..3 {
-        assert_eq!(rt; take(alloc, &queue)?, What::RetDeq(thread << 32));
-    }
-    assert_eq!(rt; take(alloc, &queue)?, What::RetEmpty);
+    let queue = Losing::new(rt.alloc(), rt);
+    assert!(rt; queue.preload(FIRST) && takes_four(rt.alloc(), &queue)?);
+    let want = [
+        What::RetDeq(FIRST),
+        What::RetDeq(0),
+        What::RetDeq(1 << 32),
+        What::RetDeq(2 << 32),
+        What::RetEmpty,
+    ];
+    assert_eq!(rt; take_five(rt.alloc(), &queue)?.as_slice(), want.as_slice());
     Ok(())
 }
 
@@ -138,15 +165,25 @@ fn run_one_dequeue<R: Threads + Sync>(
     Ok(run_from(rt, alloc, queue, initial, &plan, 2, 1_000_000))
 }
 
+// Whether a run of one dequeue holds these values first, and records that this one came out.
+fn begins_with<R: Threads + Sync>(
+    rt: &R,
+    alloc: Global,
+    queue: &dyn TestQueue,
+    values: &[u64],
+    value: u64,
+) -> Result<bool, Fail> {
+    let recorded = run_one_dequeue(rt, alloc, queue, values)??;
+    let want = [What::CallDeq, What::RetDeq(value)];
+    let is_recorded = are_events_of(alloc, &recorded, 0, &want)?;
+    Ok(is_recorded && recorded.initial() == values)
+}
+
 #[test]
 fn a_run_begins_with_its_values(rt: HostRuntime) -> Result<(), Fail> {
     let alloc = rt.alloc();
-    let values = [FIRST, FIRST + 1];
     let queue = LockedQueue::new(alloc, rt);
-    let recorded = run_one_dequeue(&rt, alloc, &queue, &values)??;
-    assert_eq!(rt; recorded.initial(), values.as_slice());
-    let first = [What::CallDeq, What::RetDeq(FIRST)];
-    assert!(rt; are_events_of(alloc, &recorded, 0, &first)?);
+    assert!(rt; begins_with(&rt, alloc, &queue, &[FIRST, FIRST + 1], FIRST)?);
     assert_eq!(rt; take(alloc, &queue)?, What::RetDeq(FIRST + 1));
     Ok(())
 }

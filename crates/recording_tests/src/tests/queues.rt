@@ -1,8 +1,7 @@
 use event_records::{Namer, ThreadNo};
 use queue_interface::{
-    ArrayBack, Doubling, DoublingList, Fifo, GateQueue, Inventing, InventingList, Lifo,
-    LockedQueue, Losing, LosingList, ScriptQueue, SegBack, Shy, ShyList, Stack, TestQueue,
-    TwoLockQueue, ValueList,
+    DoublingList, Fifo, GateQueue, InventingList, LockedQueue, LosingList, ScriptQueue, ShyList,
+    Stack, TestQueue, ValueList,
 };
 use std::alloc::{AllocError, Global};
 use std::test::Fail;
@@ -24,6 +23,20 @@ fn taken_out<L: ValueList>(
         }
     }
     Ok(out)
+}
+
+// Whether a list gives out in their order two values that it held first.
+fn gives_the_first_first<L: ValueList>(alloc: Global) -> bool {
+    let mut list = L::empty(alloc);
+    list.preload(8) && list.preload(9) && list.take() == Some(8) && list.take() == Some(9)
+}
+
+#[test]
+fn lists_that_are_wrong_later_give_the_first_first(rt: HostRuntime) {
+    let alloc = rt.alloc();
+    assert!(rt; gives_the_first_first::<DoublingList>(alloc));
+    assert!(rt; gives_the_first_first::<InventingList>(alloc));
+    assert!(rt; gives_the_first_first::<ShyList>(alloc));
 }
 
 // Asks a queue to dequeue, as the first operation of this thread.
@@ -130,22 +143,14 @@ fn a_gate_counts_who_saw_all_arrive(rt: HostRuntime) -> Result<(), Fail> {
     Ok(())
 }
 
-// Boxed queues of all kinds stand in one list, those that wait with the runtime that they wait by.
+// Boxed queues stand in one list, one that waits with the runtime that it waits by.
 #[test]
-fn queues_of_all_kinds_are_boxed(rt: HostRuntime) -> Result<(), Fail> {
+fn queues_of_several_kinds_are_boxed(rt: HostRuntime) -> Result<(), Fail> {
     let alloc = rt.alloc();
     let mut shelf: Vec<Box<dyn TestQueue>> = Vec::new(alloc);
     shelf.push(Box::new(alloc, LockedQueue::new(alloc, rt))?)?;
-    shelf.push(Box::new(alloc, TwoLockQueue::new(alloc, rt))?)?;
-    shelf.push(Box::new(alloc, ArrayBack::new(alloc, rt, 1024)?)?)?;
-    shelf.push(Box::new(alloc, SegBack::new(alloc, rt)?)?)?;
-    shelf.push(Box::new(alloc, Lifo::new(alloc, rt))?)?;
-    shelf.push(Box::new(alloc, Doubling::new(alloc, rt))?)?;
-    shelf.push(Box::new(alloc, Inventing::new(alloc, rt))?)?;
-    shelf.push(Box::new(alloc, Shy::new(alloc, rt))?)?;
-    shelf.push(Box::new(alloc, Losing::new(alloc, rt))?)?;
     shelf.push(Box::new(alloc, ScriptQueue::new(Vec::new(alloc)))?)?;
     shelf.push(Box::new(alloc, GateQueue::new(2, 0))?)?;
-    assert_eq!(rt; shelf.len(), 11);
+    assert_eq!(rt; shelf.len(), 3);
     Ok(())
 }

@@ -4,7 +4,7 @@ ghost use Rattle.collector.specs.Ends.{rings_of};
 use super::calls::{call, push_calls, three_calls};
 use collector::{CollectError, Collector};
 use event_records::{Event, Lists, ThreadNo};
-use event_rings::{CloseToken, DrainEnd, MAX_RING, ring};
+use event_rings::{CloseToken, DrainEnd, MAX_RING, PushEnd, ring};
 use std::alloc::{AllocError, Global};
 use std::test::Fail;
 
@@ -100,14 +100,28 @@ fn greatest(alloc: Global) -> Result<(u64, u64, Option<usize>), Fail> {
     let thread = ThreadNo::new(0).ok_or("thread")?;
     let (mut push, drain) = ring(alloc, thread, MAX_RING)?;
     let mut collector = Collector::with_room(alloc, vec![in alloc; drain]?, 200_000)?;
-    push_calls(alloc, &mut push, thread, MAX_RING)?;
-    let first = drain_full(&mut collector)?;
-    push_calls(alloc, &mut push, thread, MAX_RING)?;
-    let second = drain_full(&mut collector)?;
+    let first = fill_and_drain(alloc, &mut push, &mut collector, thread)?;
+    let second = fill_and_drain(alloc, &mut push, &mut collector, thread)?;
     push_calls(alloc, &mut push, thread, MAX_RING)?;
     let token = push.close().ok().ok_or("closed")?;
     let lists = seal_one(alloc, collector, token)?;
     Ok((first, second, lists.iter().map(|list| list.len()).max()))
+}
+
+// How many events a round drains of a ring of the greatest size, which is filled before.
+fn fill_and_drain(
+    alloc: Global,
+    push: &mut PushEnd,
+    collector: &mut Collector,
+    thread: ThreadNo,
+) -> Result<u64, Fail>
+    requires { push.old.thread ≡ thread }
+    ensures same { push.new.thread ≡ push.old.thread }
+    ensures ring { push.new.ring ≡ push.old.ring }
+    ensures rings { rings_of collector.new.rings ≡ rings_of collector.old.rings }
+{
+    push_calls(alloc, push, thread, MAX_RING)?;
+    Ok(drain_full(collector)?)
 }
 
 #[test]

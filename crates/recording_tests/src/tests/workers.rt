@@ -5,7 +5,6 @@ use event_records::{Kind, Namer, ThreadNo};
 use event_rings::{DrainEnd, ring};
 use queue_interface::{ScriptQueue, TestQueue};
 use std::alloc::Global;
-use std::process::Abort;
 use std::test::Fail;
 use stress_run::{Worker, WorkerFault, one_call};
 use tickets::Tickets;
@@ -44,23 +43,34 @@ pub(crate) fn operate(
 }
 
 // How many tickets a worker has drawn that nobody drains, when it is closed after the call that stalls or after one more.
-fn tickets_drawn(rt: &impl Abort, alloc: Global, one_more: bool) -> Result<u64, Fail> {
+fn tickets_drawn(alloc: Global, one_more: bool) -> Result<u64, Fail> {
     let (tickets, mut worker, _drain) = lone_worker(alloc)?;
-    let queue = ScriptQueue::new(Vec::new(alloc));
-    let first = operate(&mut worker, &tickets, &queue, Kind::Enq);
-    let stalled = Err(WorkerFault::Stalled);
-    let mut last = operate(&mut worker, &tickets, &queue, Kind::Deq);
-    if one_more && last == stalled {
-        last = operate(&mut worker, &tickets, &queue, Kind::Deq);
+    if !stalls(alloc, &mut worker, &tickets, one_more) {
+        return Err("no stall".into());
     }
-    assert_eq!(rt; (first, last, worker.is_stopped()), (Ok(()), stalled, true));
     let (_token, pass) = worker.close().ok().ok_or("closed")?;
     Ok(pass.share() - pass.left())
 }
 
+// Whether a worker makes an enqueue, and stalls in the dequeue after it, or in one more too.
+fn stalls(alloc: Global, worker: &mut Worker, tickets: &Tickets, one_more: bool) -> bool
+    requires left { 6 ≤ worker.old.pass.left }
+    requires room { worker.old.asked ≡ 0 }
+    requires key { worker.old.pass.key ≡ tickets.now.key }
+{
+    let queue = ScriptQueue::new(Vec::new(alloc));
+    let first = operate(worker, tickets, &queue, Kind::Enq);
+    let stalled = Err(WorkerFault::Stalled);
+    let mut last = operate(worker, tickets, &queue, Kind::Deq);
+    if one_more && last == stalled {
+        last = operate(worker, tickets, &queue, Kind::Deq);
+    }
+    first.is_ok() && last == stalled && worker.is_stopped()
+}
+
 #[test]
 fn a_worker_stalls_where_nobody_drains(rt: HostRuntime) -> Result<(), Fail> {
-    assert_eq!(rt; tickets_drawn(&rt, rt.alloc(), false)?, 3);
-    assert_eq!(rt; tickets_drawn(&rt, rt.alloc(), true)?, 3);
+    assert_eq!(rt; tickets_drawn(rt.alloc(), false)?, 3);
+    assert_eq!(rt; tickets_drawn(rt.alloc(), true)?, 3);
     Ok(())
 }

@@ -1,4 +1,4 @@
-ghost use Rattle.std.specs.Prelude.{◌≤◌, IfOk, Some};
+ghost use Rattle.std.specs.Prelude.{◌≡◌, ◌≤◌, ◌<◌, ◌^◌, IfOk, OnOk, Some, false};
 
 use history_text::{
     Buffered, MemorySource, ReadFailed, TextFault, TextReader, TextSink, TextSource, Watched,
@@ -187,16 +187,23 @@ impl TextSource for Counted<'_> {
 
 const HISTORY: &[u8] = b"fifo-history 1\n0 0 call-enq 7\n1 0 ret-enq\nend 2\n";
 
+/// How many events the text of a history has that is read.
+fn events_read<R: TextSource>(alloc: Global, reader: &mut TextReader<R>) -> Result<usize, Fail>
+    requires running { reader.old.is_stopped ≡ false }
+    requires lines { reader.old.lines < 2 ^ 63 }
+    ensures { OnOk result (reader.new.is_stopped ≡ false) }
+{
+    let (_, builder) = read_history(alloc, reader)?;
+    Ok(builder.finish()?.events().len())
+}
+
 #[test]
 fn reading_a_history_stops_at_its_last_line(rt: HostRuntime) -> Result<(), Fail> {
     for most in [1, HISTORY.len()] {
         let source = MemorySource::new(HISTORY).in_pieces(most);
         let mut counted = Counted { source, reads: 0 };
-        let mut reader = TextReader::new(&mut counted);
-        let (_, builder) = read_history(rt.alloc(), &mut reader)?;
-        assert_eq!(rt; builder.finish()?.events().len(), 2);
-        drop(reader);
-        assert_eq!(rt; counted.reads, HISTORY.len() / most);
+        let events = events_read(rt.alloc(), &mut TextReader::new(&mut counted))?;
+        assert_eq!(rt; (events, counted.reads), (2, HISTORY.len() / most));
         assert_eq!(rt; at_end(&mut TextReader::new(&mut counted)), Ok(()));
         assert_eq!(rt; counted.reads, HISTORY.len() / most + 1);
     }
@@ -258,23 +265,30 @@ fn looking_for_the_end_takes_nothing(rt: HostRuntime) -> Result<(), Fail> {
     Ok(())
 }
 
+/// What is found at the end before the text of a history is read, how many events it has, and what is found after it.
+fn looked_around<R: TextSource>(
+    alloc: Global,
+    reader: &mut TextReader<R>,
+) -> Result<(bool, usize, Result<bool, TextFault>), Fail>
+    requires running { reader.old.is_stopped ≡ false }
+    requires lines { reader.old.lines < 2 ^ 63 }
+{
+    let before = is_at_end(reader)?;
+    let events = events_read(alloc, reader)?;
+    Ok((before, events, is_at_end(reader)))
+}
+
 #[test]
 fn looking_for_the_end_asks_where_nothing_is_left(rt: HostRuntime) -> Result<(), Fail> {
     for most in [1, HISTORY.len()] {
         let source = MemorySource::new(HISTORY).in_pieces(most);
         let mut counted = Counted { source, reads: 0 };
-        let mut reader = TextReader::new(&mut counted);
-        assert_eq!(rt; is_at_end(&mut reader), Ok(false));
-        let (_, builder) = read_history(rt.alloc(), &mut reader)?;
-        assert_eq!(rt; builder.finish()?.events().len(), 2);
-        assert_eq!(rt; is_at_end(&mut reader), Ok(true));
-        drop(reader);
+        let found = looked_around(rt.alloc(), &mut TextReader::new(&mut counted))?;
+        assert_eq!(rt; found, (false, 2, Ok(true)));
         assert_eq!(rt; counted.reads, HISTORY.len() / most + 1);
     }
     let mut failing = TextReader::new(MemorySource::failing(HISTORY));
-    assert_eq!(rt; is_at_end(&mut failing), Ok(false));
-    let (_, builder) = read_history(rt.alloc(), &mut failing)?;
-    assert_eq!(rt; builder.finish()?.events().len(), 2);
-    assert_eq!(rt; is_at_end(&mut failing), Err(TextFault::Read));
+    let found = looked_around(rt.alloc(), &mut failing)?;
+    assert_eq!(rt; found, (false, 2, Err(TextFault::Read)));
     Ok(())
 }

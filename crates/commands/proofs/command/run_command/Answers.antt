@@ -1,9 +1,7 @@
-use Rattle.std.proofs.Common.{inl, inr, refl, sym, ◌∙◌, ap, subst, arith}
+use Rattle.std.proofs.Common.{inr, refl, sym, ◌∙◌, arith}
 use Rattle.std.proofs.lemmas.Option.{same_Some}
 use Rattle.commands.specs.Answers.{memory_fault}
-use Rattle.commands.specs.Outcomes.{answer_of}
-use Rattle.commands.specs.Running.{SaysMessage}
-use Rattle.commands.proofs.Runs.{memory_has_3, memory_is_said, memory_ran_out, reads_out_of_memory, reads_printed}
+use Rattle.commands.proofs.Runs.{memory_has_3, memory_is_said, memory_ran_out, or_no_memory, reads_out_of_memory, reads_printed}
 use Rattle.commands.proofs.command.run_command.Goals as goal
 
 pub returns-in-Err-clause-reads : goal.returns-in-Err-clause-reads
@@ -19,23 +17,16 @@ returns-in-Err-clause-stresses g c = λ settings none asked. record {
 
 pub returns-in-Ok-clause-reads : goal.returns-in-Ok-clause-reads
 returns-in-Ok-clause-reads g c = λ request none asked.
-    let found = rw c.new-kept.ensures at c.outcome_of-outcome.ensures.reads in
-    let printed = rw c.in-Ok.ensures.quiet at c.print_outcome-status.ensures.printed in
-    reads_printed _ _ c.in-Ok.ensures.task _ _ _ _ _ _ printed request _ asked found
+    let printed = rw c.in-Ok.ensures.quiet at c.run_order.ensures.reads in
+    reads_printed _ _ c.in-Ok.ensures.task _ _ _ _ _ request _ asked printed
 
 pub returns-in-Ok-clause-stresses : goal.returns-in-Ok-clause-stresses
-returns-in-Ok-clause-stresses g c = λ settings none asked. record {
-  answer = answer_of c.outcome_of-outcome.result;
-  right = inl (c.outcome_of-outcome.ensures.stresses settings (same_Some _ _ (sym c.in-Ok.ensures.task ∙ asked)));
-  printed = rw c.in-Ok.ensures.quiet at c.print_outcome-status.ensures.printed;
-}
+returns-in-Ok-clause-stresses g c = λ settings none asked.
+    let printed = c.run_order.ensures.stresses settings (same_Some _ _ (sym c.in-Ok.ensures.task ∙ asked)) in
+    or_no_memory _ _ _ _ _ _ (rw c.in-Ok.ensures.quiet at printed)
 
 pub returns-in-Ok-clause-said : goal.returns-in-Ok-clause-said
-returns-in-Ok-clause-said g c = λ none input output fresh failed.
-    let still = c.greet.ensures input in
-    let said = c.say_why.ensures.said failed (ap g.E.TextSink.has_refused still ∙ fresh) in
-    rw (c.say_how_to_keep.ensures output) (subst (λ errors. SaysMessage (g.E.TextSink.contents errors) (g.E.TextSink.contents c.say_why.new.errors)
-    (g.E.TextSink.has_refused c.say_why.new.errors)) still said)
+returns-in-Ok-clause-said g c = λ none input output fresh failed. c.run_order.ensures.said input output fresh failed
 
 pub returns-in-Err-clause-said : goal.returns-in-Err-clause-said
 returns-in-Err-clause-said g c = λ none input output fresh failed.

@@ -1,4 +1,4 @@
-use Rattle.std.proofs.Common.{◌+◌, List, ap, arith, count_by, not}
+use Rattle.std.proofs.Common.{List, ap, arith, count_by, not}
 use Rattle.std.proofs.lemmas.List.{take_all}
 use Rattle.history_merge.specs.declared.operation.Operation.{Operation}
 use Rattle.history_stats.specs.AtOnce.{values_put_before}

@@ -1,4 +1,4 @@
-use Rattle.std.proofs.Common.{◌≡◌, ◌+◌, ap, arith, cond, count_by, not}
+use Rattle.std.proofs.Common.{ap, arith, count_by, not}
 use Rattle.std.proofs.lemmas.List.{take_all}
 use Rattle.history_stats.specs.Inner.AtOnce.{count_before, is_kept_before}
 use Rattle.history_stats.proofs.Staying.{value_more}

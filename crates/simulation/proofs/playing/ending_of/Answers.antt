@@ -1,4 +1,4 @@
-use Rattle.std.proofs.Common.{◌≡◌, ℕ, ap, ◌∙◌, sym, map}
+use Rattle.std.proofs.Common.{ℕ, ap, ◌∙◌, sym, map}
 use Rattle.std.specs.List.{range_with_len}
 use Rattle.recorder_core.specs.Laws.{collected_in}
 use Rattle.simulation.proofs.playing.ending_of.Goals as goal
