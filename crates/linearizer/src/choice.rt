@@ -23,7 +23,7 @@ pub(crate) struct InOrder {
 }
 
 /// The values in their chosen order: each is the choice among itself and those after it. Or none, if an enqueue is called only after
-/// a value behind it has entered.
+/// a later value has entered.
 ///
 /// The values stand in two lists, one by when each has entered, the other by when each was dequeued. In each list
 /// those before a cursor are taken, so the one at the cursor is the first of the values that remain.

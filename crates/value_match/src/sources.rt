@@ -11,7 +11,7 @@ use crate::others::{Call, is_called_at, named_place, others_of, place_among};
 use history_merge::{OpKind, Operation};
 use std::alloc::{AllocError, Global};
 
-/// How far from the call for the value dequeued last the call for the next is looked for, where no name tells it.
+/// How far from the call for the value dequeued last the call for the next is looked for, where no name gives it.
 const REACH: usize = 64;
 
 /// How far it is looked for before any name is.
