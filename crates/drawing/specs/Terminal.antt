@@ -221,7 +221,7 @@ sign_line sign = line (sign_text sign ++ meaning sign)
 
 -- the sign of an effect, where lanes have no room for its number
 abbrev pub effect_meaning : Bool → Claimed → List ℕ
-effect_meaning true (Yes order) = line (codes "*    the number of its row, within its bar")
+effect_meaning true (Yes order) = line (codes "*    where the operation of the row takes effect, within its bar")
 effect_meaning narrow claimed = []
 
 -- how to read the picture

@@ -475,7 +475,8 @@ fn effect_meaning(narrow: bool, claimed: &Claimed) -> &'static [u8]
     ensures { result.now ≡ effect_meaning narrow claimed.now }
 {
     match claimed {
-        Claimed::Yes(_) if narrow => b"*    the number of its row, within its bar\n",
+        Claimed::Yes(_) if narrow =>
+            b"*    where the operation of the row takes effect, within its bar\n",
         _ => b"",
     }
 }
