@@ -160,7 +160,7 @@ fn writes_what_it_reads(rt: HostRuntime) -> Result<(), Fail> {
 }
 
 #[test]
-fn writes_a_linearization(rt: HostRuntime) -> Result<(), Fail> {
+fn writes_verdicts(rt: HostRuntime) -> Result<(), Fail> {
     let overlapping = history_of(
         rt.alloc(),
         b"fifo-history 1\n0 0 call-enq 7\n1 1 call-enq 9\n2 0 ret-enq\n3 1 ret-enq\n\
@@ -172,11 +172,6 @@ fn writes_a_linearization(rt: HostRuntime) -> Result<(), Fail> {
         text.as_slice(),
         b"YES\n1 3 1 enq 9\n0 2 0 enq 7\n4 5 0 deq 9\n6 7 0 deq 7\n".as_slice()
     );
-    Ok(())
-}
-
-#[test]
-fn writes_a_cover(rt: HostRuntime) -> Result<(), Fail> {
     let covered = history_of(
         rt.alloc(),
         b"fifo-history 1\n0 0 call-enq 7\n1 0 ret-enq\n2 1 call-deq\n3 0 call-enq 9\n4 0 ret-enq\n\
