@@ -11,11 +11,8 @@ use crate::others::{Call, is_called_at, named_place, others_of, place_among};
 use history_merge::{OpKind, Operation};
 use std::alloc::{AllocError, Global};
 
-/// How far from the call for the value dequeued last the call for the next is looked for, where no name gives it.
+/// How far from the call for the value dequeued last the call for the next is looked for.
 const REACH: usize = 64;
-
-/// How far it is looked for before any name is.
-const SHORT_REACH: usize = 16;
 
 /// For each dequeue the place of the call that enqueued its value, accepted or refused, if there is one.
 #[derive(Drop)]
@@ -64,7 +61,7 @@ fn close_sources(alloc: Global, operations: &[Operation]) -> Result<Option<Sourc
             places.push(MaybePlace::none())?;
             continue;
         };
-        let Some(place) = near_place(operations, value, next, SHORT_REACH) else {
+        let Some(place) = near_place(operations, value, next) else {
             return Ok(None);
         };
         all_in_time = all_in_time && !comes_too_soon(operations, *operation, place);
@@ -128,16 +125,16 @@ fn guessed_place(operations: &[Operation], names: &Names, value: u64, from: usiz
 {
     match named_place(operations, names, value) {
         Some(place) => Some(place),
-        None => near_place(operations, value, from, REACH),
+        None => near_place(operations, value, from),
     }
 }
 
 /// The place of the call for this value, where it is so near this place.
 #[inline(always)]
-fn near_place(operations: &[Operation], value: u64, from: usize, reach: usize) -> Option<usize>
+fn near_place(operations: &[Operation], value: u64, from: usize) -> Option<usize>
     ensures { IfSome result (λ place. IsCallPlace operations.now value (Some place)) }
 {
-    for distance in 0..reach {
+    for distance in 0..REACH {
         let after = from.saturating_add(distance);
         if is_called_at(operations, value, after) {
             return Some(after);
