@@ -34,8 +34,8 @@ pub(crate) fn put_in_order(alloc: Global, values: &Values) -> Result<Option<InOr
     let entries = by_time(alloc, values, Moment::Entry)?;
     let dequeues = by_time(alloc, values, Moment::Dequeue)?;
     let mut taken = vec![in alloc; false; values.len()]?;
-    let mut places = Vec::with_capacity(alloc, values.len())?;
     let mut gaps = Vec::with_capacity(alloc, values.len())?;
+    let mut places = Vec::with_capacity(alloc, values.len())?;
     let mut first_in = 0;
     let mut first_out = 0;
     let mut left = 0;
