@@ -1,7 +1,7 @@
 -- The values are put in order by repeated choice.
-use Rattle.std.proofs.Common.{◌≡◌, ℕ, ◌+◌, ◌-◌, ◌<◌, ◌≤◌, max, Bool, true, false, List, [], ◌∷◌, ◌++◌, length, replicate, set, take}
+use Rattle.std.proofs.Common.{◌≡◌, ℕ, ◌+◌, ◌-◌, ◌<◌, ◌≤◌, Bool, true, false, List, [], ◌∷◌, ◌++◌, length, replicate, set, take, Option, None, Some}
 use Rattle.std.proofs.Common.{refl, sym, ◌∙◌, ap, subst, arith}
-use Rattle.std.specs.Prelude.{All, Contains, IsPermutation, slice_get}
+use Rattle.std.specs.Prelude.{All, Contains, IsPermutation, IsSomeAnd, slice_get}
 use Rattle.std.proofs.lemmas.List.{append_assoc, append-nil, length-append, length-map, length-replicate, length-set, length_push, map-append, nil_from_length}
 use Rattle.std.proofs.lemmas.List.Elements.{All-nil, All-push, All-weaker, Contains-append_right}
 use Rattle.std.proofs.lemmas.List.Sorted.{IsPermutation-cons, IsPermutation-map, IsPermutation-pop_more, IsPermutation-refl, IsPermutation-trans}
@@ -11,62 +11,55 @@ use Rattle.history_merge.specs.declared.operation.Operation.{Operation}
 use Rattle.value_match.specs.declared.life.Life.{Life}
 use Rattle.value_match.specs.declared.life.MatchedValue.{MatchedValue}
 use Rattle.value_match.specs.declared.life.TheConstants.{NEVER}
-use Rattle.value_match.specs.Lives.{HoldsLives, enqueue_call, entered_by, leaves_from, lives_of}
+use Rattle.value_match.specs.Lives.{HoldsLives, enqueue_call, entered_by, lives_of}
 use Rattle.value_match.proofs.Lists.{mapped_to}
 use Rattle.linearizer.specs.declared.choice.InOrder.{InOrder}
-use Rattle.linearizer.specs.declared.choice.ValueGaps.{ValueGaps}
-use Rattle.linearizer.specs.Values.{EachIsChoice, IsChoice, IsLeastBy, greatest_leaves_from}
-use Rattle.linearizer.specs.Inner.Placement.{AreCalledInTime, AreGapsOf, IsOrderOfPlaces, elements_at, lives_in}
-use Rattle.linearizer.specs.Inner.Sweep.{AreByTime, IsFirstLeft, IsInOrder, IsLeft, IsPassedOver, IsTaken}
-use Rattle.linearizer.proofs.LeastEntries.{HaveGaps, all_gaps, greatest_of_more, least_is, no_gaps, one_gap_more}
+use Rattle.linearizer.specs.declared.timed.Timed.{Timed}
+use Rattle.linearizer.specs.Values.{EachIsChoice, IsChoice, IsLeastBy}
+use Rattle.linearizer.specs.Inner.Placement.{AreCalledInTime, AreEnqueueGaps, IsOrderOfPlaces, elements_at, lives_in}
+use Rattle.linearizer.specs.Inner.Sweep.{AreByTime, IsFirstLeft, IsInOrder, IsLeft, IsPassedOver, IsTaken, IsTimeOf}
+use Rattle.linearizer.proofs.LeastEntries.{HaveGaps, all_gaps, least_is, no_gaps, one_gap_more}
 use Rattle.linearizer.proofs.OrderedPlaces.{elements_long, elements_push, lives_are}
 use Rattle.linearizer.proofs.Sweeping.{IsLeastLeft, IsNext, all_left, flag_stays, left_of, left_where, one_taken, place_left}
 use Rattle.linearizer.proofs.ValueOrder.{choice_in_other_order}
 
 -- some values are done, of which each is the choice among itself and all that may come after it, and is called in time; with their gaps
-pub record IsOrderedSoFar (values done left : List MatchedValue) (gaps : List ValueGaps) (leaves : ℕ) : Type 0 where
+pub record IsOrderedSoFar (values done left : List MatchedValue) (gaps : List ℕ) : Type 0 where
   pub holds_each_once : IsPermutation values (done ++ left)
   pub each_is_choice : (rest : List Life) → IsPermutation (lives_in left) rest → EachIsChoice rest → EachIsChoice (lives_in done ++ rest)
   pub one_gap_each : length gaps ≡ length (lives_in done)
-  pub leaves_are : leaves ≡ greatest_leaves_from (lives_in done)
   pub have_gaps : (rest : List Life) → IsPermutation (lives_in left) rest → HaveGaps (lives_in done ++ rest) gaps
 
 -- no value is in order at first
-pub none_ordered : (values : List MatchedValue) → IsOrderedSoFar values [] values [] 0
+pub none_ordered : (values : List MatchedValue) → IsOrderedSoFar values [] values []
 none_ordered values = record {
   holds_each_once = IsPermutation-refl values;
   each_is_choice = λ rest moved each. each;
   one_gap_each = refl;
-  leaves_are = refl;
   have_gaps = λ rest moved. no_gaps rest;
 }
 
 -- the choice among those left comes next, which is called before the first of these has entered
-pub ordered_more : (values done left left' : List MatchedValue) (x : MatchedValue) (first : Life) (time : ℕ) (gaps : List ValueGaps)
-    (leaves leaves' : ℕ) (more : ValueGaps) → IsOrderedSoFar values done left gaps leaves → IsPermutation left (x ∷ left') → IsChoice (lives_in left) x.life
+pub ordered_more : (values done left left' : List MatchedValue) (x : MatchedValue) (first : Life) (time : ℕ) (gaps : List ℕ)
+    → IsOrderedSoFar values done left gaps → IsPermutation left (x ∷ left') → IsChoice (lives_in left) x.life
     → IsLeastBy entered_by (lives_in left) first → entered_by first ≤ NEVER → time ≡ entered_by first → enqueue_call x.life < time
-    → leaves' ≡ max (leaves_from x.life) leaves → (more.enqueue ≡ time - 1) × (more.dequeue ≡ max leaves' (time - 1))
-    → IsOrderedSoFar values (done ++ x ∷ []) left' (gaps ++ more ∷ []) leaves'
-ordered_more values done left left' x first time gaps leaves leaves' more so_far moved chosen least bound time_is called leaves_more are = record {
+    → IsOrderedSoFar values (done ++ x ∷ []) left' (gaps ++ (time - 1) ∷ [])
+ordered_more values done left left' x first time gaps so_far moved chosen least bound time_is called = record {
   holds_each_once = IsPermutation-pop_more values done left left' x so_far.holds_each_once moved;
   each_is_choice = λ rest other each.
       let all = through rest other in
       let whole = so_far.each_is_choice (x.life ∷ rest) all (choice_in_other_order (lives_in left) (x.life ∷ rest) x.life all chosen, each) in
       rw (map-append (λ m. m.life) done (x ∷ []), append_assoc (lives_in done) (x.life ∷ []) rest) whole;
   one_gap_each =
-      length_push gaps more ∙ ap (λ n. n + 1) so_far.one_gap_each
+      length_push gaps (time - 1) ∙ ap (λ n. n + 1) so_far.one_gap_each
       ∙ sym (ap length (map-append (λ m. m.life) done (x ∷ [])) ∙ length_push (lives_in done) x.life);
-  leaves_are = all_leave ∙ sym (ap greatest_leaves_from (map-append (λ m. m.life) done (x ∷ [])));
   have_gaps = λ rest other.
       let all = through rest other in
       let entry = least_is (lives_in left) (x.life ∷ rest) first least all bound ∙ sym time_is in
-      let whole = one_gap_more (lives_in done) x.life rest gaps time leaves' more so_far.one_gap_each entry called all_leave are (so_far.have_gaps (x.life ∷ rest) all) in
+      let whole = one_gap_more (lives_in done) x.life rest gaps time so_far.one_gap_each entry called (so_far.have_gaps (x.life ∷ rest) all) in
       rw (map-append (λ m. m.life) done (x ∷ []), append_assoc (lives_in done) (x.life ∷ []) rest) whole;
 }
   where
-    all_leave : leaves' ≡ greatest_leaves_from (lives_in done ++ x.life ∷ [])
-    all_leave = let more = greatest_of_more (lives_in done) x.life in omega (arith, more, leaves_more, so_far.leaves_are)
-
     through : (rest : List Life) → IsPermutation (lives_in left') rest → IsPermutation (lives_in left) (x.life ∷ rest)
     through rest other =
         IsPermutation-trans (lives_in left) (x.life ∷ lives_in left') (x.life ∷ rest)
@@ -74,72 +67,78 @@ ordered_more values done left left' x first time gaps leaves leaves' more so_far
         (IsPermutation-cons x.life (lives_in left') rest other)
 
 -- all before the cursors are taken, and those taken are in order
-pub record IsSwept (values : List MatchedValue) (entries dequeues : List ℕ) (taken : List Bool) (first_in first_out leaves : ℕ) (ordered : List ℕ)
-    (gaps : List ValueGaps) : Type 0 where
+pub record IsSwept (values : List MatchedValue) (entries dequeues : List Timed) (taken : List Bool) (first_in first_out : ℕ) (ordered gaps : List ℕ)
+    : Type 0 where
   pub one_flag_each : length taken ≡ length values
   pub entries_before : All (IsTaken taken) (take first_in entries)
   pub dequeues_before : All (IsTaken taken) (take first_out dequeues)
   pub within : All (λ place. place < length values) ordered
-  pub so_far : IsOrderedSoFar values (elements_at values ordered) (left_of values taken) gaps leaves
+  pub so_far : IsOrderedSoFar values (elements_at values ordered) (left_of values taken) gaps
 
 -- nothing is swept at first
-pub nothing_swept : (values : List MatchedValue) (entries dequeues : List ℕ) → IsSwept values entries dequeues (replicate (length values) false) 0 0 0 [] []
+pub nothing_swept : (values : List MatchedValue) (entries dequeues : List Timed) → IsSwept values entries dequeues (replicate (length values) false) 0 0 [] []
 nothing_swept values entries dequeues = record {
   one_flag_each = length-replicate (length values) false;
   entries_before = All-nil (IsTaken (replicate (length values) false));
   dequeues_before = All-nil (IsTaken (replicate (length values) false));
   within = All-nil (λ place. place < length values);
-  so_far = subst (λ left. IsOrderedSoFar values [] left [] 0) (sym (all_left values)) (none_ordered values);
+  so_far = subst (λ left. IsOrderedSoFar values [] left []) (sym (all_left values)) (none_ordered values);
 }
 
 -- while not all are in order, some value is left
-pub some_left : (number : Life → ℕ) (values : List MatchedValue) (entries : List ℕ) (taken : List Bool) (ordered : List ℕ)
-    (gaps : List ValueGaps) (leaves : ℕ) → AreByTime number values entries → All (λ place. place < length values) ordered
-    → IsOrderedSoFar values (elements_at values ordered) (left_of values taken) gaps leaves → length ordered < length values
-    → (place : ℕ) × Contains entries place × IsLeft taken place
-some_left number values entries taken ordered gaps leaves are within so_far fewer = from_rest (left_of values taken) refl
+pub some_left : (number : Life → ℕ) (values : List MatchedValue) (entries : List Timed) (taken : List Bool) (ordered gaps : List ℕ)
+    → AreByTime number values entries → All (λ place. place < length values) ordered
+    → IsOrderedSoFar values (elements_at values ordered) (left_of values taken) gaps → length ordered < length values
+    → (timed : Timed) × Contains entries timed × IsLeft taken timed
+some_left number values entries taken ordered gaps are within so_far fewer = from_rest (left_of values taken) refl
   where
     count : length (elements_at values ordered ++ left_of values taken) ≡ length values
     count = length_permutation values (elements_at values ordered ++ left_of values taken) so_far.holds_each_once
 
-    from_rest : (rest : List MatchedValue) → left_of values taken ≡ rest → (place : ℕ) × Contains entries place × IsLeft taken place
+    from_rest : (rest : List MatchedValue) → left_of values taken ≡ rest → (timed : Timed) × Contains entries timed × IsLeft taken timed
     from_rest [] is = absurd (let same = ap length is in let long = elements_long values ordered within in
         omega (arith, count, length-append (elements_at values ordered) (left_of values taken), same))
     from_rest (y ∷ rest) is =
         let place = place_left values taken 0 y (ap (λ ys. slice_get ys 0) is) in
-        (place.0, are.has_each place.0 (slice_get_within values place.0 y place.1), place.2)
+        let entry = are.has_each place.0 (slice_get_within values place.0 y place.1) in
+        (entry.0, entry.1, ap (slice_get taken) entry.2 ∙ place.2)
 
--- each place has its flag
-pub flags_within : (number : Life → ℕ) (values : List MatchedValue) (entries : List ℕ) (taken : List Bool) → AreByTime number values entries
-    → length taken ≡ length values → All (λ place. place < length taken) entries
-flags_within number values entries taken are same = subst (λ n. All (λ place. place < n) entries) (sym same) are.within
+-- each entry has its flag
+pub flags_within : (number : Life → ℕ) (values : List MatchedValue) (entries : List Timed) (taken : List Bool) → AreByTime number values entries
+    → length taken ≡ length values → All (λ timed. timed.place < length taken) entries
+flags_within number values entries taken are same =
+    All-weaker (IsTimeOf number values) (λ timed. timed.place < length taken)
+    (λ timed is. subst (λ n. timed.place < n) (sym same) (within timed (slice_get values timed.place) refl is)) entries are.are_timed
+  where
+    within : (timed : Timed) (o : Option MatchedValue) → slice_get values timed.place ≡ o → IsSomeAnd o (λ m. timed.time ≡ number m.life)
+        → timed.place < length values
+    within timed None at is = absurd is
+    within timed (Some m) at is = slice_get_within values timed.place m at
 
 -- one value more is swept
-pub swept_more : (values : List MatchedValue) (entries dequeues : List ℕ) (taken : List Bool) (i j first_in first_out leaves leaves' : ℕ) (ordered : List ℕ)
-    (gaps : List ValueGaps) (place first : ℕ) (more : ValueGaps) (next : IsNext values taken place)
-    → IsSwept values entries dequeues taken i j leaves ordered gaps
-    → IsFirstLeft entries taken first_in → IsFirstLeft dequeues taken first_out → (least : IsLeastLeft entered_by values taken first)
-    → entered_by least.value.life ≤ NEVER → enqueue_call next.value.life < entered_by least.value.life
-    → leaves' ≡ max (leaves_from next.value.life) leaves → (more.enqueue ≡ entered_by least.value.life - 1) × (more.dequeue ≡ max leaves' (entered_by least.value.life - 1))
-    → IsSwept values entries dequeues (set taken place true) first_in first_out leaves' (ordered ++ place ∷ []) (gaps ++ more ∷ [])
-swept_more values entries dequeues taken i j first_in first_out leaves leaves' ordered gaps place first more next swept a b least bound called leaves_more are = record {
+pub swept_more : (values : List MatchedValue) (entries dequeues : List Timed) (taken : List Bool) (i j first_in first_out : ℕ) (ordered gaps : List ℕ)
+    (place : ℕ) (entry : Timed) (next : IsNext values taken place) → IsSwept values entries dequeues taken i j ordered gaps
+    → IsFirstLeft entries taken first_in → IsFirstLeft dequeues taken first_out → (least : IsLeastLeft entered_by values taken entry)
+    → entered_by least.value.life ≤ NEVER → enqueue_call next.value.life < entry.time
+    → IsSwept values entries dequeues (set taken place true) first_in first_out (ordered ++ place ∷ []) (gaps ++ (entry.time - 1) ∷ [])
+swept_more values entries dequeues taken i j first_in first_out ordered gaps place entry next swept a b least bound called = record {
   one_flag_each = length-set taken place true ∙ swept.one_flag_each;
-  entries_before = All-weaker (IsTaken taken) (IsTaken (set taken place true)) (λ other is. flag_stays taken place other is)
+  entries_before = All-weaker (IsTaken taken) (IsTaken (set taken place true)) (λ timed is. flag_stays taken place timed.place is)
       (take first_in entries) a.before;
-  dequeues_before = All-weaker (IsTaken taken) (IsTaken (set taken place true)) (λ other is. flag_stays taken place other is)
+  dequeues_before = All-weaker (IsTaken taken) (IsTaken (set taken place true)) (λ timed is. flag_stays taken place timed.place is)
       (take first_out dequeues) b.before;
   within = All-push (λ place. place < length values) ordered place swept.within (slice_get_within values place next.value next.is_at);
   so_far =
-      subst (λ done. IsOrderedSoFar values done (left_of values (set taken place true)) (gaps ++ more ∷ []) leaves')
+      subst (λ done. IsOrderedSoFar values done (left_of values (set taken place true)) (gaps ++ (entry.time - 1) ∷ []))
       (sym (elements_push values ordered place next.value next.is_at))
-      (ordered_more values (elements_at values ordered) (left_of values taken) (left_of values (set taken place true)) next.value least.value.life (entered_by least.value.life)
-      gaps leaves leaves' more swept.so_far (one_taken values taken place next.value next.is_at next.is_left) next.is_choice least.is_least bound refl called leaves_more are);
+      (ordered_more values (elements_at values ordered) (left_of values taken) (left_of values (set taken place true)) next.value least.value.life entry.time
+      gaps swept.so_far (one_taken values taken place next.value next.is_at next.is_left) next.is_choice least.is_least bound least.time_is called);
 }
 
 -- all values are swept
-pub all_swept : (values : List MatchedValue) (entries dequeues : List ℕ) (taken : List Bool) (i j leaves : ℕ) (order : InOrder)
-    → IsSwept values entries dequeues taken i j leaves order.places.items order.gaps.items → length values ≤ length order.places.items → IsInOrder values order
-all_swept values entries dequeues taken i j leaves order swept all = record {
+pub all_swept : (values : List MatchedValue) (entries dequeues : List Timed) (taken : List Bool) (i j : ℕ) (order : InOrder)
+    → IsSwept values entries dequeues taken i j order.places.items order.gaps.items → length values ≤ length order.places.items → IsInOrder values order
+all_swept values entries dequeues taken i j order swept all = record {
   within = swept.within;
   holds_each_once = subst (IsPermutation values) (append-nil done) so_far.holds_each_once;
   each_is_choice = subst EachIsChoice (append-nil (lives_in done)) (so_far.each_is_choice [] (IsPermutation-refl []) tt);
@@ -156,18 +155,18 @@ all_swept values entries dequeues taken i j leaves order swept all = record {
         let long = elements_long values order.places.items swept.within in
         nil_from_length (left_of values taken) (omega (arith, count, length-append done (left_of values taken)))
 
-    so_far : IsOrderedSoFar values done [] order.gaps.items leaves
-    so_far = subst (λ left. IsOrderedSoFar values done left order.gaps.items leaves) none swept.so_far
+    so_far : IsOrderedSoFar values done [] order.gaps.items
+    so_far = subst (λ left. IsOrderedSoFar values done left order.gaps.items) none swept.so_far
 
-    gaps : AreGapsOf (lives_in done) order.gaps.items × AreCalledInTime (lives_in done)
+    gaps : AreEnqueueGaps (lives_in done) order.gaps.items × AreCalledInTime (lives_in done)
     gaps = all_gaps (lives_in done) order.gaps.items so_far.one_gap_each
         (subst (λ lives. HaveGaps lives order.gaps.items) (append-nil (lives_in done)) (so_far.have_gaps [] (IsPermutation-refl [])))
 
 -- the choice among those left is called after one of these has entered
-pub passed_over : (values : List MatchedValue) (taken : List Bool) (done : List MatchedValue) (gaps : List ValueGaps) (leaves place first : ℕ)
-    (next : IsNext values taken place) → IsOrderedSoFar values done (left_of values taken) gaps leaves → (least : IsLeastLeft entered_by values taken first)
-    → entered_by least.value.life ≤ enqueue_call next.value.life → IsPassedOver values
-passed_over values taken done gaps leaves place first next so_far least late = record {
+pub passed_over : (values : List MatchedValue) (taken : List Bool) (done : List MatchedValue) (gaps : List ℕ) (place : ℕ) (entry : Timed)
+    (next : IsNext values taken place) → IsOrderedSoFar values done (left_of values taken) gaps → (least : IsLeastLeft entered_by values taken entry)
+    → entry.time ≤ enqueue_call next.value.life → IsPassedOver values
+passed_over values taken done gaps place entry next so_far least late = record {
   remaining = lives_in (left_of values taken);
   among = λ life in_left. Contains-permutation (lives_in done ++ lives_in (left_of values taken)) (lives_in values) life
       (IsPermutation-sym (lives_in values) (lives_in done ++ lives_in (left_of values taken)) all)
@@ -177,7 +176,7 @@ passed_over values taken done gaps leaves place first next so_far least late = r
   next_is_left = mapped_to (λ m. m.life) (left_of values taken) next.value (left_where values taken place next.value next.is_at next.is_left);
   entered = least.value.life;
   is_left = least.is_least.0;
-  too_late = late;
+  too_late = omega (arith, late, least.time_is);
 }
   where
     all : IsPermutation (lives_in values) (lives_in done ++ lives_in (left_of values taken))

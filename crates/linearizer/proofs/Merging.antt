@@ -68,15 +68,15 @@ next_noop noops k x p never at from before =
     ]
 
 -- one operation more, than which none of those ahead stands before
-module _ (operations : List Operation) (lives : List Life) (noops : List Placed) (i j k : ℕ) (places : List ℕ)
-    (merged : IsMergedUpTo operations lives noops i j k places) where
+module _ (operations : List Operation) (lives : List Life) (noops : List Placed) (i j left k : ℕ) (places : List ℕ)
+    (merged : IsMergedUpTo operations lives noops i j left k places) where
   -- the merged list grows by an operation before which none of those ahead stands
-  pub grown : (i' j' k' : ℕ) (x : Placed) (values' : List Placed) → HoldsUpTo operations lives i' j' values'
+  pub grown : (i' j' left' k' : ℕ) (x : Placed) (values' : List Placed) → HoldsUpTo operations lives i' j' left' values'
       → IsPermutation ((merged.values ++ take k noops) ++ x ∷ []) (values' ++ take k' noops)
       → IsAhead lives noops i j k (position_of x.position) → ((p : Position) → IsAhead lives noops i' j' k' p → IsAhead lives noops i j k p)
       → NoneBelow (IsAhead lives noops i' j' k') (Some x.position)
-      → IsMergedUpTo operations lives noops i' j' k' (places ++ x.operation ∷ [])
-  grown i' j' k' x values' held moved ahead still none = record {
+      → IsMergedUpTo operations lives noops i' j' left' k' (places ++ x.operation ∷ [])
+  grown i' j' left' k' x values' held moved ahead still none = record {
     values = values';
     held = held;
     sorted = merged.sorted ++ x ∷ [];
@@ -93,8 +93,8 @@ module _ (operations : List Operation) (lives : List Life) (noops : List Placed)
   }
 
   -- a value more, with or without a dequeue that is placed
-  pub passed : HoldsUpTo operations lives i (j + 1) merged.values → IsMergedUpTo operations lives noops i (j + 1) k places
-  passed held = record {
+  pub passed : (left' : ℕ) → HoldsUpTo operations lives i (j + 1) left' merged.values → IsMergedUpTo operations lives noops i (j + 1) left' k places
+  passed left' held = record {
     values = merged.values;
     held = held;
     sorted = merged.sorted;
@@ -111,12 +111,12 @@ module _ (operations : List Operation) (lives : List Life) (noops : List Placed)
       later p (inr noop) = inr noop
 
   -- the next dequeue, past the no-ops and the enqueues that are left
-  pub dequeue_added : (x : Placed) → HoldsUpTo operations lives i (j + 1) (merged.values ++ x ∷ []) → j < length lives
+  pub dequeue_added : (left' : ℕ) (x : Placed) → HoldsUpTo operations lives i (j + 1) left' (merged.values ++ x ∷ []) → j < length lives
       → position_of x.position ≡ dequeue_position lives j
       → NoneBelow (IsEnqueueFrom lives i) (Some x.position) → NoneBelow (IsNoopFrom noops k) (Some x.position)
-      → IsMergedUpTo operations lives noops i (j + 1) k (places ++ x.operation ∷ [])
-  dequeue_added x held within stands enqueues noop =
-      grown i (j + 1) k x (merged.values ++ x ∷ []) held
+      → IsMergedUpTo operations lives noops i (j + 1) left' k (places ++ x.operation ∷ [])
+  dequeue_added left' x held within stands enqueues noop =
+      grown i (j + 1) left' k x (merged.values ++ x ∷ []) held
       (IsPermutation-sym ((merged.values ++ x ∷ []) ++ take k noops) ((merged.values ++ take k noops) ++ x ∷ [])
       (one_more_among merged.values (take k noops) (merged.values ++ take k noops) x (IsPermutation-refl (merged.values ++ take k noops))))
       (inl (inr (j, omega arith, within, stands))) later none
@@ -132,12 +132,12 @@ module _ (operations : List Operation) (lives : List Life) (noops : List Placed)
       none p (inr is) = noop p is
 
   -- the next enqueue, past the dequeues and the no-ops that are left
-  pub enqueue_added : (x : Placed) → HoldsUpTo operations lives (i + 1) j (merged.values ++ x ∷ []) → i < length lives
+  pub enqueue_added : (x : Placed) → HoldsUpTo operations lives (i + 1) j left (merged.values ++ x ∷ []) → i < length lives
       → position_of x.position ≡ enqueue_position lives i
       → NoneBelow (IsDequeueFrom lives j) (Some x.position) → NoneBelow (IsNoopFrom noops k) (Some x.position)
-      → IsMergedUpTo operations lives noops (i + 1) j k (places ++ x.operation ∷ [])
+      → IsMergedUpTo operations lives noops (i + 1) j left k (places ++ x.operation ∷ [])
   enqueue_added x held within stands dequeues noop =
-      grown (i + 1) j k x (merged.values ++ x ∷ []) held
+      grown (i + 1) j left k x (merged.values ++ x ∷ []) held
       (IsPermutation-sym ((merged.values ++ x ∷ []) ++ take k noops) ((merged.values ++ take k noops) ++ x ∷ [])
       (one_more_among merged.values (take k noops) (merged.values ++ take k noops) x (IsPermutation-refl (merged.values ++ take k noops))))
       (inl (inl (i, omega arith, within, stands))) later none
@@ -154,9 +154,9 @@ module _ (operations : List Operation) (lives : List Life) (noops : List Placed)
 
   -- the next no-op, past the values that are left
   pub noop_added : (x : Placed) → NeverFall noops → slice_get noops k ≡ Some x → NoneBelow (IsValueFrom lives i j) (Some x.position)
-      → IsMergedUpTo operations lives noops i j (k + 1) (places ++ x.operation ∷ [])
+      → IsMergedUpTo operations lives noops i j left (k + 1) (places ++ x.operation ∷ [])
   noop_added x never at values =
-      grown i j (k + 1) x merged.values merged.held
+      grown i j left (k + 1) x merged.values merged.held
       (subst (IsPermutation ((merged.values ++ take k noops) ++ x ∷ []))
       (append_assoc merged.values (take k noops) (x ∷ []) ∙ ap (λ xs. merged.values ++ xs) (sym longer))
       (IsPermutation-refl ((merged.values ++ take k noops) ++ x ∷ [])))
@@ -174,7 +174,7 @@ module _ (operations : List Operation) (lives : List Life) (noops : List Placed)
       none p (inr is) = next_noop noops k x p never at (is.0, is.1, omega (arith, is.2), is.3, is.4)
 
 -- nothing is merged at first
-pub nothing_merged : (operations : List Operation) (lives : List Life) (noops : List Placed) → IsMergedUpTo operations lives noops 0 0 0 []
+pub nothing_merged : (operations : List Operation) (lives : List Life) (noops : List Placed) → IsMergedUpTo operations lives noops 0 0 0 0 []
 nothing_merged operations lives noops = record {
   values = [];
   held = nothing_placed operations lives;
@@ -249,12 +249,12 @@ all_noop noops k none =
     elim order [ inl all ↦ all | inr more ↦ absurd (none (position_of x.position) (k, x, omega arith, slice_get-get_or noops k nowhere more, refl)) ]
 
 -- all are merged
-pub all_merged : (operations : List Operation) (order : List ℕ) (noops : List Placed) (i j k : ℕ) (places : List ℕ)
+pub all_merged : (operations : List Operation) (order : List ℕ) (noops : List Placed) (i j left k : ℕ) (places : List ℕ)
     → IsOrderOfPlaces operations order → length order ≤ i → NoneBelow (IsDequeueFrom (lives_at operations order) j) None
-    → NoneBelow (IsNoopFrom noops k) None → IsMergedUpTo operations (lives_at operations order) noops i j k places → IsMerge operations noops places
-all_merged operations order noops i j k places is all_in all_out none merged = (
+    → NoneBelow (IsNoopFrom noops k) None → IsMergedUpTo operations (lives_at operations order) noops i j left k places → IsMerge operations noops places
+all_merged operations order noops i j left k places is all_in all_out none merged = (
   merged.values,
-  all_placed operations order i j merged.values is all_in (omega
+  all_placed operations order i j left merged.values is all_in (omega
       (arith, all_dequeued (lives_at operations order) j all_out, lives_long operations order is)) merged.held,
   record {
     sorted = merged.sorted;

@@ -1,8 +1,8 @@
 -- The enqueues and dequeues of the values are listed, each at its position.
-use Rattle.std.proofs.Common.{◌≡◌, ℕ, ◌+◌, ◌<◌, ◌≤◌, List, [], ◌∷◌, ◌++◌, length, get_or, take, Option, Some, None, refl, sym, ◌∙◌, ap, subst, arith}
-use Rattle.std.specs.Prelude.{IsPermutation, MatchOption, if◌then◌else◌, nat_lt, option_to_list, slice_get}
+use Rattle.std.proofs.Common.{◌≡◌, ℕ, ◌+◌, ◌<◌, ◌≤◌, max, List, [], ◌∷◌, ◌++◌, length, get_or, map, take, Option, Some, None, refl, sym, ◌∙◌, ap, subst, arith}
+use Rattle.std.specs.Prelude.{IsPermutation, MatchOption, fold, if◌then◌else◌, nat_lt, option_to_list, slice_get}
 use Rattle.std.specs.List.{AllZip, cons_option}
-use Rattle.std.proofs.lemmas.List.{append-nil, append_assoc, map-append, take_all, take_more}
+use Rattle.std.proofs.lemmas.List.{append-nil, append_assoc, get_or_default, map-append, take_all, take_more}
 use Rattle.std.proofs.lemmas.List.Elements.{filter_map-append}
 use Rattle.std.proofs.lemmas.List.Sorted.{IsPermutation-append_left, IsPermutation-cons, IsPermutation-middle, IsPermutation-refl, IsPermutation-sym}
 use Rattle.std.proofs.lemmas.List.Sorted.{IsPermutation-to_front, IsPermutation-trans}
@@ -14,15 +14,17 @@ use Rattle.history_merge.specs.Operations.{Did, IsAt, NoneDid}
 use Rattle.history_merge.proofs.Distinct.{contains_at}
 use Rattle.value_match.specs.declared.life.Life.{Life}
 use Rattle.value_match.specs.declared.life.MatchedValue.{MatchedValue}
-use Rattle.value_match.specs.Lives.{HoldsLives, IsLife, IsMaybeAt, dequeue_of, enqueue_of, HasPlaces}
+use Rattle.value_match.specs.Lives.{HoldsLives, IsLife, IsMaybeAt, leaves_from, dequeue_of, enqueue_of, HasPlaces}
 use Rattle.linearizer.specs.declared.position.Placed.{Placed}
-use Rattle.linearizer.specs.Values.{IsValueOrder, enqueue_gap}
+use Rattle.linearizer.specs.Values.{IsValueOrder, dequeue_gap, enqueue_gap, greatest_leaves_from}
 use Rattle.linearizer.specs.Order.{IsPositionFor, dequeue_position, earlier_dequeues, enqueues, other_dequeues}
-use Rattle.linearizer.specs.declared.choice.ValueGaps.{ValueGaps}
-use Rattle.linearizer.specs.Inner.Placement.{AreGapsOf, HoldsUpTo, HoldsValues, IsOrderOfPlaces, IsPlaced, dequeues_of, enqueues_of, gaps_of, lives_at}
-use Rattle.linearizer.specs.Inner.Placement.{position_of}
+use Rattle.linearizer.specs.Inner.Placement.{AreEnqueueGaps, HoldsUpTo, HoldsValues, IsOrderOfPlaces, IsPlaced, dequeues_of, enqueues_of, lives_at, position_of}
 use Rattle.linearizer.proofs.OrderedPlaces.{IsValueAt, lives_long, value_at}
 use Rattle.linearizer.proofs.Opposites.{is_life}
+
+fold_max-append : (a : ℕ) (xs ys : List ℕ) → fold max a (xs ++ ys) ≡ fold max (fold max a xs) ys
+fold_max-append a [] ys = refl
+fold_max-append a (x ∷ xs) ys = fold_max-append (max a x) xs ys
 
 -- one more in the midst of a list
 pub one_more_among : {X : Type 0} (xs ys zs : List X) (x : X) → IsPermutation (xs ++ ys) zs → IsPermutation ((xs ++ x ∷ []) ++ ys) (zs ++ x ∷ [])
@@ -39,13 +41,15 @@ zip_joined R [] xs' (y ∷ ys) ys' zip zip' = absurd zip
 zip_joined R (x ∷ xs) xs' [] ys' zip zip' = absurd zip
 zip_joined R (x ∷ xs) xs' (y ∷ ys) ys' zip zip' = (zip.0, zip_joined R xs xs' ys ys' zip.1 zip')
 
--- where a dequeue stands that is placed at its gap
-pub dequeue_stands : (lives : List Life) (i : ℕ) (gaps : ValueGaps) (placed : Placed) → gaps ≡ gaps_of lives i
-    → position_of placed.position
-    ≡ record { gap = gaps.dequeue; class = (if nat_lt gaps.enqueue gaps.dequeue then earlier_dequeues else other_dequeues); rank = i }
+-- where a dequeue stands that is placed at the greatest of these times
+pub dequeue_stands : (lives : List Life) (i gap left later : ℕ) (placed : Placed) → gap ≡ enqueue_gap lives i
+    → left ≡ greatest_leaves_from (take (i + 1) lives) → later ≡ max left gap
+    → position_of placed.position ≡ record { gap = later; class = (if nat_lt gap later then earlier_dequeues else other_dequeues); rank = i }
     → position_of placed.position ≡ dequeue_position lives i
-dequeue_stands lives i gaps placed are stands =
-    stands ∙ ap (λ g. record { gap = g.dequeue; class = (if nat_lt g.enqueue g.dequeue then earlier_dequeues else other_dequeues); rank = i }) are
+dequeue_stands lives i gap left later placed gap_is left_is later_is stands =
+    let last : later ≡ dequeue_gap lives i = later_is ∙ ap (λ m. max m gap) left_is ∙ ap (max (greatest_leaves_from (take (i + 1) lives))) gap_is in
+    stands ∙ ap (λ g. record { gap = later; class = (if nat_lt g later then earlier_dequeues else other_dequeues); rank = i }) gap_is
+    ∙ ap (λ g. record { gap = g; class = (if nat_lt (enqueue_gap lives i) g then earlier_dequeues else other_dequeues); rank = i }) last
 
 -- one value more, of which the gaps and the tickets are known
 module _ (operations : List Operation) (lives : List Life) (order : IsValueOrder operations lives) (i : ℕ) (life : Life)
@@ -55,6 +59,11 @@ module _ (operations : List Operation) (lives : List Life) (order : IsValueOrder
 
   longer : take (i + 1) lives ≡ take i lives ++ life ∷ []
   longer = take_more lives i life (slice_get_within lives i life at) ∙ ap (λ x. take i lives ++ x ∷ []) (get_or_from_slice_get lives i life life at)
+
+  pub greatest_more : greatest_leaves_from (take (i + 1) lives) ≡ max (greatest_leaves_from (take i lives)) (leaves_from life)
+  greatest_more =
+      ap greatest_leaves_from longer ∙ ap (fold max 0) (map-append leaves_from (take i lives) (life ∷ []))
+      ∙ fold_max-append 0 (map leaves_from (take i lives)) (leaves_from life ∷ [])
 
   enqueues_more : enqueues_of (take (i + 1) lives) ≡ enqueues_of (take i lives) ++ enqueue_of life ∷ []
   enqueues_more = ap enqueues_of longer ∙ map-append enqueue_of (take i lives) (life ∷ [])
@@ -77,27 +86,27 @@ module _ (operations : List Operation) (lives : List Life) (order : IsValueOrder
           subst (λ k. IsPositionFor operations lives (enqueue_of life) k (position_of placed.position)) (sym same)
           (i, life, at, refl, stands ∙ ap (λ g. record { gap = g; class = enqueues; rank = i }) gap_is)
 
-  dequeue_placed : (gaps : ValueGaps) (d : Operation) (placed : Placed) → gaps ≡ gaps_of lives i → dequeue_of life ≡ Some d
+  dequeue_placed : (gap left later : ℕ) (d : Operation) (placed : Placed) → gap ≡ enqueue_gap lives i
+      → left ≡ greatest_leaves_from (take (i + 1) lives) → later ≡ max left gap → dequeue_of life ≡ Some d
       → IsAt operations placed.operation d → position_of placed.position
-      ≡ record { gap = gaps.dequeue; class = (if nat_lt gaps.enqueue gaps.dequeue then earlier_dequeues else other_dequeues); rank = i }
-      → IsPlaced operations lives d placed
-  dequeue_placed gaps d placed are dequeues names stands = (names, stands_for d.kind did.1)
+      ≡ record { gap = later; class = (if nat_lt gap later then earlier_dequeues else other_dequeues); rank = i } → IsPlaced operations lives d placed
+  dequeue_placed gap left later d placed gap_is left_is later_is dequeues names stands = (names, stands_for d.kind did.1)
     where
       did : Did operations d (Deq is.0)
       did = subst (λ e. MatchOption e (NoneDid operations (Deq is.0)) (λ d. Did operations d (Deq is.0))) dequeues is.2
 
       there : position_of placed.position ≡ dequeue_position lives i
-      there = dequeue_stands lives i gaps placed are stands
+      there = dequeue_stands lives i gap left later placed gap_is left_is later_is stands
 
       stands_for : (k : OpKind) → k ≡ Deq is.0 → IsPositionFor operations lives d k (position_of placed.position)
       stands_for k same = subst (λ k. IsPositionFor operations lives d k (position_of placed.position)) (sym same) (i, life, at, dequeues, there)
 
--- what is known at the turn of a value: its place, and its gaps
-pub record IsTurn (operations : List Operation) (lives : List Life) (i : ℕ) (m : MatchedValue) (gaps : ValueGaps) : Type 0 where
+-- what is known at the turn of a value: its place, and the gap of its enqueue
+pub record IsTurn (operations : List Operation) (lives : List Life) (i : ℕ) (m : MatchedValue) (gap : ℕ) : Type 0 where
   pub order : IsValueOrder operations lives
   pub places : HasPlaces operations m
   pub at : slice_get lives i ≡ Some m.life
-  pub gaps_are : gaps ≡ gaps_of lives i
+  pub gap_is : gap ≡ enqueue_gap lives i
 
 -- the place and the rank are in range
 pub value_within : (operations : List Operation) (values : List MatchedValue) (places : List ℕ) (i place : ℕ) → HoldsLives operations values
@@ -105,26 +114,22 @@ pub value_within : (operations : List Operation) (values : List MatchedValue) (p
 value_within operations values places i place holds order at = let here = value_at operations values places i place holds order at in
     slice_get_within values place here.value here.is_at
 
--- each place has its gaps
-pub gap_within : (operations : List Operation) (places : List ℕ) (gaps : List ValueGaps) (i place : ℕ) → IsOrderOfPlaces operations places
-    → AreGapsOf (lives_at operations places) gaps → slice_get places i ≡ Some place → i < length gaps
+-- each place has its gap
+pub gap_within : (operations : List Operation) (places gaps : List ℕ) (i place : ℕ) → IsOrderOfPlaces operations places
+    → AreEnqueueGaps (lives_at operations places) gaps → slice_get places i ≡ Some place → i < length gaps
 gap_within operations places gaps i place order are_gaps at =
     omega (arith, are_gaps.one_each, lives_long operations places order, slice_get_within places i place at)
 
--- what is read where there are no gaps
-abbrev pub no_gaps : ValueGaps
-no_gaps = record { enqueue = 0; dequeue = 0 }
-
 -- the turn, by what is read in it
-pub turn_is : (operations : List Operation) (values : List MatchedValue) (places : List ℕ) (gaps : List ValueGaps) (i place : ℕ) (m : MatchedValue)
-    (read d : ValueGaps) → HoldsLives operations values → IsOrderOfPlaces operations places → AreGapsOf (lives_at operations places) gaps
-    → slice_get places i ≡ Some place → m ≡ get_or values place m → read ≡ get_or gaps i d
-    → IsTurn operations (lives_at operations places) i m read
-turn_is operations values places gaps i place m read d holds order are_gaps at reads here_read = record {
+pub turn_is : (operations : List Operation) (values : List MatchedValue) (places gaps : List ℕ) (i place : ℕ) (m : MatchedValue) (gap d : ℕ)
+    → HoldsLives operations values → IsOrderOfPlaces operations places → AreEnqueueGaps (lives_at operations places) gaps
+    → slice_get places i ≡ Some place → m ≡ get_or values place m → gap ≡ get_or gaps i d → IsTurn operations (lives_at operations places) i m gap
+turn_is operations values places gaps i place m gap d holds order are_gaps at reads gap_here = record {
   order = order.in_order;
   places = subst (HasPlaces operations) (sym same) here.has_places;
   at = here.has_rank ∙ ap (λ m. Some m.life) (sym same);
-  gaps_are = here_read ∙ are_gaps.at_each i d (slice_get_within (lives_at operations places) i here.value.life here.has_rank);
+  gap_is = gap_here ∙ get_or_default gaps i d 0 (gap_within operations places gaps i place order are_gaps at)
+      ∙ are_gaps.at_each i (slice_get_within (lives_at operations places) i here.value.life here.has_rank);
 }
   where
     here : IsValueAt operations values places i place
@@ -134,14 +139,14 @@ turn_is operations values places gaps i place m read d holds order are_gaps at r
     same = reads ∙ get_or_from_slice_get values place here.value m here.is_at
 
 -- nothing is placed at first
-pub nothing_placed : (operations : List Operation) (lives : List Life) → HoldsUpTo operations lives 0 0 []
-nothing_placed operations lives = record { listed = []; each_once = IsPermutation-refl []; each_placed = tt }
+pub nothing_placed : (operations : List Operation) (lives : List Life) → HoldsUpTo operations lives 0 0 0 []
+nothing_placed operations lives = record { left_is = refl; listed = []; each_once = IsPermutation-refl []; each_placed = tt }
 
 -- all are placed
-pub all_placed : (operations : List Operation) (places : List ℕ) (i j : ℕ) (placed : List Placed) → IsOrderOfPlaces operations places
+pub all_placed : (operations : List Operation) (places : List ℕ) (i j left : ℕ) (placed : List Placed) → IsOrderOfPlaces operations places
     → length places ≤ i → length places ≤ j
-    → HoldsUpTo operations (lives_at operations places) i j placed → HoldsValues operations placed
-all_placed operations places i j placed order all_in all_out so_far = record {
+    → HoldsUpTo operations (lives_at operations places) i j left placed → HoldsValues operations placed
+all_placed operations places i j left placed order all_in all_out so_far = record {
   lives = lives;
   in_order = order.in_order;
   listed = so_far.listed;
@@ -157,29 +162,35 @@ all_placed operations places i j placed order all_in all_out so_far = record {
     long = lives_long operations places order
 
 -- the next enqueue is placed
-module _ (operations : List Operation) (lives : List Life) (i : ℕ) (m : MatchedValue) (gaps : ValueGaps) (turn : IsTurn operations lives i m gaps) where
+module _ (operations : List Operation) (lives : List Life) (i : ℕ) (m : MatchedValue) (gap : ℕ) (turn : IsTurn operations lives i m gap) where
   -- one enqueue more is placed
-  pub enqueue_more : (j : ℕ) (placed : List Placed) (first : Placed) → HoldsUpTo operations lives i j placed → first.operation ≡ m.enqueue
-      → position_of first.position ≡ record { gap = gaps.enqueue; class = enqueues; rank = i }
-      → HoldsUpTo operations lives (i + 1) j (placed ++ first ∷ [])
-  enqueue_more j placed first so_far names stands = record {
+  pub enqueue_more : (j left : ℕ) (placed : List Placed) (first : Placed) → HoldsUpTo operations lives i j left placed → first.operation ≡ m.enqueue
+      → position_of first.position ≡ record { gap = gap; class = enqueues; rank = i }
+      → HoldsUpTo operations lives (i + 1) j left (placed ++ first ∷ [])
+  enqueue_more j left placed first so_far names stands = record {
+    left_is = so_far.left_is;
     listed = so_far.listed ++ enqueue_of m.life ∷ [];
     each_once = subst (λ os. IsPermutation (os ++ dequeues_of (take j lives)) (so_far.listed ++ enqueue_of m.life ∷ []))
         (sym (enqueues_more operations lives turn.order i m.life turn.at))
         (one_more_among (enqueues_of (take i lives)) (dequeues_of (take j lives)) so_far.listed (enqueue_of m.life) so_far.each_once);
     each_placed = zip_joined (IsPlaced operations lives) so_far.listed (enqueue_of m.life ∷ []) placed (first ∷ []) so_far.each_placed (
-      enqueue_placed operations lives turn.order i m.life turn.at gaps.enqueue first (ap (λ g. g.enqueue) turn.gaps_are)
+      enqueue_placed operations lives turn.order i m.life turn.at gap first turn.gap_is
           (subst (λ p. IsAt operations p (enqueue_of m.life)) (sym names) turn.places.0) stands,
       tt,
     );
   }
 
 -- the turn of the next dequeue
-module _ (operations : List Operation) (lives : List Life) (j : ℕ) (m : MatchedValue) (gaps : ValueGaps) (turn : IsTurn operations lives j m gaps)
-    (i : ℕ) (placed : List Placed) (so_far : HoldsUpTo operations lives i j placed) where
+module _ (operations : List Operation) (lives : List Life) (j : ℕ) (m : MatchedValue) (gap left left' : ℕ) (turn : IsTurn operations lives j m gap)
+    (left_is : left' ≡ max (leaves_from m.life) left) (i : ℕ) (placed : List Placed) (so_far : HoldsUpTo operations lives i j left placed) where
+  -- the gap is the greatest that the values up to the next dequeue leave from
+  pub left_more : left' ≡ greatest_leaves_from (take (j + 1) lives)
+  left_more = let more = greatest_more operations lives turn.order j m.life turn.at in omega (arith, more, left_is, so_far.left_is)
+
   with_rest : (rest : List Placed) → AllZip (IsPlaced operations lives) (option_to_list (dequeue_of m.life)) rest
-      → HoldsUpTo operations lives i (j + 1) (placed ++ rest)
+      → HoldsUpTo operations lives i (j + 1) left' (placed ++ rest)
   with_rest rest zip = record {
+    left_is = left_more;
     listed = so_far.listed ++ option_to_list (dequeue_of m.life);
     each_once = subst (λ os. IsPermutation os (so_far.listed ++ option_to_list (dequeue_of m.life)))
         (append_assoc (enqueues_of (take i lives)) (dequeues_of (take j lives)) (option_to_list (dequeue_of m.life))
@@ -190,8 +201,8 @@ module _ (operations : List Operation) (lives : List Life) (j : ℕ) (m : Matche
   }
 
   -- a value that is never dequeued has its turn, and nothing is placed
-  pub turn_alone : m.dequeue ≡ None → HoldsUpTo operations lives i (j + 1) placed
-  turn_alone none = subst (HoldsUpTo operations lives i (j + 1)) (append-nil placed)
+  pub turn_alone : m.dequeue ≡ None → HoldsUpTo operations lives i (j + 1) left' placed
+  turn_alone none = subst (HoldsUpTo operations lives i (j + 1) left') (append-nil placed)
       (with_rest [] (nothing m.dequeue (dequeue_of m.life) none turn.places.1))
     where
       nothing : (place : Option ℕ) (dequeue : Option Operation) → place ≡ None → IsMaybeAt operations place dequeue
@@ -201,18 +212,18 @@ module _ (operations : List Operation) (lives : List Life) (j : ℕ) (m : Matche
       nothing (Some p) dequeue same places = cc
 
   -- one dequeue more is placed
-  pub turn_with_dequeue : (p : ℕ) (second : Placed) → m.dequeue ≡ Some p → second.operation ≡ p
-      → position_of second.position
-      ≡ record { gap = gaps.dequeue; class = (if nat_lt gaps.enqueue gaps.dequeue then earlier_dequeues else other_dequeues); rank = j }
-      → HoldsUpTo operations lives i (j + 1) (placed ++ second ∷ [])
-  turn_with_dequeue p second same names stands = with_rest (second ∷ []) (one m.dequeue (dequeue_of m.life) same turn.places.1 refl)
+  pub turn_with_dequeue : (p later : ℕ) (second : Placed) → m.dequeue ≡ Some p → later ≡ max left' gap → second.operation ≡ p
+      → position_of second.position ≡ record { gap = later; class = (if nat_lt gap later then earlier_dequeues else other_dequeues); rank = j }
+      → HoldsUpTo operations lives i (j + 1) left' (placed ++ second ∷ [])
+  turn_with_dequeue p later second same later_is names stands = with_rest (second ∷ []) (one m.dequeue (dequeue_of m.life) same turn.places.1 refl)
     where
       one : (place : Option ℕ) (dequeue : Option Operation) → place ≡ Some p → IsMaybeAt operations place dequeue → dequeue_of m.life ≡ dequeue
           → AllZip (IsPlaced operations lives) (option_to_list dequeue) (second ∷ [])
       one None dequeue same places is = cc
       one (Some q) None same places is = absurd places
       one (Some q) (Some d) same places is = (
-        dequeue_placed operations lives turn.order j m.life turn.at gaps d second turn.gaps_are is at_second stands,
+        dequeue_placed operations lives turn.order j m.life turn.at gap left' later d second turn.gap_is
+            left_more later_is is at_second stands,
         tt,
       )
         where

@@ -1,35 +1,35 @@
 ghost use Rattle.std.specs.Prelude.{◌≡◌, IfOk, MatchOption};
 ghost use Rattle.value_match.specs.Filling.{filled_operations};
 ghost use Rattle.value_match.specs.Violations.{NoOrderViolation};
-ghost use Rattle.linearizer.specs.Inner.Placement.{AreGapsOf, IsOrderOfPlaces, lives_at};
+ghost use Rattle.linearizer.specs.Inner.Placement.{AreEnqueueGaps, IsOrderOfPlaces, lives_at};
 
-use crate::choice::{ValueGaps, put_in_order};
+use crate::choice::put_in_order;
 use history_merge::Operation;
 use std::alloc::{AllocError, Global};
 use std::marker::Model;
 use value_match::{FilledMatching, Matching};
 
-/// The accepted values of a matching in their chosen order, with the gaps of their operations; seen as the operations that they are of.
+/// The accepted values of a matching in their chosen order, with the gap of each enqueue; seen as the operations that they are of.
 ///
-/// It borrows the operations, and holds three words for each value.
+/// It borrows the operations, and holds two words for each value.
 #[derive(Debug, Drop)]
 pub struct OrderedValues<'a> {
     operations: &'a [Operation],
     places: Vec<usize>,
-    gaps: Vec<ValueGaps>,
+    gaps: Vec<u64>,
 }
 
 impl<'a> Model for OrderedValues<'a> {
     ghost use Rattle.std.specs.Prelude.{List};
     ghost use Rattle.history_merge.specs.declared.operation.Operation.{Operation};
-    ghost use Rattle.linearizer.specs.Inner.Placement.{AreGapsOf, IsOrderOfPlaces, lives_at};
+    ghost use Rattle.linearizer.specs.Inner.Placement.{AreEnqueueGaps, IsOrderOfPlaces, lives_at};
 
     ghost Value = { List Operation };
 
     ghost view = { λ a. a.operations.now };
 
     ghost invariant = { λ a. IsOrderOfPlaces a.operations.now a.places.items
-        × AreGapsOf (lives_at a.operations.now a.places.items) a.gaps.items };
+        × AreEnqueueGaps (lives_at a.operations.now a.places.items) a.gaps.items };
 }
 
 /// The accepted values of a matching in their chosen order, or none if two of them are dequeued against the order of their
@@ -66,10 +66,10 @@ fn order_of<'a>(
 }
 
 impl<'a> OrderedValues<'a> {
-    /// The places of the values in their order, and their gaps.
-    pub(crate) fn parts(&self) -> (&[usize], &[ValueGaps])
+    /// The places of the values in their order, and the gaps of their enqueues.
+    pub(crate) fn parts(&self) -> (&[usize], &[u64])
         ensures order { IsOrderOfPlaces self.now result.0.now }
-        ensures gaps { AreGapsOf (lives_at self.now result.0.now) result.1.now }
+        ensures gaps { AreEnqueueGaps (lives_at self.now result.0.now) result.1.now }
     {
         (self.places.as_slice(), self.gaps.as_slice())
     }

@@ -5,10 +5,9 @@ ghost use Rattle.value_match.specs.declared.life.Life.{Life};
 ghost use Rattle.value_match.specs.Lives.{AreLeastFreeGaps, is_empty_answer, is_refused};
 ghost use Rattle.value_match.specs.Violations.{IsClear};
 ghost use Rattle.linearizer.specs.Order.{StandsBefore};
-ghost use Rattle.linearizer.specs.Inner.Placement.{Adds, AreGapsOf, HoldsNoops, IsOrderOfPlaces, NeverFall, lives_at, position_of};
+ghost use Rattle.linearizer.specs.Inner.Placement.{Adds, AreEnqueueGaps, HoldsNoops, IsOrderOfPlaces, NeverFall, lives_at, position_of};
 ghost use Rattle.linearizer.specs.Inner.Merging.{IsDequeueFrom, IsEnqueueFrom, IsNoopFrom, IsMerge, IsMergedUpTo, IsValueFrom, NoneBelow};
 
-use crate::choice::ValueGaps;
 use crate::ordered_values::OrderedValues;
 use crate::position::{Placed, Position};
 use history_merge::{OpId, Operation};
@@ -37,10 +36,12 @@ pub(crate) fn merge(
     Ok(places)
 }
 
-/// How many values of the order had their dequeues placed, and how many no-ops were placed.
+/// How many values of the order had their dequeues placed, and the time from which all of these can have left; and how
+/// many no-ops were placed.
 #[derive(Clone, Copy)]
 pub(crate) struct Merged {
     pub(crate) dequeues: usize,
+    pub(crate) left: u64,
     pub(crate) noops: usize,
 }
 
@@ -49,23 +50,24 @@ fn place_enqueues(
     places: &mut Vec<OpId>,
     matching: &FilledMatching,
     order: &[usize],
-    gaps: &[ValueGaps],
+    gaps: &[u64],
     noops: &[Placed],
 ) -> Result<Merged, AllocError>
     requires none { places.old.items ≡ [] }
     requires order { IsOrderOfPlaces matching.now order.now }
-    requires gaps { AreGapsOf (lives_at matching.now order.now) gaps.now }
+    requires gaps { AreEnqueueGaps (lives_at matching.now order.now) gaps.now }
     requires noops { NeverFall noops.now }
     ensures { IfOk result (λ so_far. IsMergedUpTo matching.now (lives_at matching.now order.now) noops.now (length order.now)
-        so_far.dequeues so_far.noops places.new.items) }
+        so_far.dequeues so_far.left so_far.noops places.new.items) }
 {
     let values = matching.values();
     let mut so_far = Merged {
         dequeues: 0,
+        left: 0,
         noops: 0,
     };
     for (rank, place) in order.iter().enumerate() {
-        let enqueue = Placed::enqueue(values.get(*place).enqueue, gaps[rank].enqueue, rank);
+        let enqueue = Placed::enqueue(values.get(*place).enqueue, gaps[rank], rank);
         let before = Some(enqueue.position);
         place_dequeues(places, &mut so_far, matching, order, gaps, noops, before)?;
         place_noops(places, &mut so_far.noops, noops, before)?;
@@ -81,27 +83,28 @@ fn place_dequeues(
     so_far: &mut Merged,
     matching: &FilledMatching,
     order: &[usize],
-    gaps: &[ValueGaps],
+    gaps: &[u64],
     noops: &[Placed],
     before: Option<Position>,
 ) -> Result<(), AllocError>
     requires order { IsOrderOfPlaces matching.now order.now }
-    requires gaps { AreGapsOf (lives_at matching.now order.now) gaps.now }
+    requires gaps { AreEnqueueGaps (lives_at matching.now order.now) gaps.now }
     requires noops { NeverFall noops.now }
     ensures adds { OnOk result ((i : ℕ) → NoneBelow (IsEnqueueFrom (lives_at matching.now order.now) i) before
-        → IsMergedUpTo matching.now (lives_at matching.now order.now) noops.now i so_far.old.dequeues so_far.old.noops places.old.items
-        → IsMergedUpTo matching.now (lives_at matching.now order.now) noops.now i so_far.new.dequeues so_far.new.noops places.new.items) }
+        → IsMergedUpTo matching.now (lives_at matching.now order.now) noops.now i so_far.old.dequeues so_far.old.left so_far.old.noops places.old.items
+        → IsMergedUpTo matching.now (lives_at matching.now order.now) noops.now i so_far.new.dequeues so_far.new.left so_far.new.noops places.new.items) }
     ensures up_to { OnOk result ((i : ℕ) → NoneBelow (IsEnqueueFrom (lives_at matching.now order.now) i) before
-        → IsMergedUpTo matching.now (lives_at matching.now order.now) noops.now i so_far.old.dequeues so_far.old.noops places.old.items
+        → IsMergedUpTo matching.now (lives_at matching.now order.now) noops.now i so_far.old.dequeues so_far.old.left so_far.old.noops places.old.items
         → NoneBelow (IsDequeueFrom (lives_at matching.now order.now) so_far.new.dequeues) before) }
 {
     let values = matching.values();
     while so_far.dequeues < order.len() {
         let rank = so_far.dequeues;
         let value = values.get(order[rank]);
-        let gaps = gaps[rank];
+        let enqueue_gap = gaps[rank];
+        let left = value.life.leaves_from().max(so_far.left);
         if let Some(dequeue) = value.dequeue {
-            let dequeue = Placed::dequeue(dequeue, gaps.enqueue, gaps.dequeue, rank);
+            let dequeue = Placed::dequeue(dequeue, enqueue_gap, left.max(enqueue_gap), rank);
             if stands_after(&dequeue, before) {
                 return Ok(());
             }
@@ -110,6 +113,7 @@ fn place_dequeues(
         }
         *so_far = Merged {
             dequeues: rank + 1,
+            left,
             noops: so_far.noops,
         };
     }
@@ -124,9 +128,9 @@ fn place_noops(
     before: Option<Position>,
 ) -> Result<(), AllocError>
     requires { NeverFall noops.now }
-    ensures adds { OnOk result ((operations : List Operation) (lives : List Life) (i j : ℕ) → NoneBelow (IsValueFrom lives i j) before
-        → IsMergedUpTo operations lives noops.now i j count.old places.old.items
-        → IsMergedUpTo operations lives noops.now i j count.new places.new.items) }
+    ensures adds { OnOk result ((operations : List Operation) (lives : List Life) (i j left : ℕ) → NoneBelow (IsValueFrom lives i j) before
+        → IsMergedUpTo operations lives noops.now i j left count.old places.old.items
+        → IsMergedUpTo operations lives noops.now i j left count.new places.new.items) }
     ensures up_to { OnOk result (NoneBelow (IsNoopFrom noops.now count.new) before) }
 {
     while *count < noops.len() {

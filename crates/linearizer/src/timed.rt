@@ -1,4 +1,4 @@
-ghost use Rattle.std.specs.Prelude.{◌≡◌, ◌<◌, ℕ, All, Contains, IfOk, length, map, take};
+ghost use Rattle.std.specs.Prelude.{◌≡◌, ◌<◌, All, Contains, IfOk, length, take};
 ghost use Rattle.linearizer.specs.Inner.Sweep.{AreByTime, IsFirstLeft, IsLeft, IsTaken, time_at};
 
 use std::alloc::{AllocError, Global};
@@ -31,41 +31,34 @@ impl Moment {
     }
 }
 
-/// The places of the values by their times of one sort.
+/// The values by their times of one sort.
 pub(crate) fn by_time(
     alloc: Global,
     values: &Values,
     moment: Moment,
-) -> Result<Vec<usize>, AllocError>
-    ensures { IfOk result (λ places. AreByTime (time_at moment) values.now places.items) }
+) -> Result<Vec<Timed>, AllocError>
+    ensures { IfOk result (λ entries. AreByTime (time_at moment) values.now entries.items) }
 {
-    let mut times = Vec::with_capacity(alloc, values.len())?;
+    let mut entries = Vec::with_capacity(alloc, values.len())?;
     for place in 0..values.len() {
         let value = values.get(place);
         let time = moment.of(&value.life);
-        times.push(Timed { time, place })?;
+        entries.push(Timed { time, place })?;
     }
-    presort(&mut times, &|timed: &Timed| timed.time);
-    times.sort_unstable_by_key(|timed| timed.time);
-    places_of(alloc, &times)
+    presort(&mut entries, &|entry: &Timed| entry.time);
+    entries.sort_unstable_by_key(|entry| entry.time);
+    Ok(entries)
 }
 
-/// The places without the times, which take as much room again.
-fn places_of(alloc: Global, times: &[Timed]) -> Result<Vec<usize>, AllocError>
-    ensures { IfOk result (λ places. places.items ≡ map (λ timed. timed.place) times.now) }
-{
-    times.iter().map(|timed| timed.place).collect(alloc)
-}
-
-/// The place of the first of these places whose value is left, where all before the place `from` are taken.
-pub(crate) fn first_left(places: &[usize], taken: &[bool], from: usize) -> usize
-    requires flagged { All (λ place. place < length taken.now) places.now }
-    requires before { All (IsTaken taken.now) (take from places.now) }
-    requires some_left { (place : ℕ) × Contains places.now place × IsLeft taken.now place }
-    ensures { IsFirstLeft places.now taken.now result }
+/// The place of the first entry whose value is left, where all before the place `from` are taken.
+pub(crate) fn first_left(entries: &[Timed], taken: &[bool], from: usize) -> usize
+    requires flagged { All (λ entry. entry.place < length taken.now) entries.now }
+    requires before { All (IsTaken taken.now) (take from entries.now) }
+    requires some_left { (entry : Timed) × Contains entries.now entry × IsLeft taken.now entry }
+    ensures { IsFirstLeft entries.now taken.now result }
 {
     let mut first = from;
-    while taken[places[first]] {
+    while taken[entries[first].place] {
         first += 1;
     }
     first

@@ -33,9 +33,9 @@ NoneBelow Is limit = (p : Position) → Is p → IsSomeAnd limit (λ q. ¬ (Stan
 
 -- the places of the enqueues of the first i values, the dequeues of the first j and the first k no-ops, by rising
 -- position; none of those that are left stands before one of these
-pub record IsMergedUpTo (operations : List Operation) (lives : List Life) (noops : List Placed) (i j k : ℕ) (places : List ℕ) : Type 0 where
+pub record IsMergedUpTo (operations : List Operation) (lives : List Life) (noops : List Placed) (i j left k : ℕ) (places : List ℕ) : Type 0 where
   pub values : List Placed
-  pub held : HoldsUpTo operations lives i j values
+  pub held : HoldsUpTo operations lives i j left values
   pub sorted : List Placed
   pub each_once : IsPermutation (values ++ take k noops) sorted
   pub never_fall : NeverFall sorted

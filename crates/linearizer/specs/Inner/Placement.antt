@@ -1,6 +1,6 @@
 -- What the steps on the way to the chosen order give.
 use Rattle.std.specs.Prelude.{◌≡◌, ℕ, ◌<◌, ◌≤◌, ◌++◌, List, All, AllPairs, IsPermutation, Some}
-use Rattle.std.specs.Prelude.{length, map, filter, filter_map, slice_get, slice_index_or, take}
+use Rattle.std.specs.Prelude.{length, map, filter, filter_map, slice_get, slice_index, take}
 use Rattle.std.specs.List.{AllZip}
 use Rattle.history_merge.specs.declared.operation.Operation.{Operation}
 use Rattle.history_merge.specs.Operations.{IsAt}
@@ -11,8 +11,7 @@ use Rattle.linearizer.specs.declared.position.Class.{Class}
 use Rattle.linearizer.specs.declared.position.Class.TheVariants.{EarlierDequeue, Noop, Enqueue, OtherDequeue}
 use Rattle.linearizer.specs.declared.position.Position.{Position as Stored}
 use Rattle.linearizer.specs.declared.position.Placed.{Placed}
-use Rattle.linearizer.specs.Values.{IsValueOrder, dequeue_gap, enqueue_gap}
-use Rattle.linearizer.specs.declared.choice.ValueGaps.{ValueGaps}
+use Rattle.linearizer.specs.Values.{IsValueOrder, enqueue_gap, greatest_leaves_from}
 use Rattle.linearizer.specs.Order.{Position, StandsBefore, IsPositionOf, earlier_dequeues, noop_answers, enqueues, other_dequeues}
 
 -- the values without their places
@@ -32,14 +31,10 @@ pub record IsOrderOfPlaces (operations : List Operation) (places : List ℕ) : T
   pub within : All (λ place. place < length (lives_of operations)) places
   pub in_order : IsValueOrder operations (lives_at operations places)
 
--- the gaps of the operations of the value at place i of the order
-abbrev pub gaps_of : List Life → ℕ → ValueGaps
-gaps_of lives i = record { enqueue = enqueue_gap lives i; dequeue = dequeue_gap lives i }
-
--- the gaps are those of the values, one by one
-pub record AreGapsOf (lives : List Life) (gaps : List ValueGaps) : Type 0 where
+-- the gaps are those of the enqueues of the values, one by one
+pub record AreEnqueueGaps (lives : List Life) (gaps : List ℕ) : Type 0 where
   pub one_each : length gaps ≡ length lives
-  pub at_each : (i : ℕ) (d : ValueGaps) → i < length lives → slice_index_or gaps i d ≡ gaps_of lives i
+  pub at_each : (i : ℕ) → i < length lives → slice_index gaps i ≡ enqueue_gap lives i
 
 -- no enqueue is called after its gap
 abbrev pub AreCalledInTime : List Life → Type 0
@@ -68,8 +63,10 @@ enqueues_of lives = map enqueue_of lives
 abbrev pub dequeues_of : List Life → List Operation
 dequeues_of lives = filter_map dequeue_of lives
 
--- the enqueues of the first i values and the dequeues of the first j, each once and at its position
-pub record HoldsUpTo (operations : List Operation) (lives : List Life) (i j : ℕ) (placed : List Placed) : Type 0 where
+-- the enqueues of the first i values and the dequeues of the first j, each once and at its position, and the time from
+-- which these j can have left
+pub record HoldsUpTo (operations : List Operation) (lives : List Life) (i j left : ℕ) (placed : List Placed) : Type 0 where
+  pub left_is : left ≡ greatest_leaves_from (take j lives)
   pub listed : List Operation
   pub each_once : IsPermutation (enqueues_of (take i lives) ++ dequeues_of (take j lives)) listed
   pub each_placed : AllZip (IsPlaced operations lives) listed placed

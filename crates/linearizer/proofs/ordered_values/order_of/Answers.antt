@@ -1,5 +1,5 @@
 use Rattle.std.proofs.Common.{subst}
-use Rattle.linearizer.specs.Inner.Placement.{AreCalledInTime, AreGapsOf, IsOrderOfPlaces, lives_at}
+use Rattle.linearizer.specs.Inner.Placement.{AreCalledInTime, AreEnqueueGaps, IsOrderOfPlaces, lives_at}
 use Rattle.linearizer.specs.Inner.Sweep.{IsInOrder}
 use Rattle.linearizer.proofs.Choosing.{places_in_order}
 use Rattle.linearizer.proofs.Fitting.{entered_in_time, no_order_violation, passed_over}
@@ -26,7 +26,7 @@ invariant_of-result c =
     let turn = (goal.at.invariant_of-result c).After-operations in
     rw c.operations.ensures.operations (
       order turn,
-      subst (λ lives. AreGapsOf lives c.in-Some.ordered.gaps.items)
+      subst (λ lives. AreEnqueueGaps lives c.in-Some.ordered.gaps.items)
           (lives_are c.args.matching.now c.values.result c.in-Some.ordered.places.items c.values.ensures.values) (in_order turn).gaps,
     )
 

@@ -12,6 +12,6 @@ returns-clause-merged c =
     let start = c.in_ok-so_far.ensures in
     let none = no_enqueue (lives_at operations order) (length order) None (omega (arith, lives_long operations order is)) in
     let past = c.in_ok-place_dequeues.ensures.up_to (length order) none start in
-    let merged = c.in_ok-place_noops.ensures.adds operations (lives_at operations order) (length order) _
+    let merged = c.in_ok-place_noops.ensures.adds operations (lives_at operations order) (length order) _ _
     (λ p left. elim left [ inl enqueue ↦ none p enqueue | inr dequeue ↦ past p dequeue ]) (c.in_ok-place_dequeues.ensures.adds (length order) none start) in
-    all_merged operations order c.args.noops.now (length order) _ _ _ is (omega arith) past c.in_ok-place_noops.ensures.up_to merged
+    all_merged operations order c.args.noops.now (length order) _ _ _ _ is (omega arith) past c.in_ok-place_noops.ensures.up_to merged

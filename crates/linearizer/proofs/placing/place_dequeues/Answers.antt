@@ -1,14 +1,15 @@
-use Rattle.std.proofs.Common.{◌<◌, get_or, length, refl, subst, sym, arith}
+use Rattle.std.proofs.Common.{◌≡◌, ℕ, ◌+◌, ◌<◌, ◌∙◌, ap, get_or, length, max, refl, subst, sym, take, arith}
 use Rattle.std.proofs.lemmas.Option.{slice_get-get_or, slice_get_within}
+use Rattle.value_match.specs.Lives.{leaves_from}
+use Rattle.linearizer.specs.Values.{greatest_leaves_from}
 use Rattle.linearizer.specs.Order.{StandsBefore}
-use Rattle.linearizer.specs.declared.choice.ValueGaps.{ValueGaps}
 use Rattle.linearizer.specs.Inner.Placement.{lives_at, position_of}
-use Rattle.linearizer.specs.Inner.Merging.{IsDequeueFrom}
+use Rattle.linearizer.specs.Inner.Merging.{IsDequeueFrom, IsMergedUpTo}
 use Rattle.linearizer.proofs.Merging.{below_limit, below_next, dequeue_added, next_dequeue, no_dequeue, none_of_values, passed, stands_after, stands_not_after}
 use Rattle.linearizer.proofs.OrderedPlaces.{lives_long}
-use Rattle.linearizer.proofs.PlacedValues.{IsTurn, dequeue_stands, gap_within, no_gaps, turn_alone, turn_is, turn_with_dequeue}
+use Rattle.linearizer.proofs.PlacedValues.{IsTurn, dequeue_stands, gap_within, left_more, turn_alone, turn_is, turn_with_dequeue}
 use Rattle.linearizer.proofs.placing.place_dequeues.Goals as goal
-use Rattle.linearizer.proofs.placing.place_dequeues.Goals.{After-get-value, in-Some+else-stands_after+in_ok-place_noops+in_ok-push, in_default}
+use Rattle.linearizer.proofs.placing.place_dequeues.Goals.{After-max-left, in-Some+else-stands_after+in_ok-place_noops+in_ok-push, in_default}
 
 pub bounds-gaps-rank : goal.bounds-gaps-rank
 bounds-gaps-rank c =
@@ -16,25 +17,32 @@ bounds-gaps-rank c =
     (get_or c.args.order.now c.loop-so_far.so_far.dequeues 0) c.requires.order c.requires.gaps
     (slice_get-get_or c.args.order.now c.loop-so_far.so_far.dequeues 0 c.loop-so_far-test.true)
 
--- the gaps of the next value
-abbrev gaps_read : After-get-value → ValueGaps
-gaps_read c = get_or c.args.gaps.now c.loop-so_far.so_far.dequeues no_gaps
-
-turn : (c : After-get-value) → IsTurn c.args.matching.now (lives_at c.args.matching.now c.args.order.now) c.loop-so_far.so_far.dequeues
-    c.get-value.result (gaps_read c)
+turn : (c : After-max-left) → IsTurn c.args.matching.now (lives_at c.args.matching.now c.args.order.now) c.loop-so_far.so_far.dequeues
+    c.get-value.result (get_or c.args.gaps.now c.loop-so_far.so_far.dequeues 0)
 turn c =
     turn_is c.args.matching.now c.values-values.result c.args.order.now c.args.gaps.now c.loop-so_far.so_far.dequeues
-    (get_or c.args.order.now c.loop-so_far.so_far.dequeues 0) c.get-value.result (gaps_read c) no_gaps
-    c.values-values.ensures.values c.requires.order
+    (get_or c.args.order.now c.loop-so_far.so_far.dequeues 0) c.get-value.result
+    (get_or c.args.gaps.now c.loop-so_far.so_far.dequeues 0) 0 c.values-values.ensures.values c.requires.order
     c.requires.gaps (slice_get-get_or c.args.order.now c.loop-so_far.so_far.dequeues 0 c.loop-so_far-test.true) c.get-value.ensures refl
 
-within : (c : After-get-value) → c.loop-so_far.so_far.dequeues < length (lives_at c.args.matching.now c.args.order.now)
+left_is : (c : After-max-left) → c.max-left.result ≡ max (leaves_from c.get-value.result.life) c.loop-so_far.so_far.left
+left_is c = c.max-left.ensures ∙ ap (λ n. max n c.loop-so_far.so_far.left) c.leaves_from.ensures
+
+within : (c : After-max-left) → c.loop-so_far.so_far.dequeues < length (lives_at c.args.matching.now c.args.order.now)
 within c = slice_get_within _ _ _ (turn c).at
+
+-- the time from which all values up to this one can have left, where those before it are merged
+left_so_far : (c : After-max-left) (i : ℕ) → IsMergedUpTo c.args.matching.now
+    (lives_at c.args.matching.now c.args.order.now) c.args.noops.now i c.loop-so_far.so_far.dequeues c.loop-so_far.so_far.left
+    c.loop-so_far.so_far.noops c.loop-so_far.places.items
+    → c.max-left.result ≡ greatest_leaves_from (take (c.loop-so_far.so_far.dequeues + 1) (lives_at c.args.matching.now c.args.order.now))
+left_so_far c i merged = left_more _ _ _ _ _ _ _ (turn c) (left_is c) i _ merged.held
 
 pub returns-then-stands_after-clause-up_to : goal.returns-then-stands_after-clause-up_to
 returns-then-stands_after-clause-up_to c = λ i none before.
-    let here = (goal.at.returns-then-stands_after-clause-up_to c).After-get-value in
-    let stands = dequeue_stands _ _ _ c.dequeue-dequeue.result (turn here).gaps_are c.dequeue-dequeue.ensures.position in
+    let here = (goal.at.returns-then-stands_after-clause-up_to c).After-max-left in
+    let stands = dequeue_stands _ _ _ _ _ c.dequeue-dequeue.result (turn here).gap_is
+    (left_so_far here i (c.loop-so_far.invariant i none before)) c.max.ensures c.dequeue-dequeue.ensures.position in
     below_limit (IsDequeueFrom (lives_at c.args.matching.now c.args.order.now) c.loop-so_far.so_far.dequeues) c.args.before
     (position_of c.dequeue-dequeue.result.position)
     (λ p is. subst (λ q. ¬ (StandsBefore p q)) (sym stands) (next_dequeue _ _ p (within here) is))
@@ -42,22 +50,23 @@ returns-then-stands_after-clause-up_to c = λ i none before.
 
 pub loop-so_far-preserved : goal.loop-so_far-preserved
 loop-so_far-preserved c = λ i none before.
-    let here = (goal.at.loop-so_far-preserved c).After-get-value in
+    let here = (goal.at.loop-so_far-preserved c).After-max-left in
     let merged = c.loop-so_far.invariant i none before in
     elim c.match-value.branch [
       | in-Some+else-stands_after+in_ok-place_noops+in_ok-push w ↦
-          let stands = dequeue_stands _ _ _ w.dequeue-dequeue.result (turn here).gaps_are w.dequeue-dequeue.ensures.position in
+          let stands = dequeue_stands _ _ _ _ _ w.dequeue-dequeue.result (turn here).gap_is
+          (left_so_far here i merged) w.max.ensures w.dequeue-dequeue.ensures.position in
           let enqueues = below_next _ c.args.before w.dequeue-dequeue.result none
           (stands_not_after c.args.before w.dequeue-dequeue.result w.stands_after.result w.stands_after.ensures w.if-stands_after.false) in
           let values = none_of_values _ i _ w.dequeue-dequeue.result (within here) stands enqueues in
-          let noops = w.in_ok-place_noops.ensures.adds _ _ i _ values merged in
+          let noops = w.in_ok-place_noops.ensures.adds _ _ i _ _ values merged in
           rw (w.so_far-is, w.places-is, w.in_ok-push.ensures.items)
-          (dequeue_added _ _ _ _ _ _ _ noops w.dequeue-dequeue.result
-          (turn_with_dequeue _ _ _ _ _ (turn here) i _ noops.held _ _ w.in-Some.is
+          (dequeue_added _ _ _ _ _ _ _ _ noops c.max-left.result w.dequeue-dequeue.result
+          (turn_with_dequeue _ _ _ _ _ _ _ (turn here) (left_is here) i _ noops.held _ _ _ w.in-Some.is w.max.ensures
           w.dequeue-dequeue.ensures.operation w.dequeue-dequeue.ensures.position)
           (within here) stands enqueues w.in_ok-place_noops.ensures.up_to)
-      | in_default w ↦ rw (w.so_far-is, w.places-is) (passed _ _ _ _ _ _ _ merged
-          (turn_alone _ _ _ _ _ (turn here) i _ merged.held w.in_default.is))
+      | in_default w ↦ rw (w.so_far-is, w.places-is) (passed _ _ _ _ _ _ _ _ merged c.max-left.result
+          (turn_alone _ _ _ _ _ _ _ (turn here) (left_is here) i _ merged.held w.in_default.is))
     ]
 
 pub returns-clause-up_to : goal.returns-clause-up_to

@@ -4,7 +4,7 @@ use Rattle.linearizer.specs.Order.{StandsBefore, enqueue_position, enqueues}
 use Rattle.linearizer.specs.Inner.Placement.{lives_at, position_of}
 use Rattle.linearizer.specs.Inner.Merging.{IsEnqueueFrom, IsMergedUpTo, IsValueFrom, NoneBelow}
 use Rattle.linearizer.proofs.Merging.{enqueue_added, next_enqueue, nothing_merged}
-use Rattle.linearizer.proofs.PlacedValues.{enqueue_more, gap_within, no_gaps, turn_is}
+use Rattle.linearizer.proofs.PlacedValues.{enqueue_more, gap_within, turn_is}
 use Rattle.linearizer.proofs.placing.place_enqueues.Goals as goal
 
 pub bounds-gaps-rank : goal.bounds-gaps-rank
@@ -21,24 +21,23 @@ loop-rank-preserved c =
     let lives = lives_at c.args.matching.now c.args.order.now in
     let i = c.loop-rank.rank in
     let x = c.enqueue-enqueue.result in
-    let gaps = get_or c.args.gaps.now i no_gaps in
     let names : x.operation ≡ c.get.result.enqueue = search rules in
     let turn =
     turn_is c.args.matching.now c.values-values.result c.args.order.now c.args.gaps.now i (get_or c.args.order.now i 0) c.get.result
-    gaps no_gaps c.values-values.ensures.values c.requires.order
+    (get_or c.args.gaps.now i 0) 0 c.values-values.ensures.values c.requires.order
     c.requires.gaps (slice_get-get_or c.args.order.now i 0 c.loop-rank-test.true) c.get.ensures refl in
     let within = slice_get_within lives i c.get.result.life turn.at in
     let stands : position_of x.position ≡ enqueue_position lives i =
-    c.enqueue-enqueue.ensures.position ∙ ap (λ g. record { gap = g.enqueue; class = enqueues; rank = i }) turn.gaps_are in
+    c.enqueue-enqueue.ensures.position ∙ ap (λ g. record { gap = g; class = enqueues; rank = i }) turn.gap_is in
     let none : NoneBelow (IsEnqueueFrom lives i) (Some x.position) =
     (λ p is. subst (λ q. ¬ (StandsBefore p q)) (sym stands) (next_enqueue lives i p within is)) in
     let past = c.in_ok-place_dequeues.ensures.up_to i none c.loop-rank.invariant in
     let values : NoneBelow (IsValueFrom lives i c.place_dequeues.new.so_far.dequeues) (Some x.position) =
     (λ p is. elim is [ inl enqueue ↦ none p enqueue | inr dequeue ↦ past p dequeue ]) in
-    let merged = c.in_ok-place_noops.ensures.adds c.args.matching.now lives i _ values (c.in_ok-place_dequeues.ensures.adds i none c.loop-rank.invariant) in
+    let merged = c.in_ok-place_noops.ensures.adds c.args.matching.now lives i _ _ values (c.in_ok-place_dequeues.ensures.adds i none c.loop-rank.invariant) in
     rw c.in_ok-push.ensures.items
-    (enqueue_added c.args.matching.now lives c.args.noops.now i _ _ _ merged x
-    (enqueue_more c.args.matching.now lives i c.get.result gaps turn _ merged.values x merged.held names
+    (enqueue_added c.args.matching.now lives c.args.noops.now i _ _ _ _ merged x
+    (enqueue_more c.args.matching.now lives i c.get.result (get_or c.args.gaps.now i 0) turn _ _ merged.values x merged.held names
     c.enqueue-enqueue.ensures.position) within stands past
     c.in_ok-place_noops.ensures.up_to)
 
@@ -46,4 +45,4 @@ pub returns : goal.returns
 returns c =
     let all : c.loop-rank.rank ≡ length c.args.order.now = omega (arith, c.loop-rank-test.false, c.loop-rank.auto.rank-end) in
     subst (λ n. IsMergedUpTo c.args.matching.now (lives_at c.args.matching.now c.args.order.now) c.args.noops.now n c.loop-rank.so_far.dequeues
-    c.loop-rank.so_far.noops c.loop-rank.places.items) all c.loop-rank.invariant
+    c.loop-rank.so_far.left c.loop-rank.so_far.noops c.loop-rank.places.items) all c.loop-rank.invariant

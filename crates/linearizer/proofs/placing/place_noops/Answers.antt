@@ -16,10 +16,10 @@ returns-then-stands_after-clause-up_to c =
     (stands_after c.args.before c.index-noops-count.result c.stands_after.result c.stands_after.ensures c.if-stands_after.true)
 
 pub loop-count-preserved : goal.loop-count-preserved
-loop-count-preserved c = λ operations lives i j none before.
+loop-count-preserved c = λ operations lives i j left none before.
     rw c.in_ok-push.ensures.items
-    (noop_added operations lives c.args.noops.now i j c.loop-count.count c.loop-count.places.items
-    (c.loop-count.invariant operations lives i j none before) c.index-noops-count.result c.requires
+    (noop_added operations lives c.args.noops.now i j left c.loop-count.count c.loop-count.places.items
+    (c.loop-count.invariant operations lives i j left none before) c.index-noops-count.result c.requires
     (slice_get_read _ _ _ _ refl c.loop-count-test.true c.index-noops-count.is)
     (below_next (IsValueFrom lives i j) c.args.before c.index-noops-count.result none
     (stands_not_after c.args.before c.index-noops-count.result c.stands_after.result c.stands_after.ensures c.if-stands_after.false)))

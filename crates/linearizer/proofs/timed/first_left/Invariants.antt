@@ -4,7 +4,7 @@ use Rattle.linearizer.specs.Inner.Sweep.{IsTaken}
 use Rattle.linearizer.proofs.timed.first_left.Given as goal
 
 abbrev pub invariant-loop-first : goal.invariant-loop-first
-invariant-loop-first l = All (IsTaken l.taken) (take l.first l.places)
+invariant-loop-first l = All (IsTaken l.taken) (take l.first l.entries)
 
 abbrev pub decreases-loop-first : goal.decreases-loop-first
-decreases-loop-first l = length l.places - l.first
+decreases-loop-first l = length l.entries - l.first
