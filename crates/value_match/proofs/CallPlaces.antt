@@ -1,5 +1,6 @@
 -- Places of calls and of sources, met by walks over the operations.
-use Rattle.std.proofs.Common.{◌≡◌, ℕ, ◌+◌, ◌<◌, ◌≤◌, ◌⊎◌, true, false, List, [], ◌∷◌, ◌++◌, length, get_or, Option, Some, None, refl, sym, ◌∙◌, set}
+use Rattle.std.proofs.Common.{◌≡◌, ℕ, ◌+◌, ◌<◌, ◌≤◌, ◌⊎◌, true, false, List, [], ◌∷◌, ◌++◌, length, get_or, Option}
+use Rattle.std.proofs.Common.{Some, None, refl, sym, ◌∙◌, set}
 use Rattle.std.proofs.Common.{subst, inl, inr, arith, get_or-set_other, get_or-set_same, length-set, length-append}
 use Rattle.std.specs.Prelude.{All, Contains, IsPermutation, MatchOption, is_some}
 use Rattle.std.specs.List.Sorted.{IsNonDecreasingBy, IsPartitionPoint}

@@ -1,5 +1,6 @@
 -- The operations of the filled history: the enqueues of the initial values, and the operations, later.
-use Rattle.std.proofs.Common.{Bool, true, false, IsTrue, MatchBool, get_or, ◌≡◌, ◌≢◌, ℕ, zero, suc, ◌+◌, ◌*◌, ◌<◌, ◌≤◌, ◌↔◌, List, [], ◌∷◌, ◌++◌, length, map}
+use Rattle.std.proofs.Common.{Bool, true, false, IsTrue, MatchBool, get_or, ◌≡◌, ◌≢◌, ℕ, zero, suc, ◌+◌, ◌*◌, ◌<◌}
+use Rattle.std.proofs.Common.{◌≤◌, ◌↔◌, List, [], ◌∷◌, ◌++◌, length, map}
 use Rattle.std.proofs.Common.{Option, Some, None, refl, sym, ◌∙◌, ap, subst, arith, inl, inr, ◌-◌, nat_lt, cond}
 use Rattle.std.specs.Prelude.{Contains, ◌⊎◌, slice_get, option_map, filter_map}
 use Rattle.std.specs.List.{HoldsAt, AllWithin, cons_option}

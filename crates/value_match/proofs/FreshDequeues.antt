@@ -1,5 +1,6 @@
 -- Dequeues of values that were not there, told by the places of the calls.
-use Rattle.std.proofs.Common.{◌≡◌, ℕ, ◌+◌, ◌<◌, ◌≤◌, ◌⊎◌, ◌||◌, ◌↔◌, Bool, true, false, cond, not, List, length, get_or, Option, Some, None, IsTrue, refl}
+use Rattle.std.proofs.Common.{◌≡◌, ℕ, ◌+◌, ◌<◌, ◌≤◌, ◌⊎◌, ◌||◌, ◌↔◌, Bool, true, false, cond, not, List, length}
+use Rattle.std.proofs.Common.{get_or, Option, Some, None, IsTrue, refl}
 use Rattle.std.proofs.Common.{sym, ◌∙◌, ap, subst, inl, inr, arith, nat_lt}
 use Rattle.std.specs.Prelude.{Contains, IfSome}
 use Rattle.std.proofs.lemmas.Bool.{false≢true, ltb-true, ltb-false, lt-ltb, le-ltb, cases_Bool}
