@@ -1,5 +1,6 @@
 -- Lines by tables of their forms: what is written is read back, and what is read was written so.
-use Rattle.std.proofs.Common.{◌≡◌, ℕ, zero, suc, ◌+◌, ◌<◌, ◌≤◌, ◌^◌, List, [], ◌∷◌, ◌++◌, length, map, drop, get_or, Bool, true, false, ◌&&◌, cond}
+use Rattle.std.proofs.Common.{◌≡◌, ℕ, zero, suc, ◌+◌, ◌<◌, ◌≤◌, ◌^◌, List, [], ◌∷◌, ◌++◌, length, map, drop, get_or}
+use Rattle.std.proofs.Common.{Bool, true, false, ◌&&◌, cond}
 use Rattle.std.proofs.Common.{arith, ap, ap₂, sym, subst, ◌∙◌, refl, inl, inr, append-nil, Option, Some, None, Ok}
 use Rattle.std.proofs.Common.{nat_le, nat_lt, nat_eq, length-append}
 use Rattle.std.specs.declared.result.Result.{Result}

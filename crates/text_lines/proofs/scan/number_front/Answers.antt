@@ -3,7 +3,8 @@ use Rattle.std.specs.Str.Parse.{digits_value}
 use Rattle.text_lines.specs.Inner.Digits.{StopsAt, IsDigitsSoFar}
 use Rattle.text_lines.proofs.Scanning.{number_stands, few_in_range, none_at_first, none_after_zero, none_beyond}
 use Rattle.text_lines.proofs.scan.number_front.Goals.{else-count-gt1-via-then-count-gt1+else-bytes-eq48, else-count-gt1-via-else-count-gt1}
-use Rattle.text_lines.proofs.scan.number_front.Goals.{else-count-gt-ALWAYS_IN_RANGE-via-then-count-gt-ALWAYS_IN_RANGE+else-not-is_long_in_range, else-count-gt-ALWAYS_IN_RANGE-via-else-count-gt-ALWAYS_IN_RANGE}
+use Rattle.text_lines.proofs.scan.number_front.Goals.{else-count-gt-ALWAYS_IN_RANGE-via-then-count-gt-ALWAYS_IN_RANGE+else-not-is_long_in_range}
+use Rattle.text_lines.proofs.scan.number_front.Goals.{else-count-gt-ALWAYS_IN_RANGE-via-else-count-gt-ALWAYS_IN_RANGE}
 use Rattle.text_lines.proofs.scan.number_front.Goals as goal
 
 pub returns-then-count-eq0-clause-none : goal.returns-then-count-eq0-clause-none
