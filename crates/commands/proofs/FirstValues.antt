@@ -5,6 +5,7 @@ use Rattle.std.specs.Prelude.{All, AllPairs}
 use Rattle.std.specs.List.{range_with_len}
 use Rattle.std.proofs.lemmas.List.FromFn.{get_or-range_with_len, length-range_with_len}
 use Rattle.event_records.specs.declared.limits.TheConstants.{LEAST_INITIAL_NAME, MAX_STRESS_INITIAL}
+use Rattle.event_records.specs.declared.event.Event.{Event}
 use Rattle.event_records.specs.declared.kind.Kind.{Kind}
 use Rattle.event_records.specs.declared.kind.Answer.{Answer}
 use Rattle.event_records.specs.Question.{Question}
@@ -22,7 +23,6 @@ use Rattle.stress_run.specs.Preloaded.{AreTaken, IsFirstRefused}
 use Rattle.stress_run.specs.declared.faults.RunFault.{RunFault}
 use Rattle.stress_run.specs.declared.faults.RunFault.TheVariants.{Preload}
 use Rattle.stress_run.specs.Recorded.{RecordedView}
-use Rattle.verdicts.specs.declared.verifying.Claimed.{Claimed}
 use Rattle.verdicts.specs.declared.verdict.Verdict.{Verdict}
 use Rattle.verdicts.specs.Claiming.{claim_of}
 use Rattle.value_match.proofs.FilledOperations.{no_elements}
@@ -31,9 +31,12 @@ use Rattle.history_text.specs.declared.version.Version.TheVariants.{One, Two}
 use Rattle.history_text.specs.Versions.{said_in}
 use Rattle.command_words.specs.Options.{IsWithinRanges, Settings}
 use Rattle.commands.specs.declared.stress.TheConstants.{TRIES}
-use Rattle.commands.specs.Answers.{run_fault, shown}
-use Rattle.commands.specs.Judging.{IsVerdictClaim}
+use Rattle.verdicts.specs.Decided.{IsDecided}
+use Rattle.commands.specs.Answers.{Reply, run_fault, shown}
+use Rattle.commands.specs.Judging.{AnswersOrNoMemory, IsVerdictClaim}
 use Rattle.commands.specs.Stressing.{RunsOrFails, first_values, run_history, run_version}
+use Rattle.commands.specs.Inner.Stressing.{IsShownRun}
+use Rattle.commands.proofs.Findings.{decided_claim}
 
 -- numbers from a on are at least as great as what a is
 at_least : (b a n : ℕ) → b ≤ a → All (λ v. b ≤ v) (range_with_len a n)
@@ -72,38 +75,51 @@ none_in_version_1 count is = by_test (count == 0) refl is
 
 -- ---- what a run gives
 
-module _ (may : Question → Answer → Type 0) (may_preload : ℕ → Bool → Type 0) (settings : Settings) (history : HistoryView) (verdict : Verdict) where
-  -- the claim of the verdict
-  abbrev claim : Claimed
-  claim = claim_of history.initial (operations_of history.events) verdict
+-- a history that begins with the first values is that of a run
+same_history : (count : ℕ) (history : HistoryView) → history.initial ≡ first_values count → history ≡ run_history count history.events
+same_history count history same = λ i. record { initial = same i; events = history.events }
 
-  same_history : history.initial ≡ first_values settings.initial → history ≡ run_history settings.initial history.events
-  same_history same = λ i. record { initial = same i; events = history.events }
+-- what is decided of the history of a run
+pub judged_run : (count : ℕ) (lists : List (List Event)) (history : HistoryView) (verdict : Verdict) (version : Version)
+    → IsMerged lists history.events → IsCompleteFrom history.initial history.events → history.initial ≡ first_values count
+    → IsDecided history verdict → version ≡ run_version count
+    → AnswersOrNoMemory (IsShownRun count) lists (shown (said_in version history) (claim_of history.initial (operations_of history.events) verdict))
+judged_run count lists history verdict version merged complete same decided is_version =
+    let claim = claim_of history.initial (operations_of history.events) verdict in
+    inl (record {
+      events = history.events;
+      merged = merged;
+      complete = subst (λ initial. IsCompleteFrom initial history.events) same complete;
+      claimed = claim;
+      right = subst (λ h. IsVerdictClaim h claim) (same_history count history same)
+          (decided_claim history verdict decided.chosen decided.evidence decided.exact);
+      is = λ i. shown (said_in (is_version i) (same_history count history same i)) claim;
+    })
 
-  -- a run whose history begins with the first values is what `stress` answers
-  pub recorded_run : (plan : List (List Kind)) → IsSeeded settings.seed settings.threads settings.operations settings.percent plan
-      → (recorded : RecordedView) → IsRun may plan recorded.lists recorded.total → AreRecorded recorded.lists
-      → (given : List ℕ) → given ≡ first_values settings.initial → Replays settings.ring given recorded.lists → IsMerged recorded.lists history.events
-      → IsCompleteFrom history.initial history.events → history.initial ≡ given → IsVerdictClaim history claim
-      → (version : Version) → version ≡ run_version settings.initial → AreTaken may_preload given
-      → RunsOrFails may may_preload settings (shown (said_in version history) claim)
-  recorded_run plan seeded recorded run are_recorded given first replays merged complete same right version is_version taken =
-      inl (record {
-        preloaded = subst (AreTaken may_preload) first taken;
-        plan = plan;
-        seeded = seeded;
-        lists = recorded.lists;
-        total = recorded.total;
-        run = run;
-        recorded = are_recorded;
-        replays = subst (λ initial. Replays settings.ring initial recorded.lists) first replays;
-        events = history.events;
-        merged = merged;
-        complete = subst (λ initial. IsCompleteFrom initial history.events) (same ∙ first) complete;
-        claimed = claim;
-        right = subst (λ h. IsVerdictClaim h claim) (same_history (same ∙ first)) right;
-        is = λ i. shown (said_in (is_version i) (same_history (same ∙ first) i)) claim;
-      })
+-- what is answered of the lists that a run recorded is what `stress` answers
+pub recorded_run : (may : Question → Answer → Type 0) (may_preload : ℕ → Bool → Type 0) (settings : Settings) (plan : List (List Kind))
+    → IsSeeded settings.seed settings.threads settings.operations settings.percent plan
+    → (recorded : RecordedView) → IsRun may plan recorded.lists recorded.total → AreRecorded recorded.lists
+    → (given : List ℕ) → given ≡ first_values settings.initial → Replays settings.ring given recorded.lists → AreTaken may_preload given
+    → (answer : Reply) → AnswersOrNoMemory (IsShownRun settings.initial) recorded.lists answer → RunsOrFails may may_preload settings answer
+recorded_run may may_preload settings plan seeded recorded run are_recorded given first replays taken answer (inl found) =
+    inl (record {
+      preloaded = subst (AreTaken may_preload) first taken;
+      plan = plan;
+      seeded = seeded;
+      lists = recorded.lists;
+      total = recorded.total;
+      run = run;
+      recorded = are_recorded;
+      replays = subst (λ initial. Replays settings.ring initial recorded.lists) first replays;
+      events = found.events;
+      merged = found.merged;
+      complete = found.complete;
+      claimed = found.claimed;
+      right = found.right;
+      is = found.is;
+    })
+recorded_run may may_preload settings plan seeded recorded run are_recorded given first replays taken answer (inr memory) = inr (inr memory)
 
 -- a fault of a run on a queue that was given these values is what `stress` answers
 pub failed_run : (may : Question → Answer → Type 0) (may_preload : ℕ → Bool → Type 0) (settings : Settings) (plan : List (List Kind)) (fault : RunFault)

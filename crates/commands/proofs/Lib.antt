@@ -1,5 +1,5 @@
 -- The way of the argument, from an input to what is printed:
--- Exits: what a `?` carries on. InputFaults, OneInput: an input says one thing, or has one first fault.
+-- Exits: what a `?` carries on. Found: what an input is. InputFaults, OneInput: an input says one thing, or has one first fault.
 -- Findings, Drawn, Played, Searched, Runs, FirstValues: from what was read, drawn, played, searched, run or wrong in the words to the answer.
 -- OneAnswer: out of memory aside an input has one answer. Converting: a text and its conversion are answered alike.
 -- Asked, Printing: what is printed, whole or in front, and what the writer was asked.
@@ -11,6 +11,7 @@ pub mod Asked
 pub mod Printing
 pub mod Saying
 pub mod InputFaults
+pub mod Found
 pub mod Runs
 pub mod Findings
 pub mod Drawn

@@ -12,6 +12,7 @@ use history_text::{TextSink, write_piece};
 use messages::{Complaint, FrontKept, Given, NO_MEMORY, Reads, greeting, keeping, sentence};
 use std::alloc::{AllocError, Global};
 use std::convert::AsStr;
+use std::iter::once;
 
 /// Above how many events a run that is written to a terminal is one to be kept in a file.
 const MANY_EVENTS: usize = 2000;
@@ -141,7 +142,6 @@ fn complaint_of<'a>(
 pub(crate) struct Ended<'b, 'a, S> {
     pub order: &'b Order<'a>,
     pub outcome: &'b Outcome,
-    pub status: u8,
     /// Its input, as far as that is kept.
     pub kept: &'b FrontKept<S>,
     pub shelf: &'b [NamedQueue<'a>],
@@ -149,41 +149,49 @@ pub(crate) struct Ended<'b, 'a, S> {
 
 /// The names of the queues: of the proved one, and of those on the shelf.
 fn names_on<'a>(alloc: Global, shelf: &[NamedQueue<'a>]) -> Result<Vec<&'a str>, AllocError> {
-    let mut names = Vec::new(alloc);
-    names.push("proved")?;
-    for shelved in shelf {
-        names.push(shelved.name)?;
-    }
-    Ok(names)
+    once("proved")
+        .chain(shelf.iter().map(|shelved| shelved.name))
+        .collect(alloc)
 }
 
-/// The message about a command that ended with a status which is no verdict's.
-fn message_of<'b, 'a, S>(alloc: Global, ended: &Ended<'b, 'a, S>) -> Result<String, AllocError>
-    ensures { IfOk result (λ made. IsMessage (string_bytes made)) }
-{
-    let Some(fault) = fault_told(ended.outcome, ended.status) else {
-        return sentence(alloc, &Complaint::Write);
-    };
-    let names = names_on(alloc, ended.shelf)?;
-    let given = Given {
+/// What is kept of its input, and what that was to be.
+fn given_to<'b, 'a, S>(ended: &Ended<'b, 'a, S>) -> Given<'b> {
+    Given {
         reads: reads_of(name_of(&ended.order.task)).unwrap_or(Reads::History),
         front: ended.kept.front(),
         is_whole: ended.kept.is_whole(),
+    }
+}
+
+/// The message about a command that ended with a status which is no verdict's.
+fn message_of<'b, 'a, S>(
+    alloc: Global,
+    ended: &Ended<'b, 'a, S>,
+    status: u8,
+) -> Result<String, AllocError>
+    ensures { IfOk result (λ made. IsMessage (string_bytes made)) }
+{
+    let Some(fault) = fault_told(ended.outcome, status) else {
+        return sentence(alloc, &Complaint::Write);
     };
-    sentence(
-        alloc,
-        &complaint_of(fault, &ended.order.task, given, names.as_slice()),
-    )
+    let names = names_on(alloc, ended.shelf)?;
+    let complaint = complaint_of(fault, &ended.order.task, given_to(ended), names.as_slice());
+    sentence(alloc, &complaint)
 }
 
 /// Says why a command found nothing, or that its answer wasn't written; of a verdict nothing.
-fn say_why<'b, 'a, S, E: TextSink>(alloc: Global, ended: &Ended<'b, 'a, S>, errors: &mut E)
-    ensures silent { ended.now.status ≤ 1 → errors.new ≡ errors.old }
-    ensures said { 2 ≤ ended.now.status → E.has_refused errors.old ≡ false
+fn say_why<'b, 'a, S, E: TextSink>(
+    alloc: Global,
+    ended: &Ended<'b, 'a, S>,
+    status: u8,
+    errors: &mut E,
+)
+    ensures silent { status ≤ 1 → errors.new ≡ errors.old }
+    ensures said { 2 ≤ status → E.has_refused errors.old ≡ false
         → SaysMessage (E.contents errors.old) (E.contents errors.new) (E.has_refused errors.new) }
 {
-    if ended.status > 1 {
-        tell_made(&message_of(alloc, ended), errors);
+    if status > 1 {
+        tell_made(&message_of(alloc, ended, status), errors);
     }
 }
 
@@ -216,14 +224,15 @@ fn say_how_to_keep<E: TextSink>(
 pub(crate) fn say_at_end<'b, 'a, S, E: TextSink>(
     alloc: Global,
     ended: &Ended<'b, 'a, S>,
+    status: u8,
     terminals: Terminals,
     errors: &mut E,
 )
-    ensures silent { terminals.output ≡ false → ended.now.status ≤ 1 → errors.new ≡ errors.old }
-    ensures said { terminals.output ≡ false → 2 ≤ ended.now.status → E.has_refused errors.old ≡ false
+    ensures silent { terminals.output ≡ false → status ≤ 1 → errors.new ≡ errors.old }
+    ensures said { terminals.output ≡ false → 2 ≤ status → E.has_refused errors.old ≡ false
         → SaysMessage (E.contents errors.old) (E.contents errors.new) (E.has_refused errors.new) }
 {
-    say_why(alloc, ended, errors);
+    say_why(alloc, ended, status, errors);
     say_how_to_keep(alloc, ended.order, ended.outcome, terminals, errors);
 }
 
@@ -260,22 +269,48 @@ pub(crate) fn say_mistake<T: AsStr, E: TextSink>(
     if status <= 1 {
         return;
     }
-    if status > 2 {
-        let complaint = if error.kind() == ErrorKind::OutOfMemory {
-            Complaint::Memory
-        } else {
-            Complaint::Write
-        };
-        tell_made(&sentence(alloc, &complaint), errors);
-        return;
+    if status == 2 {
+        say_mistaken_words(alloc, words, error, terminals, errors);
+    } else {
+        say_unexplained(alloc, error, errors);
     }
+}
+
+/// Says why the words couldn't be explained: memory ran out, or the writer refused.
+fn say_unexplained<E: TextSink>(alloc: Global, error: &Error, errors: &mut E)
+    ensures { E.has_refused errors.old ≡ false
+        → SaysMessage (E.contents errors.old) (E.contents errors.new) (E.has_refused errors.new) }
+{
+    let complaint = if error.kind() == ErrorKind::OutOfMemory {
+        Complaint::Memory
+    } else {
+        Complaint::Write
+    };
+    tell_made(&sentence(alloc, &complaint), errors);
+}
+
+/// Says what is wrong with the words, unless the terminal shows it as standard output.
+fn say_mistaken_words<T: AsStr, E: TextSink>(
+    alloc: Global,
+    words: &[T],
+    error: &Error,
+    terminals: Terminals,
+    errors: &mut E,
+) {
     if !terminals.output {
         tell_made(&format!(in alloc; "{error}"), errors);
     }
-    if error.kind() == ErrorKind::UnknownArgument
-        && let Some(command) = command_with_file(words)
-        && let Some(reads) = reads_of(command)
-    {
+    if error.kind() == ErrorKind::UnknownArgument {
+        say_how_to_read(alloc, words, errors);
+    }
+}
+
+/// Says how a file is read, if a command was given its name.
+fn say_how_to_read<T: AsStr, E: TextSink>(alloc: Global, words: &[T], errors: &mut E) {
+    let Some(command) = command_with_file(words) else {
+        return;
+    };
+    if let Some(reads) = reads_of(command) {
         tell_made(
             &sentence(alloc, &Complaint::File { command, reads }),
             errors,

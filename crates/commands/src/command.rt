@@ -4,7 +4,7 @@ ghost use Rattle.command_words.specs.Commands.{Request, stress, is_quiet_in, req
 ghost use Rattle.command_words.specs.Options.{Settings};
 ghost use Rattle.commands.specs.Judging.{AnswersOrNoMemory};
 ghost use Rattle.commands.specs.Outcomes.{answer_of, NamesPlaces};
-ghost use Rattle.commands.specs.Running.{AnswersOf, PrintsOneOf, ExplainsUse, SaysMessage, WritesAndFlushes, usage_status};
+ghost use Rattle.commands.specs.Running.{AnswersOf, PrintsOneOf, PrintsSaid, ExplainsUse, SaysMessage, WritesAndFlushes, usage_status};
 ghost use Rattle.commands.specs.Inner.Running.{Explains};
 ghost use Rattle.commands.specs.Stressing.{Stresses};
 ghost use Rattle.clap.specs.Values.{kind_of};
@@ -13,9 +13,9 @@ use crate::beside::{Ended, Terminals, greet, say_at_end, say_mistake};
 use crate::check::check;
 use crate::convert::convert;
 use crate::draw::draw;
-use crate::outcome::{Fault, Outcome};
+use crate::outcome::Outcome;
 use crate::pipes::{Muted, Piped};
-use crate::print::{print_outcome, print_text};
+use crate::print::{print_memory, print_outcome, print_text};
 use crate::shrink::shrink;
 use crate::sim::sim;
 use crate::stats::stats;
@@ -126,15 +126,37 @@ where
     greet(rt.alloc(), &order.task, terminals, errors);
     let mut kept = FrontKept::new(rt.alloc(), reader);
     let outcome = outcome_of(rt, order.task, &mut kept, shelf);
-    let status = print_outcome(&outcome, order.is_quiet, writer);
     let ended = Ended {
         order,
         outcome: &outcome,
-        status,
         kept: &kept,
         shelf,
     };
-    say_at_end(rt.alloc(), &ended, terminals, errors);
+    let status = end_order(rt.alloc(), &ended, terminals, writer, errors);
+    drop(outcome);
+    status
+}
+
+/// Prints what a command found, says what is to be said of that, and returns the status.
+fn end_order<'b, 'a, S, W: TextSink, E: TextSink>(
+    alloc: Global,
+    ended: &Ended<'b, 'a, S>,
+    terminals: Terminals,
+    writer: &mut W,
+    errors: &mut E,
+) -> u8
+    requires fresh { W.has_refused writer.old ≡ false }
+    requires places { NamesPlaces ended.now.outcome.now }
+    ensures printed { PrintsSaid ended.now.order.now.is_quiet (W.contents writer.old) (W.contents writer.new) (W.has_refused writer.new) result
+        (answer_of ended.now.outcome.now) }
+    ensures asked { WritesAndFlushes W.transition (W.has_refused writer.new) writer.old writer.new }
+    ensures passed_on { W.has_refused writer.new ≡ false → W.holds_back writer.new ≡ false }
+    ensures silent { terminals.output ≡ false → result ≤ 1 → errors.new ≡ errors.old }
+    ensures said { terminals.output ≡ false → 2 ≤ result → E.has_refused errors.old ≡ false
+        → SaysMessage (E.contents errors.old) (E.contents errors.new) (E.has_refused errors.new) }
+{
+    let status = print_outcome(ended.outcome, ended.order.is_quiet, writer);
+    say_at_end(alloc, ended, status, terminals, errors);
     status
 }
 
@@ -216,10 +238,10 @@ fn explain<W: TextSink>(alloc: Global, error: &Error, writer: &mut W) -> u8
     ensures passed_on { W.has_refused writer.new ≡ false → W.holds_back writer.new ≡ false }
 {
     if error.kind() == ErrorKind::OutOfMemory {
-        return print_outcome(&Err(Fault::Memory), false, writer);
+        return print_memory(writer);
     }
     match format!(in alloc; "{error}") {
         Ok(text) => print_text(text.as_bytes(), usage_status(error.kind()), writer),
-        Err(_) => print_outcome(&Err(Fault::Memory), false, writer),
+        Err(_) => print_memory(writer),
     }
 }

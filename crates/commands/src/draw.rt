@@ -9,7 +9,7 @@ ghost use Rattle.history_text.specs.declared.version.Version.{Version};
 ghost use Rattle.history_text.specs.Versions.{said_in};
 ghost use Rattle.commands.specs.Inputs.{IsDrawableOf, IsFaultOfDrawableInput, drawable};
 ghost use Rattle.commands.specs.Judging.{Draws, DrawsAlone, DrawsClaim, HasFewValues, IsDrawn, IsSmall, IsSound, AnswersFor, AnswersOrNoMemory};
-ghost use Rattle.commands.specs.Judging.{picture_in};
+ghost use Rattle.commands.specs.Judging.{IsVerdictClaim, picture_in};
 ghost use Rattle.commands.specs.Inner.Drawing.{IsUndrawn};
 ghost use Rattle.commands.specs.Outcomes.{answer_of, NamesPlaces};
 
@@ -96,10 +96,17 @@ fn draw_verdict(alloc: Global, history: &History, options: DrawOptions) -> Outco
     ensures found { (version : Version) → AnswersOrNoMemory (DrawsAlone options) (said_in version history.now) (answer_of result) }
     ensures places { NamesPlaces result }
 {
-    let verdict = decide(alloc, history)?;
-    let claimed = claim(alloc, history, &verdict)?;
+    let claimed = decided_claim(alloc, history)?;
     let drawn = drawn_if_few(alloc, history, &claimed, options.around)?;
     draw_evidence(alloc, history, &claimed, drawn, options)
+}
+
+/// The claim of the verdict on a history.
+fn decided_claim(alloc: Global, history: &History) -> Result<Claimed, AllocError>
+    ensures { IfOk result (IsVerdictClaim history.now) }
+{
+    let verdict = decide(alloc, history)?;
+    claim(alloc, history, &verdict)
 }
 
 /// The picture of what is drawn of a history and a claim that is evidence in it.

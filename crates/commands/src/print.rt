@@ -4,12 +4,12 @@ ghost use Rattle.std.specs.Io.KnownBytes.{Appends};
 ghost use Rattle.history_merge.specs.declared.operation.Operation.{Operation};
 ghost use Rattle.verdicts.specs.Claiming.{claim_of};
 ghost use Rattle.text_lines.specs.Writing.{AppendsFront, IsWritten, IsRefused, Writes};
-ghost use Rattle.commands.specs.Answers.{answer_text, answer_status, claim_status, quiet_text, said_text, verdict_head};
+ghost use Rattle.commands.specs.Answers.{answer_text, answer_status, claim_status, memory_fault, quiet_text, said_text, verdict_head};
 ghost use Rattle.commands.specs.Outcomes.{answer_of, NamesPlaces};
-ghost use Rattle.commands.specs.Running.{Prints, PrintsSaid, WritesAndFlushes};
+ghost use Rattle.commands.specs.Running.{Prints, PrintsAnswer, PrintsSaid, WritesAndFlushes};
 
 use crate::faults::write_fault;
-use crate::outcome::{Outcome, Report};
+use crate::outcome::{Fault, Outcome, Report};
 use crate::show::{write_left_open, write_played, write_shown};
 use history_stats::write_statistics;
 use history_text::{TextSink, Version, WriteFault, write_history, write_piece, write_verdict};
@@ -137,6 +137,16 @@ pub fn print_outcome<W: TextSink>(outcome: &Outcome, is_quiet: bool, writer: &mu
 {
     let written = write_said(outcome, is_quiet, writer);
     flush_written(written, status_of(outcome), writer)
+}
+
+/// Writes that memory ran out, and flushes the writer; answers the status.
+pub(crate) fn print_memory<W: TextSink>(writer: &mut W) -> u8
+    requires fresh { W.has_refused writer.old ≡ false }
+    ensures printed { PrintsAnswer (W.contents writer.old) (W.contents writer.new) (W.has_refused writer.new) result memory_fault }
+    ensures asked { WritesAndFlushes W.transition (W.has_refused writer.new) writer.old writer.new }
+    ensures passed_on { W.has_refused writer.new ≡ false → W.holds_back writer.new ≡ false }
+{
+    print_outcome(&Err(Fault::Memory), false, writer)
 }
 
 /// Writes a text and flushes the writer; answers the status.

@@ -8,16 +8,14 @@ ghost use Rattle.commands.specs.Outcomes.{answer_of, NamesPlaces};
 ghost use Rattle.commands.specs.Stressing.{RunsOrFails, StressesQueue, StressesUnshelved, first_values};
 ghost use Rattle.queue_interface.specs.Answers.{AnswersInKind, TakesOrRefuses};
 
-use crate::check::PIECES;
-use crate::outcome::{Fault, Outcome, Report};
-use crate::stress::{TRIES, first_values, run_version};
+use crate::outcome::{Fault, Outcome};
+use crate::stress::{TRIES, judge_run, plan_of};
 use command_words::StressOptions;
 use event_records::MAX_OPERATIONS;
 use std::alloc::Global;
 use std::sync::Wait;
 use std::thread::Threads;
 use stress_run::run_proved;
-use verdicts::decide_par;
 use workloads::Plan;
 
 /// What `stress` finds of a name that no queue of the shelf has: a run of the proved queue if that is the name.
@@ -66,14 +64,7 @@ fn run_proved_plan<'a, R: Threads + Wait + Sync>(
     ensures linearizable { ShowsNoViolation (answer_of result) }
     ensures places { NamesPlaces result }
 {
-    let plan = Plan::from_seed(
-        alloc,
-        options.seed,
-        options.threads,
-        options.operations,
-        options.percent,
-    )?;
-    let initial = first_values(alloc, options.initial)?;
+    let (plan, initial) = plan_of(alloc, options)?;
     run_planned(rt, alloc, &initial, &plan, options)
 }
 
@@ -93,7 +84,5 @@ fn run_planned<'a, R: Threads + Wait + Sync>(
     ensures places { NamesPlaces result }
 {
     let recorded = run_proved(rt, alloc, initial, plan, options.ring, TRIES)?;
-    let history = recorded.history(alloc)?;
-    let verdict = decide_par(rt, alloc, &history, PIECES)?;
-    Ok(Report::Shown(run_version(options.initial), history, verdict))
+    judge_run(rt, alloc, &recorded, options.initial)
 }

@@ -3,7 +3,10 @@ ghost use Rattle.std.specs.Prelude.{◌≡◌, ◌≢◌, ◌≤◌, ◌*◌, If
 ghost use Rattle.event_records.specs.declared.limits.TheConstants.{MAX_OPERATIONS, MAX_STRESS_INITIAL};
 ghost use Rattle.workloads.specs.Seeds.{IsSeeded};
 ghost use Rattle.command_words.specs.Options.{settings_of, IsWithinRanges};
+ghost use Rattle.commands.specs.Answers.{ShowsNoViolation};
+ghost use Rattle.commands.specs.Judging.{AnswersOrNoMemory};
 ghost use Rattle.commands.specs.Outcomes.{answer_of, NamesPlaces};
+ghost use Rattle.commands.specs.Inner.Stressing.{IsShownRun, IsLinearizableRun};
 ghost use Rattle.commands.specs.Stressing.{IsFirstNamed, RunsOrFails, Stresses, StressesQueue, first_values, run_version};
 
 use crate::check::PIECES;
@@ -16,7 +19,7 @@ use queue_interface::TestQueue;
 use std::alloc::{AllocError, Global};
 use std::sync::Wait;
 use std::thread::Threads;
-use stress_run::run_from;
+use stress_run::{Recorded, run_from};
 use verdicts::decide_par;
 use workloads::Plan;
 
@@ -92,6 +95,20 @@ fn run_plan<'a, R: Threads + Sync>(
     ensures found { RunsOrFails (may queue.now) (may_preload queue.now) (settings_of options.now) (answer_of result) }
     ensures places { NamesPlaces result }
 {
+    let (plan, initial) = plan_of(alloc, options)?;
+    run_planned(rt, alloc, queue, &initial, &plan, options)
+}
+
+/// The seed's plan, and the values that the queue is to hold first.
+pub(crate) fn plan_of<'a>(
+    alloc: Global,
+    options: &StressOptions<'a>,
+) -> Result<(Plan, Vec<u64>), AllocError>
+    requires ranges { IsWithinRanges (settings_of options.now) }
+    requires few { options.now.threads * options.now.operations ≤ MAX_OPERATIONS }
+    ensures seeded { IfOk result (λ made. IsSeeded options.now.seed options.now.threads options.now.operations options.now.percent made.0) }
+    ensures first { IfOk result (λ made. made.1.items ≡ first_values options.now.initial) }
+{
     let plan = Plan::from_seed(
         alloc,
         options.seed,
@@ -100,7 +117,7 @@ fn run_plan<'a, R: Threads + Sync>(
         options.percent,
     )?;
     let initial = first_values(alloc, options.initial)?;
-    run_planned(rt, alloc, queue, &initial, &plan, options)
+    Ok((plan, initial))
 }
 
 /// A run of the seed's plan on this queue, which is to hold these values first, and the verdict on what it recorded.
@@ -119,9 +136,24 @@ fn run_planned<'a, R: Threads + Sync>(
     ensures places { NamesPlaces result }
 {
     let recorded = run_from(rt, alloc, queue, initial, plan, options.ring, TRIES)?;
+    judge_run(rt, alloc, &recorded, options.initial)
+}
+
+/// The verdict on what was recorded of a run, whose queue held this many values first.
+pub(crate) fn judge_run<R: Threads + Sync>(
+    rt: &R,
+    alloc: Global,
+    recorded: &Recorded,
+    count: usize,
+) -> Outcome
+    requires { recorded.now.initial ≡ first_values count }
+    ensures found { AnswersOrNoMemory (IsShownRun count) recorded.now.lists (answer_of result) }
+    ensures linearizable { IsLinearizableRun count recorded.now.lists → ShowsNoViolation (answer_of result) }
+    ensures places { NamesPlaces result }
+{
     let history = recorded.history(alloc)?;
     let verdict = decide_par(rt, alloc, &history, PIECES)?;
-    Ok(Report::Shown(run_version(options.initial), history, verdict))
+    Ok(Report::Shown(run_version(count), history, verdict))
 }
 
 /// Values for a queue, this many, which are names of initial values.

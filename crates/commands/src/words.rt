@@ -5,8 +5,7 @@ ghost use Rattle.commands.specs.Running.{Prints, PrintsAnswer, WritesAndFlushes,
 ghost use Rattle.commands.specs.declared.words.StartFault.TheVariants.{NoText, Memory};
 
 use crate::beside::{Terminals, tell};
-use crate::outcome::Fault;
-use crate::print::{print_outcome, print_text};
+use crate::print::{print_memory, print_text};
 use history_text::TextSink;
 use messages::{NO_MEMORY, NOT_WRITTEN};
 use std::env;
@@ -56,7 +55,7 @@ pub fn print_start_fault<W: TextSink, E: TextSink>(
 {
     let status = match fault {
         StartFault::NoText => print_text(NO_TEXT, 2, writer),
-        StartFault::Memory => print_outcome(&Err(Fault::Memory), false, writer),
+        StartFault::Memory => print_memory(writer),
     };
     match (fault, status) {
         (StartFault::NoText, 2) if terminals.output => {}

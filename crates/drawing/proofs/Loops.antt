@@ -2,9 +2,10 @@
 use Rattle.std.proofs.Common.{◌≡◌, ℕ, ◌+◌, ◌<◌, List, [], ◌∷◌, ◌++◌, map, length, take, get_or, ap, sym, ◌∙◌, zero-add}
 use Rattle.std.proofs.Common.{append-nil, append_assoc, arith, max, length-take-le, cond, Bool, true, false, drop, Some, refl}
 use Rattle.std.specs.List.{range_with_len, flat_map, filter, find, enumerate_from}
-use Rattle.std.proofs.lemmas.List.{map-append, map-id, take_more, at_drop_more}
+use Rattle.std.proofs.lemmas.List.{map-append, map-id, map_more, take_more, at_drop_more}
 use Rattle.std.proofs.lemmas.List.FromFn.{filter_of_map_range_with_len_more, map-range_with_len_more}
 use Rattle.std.proofs.lemmas.Grind.{flat_map-append}
+use Rattle.text_lines.proofs.Appending.{flat_map-more}
 use Rattle.std.proofs.lemmas.List.Sums.{fold_more, fold-append}
 use Rattle.history_merge.specs.declared.operation.Operation.{Operation}
 use Rattle.drawing.specs.Layout.{threads_below, has_operations, point, greatest_call}
@@ -90,3 +91,17 @@ flat_map_enumerated_step f text xs i d old new within before now =
 pub words_range_step : (f : ℕ → Word) (line : List ℕ) (n : ℕ) (old new : List ℕ) → old ≡ with_words line (map f (range_with_len 0 n))
     → new ≡ placed old (f n) → new ≡ with_words line (map f (range_with_len 0 (n + 1)))
 words_range_step f line n old new before now = now ∙ ap (λ (l : List ℕ). placed l (f n)) before ∙ sym (ap (with_words line) (map-range_with_len_more f 0 n n (zero-add n)) ∙ words_push line (map f (range_with_len 0 n)) (f n))
+
+-- a word of one element more was added
+pub words_step : {X : Type 0} (f : X → Word) (line : List ℕ) (xs : List X) (i : ℕ) (d : X) (old new : List ℕ) → i < length xs
+    → old ≡ with_words line (map f (take i xs)) → new ≡ placed old (f (get_or xs i d)) → new ≡ with_words line (map f (take (i + 1) xs))
+words_step f line xs i d old new within before now =
+    now ∙ ap (λ (l : List ℕ). placed l (f (get_or xs i d))) before
+    ∙ sym (ap (with_words line) (map_more f xs i d within) ∙ words_push line (map f (take i xs)) (f (get_or xs i d)))
+
+-- a piece of one element more was added
+pub flat_map_step : {X : Type 0} (f : X → List ℕ) (text : List ℕ) (xs : List X) (i : ℕ) (d : X) (old new : List ℕ) → i < length xs
+    → old ≡ text ++ flat_map f (take i xs) → new ≡ old ++ f (get_or xs i d) → new ≡ text ++ flat_map f (take (i + 1) xs)
+flat_map_step f text xs i d old new within before now =
+    now ∙ ap (λ (t : List ℕ). t ++ f (get_or xs i d)) before ∙ append_assoc text _ _
+    ∙ ap (λ (t : List ℕ). text ++ t) (sym (flat_map-more f xs i d within))

@@ -13,7 +13,7 @@ use std::alloc::{AllocError, Global};
 use verdicts::{ClaimLine, Claimed, ViolationKind};
 
 /// What stands above a band.
-#[derive(Clone, Copy, Debug, PartialEq, Eq)]
+#[derive(Clone, Copy)]
 pub enum Head {
     /// This value definitely was in the queue.
     SurelyIn(u64),
@@ -30,7 +30,7 @@ pub enum Head {
 }
 
 /// A stretch of time, between the tickets of two events.
-#[derive(Clone, Copy, Debug, PartialEq, Eq)]
+#[derive(Clone, Copy)]
 pub struct Band {
     pub head: Head,
     /// The ticket from which it goes, or none where it goes from the top.

@@ -35,7 +35,7 @@ pub(crate) const WIDE_LANES: usize = 16;
 pub(crate) const MAX_LANES: usize = 47 + 5 * (MOST_DRAWN + 2);
 
 /// Where the columns of a picture of characters stand, from 0.
-#[derive(Clone, Copy, Debug, PartialEq, Eq)]
+#[derive(Clone, Copy)]
 pub struct Columns {
     /// The width of the column of tickets, which is the first.
     pub ticket: usize,

@@ -8,12 +8,12 @@ ghost use Rattle.drawing.specs.Drawn.{is_away};
 
 use crate::columns::events_of;
 use event_records::Event;
-use history_merge::{History, Operation};
+use history_merge::{History, Operation, PackedOperation, unpacked};
 use std::alloc::{AllocError, Global};
 use verdicts::{ClaimLine, Claimed};
 
 /// How many events come before the call of an operation, and before its return.
-#[derive(Clone, Copy, Debug)]
+#[derive(Clone, Copy)]
 pub struct Standing {
     call: usize,
     ret: usize,
@@ -72,7 +72,7 @@ fn is_near_any(listed: &[Standing], standing: Standing, around: usize) -> bool
 fn near_operations(
     alloc: Global,
     events: &[Event],
-    operations: &[Operation],
+    operations: &[PackedOperation],
     lines: &[ClaimLine],
     around: usize,
 ) -> Result<Vec<Operation>, AllocError>
@@ -82,8 +82,9 @@ fn near_operations(
     let listed = standings_in(alloc, events, lines)?;
     let mut near = Vec::new(alloc);
     for operation in operations {
-        if is_near_any(listed.as_slice(), standing_of(events, *operation), around) {
-            near.push(*operation)?;
+        let operation = operation.unpack();
+        if is_near_any(listed.as_slice(), standing_of(events, operation), around) {
+            near.push(operation)?;
         }
     }
     Ok(near)
@@ -114,7 +115,7 @@ pub fn drawn_operations(
                 around,
             )
         }
-        _ => Vec::from_slice(alloc, history.operations()),
+        _ => unpacked(alloc, history.operations()),
     }
 }
 

@@ -13,7 +13,7 @@ use std::alloc::AllocError;
 pub type Added = Result<(), AllocError>;
 
 /// A piece of a text.
-#[derive(Clone, Copy, Debug)]
+#[derive(Clone, Copy)]
 pub enum Piece<'a> {
     /// These bytes.
     Words(&'a [u8]),

@@ -9,7 +9,7 @@ use event_records::{MAX_THREADS, NAMES_OF_A_THREAD};
 use std::alloc::{AllocError, Global};
 
 /// The name of a value, as recorders give it.
-#[derive(Clone, Copy, Debug, PartialEq, Eq)]
+#[derive(Clone, Copy)]
 pub enum Name {
     /// Of a thread from 1 on: the thread, and the number of its value.
     OfThread(u64, u64),

@@ -17,7 +17,7 @@ use std::alloc::{AllocError, Global};
 use verdicts::{ClaimLine, Claimed, ViolationKind};
 
 /// A row of a picture.
-#[derive(Clone, Copy, Debug, PartialEq, Eq)]
+#[derive(Clone, Copy)]
 pub enum Row {
     /// The words above the initial values.
     Head,

@@ -11,7 +11,7 @@ use std::alloc::{AllocError, Global};
 use verdicts::{Claimed, ViolationKind};
 
 /// A sign of a picture that has to be explained.
-#[derive(Clone, Copy, Debug, PartialEq, Eq)]
+#[derive(Clone, Copy)]
 pub enum Sign {
     /// A value that the queue holds first.
     First,

@@ -1,10 +1,12 @@
 //! A picture as lines of characters.
-ghost use Rattle.std.specs.Prelude.{if◌then◌else◌, ◌==◌, ◌≡◌, ◌≤◌, ◌++◌, [], IfOk, IfSome, OnOk, length, unwrap_or, codes, decimal};
+ghost use Rattle.std.specs.Prelude.{if◌then◌else◌, ◌==◌, ◌≡◌, ◌≤◌, ◌-◌, ◌++◌, [], IfOk, IfSome, OnOk, length, unwrap_or, codes, decimal};
 ghost use Rattle.std.specs.List.{flat_map, enumerate_from};
 ghost use Rattle.drawing.specs.Claim.{count_of_lines, shown_by};
 ghost use Rattle.text_lines.specs.Lines.{line};
 ghost use Rattle.drawing.specs.Layout.{digits, value_in, told, label, numbered, number_at, place_in, initial_label};
-ghost use Rattle.drawing.specs.Scene.{scene_on};
+ghost use Rattle.drawing.specs.Scene.{scene_on, ticket_words};
+ghost use Rattle.drawing.specs.Signs.{signs_of};
+ghost use Rattle.drawing.specs.declared.scene.Row.TheVariants.{Initial, Ticket};
 ghost use Rattle.drawing.specs.Inner.Words.{scene_in};
 ghost use Rattle.drawing.specs.Words.{placed, with_words, line_of};
 ghost use Rattle.drawing.specs.Terminal.{one_of, event_sign, effect_sign, lane_sign, lane_column, lane_words, band_words, beside_words, call_label};
@@ -257,30 +259,43 @@ fn call_label(
     }
 }
 
+/// Adds the label of an initial value, after its number.
+fn place_initial(line: &mut Vec<u8>, sheet: &Sheet<'_>, index: usize, value: u64) -> Added
+    ensures { OnOk result (line.new.items ≡ placed line.old.items (told_word sheet.now.columns (scene_in sheet.now) (Initial index value))) }
+{
+    let claimed = sheet.scene.claimed;
+    let label = initial_label(sheet.alloc, value)?;
+    let number = number_at(
+        sheet.alloc,
+        place_in(shown_by(claimed), Row::Initial(index, value)),
+    )?;
+    let wide = digits(count_of_lines(claimed) as u64);
+    let word = numbered(sheet.alloc, wide, number.as_slice(), label.as_slice())?;
+    place(line, sheet.columns.lanes, word.as_slice())
+}
+
+/// Adds the label of what is called with this ticket.
+fn place_called(line: &mut Vec<u8>, sheet: &Sheet<'_>, ticket: u64) -> Added
+    ensures { OnOk result (line.new.items ≡ placed line.old.items (told_word sheet.now.columns (scene_in sheet.now) (Ticket ticket))) }
+{
+    let called = called_at(sheet.scene.operations.as_slice(), ticket);
+    let word = call_label(
+        sheet.alloc,
+        sheet.columns.lane == 1,
+        shown_by(sheet.scene.claimed),
+        called,
+    )?;
+    place(line, sheet.columns.label, word.as_slice())
+}
+
 /// Adds the words right of the bands or of the lanes.
 fn place_told(line: &mut Vec<u8>, sheet: &Sheet<'_>, row: Row) -> Added
     ensures { OnOk result (line.new.items ≡ placed line.old.items (told_word sheet.now.columns (scene_in sheet.now) row)) }
 {
-    let claimed = sheet.scene.claimed;
     match row {
         Row::Head => place(line, sheet.columns.lanes, b"in the queue first"),
-        Row::Initial(_, value) => {
-            let label = initial_label(sheet.alloc, value)?;
-            let number = number_at(sheet.alloc, place_in(shown_by(claimed), row))?;
-            let wide = digits(count_of_lines(claimed) as u64);
-            let word = numbered(sheet.alloc, wide, number.as_slice(), label.as_slice())?;
-            place(line, sheet.columns.lanes, word.as_slice())
-        }
-        Row::Ticket(ticket) => {
-            let called = called_at(sheet.scene.operations.as_slice(), ticket);
-            let word = call_label(
-                sheet.alloc,
-                sheet.columns.lane == 1,
-                shown_by(claimed),
-                called,
-            )?;
-            place(line, sheet.columns.label, word.as_slice())
-        }
+        Row::Initial(index, value) => place_initial(line, sheet, index, value),
+        Row::Ticket(ticket) => place_called(line, sheet, ticket),
         _ => Ok(()),
     }
 }
@@ -386,19 +401,35 @@ fn name_bytes(sheet: &Sheet<'_>) -> Result<Vec<u8>, AllocError>
     Ok(bytes)
 }
 
+/// Adds the line of the word above the lanes.
+#[tactic(auto, unfolding(crate::specs::Terminal::thread_words))]
+fn push_thread_line(text: &mut Vec<u8>, sheet: &Sheet<'_>) -> Added
+    ensures { OnOk result (text.new.items ≡ text.old.items
+        ++ line (line_of (thread_words sheet.now.columns (length (scene_in sheet.now).bands)))) }
+{
+    let mut bytes = Vec::new(sheet.alloc);
+    place_strokes(&mut bytes, sheet, sheet.scene.bands.len())?;
+    place(&mut bytes, sheet.columns.lanes, b"thread")?;
+    push_line(text, bytes.as_slice())
+}
+
+/// Adds the line of the words above the tickets and the order, and of the threads' numbers.
+fn push_name_line(text: &mut Vec<u8>, sheet: &Sheet<'_>) -> Added
+    ensures { OnOk result (text.new.items ≡ text.old.items ++ line (line_of (name_words sheet.now.columns (scene_in sheet.now)))) }
+{
+    let names = name_bytes(sheet)?;
+    push_line(text, names.as_slice())
+}
+
 /// Adds the heads: those of the bands, and those of the tickets and the lanes.
-#[tactic(auto, unfolding(crate::specs::Terminal::heads, crate::specs::Terminal::thread_words))]
+#[tactic(auto, unfolding(crate::specs::Terminal::heads))]
 fn push_heads(text: &mut Vec<u8>, sheet: &Sheet<'_>) -> Added
     ensures { OnOk result (text.new.items ≡ text.old.items ++ heads sheet.now.columns (scene_in sheet.now)) }
 {
     push_band_heads(text, sheet)?;
-    let mut threads = Vec::new(sheet.alloc);
-    place_strokes(&mut threads, sheet, sheet.scene.bands.len())?;
-    place(&mut threads, sheet.columns.lanes, b"thread")?;
-    push_line(text, threads.as_slice())?;
+    push_thread_line(text, sheet)?;
     push_tens_line(text, sheet)?;
-    let names = name_bytes(sheet)?;
-    push_line(text, names.as_slice())
+    push_name_line(text, sheet)
 }
 
 /// Adds the heads once more, above each 40th row.
@@ -412,21 +443,44 @@ fn push_heads_again(text: &mut Vec<u8>, sheet: &Sheet<'_>, i: usize) -> Added
     }
 }
 
-/// Adds row i.
+/// Adds the words in the column of tickets.
+fn place_tickets(line: &mut Vec<u8>, sheet: &Sheet<'_>, row: Row) -> Added
+    ensures { OnOk result (line.new.items ≡ placed line.old.items
+        (record { column = sheet.now.columns.ticket - length (ticket_words row); bytes = ticket_words row })) }
+{
+    let words = ticket_words(sheet.alloc, row)?;
+    let column = sheet.columns.ticket.saturating_sub(words.len());
+    place(line, column, words.as_slice())
+}
+
+/// Adds the words beside the tickets.
+fn place_beside(line: &mut Vec<u8>, sheet: &Sheet<'_>, row: Row) -> Added
+    ensures { OnOk result (line.new.items ≡ placed line.old.items
+        (record { column = sheet.now.columns.beside; bytes = beside_words (scene_in sheet.now).claimed row })) }
+{
+    let words = beside_words(sheet.alloc, sheet.scene.claimed, row)?;
+    place(line, sheet.columns.beside, words.as_slice())
+}
+
+/// Adds the words in a row.
 #[tactic(auto, unfolding(crate::specs::Terminal::row_words))]
+fn place_row(line: &mut Vec<u8>, sheet: &Sheet<'_>, row: Row) -> Added
+    ensures { OnOk result (line.new.items ≡ with_words line.old.items (row_words sheet.now.columns (scene_in sheet.now) row)) }
+{
+    place_tickets(line, sheet, row)?;
+    place_beside(line, sheet, row)?;
+    place_bands(line, sheet, gap_of(row))?;
+    place_lanes(line, sheet, row)?;
+    place_told(line, sheet, row)
+}
+
+/// Adds row i.
 fn push_numbered(text: &mut Vec<u8>, sheet: &Sheet<'_>, i: usize, row: Row) -> Added
     ensures { OnOk result (text.new.items ≡ text.old.items ++ numbered_row sheet.now.columns (scene_in sheet.now) (i, row)) }
 {
     push_heads_again(text, sheet, i)?;
     let mut bytes = Vec::new(sheet.alloc);
-    let tickets = ticket_words(sheet.alloc, row)?;
-    let column = sheet.columns.ticket.saturating_sub(tickets.len());
-    place(&mut bytes, column, tickets.as_slice())?;
-    let beside = beside_words(sheet.alloc, sheet.scene.claimed, row)?;
-    place(&mut bytes, sheet.columns.beside, beside.as_slice())?;
-    place_bands(&mut bytes, sheet, gap_of(row))?;
-    place_lanes(&mut bytes, sheet, row)?;
-    place_told(&mut bytes, sheet, row)?;
+    place_row(&mut bytes, sheet, row)?;
     push_line(text, bytes.as_slice())
 }
 
@@ -481,15 +535,22 @@ fn effect_meaning(narrow: bool, claimed: &Claimed) -> &'static [u8]
     }
 }
 
+/// Adds the signs of the picture, with what they mean.
+fn push_scene_signs(text: &mut Vec<u8>, sheet: &Sheet<'_>) -> Added
+    ensures { OnOk result (text.new.items ≡ text.old.items ++ flat_map sign_line (signs_of (scene_in sheet.now))) }
+{
+    let signs = signs_of(sheet.alloc, sheet.scene)?;
+    push_signs(text, signs.as_slice())
+}
+
 /// Adds how to read the picture.
 #[tactic(auto, unfolding(crate::specs::Terminal::legend))]
 fn push_legend(text: &mut Vec<u8>, sheet: &Sheet<'_>) -> Added
     ensures { OnOk result (text.new.items ≡ text.old.items ++ legend sheet.now.columns (scene_in sheet.now)) }
 {
-    let signs = signs_of(sheet.alloc, sheet.scene)?;
     text.extend_from_slice(LANE_MEANINGS)?;
     text.extend_from_slice(effect_meaning(sheet.columns.lane == 1, sheet.scene.claimed))?;
-    push_signs(text, signs.as_slice())
+    push_scene_signs(text, sheet)
 }
 
 /// Adds what stands above the rows: what the picture shows, and how to read it.

@@ -121,7 +121,7 @@ fn answer_at(matching: &FilledMatching, empty: OpId) -> EmptyAnswer
 {
     EmptyAnswer {
         place: empty,
-        operation: matching.operations()[empty.place()],
+        operation: matching.operations()[empty.place()].unpack(),
     }
 }
 

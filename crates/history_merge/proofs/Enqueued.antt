@@ -4,14 +4,13 @@ use Rattle.std.specs.Prelude.{All, map}
 use Rattle.std.proofs.lemmas.List.{append_assoc, take_more}
 use Rattle.std.proofs.lemmas.List.Elements.{Contains-get_or}
 use Rattle.event_records.specs.declared.event.Event.{Event}
-use Rattle.event_records.specs.declared.limits.TheConstants.{MAX_CLOCK}
+use Rattle.event_records.specs.declared.limits.TheConstants.{MAX_TICKET}
 use Rattle.history_merge.specs.declared.operation.Operation.{Operation}
 use Rattle.history_merge.specs.declared.operation.OpKind.TheVariants.{Enq}
-use Rattle.history_merge.specs.Complete.{IsCompleteHistory, IsCompleteUpTo}
+use Rattle.history_merge.specs.Complete.{IsCompleteHistory}
 use Rattle.history_merge.specs.Initial.{filled, filling_from, later_by}
 use Rattle.history_merge.specs.Operations.{operations_of}
-use Rattle.history_merge.proofs.Completeness.{calls_before_returns}
-use Rattle.history_merge.proofs.Distinct.{return_in_range}
+use Rattle.history_merge.proofs.Distinct.{operation_within}
 
 -- an enqueue that is called at this clock
 abbrev enqueue_at : ℕ → ℕ → Operation
@@ -34,23 +33,10 @@ filling_more values i below =
     ap (filling_from 0) (take_more values i 0 below) ∙ filling_push 0 (take i values) (get_or values i 0)
     ∙ ap (λ n. filling_from 0 (take i values) ++ enqueue_at n (get_or values i 0) ∷ []) clock
 
--- tickets of a complete history are clocks too
-pub complete_by_clock : (events : List Event) → IsCompleteHistory events → IsCompleteUpTo MAX_CLOCK events
-complete_by_clock events complete = record {
-  tickets_rise = complete.tickets_rise;
-  tickets_in_range = λ k d below. let low = complete.tickets_in_range k d below in omega (arith, low);
-  threads_in_range = complete.threads_in_range;
-  threads_take_turns = complete.threads_take_turns;
-  values_are_distinct = complete.values_are_distinct;
-}
-
--- no operation of a complete history is called or returns above the greatest clock
-pub operations_in_range : (events : List Event) → IsCompleteHistory events → All (λ o. (o.call ≤ MAX_CLOCK) × (o.ret ≤ MAX_CLOCK)) (operations_of events)
+-- no operation of a complete history is called or returns above the greatest ticket
+pub operations_in_range : (events : List Event) → IsCompleteHistory events → All (λ o. (o.call ≤ MAX_TICKET) × (o.ret ≤ MAX_TICKET)) (operations_of events)
 operations_in_range events complete k d below =
-    let low = return_in_range (operations_of events) (get_or (operations_of events) k d) (events, complete_by_clock events complete, refl)
-    (Contains-get_or (operations_of events) k d below) in
-    let called = calls_before_returns events complete.tickets_rise k d below in
-    (omega (arith, low, called), low)
+    operation_within events (get_or (operations_of events) k d) complete (Contains-get_or (operations_of events) k d below)
 
 -- one enqueue more, after other operations
 pub enqueued_more : (now before start : List Operation) (values : List ℕ) (i : ℕ) → i < length values

@@ -10,7 +10,7 @@ ghost use Rattle.history_merge.specs.Forming.{operations_so_far};
 ghost use Rattle.history_merge.specs.Inner.Forming.{is_called_in};
 ghost use Rattle.history_merge.specs.Gathering.{KnowsCalled};
 
-use crate::operation::Operation;
+use crate::packed::PackedOperation;
 use event_records::{MAX_THREADS, NAMES_OF_A_THREAD, What};
 use std::alloc::{AllocError, Global};
 use std::collections::BTreeSet;
@@ -40,7 +40,7 @@ impl CalledValues {
 
     /// Whether the event calls with a value that an earlier one called with; it notes the value. The operations are
     /// those of the events before.
-    pub fn note(&mut self, what: What, operations: &[Operation]) -> Result<bool, AllocError>
+    pub fn note(&mut self, what: What, operations: &[PackedOperation]) -> Result<bool, AllocError>
         ensures { (events : List Event) (e : Event) → e.what ≡ what → KnowsCalled events self.old → operations.now ≡ operations_so_far events
             → IfOk result (λ repeats. (repeats ≡ repeats_value events e) × KnowsCalled (events ++ e ∷ []) self.new) }
     {
@@ -51,7 +51,7 @@ impl CalledValues {
     }
 
     #[inline(always)]
-    fn note_value(&mut self, value: u64, operations: &[Operation]) -> Result<bool, AllocError>
+    fn note_value(&mut self, value: u64, operations: &[PackedOperation]) -> Result<bool, AllocError>
         ensures { (events : List Event) (e : Event) → called_value e.what ≡ Some value → KnowsCalled events self.old → operations.now ≡ operations_so_far events
             → IfOk result (λ repeats. (repeats ≡ was_called events value) × KnowsCalled (events ++ e ∷ []) self.new) }
     {
@@ -63,7 +63,11 @@ impl CalledValues {
 
     /// Does so as long as the values rise.
     #[inline(always)]
-    fn note_rising(&mut self, value: u64, operations: &[Operation]) -> Result<bool, AllocError>
+    fn note_rising(
+        &mut self,
+        value: u64,
+        operations: &[PackedOperation],
+    ) -> Result<bool, AllocError>
         requires { self.old.others ≡ None }
         ensures { (events : List Event) (e : Event) → called_value e.what ≡ Some value → KnowsCalled events self.old → operations.now ≡ operations_so_far events
             → IfOk result (λ repeats. (repeats ≡ was_called events value) × KnowsCalled (events ++ e ∷ []) self.new) }
@@ -98,12 +102,12 @@ pub fn called_value(what: What) -> Option<u64>
 }
 
 /// Returns the values of the calls of these operations.
-fn values_of(alloc: Global, operations: &[Operation]) -> Result<BTreeSet<u64>, AllocError>
+fn values_of(alloc: Global, operations: &[PackedOperation]) -> Result<BTreeSet<u64>, AllocError>
     ensures { IfOk result (λ values. (v : ℕ) → contains nat_cmp values v ≡ is_called_in operations.now v) }
 {
     let mut values = BTreeSet::new(alloc);
     for operation in operations {
-        if let Some(value) = operation.kind.enqueued_value() {
+        if let Some(value) = operation.unpack().kind.enqueued_value() {
             values.insert(value)?;
         }
     }

@@ -8,7 +8,7 @@ ghost use Rattle.history_merge.specs.Operations.{operations_of};
 
 use crate::events::Events;
 use crate::forming::Formed;
-use crate::operation::Operation;
+use crate::packed::PackedOperation;
 use event_records::{MAX_EVENTS, MAX_INITIAL};
 use std::marker::Model;
 
@@ -18,7 +18,7 @@ use std::marker::Model;
 /// Each value of this type is one: tickets rise, each thread's calls and returns alternate, each call has a return,
 /// no two calls enqueue one value, and the initial values are distinct and enqueued by no call.
 ///
-/// It keeps the initial values and the operations, from which it restores the events: some six words for each
+/// It keeps the initial values and the operations, from which it restores the events: some four words for each
 /// operation.
 #[derive(Debug, Drop)]
 pub struct History {
@@ -71,7 +71,7 @@ impl History {
     }
 
     /// Returns the operations, in the order of their calls. The place of one in this list is its [`crate::OpId`].
-    pub fn operations(&self) -> &[Operation]
+    pub fn operations(&self) -> &[PackedOperation]
         ensures operations { result.now ≡ operations_of self.now.events }
         ensures complete { IsCompleteHistory self.now.events }
         ensures from { IsCompleteFrom self.now.initial self.now.events }

@@ -1,12 +1,13 @@
-ghost use Rattle.std.specs.Prelude.{◌≡◌, ◌≤◌, ◌++◌, List, All, IfOk, OnOk, length, map};
+ghost use Rattle.std.specs.Prelude.{◌≡◌, ◌≤◌, ◌*◌, ◌++◌, List, All, IfOk, OnOk, length, map};
 ghost use Rattle.event_records.specs.declared.event.Event.{Event};
-ghost use Rattle.event_records.specs.declared.limits.TheConstants.{MAX_CLOCK, MAX_INITIAL};
+ghost use Rattle.event_records.specs.declared.limits.TheConstants.{MAX_INITIAL, MAX_TICKET};
 ghost use Rattle.history_merge.specs.Complete.{AreComplete};
 ghost use Rattle.history_merge.specs.Initial.{IsCompleteFrom, filled, filling_from, later_by};
 ghost use Rattle.history_merge.specs.Operations.{operations_of};
 
 use crate::operation::{OpKind, Operation};
-use event_records::{MAX_CLOCK, MAX_INITIAL};
+use crate::packed::PackedOperation;
+use event_records::{MAX_INITIAL, MAX_TICKET};
 use std::alloc::{AllocError, Global};
 
 /// Makes the operations of the filled history: thread 0 enqueues the initial values alone, one after another, and
@@ -17,8 +18,8 @@ use std::alloc::{AllocError, Global};
 pub fn fill(
     alloc: Global,
     initial: &[u64],
-    operations: &[Operation],
-) -> Result<Vec<Operation>, AllocError>
+    operations: &[PackedOperation],
+) -> Result<Vec<PackedOperation>, AllocError>
     requires history { (events : List Event) × IsCompleteFrom initial.now events × (operations.now ≡ operations_of events) }
     requires few { length initial.now ≤ MAX_INITIAL }
     ensures filled { IfOk result (λ v. v.items ≡ filled initial.now operations.now) }
@@ -31,38 +32,39 @@ pub fn fill(
 }
 
 /// Adds an enqueue of each value, one after another.
-fn add_enqueues(filled: &mut Vec<Operation>, values: &[u64]) -> Result<(), AllocError>
+fn add_enqueues(filled: &mut Vec<PackedOperation>, values: &[u64]) -> Result<(), AllocError>
     requires { length values.now ≤ MAX_INITIAL }
     ensures { OnOk result (filled.new.items ≡ filled.old.items ++ filling_from 0 values.now) }
 {
     for (place, value) in values.iter().enumerate() {
         let call = 2 * place as u64;
-        filled.push(Operation {
+        filled.push(PackedOperation::new(Operation {
             call,
             ret: call + 1,
             thread: 0,
             kind: OpKind::Enq(*value),
-        })?;
+        }))?;
     }
     Ok(())
 }
 
 /// Adds the operations, later by this many tickets.
 fn add_later(
-    filled: &mut Vec<Operation>,
-    operations: &[Operation],
+    filled: &mut Vec<PackedOperation>,
+    operations: &[PackedOperation],
     ticks: u64,
 ) -> Result<(), AllocError>
-    requires operations { All (λ o. (o.call ≤ MAX_CLOCK) × (o.ret ≤ MAX_CLOCK)) operations.now }
-    requires ticks { ticks ≤ MAX_CLOCK }
+    requires operations { All (λ o. (o.call ≤ MAX_TICKET) × (o.ret ≤ MAX_TICKET)) operations.now }
+    requires ticks { ticks ≤ 2 * MAX_INITIAL }
     ensures { OnOk result (filled.new.items ≡ filled.old.items ++ map (later_by ticks) operations.now) }
 {
     for operation in operations {
-        filled.push(Operation {
+        let operation = operation.unpack();
+        filled.push(PackedOperation::new(Operation {
             call: operation.call + ticks,
             ret: operation.ret + ticks,
-            ..*operation
-        })?;
+            ..operation
+        }))?;
     }
     Ok(())
 }

@@ -11,13 +11,14 @@ ghost use Rattle.history_merge.specs.Gathering.{HasFormed};
 use crate::events::Events;
 use crate::matching::is_call;
 use crate::operation::{OpKind, Operation};
-use event_records::{Event, MAX_THREAD, MAX_THREADS, What};
+use crate::packed::PackedOperation;
+use event_records::{Event, MAX_THREAD, MAX_THREADS, MAX_TICKET, What};
 use std::alloc::{AllocError, Global};
 
 /// Operations in the order of their calls, and the places of those that returned, in the order of their returns.
 #[derive(Debug, Drop)]
 pub struct Formed {
-    pub operations: Vec<Operation>,
+    pub operations: Vec<PackedOperation>,
     pub by_return: Vec<u32>,
 }
 
@@ -42,7 +43,7 @@ impl Forming {
     }
 
     /// Returns the operations; a pending one has the return 0, and counts as a successful enqueue or as empty.
-    pub fn operations(&self) -> &[Operation]
+    pub fn operations(&self) -> &[PackedOperation]
         ensures { (events : List Event) → HasFormed events self.now → result.now ≡ operations_so_far events }
     {
         self.formed.operations.as_slice()
@@ -75,7 +76,8 @@ impl Forming {
     /// Adds an event that may come next in its thread.
     #[inline(always)]
     pub fn add(&mut self, event: Event) -> Result<(), AllocError>
-        requires { event.thread ≤ MAX_THREAD }
+        requires thread { event.thread ≤ MAX_THREAD }
+        requires ticket { event.ticket ≤ MAX_TICKET }
         ensures { (events : List Event) → Follows events event → HasFormed events self.old
             → IfOk result (λ _. HasFormed (events ++ event ∷ []) self.new) }
     {
@@ -89,7 +91,8 @@ impl Forming {
     /// Adds a call, of a thread that has none pending.
     #[inline(always)]
     fn call(&mut self, event: Event) -> Result<(), AllocError>
-        requires { event.thread ≤ MAX_THREAD }
+        requires thread { event.thread ≤ MAX_THREAD }
+        requires ticket { event.ticket ≤ MAX_TICKET }
         ensures { (events : List Event) → is_call event.what ≡ true → pending_call event.thread events ≡ None → HasFormed events self.old
             → IfOk result (λ _. HasFormed (events ++ event ∷ []) self.new) }
     {
@@ -97,12 +100,12 @@ impl Forming {
         let Ok(place) = u32::try_from(self.formed.operations.len()) else {
             return Err(AllocError);
         };
-        self.formed.operations.push(Operation {
+        self.formed.operations.push(PackedOperation::new(Operation {
             call: event.ticket,
             ret: 0,
             thread: event.thread,
             kind: begun(event.what),
-        })?;
+        }))?;
         self.places[usize::from(event.thread)] = place;
         Ok(())
     }
@@ -110,7 +113,8 @@ impl Forming {
     /// Adds the return of its thread's pending call.
     #[inline(always)]
     fn answer(&mut self, event: Event) -> Result<(), AllocError>
-        requires { event.thread ≤ MAX_THREAD }
+        requires thread { event.thread ≤ MAX_THREAD }
+        requires ticket { event.ticket ≤ MAX_TICKET }
         ensures { (events : List Event) (call : Event) → is_call event.what ≡ false → pending_call event.thread events ≡ Some call
             → Follows events event → HasFormed events self.old → IfOk result (λ _. HasFormed (events ++ event ∷ []) self.new) }
     {
@@ -119,19 +123,19 @@ impl Forming {
             return Ok(());
         }
         self.formed.by_return.push(place)?;
-        let pending = self.formed.operations[place as usize];
-        self.formed.operations[place as usize] = Operation {
+        let pending = self.formed.operations[place as usize].unpack();
+        self.formed.operations[place as usize] = PackedOperation::new(Operation {
             call: pending.call,
             ret: event.ticket,
             thread: pending.thread,
             kind: answered(pending.kind, event.what),
-        };
+        });
         Ok(())
     }
 }
 
 /// Returns whether these are places of operations.
-fn are_places_of(operations: &[Operation], places: &[u32]) -> bool
+fn are_places_of(operations: &[PackedOperation], places: &[u32]) -> bool
     ensures { IsTrue result ↔ All (λ place. place < length operations.now) places.now }
 {
     places

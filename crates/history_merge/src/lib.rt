@@ -16,6 +16,7 @@ mod laws;
 mod matching;
 mod merging;
 mod operation;
+mod packed;
 mod progress;
 mod recorded;
 
@@ -29,4 +30,5 @@ pub use filling::fill;
 pub use laws::{filled_has_the_same_orders, filled_is_complete, no_initial_values};
 pub use merging::merge;
 pub use operation::{OpId, OpKind, Operation};
+pub use packed::{PACKED_LIMIT, PackedOperation, operation_at, unpacked};
 pub use recorded::{complete_history, merged_from, merged_history};

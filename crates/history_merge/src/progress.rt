@@ -30,6 +30,7 @@ impl Progress {
     pub fn fault_of(&self, event: Event, place: usize, repeats: bool) -> Option<HistoryFault>
         ensures fault { (before : List Event) → HasTracked before self.now → repeats ≡ repeats_value before event → result ≡ fault_at before place event }
         ensures in_range { IfNone result (event.thread ≤ MAX_THREAD) }
+        ensures ticket { IfNone result (event.ticket ≤ MAX_TICKET) }
     {
         if event.ticket > MAX_TICKET || self.last_ticket.is_some_and(|last| event.ticket <= last) {
             return Some(HistoryFault::TicketOrder(place));

@@ -6,12 +6,12 @@ ghost use Rattle.history_stats.specs.Counts.{overlap, overlapping_count, tenths_
 ghost use Rattle.event_records.specs.declared.limits.TheConstants.{MAX_EVENTS};
 ghost use Rattle.history_stats.specs.Inner.AtOnce.{IsLastReturn};
 
-use history_merge::Operation;
+use history_merge::{Operation, PackedOperation};
 
 /// Counts the operations that overlap another one.
 ///
 /// Takes time in proportion to the operations, and no memory.
-pub(crate) fn overlapping_count(operations: &[Operation]) -> usize
+pub(crate) fn overlapping_count(operations: &[PackedOperation]) -> usize
     requires calls_rise { AllPairs (λ x y. x.call < y.call) operations.now }
     requires forward { All (λ o. o.call < o.ret) operations.now }
     ensures exact { result ≡ overlapping_count operations.now }
@@ -20,7 +20,8 @@ pub(crate) fn overlapping_count(operations: &[Operation]) -> usize
     let mut count = 0;
     let mut last_return = 0;
     for (place, operation) in operations.iter().enumerate() {
-        if overlaps_another(operations, place, *operation, last_return) {
+        let operation = operation.unpack();
+        if overlaps_another(operations, place, operation, last_return) {
             count += 1;
         }
         last_return = last_return.max(operation.ret);
@@ -30,7 +31,7 @@ pub(crate) fn overlapping_count(operations: &[Operation]) -> usize
 
 /// Whether the operation at this place overlaps another one, if the last return of those before it is known.
 fn overlaps_another(
-    operations: &[Operation],
+    operations: &[PackedOperation],
     place: usize,
     operation: Operation,
     last_return: u64,
@@ -48,7 +49,7 @@ fn overlaps_another(
 }
 
 /// Whether one of the operations returns at the ticket or later, if the last return of them is known.
-fn returns_from(operations: &[Operation], last_return: u64, ticket: u64) -> bool
+fn returns_from(operations: &[PackedOperation], last_return: u64, ticket: u64) -> bool
     requires { IsLastReturn operations.now last_return }
     ensures { result ≡ list_any (λ o. nat_le ticket o.ret) operations.now }
 {
@@ -56,13 +57,13 @@ fn returns_from(operations: &[Operation], last_return: u64, ticket: u64) -> bool
 }
 
 /// Whether one of the operations is called by the ticket.
-fn is_called_by(operations: &[Operation], ticket: u64) -> bool
+fn is_called_by(operations: &[PackedOperation], ticket: u64) -> bool
     requires { AllPairs (λ x y. x.call < y.call) operations.now }
     ensures { result ≡ list_any (λ o. nat_le o.call ticket) operations.now }
 {
     match operations {
         [] => false,
-        [first, ..] => first.call <= ticket,
+        [first, ..] => first.unpack().call <= ticket,
     }
 }
 

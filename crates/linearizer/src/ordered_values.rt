@@ -4,7 +4,7 @@ ghost use Rattle.value_match.specs.Violations.{NoOrderViolation};
 ghost use Rattle.linearizer.specs.Inner.Placement.{AreEnqueueGaps, IsOrderOfPlaces, lives_at};
 
 use crate::choice::put_in_order;
-use history_merge::Operation;
+use history_merge::PackedOperation;
 use std::alloc::{AllocError, Global};
 use std::marker::Model;
 use value_match::{FilledMatching, Matching};
@@ -14,7 +14,7 @@ use value_match::{FilledMatching, Matching};
 /// It borrows the operations, and holds two words for each value.
 #[derive(Debug, Drop)]
 pub struct OrderedValues<'a> {
-    operations: &'a [Operation],
+    operations: &'a [PackedOperation],
     places: Vec<usize>,
     gaps: Vec<u64>,
 }

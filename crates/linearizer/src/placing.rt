@@ -9,8 +9,8 @@ ghost use Rattle.linearizer.specs.Inner.Placement.{Adds, AreEnqueueGaps, HoldsNo
 ghost use Rattle.linearizer.specs.Inner.Merging.{IsDequeueFrom, IsEnqueueFrom, IsNoopFrom, IsMerge, IsMergedUpTo, IsValueFrom, NoneBelow};
 
 use crate::ordered_values::OrderedValues;
-use crate::position::{Placed, Position};
-use history_merge::{OpId, Operation};
+use crate::position::{Noop, Placed, Position};
+use history_merge::{OpId, PackedOperation};
 use std::alloc::{AllocError, Global};
 use value_match::FilledMatching;
 
@@ -21,7 +21,7 @@ pub(crate) fn merge(
     alloc: Global,
     matching: &FilledMatching,
     values: &OrderedValues,
-    noops: &[Placed],
+    noops: &[Noop],
 ) -> Result<Vec<OpId>, AllocError>
     requires values { values.now ≡ matching.now }
     requires noops { NeverFall noops.now }
@@ -51,7 +51,7 @@ fn place_enqueues(
     matching: &FilledMatching,
     order: &[usize],
     gaps: &[u64],
-    noops: &[Placed],
+    noops: &[Noop],
 ) -> Result<Merged, AllocError>
     requires none { places.old.items ≡ [] }
     requires order { IsOrderOfPlaces matching.now order.now }
@@ -84,7 +84,7 @@ fn place_dequeues(
     matching: &FilledMatching,
     order: &[usize],
     gaps: &[u64],
-    noops: &[Placed],
+    noops: &[Noop],
     before: Option<Position>,
 ) -> Result<(), AllocError>
     requires order { IsOrderOfPlaces matching.now order.now }
@@ -124,7 +124,7 @@ fn place_dequeues(
 fn place_noops(
     places: &mut Vec<OpId>,
     count: &mut usize,
-    noops: &[Placed],
+    noops: &[Noop],
     before: Option<Position>,
 ) -> Result<(), AllocError>
     requires { NeverFall noops.now }
@@ -134,7 +134,7 @@ fn place_noops(
     ensures up_to { OnOk result (NoneBelow (IsNoopFrom noops.now count.new) before) }
 {
     while *count < noops.len() {
-        let noop = noops[*count];
+        let noop = noops[*count].placed();
         if stands_after(&noop, before) {
             return Ok(());
         }
@@ -159,7 +159,7 @@ pub(crate) fn noops_of(
     alloc: Global,
     matching: &FilledMatching,
     gaps: &[u64],
-) -> Result<Vec<Placed>, AllocError>
+) -> Result<Vec<Noop>, AllocError>
     requires { AreLeastFreeGaps matching.now gaps.now }
     ensures { IfOk result (λ noops. HoldsNoops matching.now noops.items) }
 {
@@ -167,14 +167,14 @@ pub(crate) fn noops_of(
     let mut noops = Vec::with_capacity(alloc, count)?;
     place_empties(&mut noops, matching, gaps)?;
     place_refused(&mut noops, matching)?;
-    noops.sort_by_key(|noop| noop.position)?;
+    noops.sort_by_key(|noop| noop.placed().position)?;
     Ok(noops)
 }
 
 /// Adds the empty answers.
 #[tactic(auto, using(crate::proofs::Additions::adds_none))]
 fn place_empties(
-    placed: &mut Vec<Placed>,
+    placed: &mut Vec<Noop>,
     matching: &FilledMatching,
     gaps: &[u64],
 ) -> Result<(), AllocError>
@@ -184,28 +184,28 @@ fn place_empties(
     let operations = matching.operations();
     for (id, gap) in matching.empties().iter().zip(gaps) {
         let call = call_at(operations, id.place());
-        placed.push(Placed::noop(*id, *gap, call))?;
+        placed.push(Noop::new(*id, *gap, call))?;
     }
     Ok(())
 }
 
 /// Adds the refused enqueues.
 #[tactic(auto, using(crate::proofs::Additions::adds_none))]
-fn place_refused(placed: &mut Vec<Placed>, matching: &FilledMatching) -> Result<(), AllocError>
+fn place_refused(placed: &mut Vec<Noop>, matching: &FilledMatching) -> Result<(), AllocError>
     ensures { OnOk result (Adds matching.now (filter is_refused matching.now) placed.old.items placed.new.items) }
 {
     let operations = matching.operations();
     for id in matching.refused() {
         let call = call_at(operations, id.place());
-        placed.push(Placed::noop(*id, call, call))?;
+        placed.push(Noop::new(*id, call, call))?;
     }
     Ok(())
 }
 
 /// The ticket of the call of the operation at this place.
-fn call_at(operations: &[Operation], place: usize) -> u64
+fn call_at(operations: &[PackedOperation], place: usize) -> u64
     requires { place < length operations.now }
     ensures { (o : Operation) → IsAt operations.now place o → result ≡ o.call }
 {
-    operations[place].call
+    operations[place].unpack().call
 }

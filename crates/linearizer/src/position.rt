@@ -2,6 +2,7 @@ ghost use Rattle.std.specs.Prelude.{◌≡◌, if◌then◌else◌, nat_lt};
 ghost use Rattle.linearizer.specs.Order.{earlier_dequeues, enqueues, noop_answers, other_dequeues};
 
 use history_merge::OpId;
+use std::marker::Model;
 
 /// The order of operations within one gap.
 #[derive(Clone, Copy, PartialEq, Eq, PartialOrd, Ord)]
@@ -69,12 +70,45 @@ impl Placed {
         };
         Placed::at(operation, gap, class, place as u64)
     }
+}
 
-    /// An operation that changes nothing.
-    pub(crate) fn noop(operation: OpId, gap: u64, call: u64) -> Placed
+/// An operation that changes nothing, seen as the operation and where it stands.
+#[derive(Clone, Copy)]
+pub(crate) struct Noop {
+    operation: OpId,
+    gap: u64,
+    call: u64,
+}
+
+impl Model for Noop {
+    ghost use Rattle.linearizer.specs.declared.position.Class.TheVariants as class;
+    ghost use Rattle.linearizer.specs.declared.position.Placed.{Placed};
+
+    ghost Value = { Placed };
+
+    ghost view = { λ a. record { operation = a.operation; position = record { gap = a.gap; class = class.Noop; rank = a.call } } };
+
+    ghost inverse = { λ p. record { operation = p.operation; gap = p.position.gap; call = p.position.rank } };
+}
+
+impl Noop {
+    ghost use Rattle.linearizer.specs.Inner.Placement.{position_of};
+
+    pub(crate) fn new(operation: OpId, gap: u64, call: u64) -> Noop
         ensures operation { result.operation ≡ operation }
         ensures position { position_of result.position ≡ record { gap = gap; class = noop_answers; rank = call } }
     {
-        Placed::at(operation, gap, Class::Noop, call)
+        Noop {
+            operation,
+            gap,
+            call,
+        }
+    }
+
+    /// The operation, and where it stands.
+    pub(crate) fn placed(self) -> Placed
+        ensures { result ≡ self }
+    {
+        Placed::at(self.operation, self.gap, Class::Noop, self.call)
     }
 }

@@ -21,7 +21,7 @@ use Rattle.stress_run.specs.Operations.{Operates, IsRun, ticket_of}
 use Rattle.stress_run.specs.Workers.{WorkerView, Works, WorksIn, row_of}
 use Rattle.stress_run.specs.Inner.Workers.{IsReadyIn}
 use Rattle.stress_run.specs.Crew.{SizesView, IsNew, IsCrew, IsNotAfterStall, IsFaultOfWorker, token_of}
-use Rattle.stress_run.specs.Inner.Crew.{AreClosed, Stands, end_of}
+use Rattle.stress_run.specs.Inner.Crew.{AreClosed, IsFaultOfClosing, Stands, end_of}
 use Rattle.stress_run.specs.Failed.{IsFaultAfter, IsFaultOfRun, Overflows}
 use Rattle.stress_run.specs.Faults.{IsWithinLimits}
 use Rattle.stress_run.specs.declared.faults.RunFault.{RunFault}
@@ -210,19 +210,12 @@ module _ (key : TableId) (sizes : SizesView) (rows : List (List Kind)) (workers 
       fault_is initial (Uncertified t) e within = absurd (subst (λ (x : RunFault). IsFaultOfWorker x a) e is)
       fault_is initial (Preload place) e within = absurd (subst (λ (x : RunFault). IsFaultOfWorker x a) e is)
 
-    -- what stands after the workers' rows is a fault of the run
-    pub stands_in_run : (initial : List ℕ) (standing : Option RunFault) (f : RunFault) → IsWithinLimits sizes.ring sizes.tries
-        → IfSome standing (λ g. g ≡ Memory) → Stands standing after f → All (IsNotAfterStall f) after → IsFaultOfRun may initial rows sizes f
-    stands_in_run initial standing f within memory (inl e) first = subst (IsFaultOfRun may initial rows sizes) (sym (was standing e memory)) within
-      where
-        was : (o : Option RunFault) → o ≡ Some f → IfSome o (λ g. g ≡ Memory) → f ≡ Memory
-        was None e m = cc
-        was (Some g) e m = sym (same g e) ∙ m
-          where
-            same : (x : RunFault) → Some x ≡ Some f → x ≡ f
-            same x p = cc
-    stands_in_run initial standing f within memory (inr (inl e)) first = subst (IsFaultOfRun may initial rows sizes) (sym e) within
-    stands_in_run initial standing f within memory (inr (inr own)) first = fault_is f own.0 own.1 own.2 first initial f refl within
+    -- the fault of closing the workers after their rows is one of the run
+    pub closing_fault : (initial : List ℕ) (f : RunFault) → IsWithinLimits sizes.ring sizes.tries → IsFaultOfClosing after f → IsFaultOfRun may initial rows sizes f
+    closing_fault initial f within (inl e) = subst (IsFaultOfRun may initial rows sizes) (sym e) within
+    closing_fault initial f within (inr (inl e, first)) = cc
+    closing_fault initial f within (inr (inr (inl e), first)) = subst (IsFaultOfRun may initial rows sizes) (sym e) within
+    closing_fault initial f within (inr (inr (inr own), first)) = fault_is f own.0 own.1 own.2 first initial f refl within
 
     each_same : (ws vs : List WorkerView) → AllZip (WorksIn may rows) ws vs → AllZip (λ w a. (a.ring ≡ w.ring) × (a.thread ≡ w.thread)) ws vs
     each_same [] [] z = tt
@@ -336,3 +329,11 @@ module _ (key : TableId) (sizes : SizesView) (rows : List (List Kind)) (workers 
               let n = length-range_with_len 0 total in
               omega (arith, size, left, none, shown, n));
         }
+
+-- where only lack of memory stood before the end, what stands after it is lack of memory, or a fault of a worker that comes before all stalls
+pub stands_at_end : (workers : List WorkerView) (standing : Option RunFault) (f : RunFault) → IfSome standing (λ g. g ≡ Memory) → Stands standing workers f
+    → All (IsNotAfterStall f) workers → IsFaultOfClosing workers f
+stands_at_end workers None f memory (inl e) first = cc
+stands_at_end workers (Some g) f memory (inl e) first = let same : g ≡ f = cc in inl (sym same ∙ memory)
+stands_at_end workers standing f memory (inr (inl e)) first = inl e
+stands_at_end workers standing f memory (inr (inr own)) first = inr (inr (inr own), first)

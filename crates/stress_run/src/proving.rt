@@ -17,9 +17,8 @@ ghost use Rattle.tickets.specs.Views.{fresh_pass};
 use crate::faults::RunFault;
 use crate::making::Sizes;
 use crate::proved::{OfRun, Session};
-use crate::runs::{Recorded, run_on};
+use crate::runs::{Recorded, admitted, run_on};
 use queue_interface::{Fifo, ValueList};
-use recorder_core::are_initial_names;
 use std::alloc::{AllocError, Global};
 use std::marker::Brand;
 use std::sync::Wait;
@@ -101,13 +100,7 @@ pub fn run_proved<R: Threads + Wait + Sync>(
     ensures preloads { (place : ℕ) → result ≢ Err (Preload place) }
     ensures fault { IfErr result (IsFaultOfRun AnswersInKind initial.now plan.now (record { ring = ring; tries = tries })) }
 {
-    let Some(sizes) = Sizes::new(ring, tries) else {
-        return Err(RunFault::Limit);
-    };
-    if !are_initial_names(alloc, initial)? {
-        return Err(RunFault::Limit);
-    }
-    let held = Vec::from_slice(alloc, initial)?;
+    let (sizes, held) = admitted(alloc, initial, ring, tries)?;
     let named = Tickets::with_log(alloc, 2 * plan.operations())?;
     run_named::<Brand, R>(rt, alloc, named, held, plan, sizes)
 }

@@ -8,11 +8,14 @@ ghost use Rattle.history_merge.specs.Initial.{IsCompleteFrom};
 ghost use Rattle.history_merge.specs.Merge.{IsMerged};
 ghost use Rattle.recorder_core.specs.Initial.{AreInitialNames};
 ghost use Rattle.recorder_core.specs.Replay.{AreRecorded, Replays};
+ghost use Rattle.stress_run.specs.Crew.{token_of};
 ghost use Rattle.stress_run.specs.Failed.{IsFaultOfRun};
 ghost use Rattle.stress_run.specs.Faults.{IsWithinLimits};
 ghost use Rattle.stress_run.specs.Operations.{IsRun};
 ghost use Rattle.stress_run.specs.Preloaded.{AreTaken, IsFirstRefused};
 ghost use Rattle.stress_run.specs.Workers.{WorksIn};
+ghost use Rattle.stress_run.specs.Inner.Crew.{AreSealed, IsFaultOfClosing};
+ghost use Rattle.stress_run.specs.Inner.Refusals.{IsRefusal};
 ghost use Rattle.stress_run.specs.Inner.Workers.{IsReadyIn};
 ghost use Rattle.stress_run.specs.declared.faults.RunFault.TheVariants.{Limit, Memory, Preload};
 ghost use Rattle.stress_run.specs.Noted.{AreNotesOfAll, KeepsNotes};
@@ -191,6 +194,22 @@ pub fn run_from<R: Threads + Sync>(
     ensures refused { (place : ℕ) → result ≡ Err (Preload place) → IsFirstRefused (may_preload queue.now) initial.now place }
     ensures fault { IfErr result (IsFaultOfRun (may queue.now) initial.now plan.now (record { ring = ring; tries = tries })) }
 {
+    let (sizes, held) = admitted(alloc, initial, ring, tries)?;
+    preload_all(queue, initial)?;
+    run_within(rt, alloc, queue, held, plan, sizes)
+}
+
+// Returns the sizes, and a copy of the values that the queue is to hold at first, if a run may have them.
+pub(crate) fn admitted(
+    alloc: Global,
+    initial: &[u64],
+    ring: usize,
+    tries: u32,
+) -> Result<(Sizes, Vec<u64>), RunFault>
+    ensures sizes { IfOk result (λ r. (r.0 ≡ record { ring = ring; tries = tries }) × IsWithinLimits ring tries) }
+    ensures held { IfOk result (λ r. (r.1.items ≡ initial.now) × AreInitialNames initial.now) }
+    ensures fault { IfErr result (IsRefusal initial.now ring tries) }
+{
     let Some(sizes) = Sizes::new(ring, tries) else {
         return Err(RunFault::Limit);
     };
@@ -198,8 +217,7 @@ pub fn run_from<R: Threads + Sync>(
         return Err(RunFault::Limit);
     }
     let held = Vec::from_slice(alloc, initial)?;
-    preload_all(queue, initial)?;
-    run_within(rt, alloc, queue, held, plan, sizes)
+    Ok((sizes, held))
 }
 
 // Puts the values into the queue in turn, up to one that it refuses.
@@ -274,6 +292,24 @@ pub(crate) fn run_on<Q: Asked + Sync, R: Threads + Sync>(
     let (workers, collector) = work_and_collect(
         rt, queue, tickets, rows, workers, collector, sizes,
     )?;
+    close_and_seal(alloc, tickets, rest, workers, collector)
+}
+
+// Closes the rings of all workers, and returns the whole list of each, with the joined pass.
+fn close_and_seal(
+    alloc: Global,
+    tickets: &Tickets,
+    rest: Pass,
+    workers: Vec<Worker>,
+    collector: Collector,
+) -> Result<(Lists, Pass), RunFault>
+    requires rest { rest.key ≡ tickets.now.key }
+    requires keys { All (λ w. w.pass.key ≡ tickets.now.key) workers.items }
+    requires rings { rings_of_tokens (map token_of workers.items) ≡ rings_of collector.rings }
+    requires order { threads_of_tokens (map token_of workers.items) ≡ numbers_below (length (map token_of workers.items)) }
+    ensures sealed { IfOk result (λ r. AreSealed rest workers.items r.0 r.1) }
+    ensures fault { IfErr result (IsFaultOfClosing workers.items) }
+{
     let standing = standing_fault(&collector);
     let (tokens, pass) = close_all(alloc, tickets, rest, workers, standing)?;
     let lists = seal(collector, tokens)?;

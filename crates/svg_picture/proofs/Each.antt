@@ -1,7 +1,8 @@
 -- The text of several contents, one for each element.
 use Rattle.std.proofs.Common.{◌≡◌, ℕ, ◌+◌, ◌<◌, List, [], ◌∷◌, ◌++◌, map, length, take, get_or, ap, sym, ◌∙◌, append-nil, append_assoc, refl}
-use Rattle.std.specs.List.{enumerate_from}
+use Rattle.std.specs.List.{enumerate_from, flat_map}
 use Rattle.std.proofs.lemmas.List.{map_more, map-append}
+use Rattle.std.proofs.lemmas.Grind.{flat_map-append}
 use Rattle.drawing.proofs.Loops.{enumerated_more}
 use Rattle.svg_picture.specs.Markup.{Content, group, each, text_of}
 
@@ -30,3 +31,20 @@ each_enumerated_step f text xs i d old new within before now =
     ∙ ap (λ (t : List ℕ). text ++ t) (sym (ap (λ (cs : List _). text_of (each f cs)) (enumerated_more xs i d within)
     ∙ ap (λ (cs : List Content). text_of (group cs)) (map-append f (enumerate_from 0 (take i xs)) ((i, get_or xs i d) ∷ []))
     ∙ group_more (map f (enumerate_from 0 (take i xs))) (f (i, get_or xs i d))))
+
+-- what one element more maps to was added
+pub mapped_step : {X Y : Type 0} (f : X → Y) (text : List Y) (xs : List X) (i : ℕ) (d : X) (old new : List Y) → i < length xs
+    → old ≡ text ++ map f (take i xs) → new ≡ old ++ f (get_or xs i d) ∷ [] → new ≡ text ++ map f (take (i + 1) xs)
+mapped_step f text xs i d old new within before now =
+    now ∙ ap (λ (t : List _). t ++ f (get_or xs i d) ∷ []) before ∙ append_assoc text _ _
+    ∙ ap (λ (t : List _). text ++ t) (sym (map_more f xs i d within))
+
+-- the text of what one element more maps to was added
+pub text_step : {X Y : Type 0} (g : Y → List ℕ) (f : X → Y) (text : List ℕ) (xs : List X) (i : ℕ) (d : X) (old new : List ℕ) → i < length xs
+    → old ≡ text ++ flat_map g (map f (take i xs)) → new ≡ old ++ g (f (get_or xs i d))
+    → new ≡ text ++ flat_map g (map f (take (i + 1) xs))
+text_step g f text xs i d old new within before now =
+    let one = sym (append-nil (g (f (get_or xs i d)))) in
+    let more = ap (flat_map g) (map_more f xs i d within) ∙ flat_map-append g (map f (take i xs)) (f (get_or xs i d) ∷ []) in
+    now ∙ ap (λ (t : List ℕ). t ++ g (f (get_or xs i d))) before ∙ append_assoc text _ _
+    ∙ ap (λ (t : List ℕ). text ++ (flat_map g (map f (take i xs)) ++ t)) one ∙ ap (λ (t : List ℕ). text ++ t) (sym more)

@@ -7,7 +7,7 @@ use drawing::Added;
 use itoa::Buffer;
 
 /// An attribute of an element: its name and its value.
-#[derive(Clone, Copy, Debug)]
+#[derive(Clone, Copy)]
 pub enum Attribute<'a> {
     /// The digits of this number.
     Number(&'a [u8], u128),

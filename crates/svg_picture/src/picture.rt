@@ -1,11 +1,13 @@
 //! A picture as an SVG document.
-ghost use Rattle.std.specs.Prelude.{◌≡◌, ◌++◌, ◌≤◌, OnOk, IfOk};
+ghost use Rattle.std.specs.Prelude.{◌≡◌, ◌++◌, ◌≤◌, OnOk, IfOk, codes};
 ghost use Rattle.drawing.specs.Claim.{count_of_lines};
 ghost use Rattle.drawing.specs.Scene.{scene_on};
 ghost use Rattle.drawing.specs.Captions.{caption};
+ghost use Rattle.drawing.specs.Signs.{signs_of};
+ghost use Rattle.svg_picture.specs.Elements.{lines_at};
 ghost use Rattle.svg_picture.specs.Markup.{text_of};
 ghost use Rattle.svg_picture.specs.Layout.{page_on};
-ghost use Rattle.svg_picture.specs.Picture.{about, heading, inside, measures_of, page_content, page_of, svg_picture, view_box};
+ghost use Rattle.svg_picture.specs.Picture.{about, heading, inside, measures_of, page_content, page_of, signs, svg_picture, view_box};
 
 use crate::bars::push_bars;
 use crate::beside::push_bands;
@@ -35,6 +37,22 @@ fn caption_of(alloc: Global, claimed: &Claimed) -> Result<Vec<u8>, AllocError>
     Ok(words)
 }
 
+/// Adds the caption.
+fn push_said(text: &mut Vec<u8>, sheet: &Sheet<'_>) -> Added
+    ensures { OnOk result (text.new.items ≡ text.old.items ++ text_of (lines_at 8 (codes "say") 46 (caption sheet.now.scene.now.claimed.now))) }
+{
+    let caption = caption_of(sheet.alloc, sheet.scene.claimed)?;
+    push_lines_at(text, 8, b"say", 46, caption.as_slice())
+}
+
+/// Adds the signs of the picture, with what they mean.
+fn push_scene_signs(text: &mut Vec<u8>, sheet: &Sheet<'_>) -> Added
+    ensures { OnOk result (text.new.items ≡ text.old.items ++ text_of (signs sheet.now.measures (signs_of (scene_on sheet.now.scene.now)))) }
+{
+    let signs = signs_of(sheet.alloc, sheet.scene)?;
+    push_signs(text, sheet.measures, signs.as_slice())
+}
+
 /// Adds the words above: the headline, the caption, and how to read the picture.
 #[tactic(auto, unfolding(crate::specs::Picture::heading))]
 fn push_heading(text: &mut Vec<u8>, sheet: &Sheet<'_>) -> Added
@@ -42,12 +60,10 @@ fn push_heading(text: &mut Vec<u8>, sheet: &Sheet<'_>) -> Added
 {
     let y = legend_y(sheet.measures);
     push_text_at(text, 9, b"head", 6, 26, headline(sheet.scene.claimed))?;
-    let caption = caption_of(sheet.alloc, sheet.scene.claimed)?;
-    push_lines_at(text, 8, b"say", 46, caption.as_slice())?;
+    push_said(text, sheet)?;
     push_samples(text, y)?;
     push_lines_at(text, 7, b"dim", y + 35, READING)?;
-    let signs = signs_of(sheet.alloc, sheet.scene)?;
-    push_signs(text, sheet.measures, signs.as_slice())
+    push_scene_signs(text, sheet)
 }
 
 /// Adds the words for those who don't see the picture, and its style.

@@ -8,7 +8,7 @@ use drawing::Scene;
 use std::alloc::Global;
 
 /// How wide the parts of a picture are, in characters, and how many there are.
-#[derive(Clone, Copy, Debug, PartialEq, Eq)]
+#[derive(Clone, Copy)]
 pub struct Measures {
     /// The widest ticket, or the word above it.
     pub ticket: u8,

@@ -294,23 +294,3 @@ pub first_more_at : (operations : List Operation) (sources : List (Option ℕ)) 
 first_more_at operations sources i d first sooner b below is tells none some found =
     let here = slice_get-get_or operations i d below in
     first_more operations sources i (get_or operations i d) first sooner here ((tells (get_or operations i d) here).0 is) none some found
-
--- an operation that is read at its place
-read_at : (operations : List Operation) (i : ℕ) (d o : Operation) → IsAt operations i o → get_or operations i d ≡ o
-read_at operations i d o at = let here = slice_get-get_or operations i d (slice_get_within operations i o at) in cc
-
--- of two places, the one whose operation returns first
-module _ (operations : List Operation) (p other : ℕ) (d : Operation) where
-  -- it is the first place
-  pub sooner_first : (get_or operations p d).ret < (get_or operations other d).ret
-      → (o x : Operation) → IsAt operations p o → IsAt operations other x → p ≡ cond (nat_lt o.ret x.ret) p other
-  sooner_first less o x at at' =
-      let e : nat_lt o.ret x.ret ≡ true = rw (← read_at operations p d o at, ← read_at operations other d x at') (lt-ltb _ _ less) in
-      rw e
-
-  -- it is the other
-  pub sooner_other : (get_or operations other d).ret ≤ (get_or operations p d).ret
-      → (o x : Operation) → IsAt operations p o → IsAt operations other x → other ≡ cond (nat_lt o.ret x.ret) p other
-  sooner_other least o x at at' =
-      let e : nat_lt o.ret x.ret ≡ false = rw (← read_at operations p d o at, ← read_at operations other d x at') (le-ltb _ _ least) in
-      rw e

@@ -4,7 +4,7 @@ ghost use Rattle.value_match.specs.Lives.{HasPlaces};
 
 use crate::life::{Life, MatchedValue};
 use crate::maybe_place::MaybePlace;
-use history_merge::{OpId, Operation};
+use history_merge::{OpId, Operation, PackedOperation};
 use std::marker::Model;
 
 /// The places of a successful enqueue and of the dequeue of its value, if there is one.
@@ -19,7 +19,7 @@ pub(crate) struct Pair {
 /// It borrows the operations, and a word for each value.
 #[derive(Debug, Drop)]
 pub struct Values<'a> {
-    operations: &'a [Operation],
+    operations: &'a [PackedOperation],
     pairs: &'a [Pair],
 }
 
@@ -37,7 +37,7 @@ impl<'a> Model for Values<'a> {
 }
 
 impl<'a> Values<'a> {
-    pub(crate) fn new(operations: &'a [Operation], pairs: &'a [Pair]) -> Values<'a>
+    pub(crate) fn new(operations: &'a [PackedOperation], pairs: &'a [Pair]) -> Values<'a>
         requires { All (HasPlaces operations.now) (map (value_at operations.now) pairs.now) }
         ensures { result ≡ map (value_at operations.now) pairs.now }
     {
@@ -85,14 +85,14 @@ impl<'a> Values<'a> {
 
 /// The value whose operations stand at these places.
 #[inline(always)]
-fn value_of(operations: &[Operation], pair: Pair) -> MatchedValue
+fn value_of(operations: &[PackedOperation], pair: Pair) -> MatchedValue
     requires enqueue { pair.enqueue < length operations.now }
     requires dequeue { IfSome pair.dequeue (λ p. p < length operations.now) }
     ensures { result ≡ value_at operations.now pair }
 {
     MatchedValue {
         life: Life {
-            enqueue: operations[pair.enqueue as usize],
+            enqueue: operations[pair.enqueue as usize].unpack(),
             dequeue: maybe_operation(operations, pair.dequeue),
         },
         enqueue: OpId::new(pair.enqueue as usize),
@@ -101,12 +101,12 @@ fn value_of(operations: &[Operation], pair: Pair) -> MatchedValue
 }
 
 #[inline(always)]
-fn maybe_operation(operations: &[Operation], place: MaybePlace) -> Option<Operation>
+fn maybe_operation(operations: &[PackedOperation], place: MaybePlace) -> Option<Operation>
     requires { IfSome place (λ p. p < length operations.now) }
     ensures { result ≡ maybe_operation_at operations.now place }
 {
     match place.get() {
-        Some(place) => Some(operations[place]),
+        Some(place) => Some(operations[place].unpack()),
         None => None,
     }
 }

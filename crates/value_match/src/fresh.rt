@@ -10,10 +10,10 @@ ghost use Rattle.value_match.specs.Violations.{NoFreshViolation};
 use crate::maybe_place::MaybePlace;
 use crate::sources::Sources;
 use crate::violation::Violation;
-use history_merge::{OpId, OpKind, Operation};
+use history_merge::{OpId, OpKind, Operation, PackedOperation};
 
 /// The dequeue of least return ticket among those of a value that was not there, if there is one, by the sources of all dequeues.
-pub(crate) fn first_fresh(operations: &[Operation], sources: &Sources) -> Option<Violation>
+pub(crate) fn first_fresh(operations: &[PackedOperation], sources: &Sources) -> Option<Violation>
     requires complete { AreComplete operations.now }
     requires sources { AreSources operations.now sources.now }
     ensures { MatchOption result (NoFreshViolation operations.now) (NamesChosenFresh operations.now) }
@@ -25,7 +25,7 @@ pub(crate) fn first_fresh(operations: &[Operation], sources: &Sources) -> Option
 }
 
 /// The same by looking at each dequeue.
-fn find_fresh(operations: &[Operation], sources: &[MaybePlace]) -> Option<Violation>
+fn find_fresh(operations: &[PackedOperation], sources: &[MaybePlace]) -> Option<Violation>
     requires complete { AreComplete operations.now }
     requires sources { HoldsSources operations.now sources.now }
     ensures { MatchOption result (NoFreshViolation operations.now) (NamesChosenFresh operations.now) }
@@ -54,12 +54,12 @@ fn fresh_at(sources: &[MaybePlace], deq: usize) -> Violation
 }
 
 /// Whether the operation at this place is a dequeue of a value that was not there.
-fn is_fresh(operations: &[Operation], sources: &[MaybePlace], place: usize) -> bool
+fn is_fresh(operations: &[PackedOperation], sources: &[MaybePlace], place: usize) -> bool
     requires place { place < length operations.now }
     requires sources { HoldsSources operations.now sources.now }
     ensures { (o : Operation) → IsAt operations.now place o → IsTrue result ↔ IsFreshFrom operations.now (slice_index_or sources.now place None) o }
 {
-    let operation = operations[place];
+    let operation = operations[place].unpack();
     let OpKind::Deq(_) = operation.kind else {
         return false;
     };
@@ -71,16 +71,16 @@ fn is_fresh(operations: &[Operation], sources: &[MaybePlace], place: usize) -> b
 
 /// Whether the dequeue returned before the call at this place, or that was refused.
 #[inline(always)]
-pub(crate) fn comes_too_soon(operations: &[Operation], deq: Operation, source: usize) -> bool
+pub(crate) fn comes_too_soon(operations: &[PackedOperation], deq: Operation, source: usize) -> bool
     requires { source < length operations.now }
     ensures { (call : Operation) → IsAt operations.now source call → result ≡ (is_refused call || nat_lt deq.ret call.call) }
 {
-    let call = operations[source];
+    let call = operations[source].unpack();
     matches!(call.kind, OpKind::Not(_)) || deq.ret < call.call
 }
 
 /// The place, if there is one, or the other, whichever operation returns first.
-fn sooner(operations: &[Operation], place: Option<usize>, other: usize) -> usize
+fn sooner(operations: &[PackedOperation], place: Option<usize>, other: usize) -> usize
     requires place { IfSome place (λ p. p < length operations.now) }
     requires other { other < length operations.now }
     ensures none { place ≡ None → result ≡ other }
@@ -88,7 +88,16 @@ fn sooner(operations: &[Operation], place: Option<usize>, other: usize) -> usize
         → result ≡ (if nat_lt o.ret x.ret then p else other)) }
 {
     match place {
-        Some(place) if operations[place].ret < operations[other].ret => place,
+        Some(place) if returns_before(operations, place, other) => place,
         _ => other,
     }
+}
+
+/// Whether the operation at one place returns before that at another.
+fn returns_before(operations: &[PackedOperation], place: usize, other: usize) -> bool
+    requires place { place < length operations.now }
+    requires other { other < length operations.now }
+    ensures { (o x : Operation) → IsAt operations.now place o → IsAt operations.now other x → result ≡ nat_lt o.ret x.ret }
+{
+    operations[place].unpack().ret < operations[other].unpack().ret
 }

@@ -11,7 +11,7 @@ use crate::accepted::{Pair, Values};
 use crate::places::Places;
 use crate::violation::Violation;
 use event_records::{MAX_EVENTS, MAX_INITIAL};
-use history_merge::{OpId, Operation};
+use history_merge::{OpId, PackedOperation};
 use std::marker::Model;
 
 /// The most operations that are matched: those of a history, and the enqueues of its initial values.
@@ -21,13 +21,13 @@ pub const MAX_MATCHED: usize = MAX_EVENTS + MAX_INITIAL;
 #[derive(Debug, Drop)]
 pub(crate) enum Matchable<'a> {
     /// Those of a history.
-    Lent(&'a [Operation]),
+    Lent(&'a [PackedOperation]),
     /// Those of a filled history, which nobody else keeps.
-    Own(Vec<Operation>),
+    Own(Vec<PackedOperation>),
 }
 
 impl<'a> Matchable<'a> {
-    fn as_slice(&self) -> &[Operation]
+    fn as_slice(&self) -> &[PackedOperation]
         ensures { result.now ≡ operations_in self.now }
     {
         match self {
@@ -94,7 +94,7 @@ impl<'a> FilledMatching<'a> {
     }
 
     /// The operations, in the order of their calls.
-    pub fn operations(&self) -> &[Operation]
+    pub fn operations(&self) -> &[PackedOperation]
         ensures operations { result.now ≡ self.now }
         ensures clear { IsClear self.now }
     {
@@ -131,7 +131,7 @@ impl<'a> FilledMatching<'a> {
 #[derive(Debug, Drop)]
 pub struct Matching<'a> {
     initial: &'a [u64],
-    operations: &'a [Operation],
+    operations: &'a [PackedOperation],
     matched: FilledMatching<'a>,
 }
 
@@ -152,7 +152,7 @@ impl<'a> Matching<'a> {
     /// The matching of a history with these initial values and operations, by that of its filled history.
     pub(crate) fn new(
         initial: &'a [u64],
-        operations: &'a [Operation],
+        operations: &'a [PackedOperation],
         matched: FilledMatching<'a>,
     ) -> Matching<'a>
         requires matched { matched ≡ filled initial.now operations.now }
@@ -182,7 +182,7 @@ impl<'a> Matching<'a> {
     }
 
     /// The operations, in the order of their calls.
-    pub fn operations(&self) -> &[Operation]
+    pub fn operations(&self) -> &[PackedOperation]
         ensures { result.now ≡ self.now.operations }
     {
         self.operations

@@ -3,7 +3,7 @@ ghost use Rattle.value_match.specs.Inner.Named as named;
 
 use crate::matching::MAX_MATCHED;
 use event_records::{MAX_THREADS, NAMES_OF_A_THREAD};
-use history_merge::Operation;
+use history_merge::PackedOperation;
 use std::alloc::{AllocError, Global};
 
 /// The places of operations by their threads and their numbers in these. A recorder names its values so: the thread in
@@ -18,14 +18,14 @@ pub(crate) struct Names {
 
 impl Names {
     /// The names of these operations. It takes half a word for each.
-    pub(crate) fn new(alloc: Global, operations: &[Operation]) -> Result<Names, AllocError>
+    pub(crate) fn new(alloc: Global, operations: &[PackedOperation]) -> Result<Names, AllocError>
         requires { length operations.now ≤ MAX_MATCHED }
     {
         let starts = starts_of(operations);
         let mut next = starts;
         let mut places = vec![in alloc; 0; operations.len()]?;
         for (place, operation) in operations.iter().enumerate() {
-            let thread = usize::from(operation.thread) % MAX_THREADS;
+            let thread = usize::from(operation.unpack().thread) % MAX_THREADS;
             let at = next[thread];
             next[thread] = at.wrapping_add(1);
             if let Ok(at) = usize::try_from(at)
@@ -52,10 +52,10 @@ impl Names {
 }
 
 /// For each thread how many operations those of lower number have.
-fn starts_of(operations: &[Operation]) -> [u32; MAX_THREADS] {
+fn starts_of(operations: &[PackedOperation]) -> [u32; MAX_THREADS] {
     let mut counts = [0u32; MAX_THREADS];
     for operation in operations {
-        let thread = usize::from(operation.thread) % MAX_THREADS;
+        let thread = usize::from(operation.unpack().thread) % MAX_THREADS;
         counts[thread] = counts[thread].wrapping_add(1);
     }
     let mut starts = [0; MAX_THREADS];

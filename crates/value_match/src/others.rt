@@ -5,7 +5,7 @@ ghost use Rattle.value_match.specs.Inner.Others.{HoldsOthers, NoneOf};
 ghost use Rattle.value_match.specs.Inner.Sources.{IsCallPlace};
 
 use crate::names::Names;
-use history_merge::Operation;
+use history_merge::PackedOperation;
 use std::alloc::{AllocError, Global};
 
 /// A value that was called to be enqueued, with the place of the call.
@@ -17,18 +17,22 @@ pub(crate) struct Call {
 
 /// Whether the operation at the place, if there is one, called to enqueue the value.
 #[inline(always)]
-pub(crate) fn is_called_at(operations: &[Operation], value: u64, place: usize) -> bool
+pub(crate) fn is_called_at(operations: &[PackedOperation], value: u64, place: usize) -> bool
     ensures { IsTrue result ↔ IsCallPlace operations.now value (Some place) }
 {
     match operations.get(place) {
-        Some(operation) => operation.kind.enqueued_value() == Some(value),
+        Some(operation) => operation.unpack().kind.enqueued_value() == Some(value),
         None => false,
     }
 }
 
 /// Returns the place that the value's name gives, if the value was called there.
 #[inline(always)]
-pub(crate) fn named_place(operations: &[Operation], names: &Names, value: u64) -> Option<usize>
+pub(crate) fn named_place(
+    operations: &[PackedOperation],
+    names: &Names,
+    value: u64,
+) -> Option<usize>
     ensures { MatchOption result (¬ (IsNamed operations.now names.now value))
         (λ place. (place ≡ place_of names.now value) × IsNamed operations.now names.now value) }
 {
@@ -43,14 +47,14 @@ pub(crate) fn named_place(operations: &[Operation], names: &Names, value: u64) -
 /// The calls to enqueue that aren't where their values' names tell, by value.
 pub(crate) fn others_of(
     alloc: Global,
-    operations: &[Operation],
+    operations: &[PackedOperation],
     names: &Names,
 ) -> Result<Vec<Call>, AllocError>
     ensures { IfOk result (λ others. HoldsOthers operations.now names.now others.items) }
 {
     let mut others = Vec::new(alloc);
     for (place, operation) in operations.iter().enumerate() {
-        let Some(value) = operation.kind.enqueued_value() else {
+        let Some(value) = operation.unpack().kind.enqueued_value() else {
             continue;
         };
         if named_place(operations, names, value).is_some() {

@@ -8,13 +8,13 @@ use crate::matching::MAX_MATCHED;
 use crate::maybe_place::MaybePlace;
 use crate::presorting::presort;
 use crate::violation::{Source, Violation};
-use history_merge::{OpId, Operation};
+use history_merge::{OpId, PackedOperation};
 use std::alloc::{AllocError, Global};
 
 /// Of the values that are dequeued twice the one whose second dequeue returns first, with these two dequeues.
 pub fn find_repeat(
     alloc: Global,
-    operations: &[Operation],
+    operations: &[PackedOperation],
     sources: &[MaybePlace],
 ) -> Result<Violation, AllocError>
     requires complete { AreComplete operations.now }
@@ -54,7 +54,7 @@ fn place_at(places: &[MaybePlace], place: usize) -> Option<usize>
 /// The return tickets and places of the operations with a source, by return ticket.
 fn by_return(
     alloc: Global,
-    operations: &[Operation],
+    operations: &[PackedOperation],
     sources: &[MaybePlace],
 ) -> Result<Vec<(u64, usize)>, AllocError>
     requires { length sources.now ≡ length operations.now }
@@ -65,7 +65,7 @@ fn by_return(
         if sources[place].get().is_none() {
             continue;
         }
-        order.push((operation.ret, place))?;
+        order.push((operation.unpack().ret, place))?;
     }
     presort(&mut order, &|entry: &(u64, usize)| entry.0);
     order.sort_unstable_by_key(|entry| entry.0);

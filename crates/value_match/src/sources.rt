@@ -8,7 +8,7 @@ use crate::matching::MAX_MATCHED;
 use crate::maybe_place::MaybePlace;
 use crate::names::Names;
 use crate::others::{Call, is_called_at, named_place, others_of, place_among};
-use history_merge::{OpKind, Operation};
+use history_merge::{OpKind, PackedOperation};
 use std::alloc::{AllocError, Global};
 
 /// How far from the call for the value dequeued last the call for the next is looked for.
@@ -33,7 +33,10 @@ struct NearSources {
 ///
 /// Time O(n) for n operations where the values have a recorder's names, or leave nearly in the order of their calls. Else
 /// the calls of the other values are sorted by value, and each of their dequeues costs a look-up, O(n log n).
-pub(crate) fn sources_of(alloc: Global, operations: &[Operation]) -> Result<Sources, AllocError>
+pub(crate) fn sources_of(
+    alloc: Global,
+    operations: &[PackedOperation],
+) -> Result<Sources, AllocError>
     requires complete { AreComplete operations.now }
     requires few { length operations.now ≤ MAX_MATCHED }
     ensures { IfOk result (AreSources operations.now) }
@@ -48,7 +51,10 @@ pub(crate) fn sources_of(alloc: Global, operations: &[Operation]) -> Result<Sour
 }
 
 /// The sources, if each is close to that of the dequeue before.
-fn close_sources(alloc: Global, operations: &[Operation]) -> Result<Option<Sources>, AllocError>
+fn close_sources(
+    alloc: Global,
+    operations: &[PackedOperation],
+) -> Result<Option<Sources>, AllocError>
     requires complete { AreComplete operations.now }
     requires few { length operations.now ≤ MAX_MATCHED }
     ensures { IfOk result (λ found. MatchOption found ⊤ (AreSources operations.now)) }
@@ -57,6 +63,7 @@ fn close_sources(alloc: Global, operations: &[Operation]) -> Result<Option<Sourc
     let mut all_in_time = true;
     let mut next = 0;
     for operation in operations {
+        let operation = operation.unpack();
         let OpKind::Deq(value) = operation.kind else {
             places.push(MaybePlace::none())?;
             continue;
@@ -64,7 +71,7 @@ fn close_sources(alloc: Global, operations: &[Operation]) -> Result<Option<Sourc
         let Some(place) = near_place(operations, value, next) else {
             return Ok(None);
         };
-        all_in_time = all_in_time && !comes_too_soon(operations, *operation, place);
+        all_in_time = all_in_time && !comes_too_soon(operations, operation, place);
         next = place + 1;
         places.push(MaybePlace::some(place))?;
     }
@@ -75,7 +82,7 @@ fn close_sources(alloc: Global, operations: &[Operation]) -> Result<Option<Sourc
 }
 
 /// The sources, by the names of the values, near by or among the calls sorted by value.
-fn far_sources(alloc: Global, operations: &[Operation]) -> Result<Vec<MaybePlace>, AllocError>
+fn far_sources(alloc: Global, operations: &[PackedOperation]) -> Result<Vec<MaybePlace>, AllocError>
     requires { length operations.now ≤ MAX_MATCHED }
     ensures { IfOk result (λ sources. HoldsSources operations.now sources.items) }
 {
@@ -92,7 +99,7 @@ fn far_sources(alloc: Global, operations: &[Operation]) -> Result<Vec<MaybePlace
 /// The sources that the names of the values tell, or that are found near that of the dequeue before.
 fn near_sources(
     alloc: Global,
-    operations: &[Operation],
+    operations: &[PackedOperation],
     names: &Names,
 ) -> Result<NearSources, AllocError>
     requires { length operations.now ≤ MAX_MATCHED }
@@ -103,7 +110,7 @@ fn near_sources(
     let mut all_found = true;
     let mut next = 0;
     for operation in operations {
-        let OpKind::Deq(value) = operation.kind else {
+        let OpKind::Deq(value) = operation.unpack().kind else {
             sources.push(MaybePlace::none())?;
             continue;
         };
@@ -120,7 +127,12 @@ fn near_sources(
 
 /// Returns the place of the call for this value, if its name gives it or it is near this place.
 #[inline(always)]
-fn guessed_place(operations: &[Operation], names: &Names, value: u64, from: usize) -> Option<usize>
+fn guessed_place(
+    operations: &[PackedOperation],
+    names: &Names,
+    value: u64,
+    from: usize,
+) -> Option<usize>
     ensures { IfSome result (λ place. IsCallPlace operations.now value (Some place)) }
 {
     match named_place(operations, names, value) {
@@ -131,7 +143,7 @@ fn guessed_place(operations: &[Operation], names: &Names, value: u64, from: usiz
 
 /// The place of the call for this value, where it is so near this place.
 #[inline(always)]
-fn near_place(operations: &[Operation], value: u64, from: usize) -> Option<usize>
+fn near_place(operations: &[PackedOperation], value: u64, from: usize) -> Option<usize>
     ensures { IfSome result (λ place. IsCallPlace operations.now value (Some place)) }
 {
     for distance in 0..REACH {
@@ -148,7 +160,12 @@ fn near_place(operations: &[Operation], value: u64, from: usize) -> Option<usize
 }
 
 /// Finds the sources that weren't near, by the names of the values and the calls of the others.
-fn find_others(operations: &[Operation], names: &Names, others: &[Call], sources: &mut [MaybePlace])
+fn find_others(
+    operations: &[PackedOperation],
+    names: &Names,
+    others: &[Call],
+    sources: &mut [MaybePlace],
+)
     requires few { length operations.now ≤ MAX_MATCHED }
     requires others { HoldsOthers operations.now names.now others.now }
     requires near { HoldsNear operations.now sources.old }
@@ -156,13 +173,18 @@ fn find_others(operations: &[Operation], names: &Names, others: &[Call], sources
 {
     for (place, operation) in operations.iter().enumerate() {
         if sources[place].get().is_none() {
-            sources[place] = source_of(operations, names, others, operation.kind);
+            sources[place] = source_of(operations, names, others, operation.unpack().kind);
         }
     }
 }
 
 /// The place of the call for the value that a dequeue gave, by the value's name or among the calls of the others.
-fn source_of(operations: &[Operation], names: &Names, others: &[Call], kind: OpKind) -> MaybePlace
+fn source_of(
+    operations: &[PackedOperation],
+    names: &Names,
+    others: &[Call],
+    kind: OpKind,
+) -> MaybePlace
     requires few { length operations.now ≤ MAX_MATCHED }
     requires others { HoldsOthers operations.now names.now others.now }
     ensures { IsSourceOf operations.now kind result }

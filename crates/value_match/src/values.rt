@@ -17,7 +17,7 @@ use crate::sources::sources_of;
 use crate::takers::takers_of;
 use crate::unfilling::unfilled_violation;
 use crate::violation::Violation;
-use history_merge::{History, OpId, OpKind, Operation, fill};
+use history_merge::{History, OpId, OpKind, PackedOperation, fill};
 use std::alloc::{AllocError, Global};
 
 /// What is found of operations: the three sorts of them, or the violation that rules a matching out.
@@ -67,7 +67,7 @@ pub fn match_values(alloc: Global, history: &History) -> Result<Matched<'_>, All
 fn matched<'a>(
     alloc: Global,
     initial: &'a [u64],
-    operations: &'a [Operation],
+    operations: &'a [PackedOperation],
     all: Matchable<'a>,
     found: MatchOutcome,
 ) -> Result<Matched<'a>, AllocError>
@@ -91,7 +91,7 @@ fn matched<'a>(
     }
 }
 
-fn find(alloc: Global, operations: &[Operation]) -> Result<MatchOutcome, AllocError>
+fn find(alloc: Global, operations: &[PackedOperation]) -> Result<MatchOutcome, AllocError>
     requires complete { AreComplete operations.now }
     requires few { length operations.now ≤ MAX_MATCHED }
     ensures { IfOk result (IsMatchOutcomeOf operations.now) }
@@ -115,7 +115,7 @@ fn find(alloc: Global, operations: &[Operation]) -> Result<MatchOutcome, AllocEr
 /// The sorts of operations whose dequeues are known by their enqueues.
 fn sorted_out(
     alloc: Global,
-    operations: &[Operation],
+    operations: &[PackedOperation],
     dequeues: &[MaybePlace],
 ) -> Result<SortedOut, AllocError>
     requires few { length operations.now ≤ MAX_MATCHED }
@@ -127,7 +127,7 @@ fn sorted_out(
     let mut empties = Vec::new(alloc);
     let mut refused = Vec::new(alloc);
     for (place, operation) in operations.iter().enumerate() {
-        match operation.kind {
+        match operation.unpack().kind {
             OpKind::Enq(_) => values.push(pair_of(place, dequeues[place]))?,
             OpKind::Empty => empties.push(OpId::new(place))?,
             OpKind::Not(_) => refused.push(OpId::new(place))?,

@@ -1,7 +1,7 @@
 -- The lines of a claim by the operations that they stand for.
 use Rattle.std.proofs.Common.{◌≡◌, ℕ, zero, suc, ◌-◌, ◌<◌, ◌≤◌, ◌↔◌, List, [], ◌∷◌}
 use Rattle.std.proofs.Common.{length, map, get_or, drop, Option, Some, None, refl, sym, ◌∙◌}
-use Rattle.std.proofs.Common.{ap, subst, arith}
+use Rattle.std.proofs.Common.{ap, ap₂, subst, arith}
 use Rattle.std.proofs.Common.{length-drop}
 use Rattle.history_merge.specs.declared.operation.Operation.{Operation}
 use Rattle.history_merge.specs.declared.operation.OpKind.TheVariants.{Empty}
@@ -16,7 +16,7 @@ use Rattle.verdicts.specs.declared.lookup.Filled.{Filled}
 use Rattle.verdicts.specs.Claims.{ShowsViolation, StandFor, kind_of, stands_for}
 use Rattle.verdicts.specs.Inner.Claims.{ShowsKind, StandForCover, StandForLife, ShowsCover, all_of}
 use Rattle.verdicts.proofs.ClaimedViolations.{through, one_line_fresh, two_lines_fresh, three_lines_repeat, three_lines_order, four_lines_order}
-use Rattle.verdicts.proofs.ClaimedViolations.{lines_of_witness_at}
+use Rattle.verdicts.proofs.ClaimedViolations.{lines_of_witness}
 use Rattle.verdicts.proofs.ClaimedCovers.{none_shown, shown_by_one, shown_by_two, shown_by_more}
 
 -- lists of operations are one where their somes are
@@ -101,25 +101,22 @@ module _ (f : Filled) where
   -- ---- lines that show a violation, by what they stand for
 
   -- one line shows a fresh value if and only if nobody enqueued it
-  pub one_line_fresh_is : (lines : List ClaimLine) (d : ClaimLine) (x : Operation) → 1 ≤ length lines → length lines < 2
-      → stands (get_or lines 0 d) ≡ Some x → IsNeverEnqueued (all_of f) x ↔ ShowsKind f VFresh lines
-  one_line_fresh_is lines d x long short at =
-      through (one_line_fresh (all_of f) (x ∷ []) x (omega arith) (omega arith))
-      (shown_by_all VFresh lines (x ∷ []) (more_stand lines d x [] long at (none_left (drop 1 lines) (none_after 1 lines (omega arith)))))
+  pub one_line_fresh_is : (line : ClaimLine) (x : Operation) → stands line ≡ Some x → IsNeverEnqueued (all_of f) x ↔ ShowsKind f VFresh (line ∷ [])
+  one_line_fresh_is line x at = through (one_line_fresh (all_of f) x) (shown_by_all VFresh (line ∷ []) (x ∷ []) (ap (λ o. o ∷ []) at))
 
   -- two lines show a fresh value if and only if its enqueue came too late or was refused
-  pub two_lines_fresh_are : (lines : List ClaimLine) (d : ClaimLine) (x y : Operation) → 2 ≤ length lines → length lines < 3
-      → stands (get_or lines 0 d) ≡ Some x → stands (get_or lines 1 d) ≡ Some y → IsEnqueuedTooLate (all_of f) x y ↔ ShowsKind f VFresh lines
-  two_lines_fresh_are lines d x y long short a b =
-      through (two_lines_fresh (all_of f) (x ∷ y ∷ []) x (omega arith) (omega arith))
-      (shown_by_all VFresh lines (x ∷ y ∷ []) (two_stand lines d x y [] long a b (none_left (drop 2 lines) (none_after 2 lines (omega arith)))))
+  pub two_lines_fresh_are : (line later : ClaimLine) (x y : Operation) → stands line ≡ Some x → stands later ≡ Some y
+      → IsEnqueuedTooLate (all_of f) x y ↔ ShowsKind f VFresh (line ∷ later ∷ [])
+  two_lines_fresh_are line later x y a b =
+      through (two_lines_fresh (all_of f) x y)
+      (shown_by_all VFresh (line ∷ later ∷ []) (x ∷ y ∷ []) (ap₂ (λ (o : Option Operation) (p : Option Operation). o ∷ p ∷ []) a b))
 
   -- three lines show a repeated value if and only if the two dequeues are of the enqueue's value
   pub three_lines_repeat_are : (lines : List ClaimLine) (d : ClaimLine) (x y z : Operation) → 3 ≤ length lines → length lines < 4
       → stands (get_or lines 0 d) ≡ Some x → stands (get_or lines 1 d) ≡ Some y → stands (get_or lines 2 d) ≡ Some z
       → IsRepeatViolation (all_of f) x y z ↔ ShowsKind f VRepeat lines
   three_lines_repeat_are lines d x y z long short a b c =
-      through (three_lines_repeat (all_of f) (x ∷ y ∷ z ∷ []) x (omega arith) (omega arith))
+      through (three_lines_repeat (all_of f) x y z)
       (shown_by_all VRepeat lines (x ∷ y ∷ z ∷ [])
       (three_stand lines d x y z [] long a b c (none_left (drop 3 lines) (none_after 3 lines (omega arith)))))
 
@@ -128,7 +125,7 @@ module _ (f : Filled) where
       → stands (get_or lines 0 d) ≡ Some x → stands (get_or lines 1 d) ≡ Some y → stands (get_or lines 2 d) ≡ Some z
       → IsOrderViolation (all_of f) x y z None ↔ ShowsKind f VOrd lines
   three_lines_order_are lines d x y z long short a b c =
-      through (three_lines_order (all_of f) (x ∷ y ∷ z ∷ []) x (omega arith) (omega arith))
+      through (three_lines_order (all_of f) x y z)
       (shown_by_all VOrd lines (x ∷ y ∷ z ∷ []) (three_stand lines d x y z [] long a b c (none_left (drop 3 lines) short)))
 
   -- four lines show two values out of order if and only if the first is dequeued later
@@ -137,7 +134,7 @@ module _ (f : Filled) where
       → stands (get_or lines 0 d) ≡ Some x → stands (get_or lines 1 d) ≡ Some y → stands (get_or lines 2 d) ≡ Some z
       → stands (get_or (drop 3 lines) 0 e) ≡ Some v → IsOrderViolation (all_of f) x y z (Some v) ↔ ShowsKind f VOrd lines
   four_lines_order_are lines d e x y z v long more short a b c last =
-      through (four_lines_order (all_of f) (x ∷ y ∷ z ∷ v ∷ []) x (omega arith) (omega arith))
+      through (four_lines_order (all_of f) x y z v)
       (shown_by_all VOrd lines (x ∷ y ∷ z ∷ v ∷ []) (three_stand lines d x y z (v ∷ []) long a b c (one_stands (drop 3 lines) e v more short last)))
 
   -- as many lines as what they stand for
@@ -147,19 +144,37 @@ module _ (f : Filled) where
   as_many (l ∷ lines) [] are = cc
   as_many (l ∷ lines) (o ∷ shown) are = let later : map stands lines ≡ map (λ y. Some y) shown = cc in ap suc (as_many lines shown later)
 
-  -- no order violation has five lines
-  pub five_lines_show_no_order : (lines : List ClaimLine) → 2 ≤ length (drop 3 lines) → ¬ (ShowsKind f VOrd lines)
-  five_lines_show_no_order lines long shows = few shows.2.0 shows.2.1 (ap length shows.2.2)
+  -- an order violation has three lines or four
+  pub order_has_lines : (lines : List ClaimLine) → ShowsKind f VOrd lines → (3 ≤ length lines) × (length lines ≤ 4)
+  order_has_lines lines shows = few shows.2.0 shows.2.1 (as_many lines shows.0 shows.1 ∙ sym (ap length shows.2.2))
     where
-      long' : 5 ≤ length shows.0
-      long' = let same = as_many lines shows.0 shows.1 in let rest : length (drop 3 lines) ≡ length lines - 3 = length-drop 3 lines in omega arith
+      few : (full : FullViolation) → kind_of full ≡ VOrd → length lines ≡ length (lines_of full) → (3 ≤ length lines) × (length lines ≤ 4)
+      few (fresh o e) kind _ = cc
+      few (repeat e a b) kind _ = cc
+      few (order a b o None) _ many = (omega arith, omega arith)
+      few (order a b o (Some d)) _ many = (omega arith, omega arith)
+      few (witness o cover) kind _ = cc
 
-      few : (full : FullViolation) → kind_of full ≡ VOrd → length (lines_of full) ≡ length shows.0 → ⊥
-      few (fresh o e) kind many = cc
-      few (repeat e a b) kind many = cc
-      few (order a b o None) kind many = let l = long' in omega arith
-      few (order a b o (Some d)) kind many = let l = long' in omega arith
-      few (witness o cover) kind many = cc
+  -- a violation by a repeated value has three lines
+  pub repeat_has_lines : (lines : List ClaimLine) → ShowsKind f VRepeat lines → length lines ≡ 3
+  repeat_has_lines lines shows = few shows.2.0 shows.2.1 (as_many lines shows.0 shows.1 ∙ sym (ap length shows.2.2))
+    where
+      few : (full : FullViolation) → kind_of full ≡ VRepeat → length lines ≡ length (lines_of full) → length lines ≡ 3
+      few (fresh o e) kind _ = cc
+      few (repeat e a b) _ many = many
+      few (order a b o d) kind _ = cc
+      few (witness o cover) kind _ = cc
+
+  -- a violation by a fresh value has one line or two
+  pub fresh_has_lines : (lines : List ClaimLine) → ShowsKind f VFresh lines → (1 ≤ length lines) × (length lines ≤ 2)
+  fresh_has_lines lines shows = few shows.2.0 shows.2.1 (as_many lines shows.0 shows.1 ∙ sym (ap length shows.2.2))
+    where
+      few : (full : FullViolation) → kind_of full ≡ VFresh → length lines ≡ length (lines_of full) → (1 ≤ length lines) × (length lines ≤ 2)
+      few (fresh o None) _ many = (omega arith, omega arith)
+      few (fresh o (Some e)) _ many = (omega arith, omega arith)
+      few (repeat e a b) kind _ = cc
+      few (order a b o d) kind _ = cc
+      few (witness o cover) kind _ = cc
 
   -- the first line is the empty answer, the others stand for its cover
   pub witness_lines_are : (lines : List ClaimLine) (d : ClaimLine) (x : Operation) → 1 ≤ length lines → stands (get_or lines 0 d) ≡ Some x
@@ -167,7 +182,7 @@ module _ (f : Filled) where
   witness_lines_are [] d x long at = absurd (omega arith)
   witness_lines_are (l ∷ lines) d x long at = (
     λ (did, (shown, are, covers)).
-        (x ∷ shown, more_stand (l ∷ lines) d x shown long at are, (lines_of_witness_at (all_of f) (x ∷ shown) x (omega arith)).0 (did, covers)),
+        (x ∷ shown, more_stand (l ∷ lines) d x shown long at are, (lines_of_witness (all_of f) x shown).0 (did, covers)),
     λ (shown, are, shows). back shown are shows,
   )
     where
@@ -178,7 +193,7 @@ module _ (f : Filled) where
           let first : Some x ≡ Some o = sym at ∙ (cc) in
           let same : o ≡ x = cc in
           let later : map stands lines ≡ map (λ y. Some y) shown = cc in
-          let parts = (lines_of_witness_at (all_of f) (o ∷ shown) x (omega arith)).1 shows in
+          let parts = (lines_of_witness (all_of f) o shown).1 shows in
           (subst (λ y. Did (all_of f) y Empty) same parts.0, (shown, later, subst (λ y. ShowsCover (all_of f) y y shown) same parts.1))
 
   -- ---- lines of a cover
@@ -266,3 +281,15 @@ module _ (f : Filled) where
           let later : map stands (n ∷ lines) ≡ map (λ y. Some y) (o ∷ shown) = cc in
           let covers = ((shown_by_more (all_of f) empty before (e' ∷ x' ∷ o ∷ shown) e' (omega arith)).1 shows).1 in
           (o ∷ shown, later, subst (λ y. ShowsCover (all_of f) empty y (o ∷ shown)) same covers)
+
+-- a list of one line, and one of two, by their elements
+pub one_line : (lines : List ClaimLine) (d : ClaimLine) → 1 ≤ length lines → length lines < 2 → get_or lines 0 d ∷ [] ≡ lines
+one_line [] d long short = absurd (omega arith)
+one_line (l ∷ []) d long short = refl
+one_line (l ∷ m ∷ lines) d long short = absurd (omega arith)
+
+pub two_lines : (lines : List ClaimLine) (d : ClaimLine) → 2 ≤ length lines → length lines < 3 → get_or lines 0 d ∷ get_or lines 1 d ∷ [] ≡ lines
+two_lines [] d long short = absurd (omega arith)
+two_lines (l ∷ []) d long short = absurd (omega arith)
+two_lines (l ∷ m ∷ []) d long short = refl
+two_lines (l ∷ m ∷ n ∷ lines) d long short = absurd (omega arith)

@@ -1,10 +1,12 @@
 -- When the lines of a claim are a linearization.
 use Rattle.std.proofs.Common.{◌≡◌, ℕ, ◌+◌, ◌<◌, ◌≤◌, ◌⊎◌, max, List, length, get_or, inl, inr, arith}
-use Rattle.std.specs.Prelude.{AllPairs}
+use Rattle.std.proofs.Common.{suc, Some, Option, map, drop, drop-cons, add-one, sym, ◌∙◌, ap}
+use Rattle.std.specs.Prelude.{AllPairs, option_and_then}
 use Rattle.std.proofs.lemmas.Bool.{cases_lt}
 use Rattle.std.proofs.lemmas.List.{get_or_default}
 use Rattle.history_merge.specs.declared.operation.Operation.{Operation}
 use Rattle.history_merge.specs.Operations.{Precedes}
+use Rattle.history_merge.specs.Queue.{accept, accept_all}
 
 -- ---- precedence
 
@@ -73,3 +75,14 @@ pub not_extended_at : (lines : List Operation) (n greatest : ℕ) (d : Operation
     → HasExtended lines n greatest → ¬ (AllPairs (λ earlier later. ¬ (Precedes later earlier)) lines)
 not_extended_at lines n greatest d within before h = not_extended lines n greatest (get_or lines n d) within
     (λ other. get_or_default lines n other d within) before h
+
+-- ---- the sequential specification
+
+-- one more line is accepted
+pub accepted_more : (lines : List Operation) (i : ℕ) (d : Operation) (queue next : List ℕ) (all : Option (List ℕ)) → i < length lines
+    → all ≡ accept_all queue (map (λ o. o.kind) (drop i lines)) → accept queue (get_or lines i d).kind ≡ Some next
+    → all ≡ accept_all next (map (λ o. o.kind) (drop (i + 1) lines))
+accepted_more lines i d queue next all within was takes =
+    was ∙ ap (λ (rest : List Operation). accept_all queue (map (λ o. o.kind) rest)) (drop-cons lines i d within)
+    ∙ ap (option_and_then (λ q. accept_all q (map (λ o. o.kind) (drop (suc i) lines)))) takes
+    ∙ ap (λ (n : ℕ). accept_all next (map (λ o. o.kind) (drop n lines))) (sym (add-one i))

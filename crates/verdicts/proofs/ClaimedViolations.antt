@@ -1,5 +1,5 @@
 -- Which lines show a violation of each kind.
-use Rattle.std.proofs.Common.{◌≡◌, ℕ, ◌<◌, ◌≤◌, ◌↔◌, List, [], ◌∷◌, length, get_or, drop, Option, Some, None, refl, sym, ◌∙◌, ap, subst, arith}
+use Rattle.std.proofs.Common.{◌≡◌, ℕ, ◌↔◌, List, [], ◌∷◌, Option, Some, None, refl, sym, ◌∙◌, ap, subst}
 use Rattle.std.specs.Prelude.{MatchOption, flat_map}
 use Rattle.history_merge.specs.declared.operation.Operation.{Operation}
 use Rattle.history_merge.specs.declared.operation.OpKind.TheVariants.{Enq, Deq, Empty, Not}
@@ -69,53 +69,43 @@ is_order operations enq_a enq_b deq_b deq_a a b is_a is_b = (
 -- ---- lines of a length are those of one violation
 
 -- one line shows a value that was never enqueued
-pub one_line_fresh : (operations lines : List Operation) (d : Operation) → 1 ≤ length lines → length lines < 2
-    → IsNeverEnqueued operations (get_or lines 0 d) ↔ ShowsViolation operations VFresh lines
-one_line_fresh operations [] d long short = absurd (omega arith)
-one_line_fresh operations (deq ∷ x ∷ lines) d long short = absurd (omega arith)
-one_line_fresh operations (deq ∷ []) d long short = (λ never. (fresh deq None, refl, refl, never), back)
+pub one_line_fresh : (operations : List Operation) (deq : Operation) → IsNeverEnqueued operations deq ↔ ShowsViolation operations VFresh (deq ∷ [])
+one_line_fresh operations deq = (λ never. (fresh deq None, refl, refl, never), back)
   where
     back : ShowsViolation operations VFresh (deq ∷ []) → IsNeverEnqueued operations deq
     back (fresh o None, kind, same, is) = let one : o ≡ deq = cc in subst (IsNeverEnqueued operations) one is
-    back (fresh o (Some e), kind, same, is) = cc
-    back (repeat e f s, kind, same, is) = cc
-    back (order a b o c, kind, same, is) = cc
-    back (witness o cover, kind, same, is) = cc
+    back (fresh o (Some e), _, same, _) = cc
+    back (repeat e f s, kind, _, _) = cc
+    back (order a b o c, kind, _, _) = cc
+    back (witness o cover, kind, _, _) = cc
 
 -- two lines show a value that was enqueued too late
-pub two_lines_fresh : (operations lines : List Operation) (d : Operation) → 2 ≤ length lines → length lines < 3
-    → IsEnqueuedTooLate operations (get_or lines 0 d) (get_or lines 1 d) ↔ ShowsViolation operations VFresh lines
-two_lines_fresh operations [] d long short = absurd (omega arith)
-two_lines_fresh operations (deq ∷ []) d long short = absurd (omega arith)
-two_lines_fresh operations (deq ∷ enq ∷ x ∷ lines) d long short = absurd (omega arith)
-two_lines_fresh operations (deq ∷ enq ∷ []) d long short = (λ late. (fresh deq (Some enq), refl, refl, late), back)
+pub two_lines_fresh : (operations : List Operation) (deq enq : Operation)
+    → IsEnqueuedTooLate operations deq enq ↔ ShowsViolation operations VFresh (deq ∷ enq ∷ [])
+two_lines_fresh operations deq enq = (λ late. (fresh deq (Some enq), refl, refl, late), back)
   where
     back : ShowsViolation operations VFresh (deq ∷ enq ∷ []) → IsEnqueuedTooLate operations deq enq
-    back (fresh o None, kind, same, is) = cc
+    back (fresh o None, _, same, _) = cc
     back (fresh o (Some e), kind, same, is) =
         let one : o ≡ deq = cc in let other : e ≡ enq = cc in
         subst (IsEnqueuedTooLate operations deq) other (subst (λ x. IsEnqueuedTooLate operations x e) one is)
-    back (repeat e f s, kind, same, is) = cc
-    back (order a b o c, kind, same, is) = cc
-    back (witness o cover, kind, same, is) = cc
+    back (repeat e f s, kind, _, _) = cc
+    back (order a b o c, kind, _, _) = cc
+    back (witness o cover, kind, _, _) = cc
 
 -- three lines show a value that was dequeued twice
-pub three_lines_repeat : (operations lines : List Operation) (d : Operation) → 3 ≤ length lines → length lines < 4
-    → IsRepeatViolation operations (get_or lines 0 d) (get_or lines 1 d) (get_or lines 2 d) ↔ ShowsViolation operations VRepeat lines
-three_lines_repeat operations [] d long short = absurd (omega arith)
-three_lines_repeat operations (x ∷ []) d long short = absurd (omega arith)
-three_lines_repeat operations (x ∷ y ∷ []) d long short = absurd (omega arith)
-three_lines_repeat operations (x ∷ y ∷ z ∷ w ∷ lines) d long short = absurd (omega arith)
-three_lines_repeat operations (enq ∷ first ∷ second ∷ []) d long short = (λ is. (repeat enq first second, refl, refl, is), back)
+pub three_lines_repeat : (operations : List Operation) (enq first second : Operation)
+    → IsRepeatViolation operations enq first second ↔ ShowsViolation operations VRepeat (enq ∷ first ∷ second ∷ [])
+three_lines_repeat operations enq first second = (λ is. (repeat enq first second, refl, refl, is), back)
   where
     back : ShowsViolation operations VRepeat (enq ∷ first ∷ second ∷ []) → IsRepeatViolation operations enq first second
-    back (fresh o e, kind, same, is) = cc
+    back (fresh o e, kind, _, _) = cc
     back (repeat e f s, kind, same, is) =
         let a : e ≡ enq = cc in let b : f ≡ first = cc in let c : s ≡ second = cc in
         subst (IsRepeatViolation operations enq first) c (subst (λ x. IsRepeatViolation operations enq x s) b
         (subst (λ x. IsRepeatViolation operations x f s) a is))
-    back (order a b o c, kind, same, is) = cc
-    back (witness o cover, kind, same, is) = cc
+    back (order a b o c, kind, _, _) = cc
+    back (witness o cover, kind, _, _) = cc
 
 -- an order violation by its lines
 shown_order : (operations : List Operation) (a b o x y z : Operation) (c w : Option Operation) → a ≡ x → b ≡ y → o ≡ z → c ≡ w
@@ -125,40 +115,31 @@ shown_order operations a b o x y z c w same_a same_b same_o same_c is =
     (subst (λ v. IsOrderViolation operations x v o c) same_b (subst (λ v. IsOrderViolation operations v b o c) same_a is)))
 
 -- three lines show a value that overtook one that was never dequeued
-pub three_lines_order : (operations lines : List Operation) (d : Operation) → 3 ≤ length lines → length lines < 4
-    → IsOrderViolation operations (get_or lines 0 d) (get_or lines 1 d) (get_or lines 2 d) None ↔ ShowsViolation operations VOrd lines
-three_lines_order operations [] d long short = absurd (omega arith)
-three_lines_order operations (x ∷ []) d long short = absurd (omega arith)
-three_lines_order operations (x ∷ y ∷ []) d long short = absurd (omega arith)
-three_lines_order operations (x ∷ y ∷ z ∷ w ∷ lines) d long short = absurd (omega arith)
-three_lines_order operations (x ∷ y ∷ z ∷ []) d long short = (λ is. (order x y z None, refl, refl, is), back)
+pub three_lines_order : (operations : List Operation) (x y z : Operation)
+    → IsOrderViolation operations x y z None ↔ ShowsViolation operations VOrd (x ∷ y ∷ z ∷ [])
+three_lines_order operations x y z = (λ is. (order x y z None, refl, refl, is), back)
   where
     back : ShowsViolation operations VOrd (x ∷ y ∷ z ∷ []) → IsOrderViolation operations x y z None
-    back (fresh o e, kind, same, is) = cc
-    back (repeat e f s, kind, same, is) = cc
+    back (fresh o e, kind, _, _) = cc
+    back (repeat e f s, kind, _, _) = cc
     back (order a b o None, kind, same, is) = shown_order operations a b o x y z None None (cc) (cc) (cc) refl is
-    back (order a b o (Some c), kind, same, is) = cc
-    back (witness o cover, kind, same, is) = cc
+    back (order a b o (Some c), _, same, _) = cc
+    back (witness o cover, kind, _, _) = cc
 
 -- four lines show a value that overtook one that was dequeued later
-pub four_lines_order : (operations lines : List Operation) (d : Operation) → 4 ≤ length lines → length lines < 5
-    → IsOrderViolation operations (get_or lines 0 d) (get_or lines 1 d) (get_or lines 2 d) (Some (get_or lines 3 d)) ↔ ShowsViolation operations VOrd lines
-four_lines_order operations [] d long short = absurd (omega arith)
-four_lines_order operations (x ∷ []) d long short = absurd (omega arith)
-four_lines_order operations (x ∷ y ∷ []) d long short = absurd (omega arith)
-four_lines_order operations (x ∷ y ∷ z ∷ []) d long short = absurd (omega arith)
-four_lines_order operations (x ∷ y ∷ z ∷ w ∷ v ∷ lines) d long short = absurd (omega arith)
-four_lines_order operations (x ∷ y ∷ z ∷ w ∷ []) d long short = (λ is. (order x y z (Some w), refl, refl, is), back)
+pub four_lines_order : (operations : List Operation) (x y z w : Operation)
+    → IsOrderViolation operations x y z (Some w) ↔ ShowsViolation operations VOrd (x ∷ y ∷ z ∷ w ∷ [])
+four_lines_order operations x y z w = (λ is. (order x y z (Some w), refl, refl, is), back)
   where
     back : ShowsViolation operations VOrd (x ∷ y ∷ z ∷ w ∷ []) → IsOrderViolation operations x y z (Some w)
-    back (fresh o e, kind, same, is) = cc
-    back (repeat e f s, kind, same, is) = cc
-    back (order a b o None, kind, same, is) = cc
+    back (fresh o e, kind, _, _) = cc
+    back (repeat e f s, kind, _, _) = cc
+    back (order a b o None, _, same, _) = cc
     back (order a b o (Some c), kind, same, is) = shown_order operations a b o x y z (Some c) (Some w) (cc) (cc) (cc) (cc) is
-    back (witness o cover, kind, same, is) = cc
+    back (witness o cover, kind, _, _) = cc
 
 -- the first line of a witness is the empty answer, the others are those of its cover
-lines_of_witness : (operations : List Operation) (empty : Operation) (lines : List Operation)
+pub lines_of_witness : (operations : List Operation) (empty : Operation) (lines : List Operation)
     → (Did operations empty Empty × ShowsCover operations empty empty lines) ↔ ShowsViolation operations VWit (empty ∷ lines)
 lines_of_witness operations empty lines = (
   λ (did, (cover, same, covers)).
@@ -167,17 +148,10 @@ lines_of_witness operations empty lines = (
 )
   where
     back : ShowsViolation operations VWit (empty ∷ lines) → Did operations empty Empty × ShowsCover operations empty empty lines
-    back (fresh o e, kind, same, is) = cc
-    back (repeat e f s, kind, same, is) = cc
-    back (order a b o c, kind, same, is) = cc
+    back (fresh o e, kind, _, _) = cc
+    back (repeat e f s, kind, _, _) = cc
+    back (order a b o c, kind, _, _) = cc
     back (witness o cover, kind, same, is) =
         let one : o ≡ empty = cc in
         let rest : flat_map operations_of_life cover ≡ lines = cc in
         (subst (λ x. Did operations x Empty) one is.answers_empty, (cover, rest, subst (λ x. CoversFrom operations x x cover) one is.covers))
-
--- the lines of an empty answer and of its cover
-pub lines_of_witness_at : (operations lines : List Operation) (d : Operation) → 1 ≤ length lines
-    → (Did operations (get_or lines 0 d) Empty × ShowsCover operations (get_or lines 0 d) (get_or lines 0 d) (drop 1 lines)) ↔ ShowsViolation
-    operations VWit lines
-lines_of_witness_at operations [] d long = absurd (omega arith)
-lines_of_witness_at operations (empty ∷ lines) d long = lines_of_witness operations empty lines

@@ -3,12 +3,12 @@
 -- Chosen, Decided, OneVerdict: the chosen violation or order of a history decides, and is the only one.
 -- NoneTold: with no initial values the answer is what is found.
 -- Lookups, ClaimedViolations, ClaimedCovers, ClaimedOrders: when the lines of a claim are evidence.
--- NamedLines, NamedPlaces, TrueClaims, FewLines: what a verdict claims, and that this is true.
+-- FoundLines, NamedLines, NamedPlaces, TrueClaims, FewLines: what a verdict claims, and that this is true.
 -- SameLists, CollectedSets, Selections, ChosenSelections, CoverGaps: what stays of the violations in a selection of the operations.
 -- Minimal: nothing can be left out of the selection by the violation's lines.
 -- Carried, Retiming, FilledSelections: a selection of a filled history is the filled history of a selection, at other tickets.
 -- ShownLines, ViolationPlaces, LinesTell: the lines of a violation as they are shown, and what they tell.
--- EventsHeld, KeptTickets, KeptEvents, ShrunkEvents: the selected operations with their events are a complete history.
+-- HeldTickets, EventsHeld, KeptTickets, KeptEvents, ShrunkEvents: the selected operations with their events are a complete history.
 -- ShrunkHistories, OneSelection: so the small history is minimal, has the violation, and is the only one.
 -- Rows: small histories, computed.
 pub mod Excludes
@@ -25,12 +25,14 @@ pub mod ClaimedOrders
 pub mod SameLists
 pub mod KeptEvents
 pub mod KeptTickets
+pub mod HeldTickets
 pub mod CollectedSets
 pub mod Selections
 pub mod CoverGaps
 pub mod Carried
 pub mod Retiming
 pub mod FilledSelections
+pub mod FoundLines
 pub mod ShownLines
 pub mod NamedLines
 pub mod Minimal

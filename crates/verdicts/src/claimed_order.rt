@@ -1,11 +1,11 @@
-ghost use Rattle.std.specs.Prelude.{◌≡◌, ◌↔◌, IsTrue, IfOk, IsPermutation, AllPairs, map, MatchBool, Some, None};
+ghost use Rattle.std.specs.Prelude.{◌≡◌, ◌↔◌, IsTrue, IfOk, IsPermutation, AllPairs, map, MatchBool, Some, None, length};
 ghost use Rattle.history_merge.specs.Operations.{Precedes};
 ghost use Rattle.history_merge.specs.Queue.{IsAccepted, accept};
 ghost use Rattle.history_merge.specs.Legal.{IsLegalOrderFrom};
 ghost use Rattle.verdicts.specs.Inner.Claims.{CallsRise, IsLookedUp};
 
-use crate::lookup::Filled;
-use history_merge::{OpKind, Operation};
+use crate::lookup::{Filled, is_at};
+use history_merge::{OpKind, Operation, PackedOperation};
 use std::alloc::{AllocError, Global};
 use std::collections::VecDeque;
 
@@ -30,7 +30,7 @@ pub fn is_legal_order(
 /// Whether the lines are the operations, each once: sorted by call, they are the same list.
 fn holds_each_once(
     alloc: Global,
-    operations: &[Operation],
+    operations: &[PackedOperation],
     lines: &[Operation],
 ) -> Result<bool, AllocError>
     requires { CallsRise operations.now }
@@ -41,7 +41,20 @@ fn holds_each_once(
     }
     let mut by_call = Vec::from_slice(alloc, lines)?;
     by_call.sort_unstable_by_key(|line| line.call);
-    Ok(by_call.as_slice() == operations)
+    Ok(are_same(by_call.as_slice(), operations))
+}
+
+/// Whether the lines are the operations, one by one; there are as many.
+fn are_same(lines: &[Operation], operations: &[PackedOperation]) -> bool
+    requires { length lines.now ≡ length operations.now }
+    ensures { IsTrue result ↔ (lines.now ≡ operations.now) }
+{
+    for (place, line) in lines.iter().enumerate() {
+        if !is_at(operations, place, line) {
+            return false;
+        }
+    }
+    true
 }
 
 /// Whether no line returned before an earlier one was called: each return is past the greatest call before it.

@@ -1,4 +1,4 @@
-ghost use Rattle.std.specs.Prelude.{◌↔◌, IsTrue, MatchOption};
+ghost use Rattle.std.specs.Prelude.{◌↔◌, IsTrue, MatchOption, [], ◌∷◌};
 ghost use Rattle.history_merge.specs.Operations.{Did, NoneDid, Precedes};
 ghost use Rattle.value_match.specs.Lives.{IsLife};
 ghost use Rattle.value_match.specs.Violations.{IsNeverEnqueued, IsEnqueuedTooLate, IsRepeatViolation, IsOrderViolation};
@@ -27,14 +27,28 @@ fn shows_fresh(operations: &Filled, lines: &[ClaimLine]) -> bool
     ensures { IsTrue result ↔ ShowsKind operations.now ViolationKind.VFresh lines.now }
 {
     match lines {
-        [deq] => match operations.shown_by(*deq) {
-            Some(deq) => is_never_enqueued(operations, deq),
-            None => false,
-        },
-        [deq, enq] => match (operations.shown_by(*deq), operations.shown_by(*enq)) {
-            (Some(deq), Some(enq)) => is_enqueued_too_late(operations, deq, enq),
-            _ => false,
-        },
+        [deq] => shows_never_enqueued(operations, *deq),
+        [deq, enq] => shows_enqueued_too_late(operations, *deq, *enq),
+        _ => false,
+    }
+}
+
+fn shows_never_enqueued(operations: &Filled, deq: ClaimLine) -> bool
+    requires { IsLookedUp operations.now }
+    ensures { IsTrue result ↔ ShowsKind operations.now ViolationKind.VFresh (deq ∷ []) }
+{
+    match operations.shown_by(deq) {
+        Some(deq) => is_never_enqueued(operations, deq),
+        None => false,
+    }
+}
+
+fn shows_enqueued_too_late(operations: &Filled, deq: ClaimLine, enq: ClaimLine) -> bool
+    requires { IsLookedUp operations.now }
+    ensures { IsTrue result ↔ ShowsKind operations.now ViolationKind.VFresh (deq ∷ enq ∷ []) }
+{
+    match (operations.shown_by(deq), operations.shown_by(enq)) {
+        (Some(deq), Some(enq)) => is_enqueued_too_late(operations, deq, enq),
         _ => false,
     }
 }
@@ -133,11 +147,26 @@ fn is_order(
     let (OpKind::Enq(a), OpKind::Enq(b)) = (enq_a.kind, enq_b.kind) else {
         return false;
     };
+    are_enqueued_in_turn(operations, enq_a, a, enq_b, b)
+        && operations.did(deq_b, OpKind::Deq(b))
+        && is_dequeued_later(operations, deq_b, a, deq_a)
+}
+
+/// Whether these are enqueues of the values a and b, one after the other.
+fn are_enqueued_in_turn(
+    operations: &Filled,
+    enq_a: Operation,
+    a: u64,
+    enq_b: Operation,
+    b: u64,
+) -> bool
+    requires { IsLookedUp operations.now }
+    ensures { IsTrue result
+        ↔ (Did (all_of operations.now) enq_a (OpKind.Enq a) × Did (all_of operations.now) enq_b (OpKind.Enq b) × Precedes enq_a enq_b) }
+{
     operations.did(enq_a, OpKind::Enq(a))
         && operations.did(enq_b, OpKind::Enq(b))
-        && operations.did(deq_b, OpKind::Deq(b))
         && enq_a.ret < enq_b.call
-        && is_dequeued_later(operations, deq_b, a, deq_a)
 }
 
 /// Whether this dequeue of a was called after the dequeue of b had returned, or there is none.

@@ -1,4 +1,4 @@
-ghost use Rattle.std.specs.Prelude.{◌≡◌, IfOk, slice_get};
+ghost use Rattle.std.specs.Prelude.{◌≡◌, IfOk};
 ghost use Rattle.history_merge.specs.Operations.{operations_of};
 ghost use Rattle.verdicts.specs.Claiming.{IsWithin, claim_of, lines_at, operations_at, violation_kind};
 ghost use Rattle.verdicts.specs.Selection.{violation_lines};
@@ -6,7 +6,7 @@ ghost use Rattle.verdicts.specs.Selection.{violation_lines};
 use crate::shown::{LinePlace, violation_places};
 use crate::verdict::Verdict;
 use crate::verifying::{ClaimLine, ClaimLines, Claimed, Lines, ViolationKind};
-use history_merge::{History, OpId, Operation};
+use history_merge::{History, OpId, Operation, PackedOperation, operation_at};
 use std::alloc::{AllocError, Global};
 use value_match::Violation;
 
@@ -34,22 +34,18 @@ pub fn claim(alloc: Global, history: &History, verdict: &Verdict) -> Result<Clai
 /// The operations at these places.
 fn operations_at(
     alloc: Global,
-    operations: &[Operation],
+    operations: &[PackedOperation],
     places: &[OpId],
 ) -> Result<Vec<Operation>, AllocError>
     ensures { IfOk result (λ listed. listed.items ≡ operations_at operations.now places.now) }
 {
-    places
-        .iter()
-        .filter_map(|place| operation_at(operations, *place))
-        .collect(alloc)
-}
-
-/// The operation at this place, if there is one.
-fn operation_at(operations: &[Operation], place: OpId) -> Option<Operation>
-    ensures { result ≡ slice_get operations.now place }
-{
-    operations.get(place.place()).copied()
+    let mut listed = Vec::new(alloc);
+    for place in places {
+        if let Some(operation) = operation_at(operations, *place) {
+            listed.push(operation)?;
+        }
+    }
+    Ok(listed)
 }
 
 /// The lines of a violation, in the order in which they are shown.
@@ -73,15 +69,18 @@ pub fn violation_lines(
 fn lines_at(
     alloc: Global,
     initial: &[u64],
-    operations: &[Operation],
+    operations: &[PackedOperation],
     places: &[LinePlace],
 ) -> Result<Vec<ClaimLine>, AllocError>
     ensures { IfOk result (λ listed. listed.items ≡ lines_at initial.now operations.now places.now) }
 {
-    places
-        .iter()
-        .filter_map(|place| place.line(initial, operations))
-        .collect(alloc)
+    let mut listed = Vec::new(alloc);
+    for place in places {
+        if let Some(line) = place.line(initial, operations) {
+            listed.push(line)?;
+        }
+    }
+    Ok(listed)
 }
 
 /// The kind of a violation.

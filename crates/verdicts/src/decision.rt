@@ -1,6 +1,7 @@
 ghost use Rattle.std.specs.Prelude.{◌≡◌, ◌≤◌, IfOk};
 ghost use Rattle.value_match.specs.Filling.{filled_operations};
 ghost use Rattle.value_match.specs.Violations.{IsClear, NoOrderViolation};
+ghost use Rattle.order_violation.specs.Pairs.{IsOrderAnswerFrom};
 ghost use Rattle.empty_witness.specs.Answers.{IsWitnessAnswerFrom};
 ghost use Rattle.parallel_finders.specs.declared.TheConstants.{MAX_PIECES};
 ghost use Rattle.verdicts.specs.Decided.{IsDecided, IsDecidedFrom};
@@ -70,8 +71,8 @@ fn decide_matching(alloc: Global, matching: &Matching) -> Result<Verdict, AllocE
             decide_in_order(alloc, matching, &values, answer)
         }
         None => {
-            let pair = find_order(alloc, matching)?.unwrap();
-            Ok(Verdict::No(violation_of(pair)))
+            let pair = find_order(alloc, matching)?;
+            Ok(overtaken(matching, pair))
         }
     }
 }
@@ -93,8 +94,8 @@ fn decide_matching_par<R: Threads + Sync>(
             decide_in_order(alloc, matching, &values, answer)
         }
         None => {
-            let pair = find_order_par(rt, alloc, matching, pieces)?.unwrap();
-            Ok(Verdict::No(violation_of(pair)))
+            let pair = find_order_par(rt, alloc, matching, pieces)?;
+            Ok(overtaken(matching, pair))
         }
     }
 }
@@ -121,6 +122,16 @@ fn decide_in_order(
             Ok(Verdict::Yes(Order::from_vec(places)))
         }
     }
+}
+
+/// The verdict where a pair of values is dequeued against the order of their enqueues: the pair that was found.
+fn overtaken(matching: &Matching, pair: Option<OrderPair>) -> Verdict
+    requires clear { IsClear (filled_operations matching.now) }
+    requires overtaken { ¬ (NoOrderViolation (filled_operations matching.now)) }
+    requires answer { IsOrderAnswerFrom matching.now.initial matching.now.operations pair }
+    ensures { IsDecidedFrom matching.now.initial matching.now.operations result }
+{
+    Verdict::No(violation_of(pair.unwrap()))
 }
 
 /// The violation that a pair of values shows.

@@ -1,5 +1,6 @@
 //! The operations of the filled history, looked up where they stand: initial values, and operations by their calls.
-ghost use Rattle.std.specs.Prelude.{◌≡◌, ◌*◌, ◌<◌, ◌≤◌, ◌↔◌, IfSome, IsTrue, Contains, length, nat_eq, position};
+ghost use Rattle.std.specs.Prelude.{◌≡◌, ◌*◌, ◌<◌, ◌≤◌, ◌↔◌, IfSome, IsTrue, Contains, length, nat_eq, position, slice_index_or};
+ghost use Rattle.history_merge.specs.declared.operation.Operation.{Operation};
 ghost use Rattle.event_records.specs.declared.limits.TheConstants.{MAX_INITIAL};
 ghost use Rattle.history_merge.specs.Initial.{filling_from};
 ghost use Rattle.history_merge.specs.Operations.{Did, NoneDid, operations_of};
@@ -9,14 +10,14 @@ ghost use Rattle.verdicts.specs.Inner.Claims.{CallsRise, all_of, IsLookedUp};
 
 use crate::verifying::ClaimLine;
 use event_records::MAX_TICKET;
-use history_merge::{History, OpKind, Operation};
+use history_merge::{History, OpKind, Operation, PackedOperation};
 
 /// The operations of the filled history, which has no list of its own: the queue is empty first, the initial values are
 /// enqueued one after another, and then come the operations.
 #[derive(Clone, Copy)]
 pub struct Filled<'a> {
     pub initial: &'a [u64],
-    pub operations: &'a [Operation],
+    pub operations: &'a [PackedOperation],
 }
 
 impl<'a> Filled<'a> {
@@ -148,21 +149,31 @@ fn filling_at(place: usize, value: u64) -> Operation
 }
 
 /// Whether this is one of the operations, found by its call.
-fn has_operation(operations: &[Operation], operation: Operation) -> bool
+fn has_operation(operations: &[PackedOperation], operation: Operation) -> bool
     requires { CallsRise operations.now }
     ensures { IsTrue result ↔ Contains operations.now operation }
 {
-    match operations.binary_search_by_key(&operation.call, |other| other.call) {
-        Ok(place) => operations[place] == operation,
+    match operations.binary_search_by_key(&operation.call, |other| other.unpack().call) {
+        Ok(place) => is_at(operations, place, &operation),
         Err(_) => false,
     }
 }
 
+/// Whether this is the operation at the place.
+pub(crate) fn is_at(operations: &[PackedOperation], place: usize, operation: &Operation) -> bool
+    requires { place < length operations.now }
+    ensures { (d : Operation) → IsTrue result ↔ (slice_index_or operations.now place d ≡ operation.now) }
+{
+    operations[place].unpack() == *operation
+}
+
 /// Whether none of the operations did this.
-fn none_did(operations: &[Operation], kind: OpKind) -> bool
+fn none_did(operations: &[PackedOperation], kind: OpKind) -> bool
     ensures { IsTrue result ↔ NoneDid operations.now kind }
 {
-    operations.iter().all(|operation| operation.kind != kind)
+    operations
+        .iter()
+        .all(|operation| operation.unpack().kind != kind)
 }
 
 /// Whether this is not the enqueue of an initial value.

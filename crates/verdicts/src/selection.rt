@@ -8,7 +8,7 @@ ghost use Rattle.verdicts.specs.Inner.Selecting.{call_in, holds_ticket, value_in
 
 use crate::verifying::ClaimLine;
 use event_records::{Event, MAX_EVENTS};
-use history_merge::{Events, History, OpKind, Operation};
+use history_merge::{Events, History, OpKind, Operation, PackedOperation};
 use std::alloc::{AllocError, Global};
 use std::collections::BTreeSet;
 
@@ -51,13 +51,18 @@ impl Selection {
     }
 
     /// The tickets of the selected operations.
-    fn tickets(&self, alloc: Global, operations: &[Operation]) -> Result<BTreeSet<u64>, AllocError>
+    fn tickets(
+        &self,
+        alloc: Global,
+        operations: &[PackedOperation],
+    ) -> Result<BTreeSet<u64>, AllocError>
         ensures { IfOk result (λ tickets. (t : ℕ) → contains nat_cmp tickets t
             ≡ holds_ticket (filter (selects (contains nat_cmp self.now.values) (contains nat_cmp self.now.calls)) operations.now) t) }
     {
         let mut tickets = BTreeSet::new(alloc);
         for operation in operations {
-            if self.selects(operation) {
+            let operation = operation.unpack();
+            if self.selects(&operation) {
                 tickets.insert(operation.call)?;
                 tickets.insert(operation.ret)?;
             }

@@ -1,14 +1,15 @@
 ghost use Rattle.std.specs.Prelude.{◌≡◌, ◌++◌, IfOk, OnOk, flat_map};
 ghost use Rattle.verdicts.specs.Claiming.{line_at};
 ghost use Rattle.verdicts.specs.Shown.{maybe_place, violation_places, places_of_step};
+ghost use Rattle.verdicts.specs.Inner.Shown.{first_places, later_places};
 
 use crate::verifying::ClaimLine;
-use history_merge::{OpId, Operation};
+use history_merge::{OpId, PackedOperation, operation_at};
 use std::alloc::{AllocError, Global};
 use value_match::{Cover, Source, Violation};
 
 /// Where a line of a verdict is found: by a place among the operations of a history, or among its initial values.
-#[derive(Clone, Copy, Debug, PartialEq, Eq)]
+#[derive(Clone, Copy)]
 pub enum LinePlace {
     /// The operation at this place.
     Op(OpId),
@@ -32,11 +33,11 @@ impl From<Source> for LinePlace {
 
 impl LinePlace {
     /// The line at this place of these initial values and operations, if there is one.
-    pub fn line(self, initial: &[u64], operations: &[Operation]) -> Option<ClaimLine>
+    pub fn line(self, initial: &[u64], operations: &[PackedOperation]) -> Option<ClaimLine>
         ensures { result ≡ line_at initial.now operations.now self }
     {
         match self {
-            LinePlace::Op(place) => operations.get(place.place()).copied().map(ClaimLine::Op),
+            LinePlace::Op(place) => operation_at(operations, place).map(ClaimLine::Op),
             LinePlace::Initial(place) => initial.get(place).copied().map(ClaimLine::Initial),
         }
     }
@@ -46,34 +47,53 @@ impl LinePlace {
 pub fn violation_places(alloc: Global, violation: &Violation) -> Result<Vec<LinePlace>, AllocError>
     ensures { IfOk result (λ places. places.items ≡ violation_places violation.now) }
 {
-    let mut places = Vec::new(alloc);
+    let mut places = first_places(alloc, violation)?;
+    push_later_places(violation, &mut places)?;
+    Ok(places)
+}
+
+/// The places that a violation of this kind always names.
+fn first_places(alloc: Global, violation: &Violation) -> Result<Vec<LinePlace>, AllocError>
+    ensures { IfOk result (λ places. places.items ≡ first_places violation.now) }
+{
     match violation {
-        Violation::Fresh { deq, enq } => {
-            places.push(LinePlace::Op(*deq))?;
-            push_maybe(*enq, &mut places)?;
-        }
-        Violation::Repeat { enq, first, second } => {
-            places.push(LinePlace::from(*enq))?;
-            places.push(LinePlace::Op(*first))?;
-            places.push(LinePlace::Op(*second))?;
-        }
+        Violation::Fresh { deq, .. } => Vec::from_slice(alloc, &[LinePlace::Op(*deq)]),
+        Violation::Repeat { enq, first, second } => Vec::from_slice(
+            alloc,
+            &[
+                LinePlace::from(*enq),
+                LinePlace::Op(*first),
+                LinePlace::Op(*second),
+            ],
+        ),
         Violation::Order {
             enq_a,
             enq_b,
             deq_b,
-            deq_a,
-        } => {
-            places.push(LinePlace::from(*enq_a))?;
-            places.push(LinePlace::from(*enq_b))?;
-            places.push(LinePlace::Op(*deq_b))?;
-            push_maybe(*deq_a, &mut places)?;
-        }
-        Violation::Witness { empty, cover } => {
-            places.push(LinePlace::Op(*empty))?;
-            push_cover(cover, &mut places)?;
-        }
+            ..
+        } => Vec::from_slice(
+            alloc,
+            &[
+                LinePlace::from(*enq_a),
+                LinePlace::from(*enq_b),
+                LinePlace::Op(*deq_b),
+            ],
+        ),
+        Violation::Witness { empty, .. } => Vec::from_slice(alloc, &[LinePlace::Op(*empty)]),
     }
-    Ok(places)
+}
+
+/// The places that follow these: of an operation that may be missing, or of a cover.
+fn push_later_places(violation: &Violation, places: &mut Vec<LinePlace>) -> Result<(), AllocError>
+    ensures { OnOk result (places.new.items ≡ places.old.items ++ later_places violation.now) }
+{
+    match violation {
+        Violation::Fresh { enq: last, .. } | Violation::Order { deq_a: last, .. } => {
+            push_maybe(*last, places)
+        }
+        Violation::Repeat { .. } => Ok(()),
+        Violation::Witness { cover, .. } => push_cover(cover, places),
+    }
 }
 
 fn push_maybe(place: Option<OpId>, places: &mut Vec<LinePlace>) -> Result<(), AllocError>

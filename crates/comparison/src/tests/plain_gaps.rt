@@ -1,6 +1,6 @@
 //! Free gaps and covers, by scans of all values.
 
-use history_merge::{OpId, Operation};
+use history_merge::{OpId, Operation, PackedOperation};
 use std::alloc::{AllocError, Global};
 use std::test::Fail;
 use value_match::{CoverStep, FilledMatching, Life, MatchedValue, Source};
@@ -17,12 +17,13 @@ fn is_free(values: &[MatchedValue], gap: u64) -> bool {
 
 /// The least free gap of a window, looked for at its call and at each ticket in it.
 pub(crate) fn plain_gap(
-    operations: &[Operation],
+    operations: &[PackedOperation],
     values: &[MatchedValue],
     answer: &Operation,
 ) -> Option<u64> {
     let mut least: Option<u64> = None;
     for operation in operations {
+        let operation = operation.unpack();
         for gap in [answer.call, operation.call, operation.ret] {
             let is_in = answer.call <= gap && gap < answer.ret;
             if is_in && is_free(values, gap) && least.is_none_or(|least| gap < least) {
@@ -101,7 +102,7 @@ pub enum PlainWitness {
 
 /// The operation at a place of a history.
 pub(crate) fn operation_at(matching: &FilledMatching, id: OpId) -> Result<Operation, Fail> {
-    Ok(*matching.operations().get(id.place()).ok_or("no operation")?)
+    Ok(history_merge::operation_at(matching.operations(), id).ok_or("no operation")?)
 }
 
 /// The least free gap of each empty answer, or the covered one that returned first with its cover.

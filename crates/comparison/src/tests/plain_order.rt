@@ -1,6 +1,6 @@
 //! The chosen order of all operations: the choice among all remaining values at each step, and a sort by position.
 
-use history_merge::OpId;
+use history_merge::{OpId, operation_at};
 use std::alloc::{AllocError, Global};
 use value_match::{FilledMatching, Life, MatchedValue};
 
@@ -119,12 +119,12 @@ pub(crate) fn plain_linearization(
     let order = ordered(alloc, values)?;
     let mut placed = value_positions(alloc, &order)?;
     for (id, gap) in matching.empties().iter().zip(gaps) {
-        if let Some(operation) = matching.operations().get(id.place()) {
+        if let Some(operation) = operation_at(matching.operations(), *id) {
             placed.push(((*gap, 1, operation.call), *id))?;
         }
     }
     for id in matching.refused() {
-        if let Some(operation) = matching.operations().get(id.place()) {
+        if let Some(operation) = operation_at(matching.operations(), *id) {
             placed.push(((operation.call, 1, operation.call), *id))?;
         }
     }

@@ -2,7 +2,7 @@ ghost use Rattle.std.specs.Prelude.{◌≤◌, length};
 
 use super::small_histories::{at, by, hidden, history_of, overlapping};
 use event_records::{Event, Lists, MAX_EVENTS, What};
-use history_merge::{History, HistoryFault, OpKind, Operation, history, merge};
+use history_merge::{History, HistoryFault, OpKind, Operation, history, merge, unpacked};
 use std::alloc::{AllocError, Global};
 use std::test::Fail;
 
@@ -43,7 +43,8 @@ fn names_the_first_fault(rt: HostRuntime) -> Result<(), Fail> {
 
 /// Whether the history of these operations shows them.
 fn shows(alloc: Global, operations: &[Operation]) -> Result<bool, Fail> {
-    Ok(history_of(alloc, operations)?.operations() == operations)
+    let history = history_of(alloc, operations)?;
+    Ok(unpacked(alloc, history.operations())?.as_slice() == operations)
 }
 
 #[test]
@@ -81,7 +82,7 @@ fn takes_two_hundred_thousand_events(rt: HostRuntime) -> Result<(), Fail> {
     let operations = history.operations();
     assert_eq!(rt; operations.len(), 100_000);
     let last = by(63, 199_998, 199_999, OpKind::Deq(49_999));
-    assert_eq!(rt; operations.last().copied(), Some(last));
+    assert_eq!(rt; operations.last().map(|packed| packed.unpack()), Some(last));
     Ok(())
 }
 

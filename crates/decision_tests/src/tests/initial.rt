@@ -3,7 +3,9 @@ ghost use Rattle.std.specs.Prelude.{◌≤◌, length};
 
 use super::small_histories::{at, by};
 use event_records::{Event, MAX_EVENTS, MAX_INITIAL, What};
-use history_merge::{History, HistoryBuilder, HistoryFault, OpKind, Operation, fill, history_from};
+use history_merge::{
+    History, HistoryBuilder, HistoryFault, OpKind, Operation, fill, history_from, unpacked,
+};
 use std::alloc::{AllocError, Global};
 use std::test::Fail;
 
@@ -70,10 +72,11 @@ fn shows(
     operations: &[Operation],
 ) -> Result<bool, AllocError> {
     let shown: Vec<Event> = history.events().collect(alloc)?;
+    let shown_operations = unpacked(alloc, history.operations())?;
     Ok(
         history.initial() == initial
             && shown.as_slice() == events
-            && history.operations() == operations,
+            && shown_operations.as_slice() == operations,
     )
 }
 
@@ -118,7 +121,7 @@ fn enqueues_initial_values_before_all_else(rt: HostRuntime) -> Result<(), Fail> 
     let history = history_or_fault(rt.alloc(), &[5, 6], &events)?.expect(&rt, "a complete history");
     let filled = fill(rt.alloc(), history.initial(), history.operations())?;
     assert_eq!(rt;
-        filled.as_slice(),
+        unpacked(rt.alloc(), filled.as_slice())?.as_slice(),
         [
             by(0, 0, 1, OpKind::Enq(5)),
             by(0, 2, 3, OpKind::Enq(6)),

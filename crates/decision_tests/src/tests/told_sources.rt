@@ -4,7 +4,7 @@ use super::places::first_answer;
 use super::small_histories::{by, history_behind, matching_of, op};
 use empty_witness::{GapAnswer, WitnessAnswer, find_witness};
 use history_merge::OpKind::{Deq, Empty};
-use history_merge::{OpId, OpKind, Operation};
+use history_merge::{OpId, OpKind, Operation, unpacked};
 use order_violation::{OrderPair, find_order};
 use std::alloc::{AllocError, Global};
 use std::test::Fail;
@@ -191,7 +191,7 @@ fn left_empty() -> [Operation; 3] {
 /// The initial values and the operations that a matching shows.
 fn parts_of(alloc: Global, matching: &Matching) -> Result<(Vec<u64>, Vec<Operation>), AllocError> {
     let initial = matching.initial().to_vec(alloc)?;
-    Ok((initial, matching.operations().to_vec(alloc)?))
+    Ok((initial, unpacked(alloc, matching.operations())?))
 }
 
 /// Those of the matching of the history after 5.
@@ -216,7 +216,7 @@ fn filled(alloc: Global) -> Result<(Option<Operation>, usize, Vec<OpId>), Fail> 
     let filled = matching.filled();
     let empties = filled.empties().to_vec(alloc)?;
     Ok((
-        filled.operations().first().copied(),
+        filled.operations().first().map(|packed| packed.unpack()),
         filled.values().len(),
         empties,
     ))

@@ -1,11 +1,12 @@
 -- The ends of a crew.
-use Rattle.std.specs.Prelude.{◌≡◌, ◌+◌, List, [], ◌++◌, map, All, sum_by, flat_map, IsPermutation, Contains, ◌⊎◌, Option, Some, false}
+use Rattle.std.specs.Prelude.{◌≡◌, ◌+◌, List, [], ◌++◌, map, All, sum_by, flat_map, IsPermutation, Contains, ◌⊎◌, Option, Some, None, false}
 use Rattle.tickets.specs.Views.{PassView}
 use Rattle.event_rings.specs.Ring.{DrainView, TokenView}
 use Rattle.stress_run.specs.Workers.{WorkerView}
 use Rattle.stress_run.specs.declared.faults.RunFault.{RunFault}
 use Rattle.stress_run.specs.declared.faults.RunFault.TheVariants.{Memory}
-use Rattle.stress_run.specs.Crew.{token_of, IsFaultOfWorker}
+use Rattle.stress_run.specs.Crew.{token_of, IsFaultOfWorker, IsNotAfterStall}
+use Rattle.event_records.specs.declared.event.Event.{Event}
 
 -- the end of a worker's ring that nothing was drained from
 abbrev pub end_of : WorkerView → DrainView
@@ -23,3 +24,12 @@ pub record AreClosed (rest : PassView) (workers : List WorkerView) (tokens : Lis
 -- this fault stood before, or memory ran out, or it is one of these workers'
 abbrev pub Stands : Option RunFault → List WorkerView → RunFault → Type 0
 Stands standing workers f = (standing ≡ Some f) ⊎ ((f ≡ Memory) ⊎ ((w : WorkerView) × Contains workers w × IsFaultOfWorker f w))
+
+-- the rings of these workers are closed, the passes are joined, and these are the lists of what was sent
+pub record AreSealed (rest : PassView) (workers : List WorkerView) (lists : List (List Event)) (pass : PassView) : Type 0 where
+  pub closed : AreClosed rest workers (map token_of workers) pass
+  pub lists_are : lists ≡ map (λ token. token.sent) (map token_of workers)
+
+-- memory ran out, or it is a fault of one of these workers, and no stall of theirs comes before it
+abbrev pub IsFaultOfClosing : List WorkerView → RunFault → Type 0
+IsFaultOfClosing workers f = (f ≡ Memory) ⊎ (Stands None workers f × All (IsNotAfterStall f) workers)

@@ -5,19 +5,19 @@ use Rattle.commands.proofs.Runs.{printed_of}
 use Rattle.commands.proofs.command.run_order.Goals as goal
 
 pub returns-clause-reads : goal.returns-clause-reads
-returns-clause-reads g c = printed_of _ (answer_of c.outcome_of-outcome.result) _ _ _ _ _ c.print_outcome-status.ensures.printed _
+returns-clause-reads g c = printed_of _ (answer_of c.outcome_of-outcome.result) _ _ _ _ _ c.end_order-status.ensures.printed _
     (rw c.new-kept.ensures at c.outcome_of-outcome.ensures.reads)
 
 pub returns-clause-stresses : goal.returns-clause-stresses
 returns-clause-stresses g c = λ settings asked. record {
   answer = answer_of c.outcome_of-outcome.result;
   right = c.outcome_of-outcome.ensures.stresses settings asked;
-  printed = c.print_outcome-status.ensures.printed;
+  printed = c.end_order-status.ensures.printed;
 }
 
 pub returns-clause-said : goal.returns-clause-said
 returns-clause-said g c = λ input output fresh failed.
     let still = c.greet.ensures input in
-    let said = c.say_at_end.ensures.said output failed (ap g.E.TextSink.has_refused still ∙ fresh) in
-    subst (λ errors. SaysMessage (g.E.TextSink.contents errors) (g.E.TextSink.contents c.say_at_end.new.errors)
-    (g.E.TextSink.has_refused c.say_at_end.new.errors)) still said
+    let said = c.end_order-status.ensures.said output failed (ap g.E.TextSink.has_refused still ∙ fresh) in
+    subst (λ errors. SaysMessage (g.E.TextSink.contents errors) (g.E.TextSink.contents c.end_order-status.new.errors)
+    (g.E.TextSink.has_refused c.end_order-status.new.errors)) still said

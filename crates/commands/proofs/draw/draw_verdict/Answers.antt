@@ -1,27 +1,18 @@
 use Rattle.std.proofs.lemmas.Result.{err_from_is_err_and}
 use Rattle.history_text.specs.Versions.{said_in}
-use Rattle.commands.proofs.Drawn.{claims_verdict, decided_is_true, drawn_decided, undrawn_alone}
+use Rattle.commands.proofs.Drawn.{decided_is_true, drawn_decided, undrawn_alone}
 use Rattle.commands.proofs.draw.draw_verdict.Goals as goal
 
 pub draw_evidence-requires-clause-evidence : goal.draw_evidence-requires-clause-evidence
 draw_evidence-requires-clause-evidence c =
-    let is = c.in_ok-verdict.ensures in
-    let right = claims_verdict c.args.history.now c.in_ok-verdict.verdict c.in_ok-claimed.claimed is.chosen is.evidence is.exact
-    c.in_ok-claimed.ensures.claim in
-    decided_is_true c.args.history.now c.in_ok-claimed.claimed c.requires.complete c.requires.few_values right
+    decided_is_true c.args.history.now c.in_ok-claimed.claimed c.requires.complete c.requires.few_values c.in_ok-claimed.ensures
 
 pub returns-in_err-drawn-clause-found : goal.returns-in_err-drawn-clause-found
 returns-in_err-drawn-clause-found c = λ version.
-    let is = c.in_ok-verdict.ensures in
-    let right = claims_verdict c.args.history.now c.in_ok-verdict.verdict c.in_ok-claimed.claimed is.chosen is.evidence is.exact
-    c.in_ok-claimed.ensures.claim in
     let p = err_from_is_err_and c.from_residual-in_err-drawn.result c.from_residual-in_err-drawn.ensures.1 in
-    rw (p.1, p.2) (undrawn_alone c.args.options (said_in version c.args.history.now) c.in_ok-claimed.claimed _ c.requires.complete right
+    rw (p.1, p.2) (undrawn_alone c.args.options (said_in version c.args.history.now) c.in_ok-claimed.claimed _ c.requires.complete c.in_ok-claimed.ensures
     c.in_err-drawn.ensures.large)
 
 pub returns-clause-found : goal.returns-clause-found
 returns-clause-found c = λ version.
-    let is = c.in_ok-verdict.ensures in
-    let right = claims_verdict c.args.history.now c.in_ok-verdict.verdict c.in_ok-claimed.claimed is.chosen is.evidence is.exact
-    c.in_ok-claimed.ensures.claim in
-    drawn_decided c.args.options (said_in version c.args.history.now) c.in_ok-claimed.claimed _ right (c.draw_evidence.ensures.found version)
+    drawn_decided c.args.options (said_in version c.args.history.now) c.in_ok-claimed.claimed _ c.in_ok-claimed.ensures (c.draw_evidence.ensures.found version)

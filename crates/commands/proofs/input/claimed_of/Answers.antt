@@ -1,6 +1,7 @@
 use Rattle.std.proofs.Common.{arith}
 use Rattle.commands.proofs.Exits.{carried}
 use Rattle.commands.proofs.InputFaults.{history_fault, verdict_fault}
+use Rattle.commands.proofs.Found.{claim_found}
 use Rattle.commands.proofs.input.claimed_of.Goals as goal
 
 pub returns-in_err-gathered-clause-fault : goal.returns-in_err-gathered-clause-fault
@@ -11,3 +12,12 @@ pub returns-in_err-claimed-clause-fault : goal.returns-in_err-claimed-clause-fau
 returns-in_err-claimed-clause-fault g c = carried c.from_residual-in_err-claimed.result _ _ c.from_residual-in_err-claimed.ensures.1
     (let read = rw c.new-texts.ensures at c.in_ok-gathered.ensures.text in
     verdict_fault (g.S.TextSource.ahead c.args.reader) _ read.0 _ _ read.1 read.2 (omega (arith, read.3)) c.in_err-claimed.ensures.fault)
+
+pub returns-clause-claim : goal.returns-clause-claim
+returns-clause-claim g c =
+    let read = rw c.new-texts.ensures at c.in_ok-gathered.ensures.text in (
+      read.0,
+      read.1,
+      read.3.1,
+      claim_found (g.S.TextSource.ahead c.args.reader) _ _ read.0 c.in_ok-claimed.claimed read.1 read.2 c.in_ok-claimed.ensures.claim,
+    )

@@ -1,6 +1,8 @@
 use Rattle.std.proofs.Common.{arith}
+use Rattle.history_text.specs.Versions.{text_of}
 use Rattle.commands.proofs.Exits.{carried}
 use Rattle.commands.proofs.InputFaults.{drawable_history_fault, drawable_verdict_fault}
+use Rattle.commands.proofs.Found.{claim_found, history_found, read_fault_after, taken_through}
 use Rattle.commands.proofs.input.drawable_of.Goals as goal
 
 pub returns-in_err-claimed-clause-fault : goal.returns-in_err-claimed-clause-fault
@@ -14,3 +16,30 @@ returns-in_err-claimed-clause-fault g c =
 pub returns-in_err-gathered-clause-fault : goal.returns-in_err-gathered-clause-fault
 returns-in_err-gathered-clause-fault g c = carried c.from_residual.result _ _ c.from_residual.ensures.1
     (drawable_history_fault (g.S.TextSource.ahead c.args.reader) _ (rw c.new-texts.ensures at c.in_err-gathered.ensures.fault))
+
+pub returns-in_err-is_at_end-clause-fault : goal.returns-in_err-is_at_end-clause-fault
+returns-in_err-is_at_end-clause-fault g c =
+    let read = rw c.new-texts.ensures at c.in_ok-gathered.ensures.text in
+    carried c.from_residual-in_err-is_at_end.result _ _ c.from_residual-in_err-is_at_end.ensures.1
+    (read_fault_after (g.S.TextSource.ahead c.args.reader) _ read.0 _ read.1 read.2 c.in_err-is_at_end.ensures.fault)
+
+pub returns-then-branch-clause-drawable : goal.returns-then-branch-clause-drawable
+returns-then-branch-clause-drawable g c =
+    let read = rw c.new-texts.ensures at c.in_ok-gathered.ensures.text in
+    let over = rw c.if-branch.true at c.in_ok-is_at_end.ensures.over in (
+      read.0,
+      read.1,
+      read.3.1,
+      history_found (g.S.TextSource.ahead c.args.reader) _ _ read.0 read.1 read.2 c.in_ok-is_at_end.ensures.left over,
+    )
+
+pub returns-clause-drawable : goal.returns-clause-drawable
+returns-clause-drawable g c =
+    let read = rw c.new-texts.ensures at c.in_ok-gathered.ensures.text in
+    let input = g.S.TextSource.ahead c.args.reader in (
+      read.0,
+      read.1,
+      read.3.1,
+      claim_found input _ _ read.0 c.in_ok-claimed.claimed read.1
+          (taken_through input _ _ (text_of read.0) read.2 c.in_ok-is_at_end.ensures.left) c.in_ok-claimed.ensures.claim,
+    )

@@ -1,6 +1,6 @@
 use Rattle.std.proofs.Common.{◌≤◌, sym, ◌∙◌, ap, subst}
 use Rattle.std.specs.Prelude.{All}
-use Rattle.event_records.specs.declared.limits.TheConstants.{MAX_CLOCK}
+use Rattle.event_records.specs.declared.limits.TheConstants.{MAX_TICKET}
 use Rattle.history_merge.specs.Complete.{AreComplete}
 use Rattle.history_merge.specs.Initial.{filled}
 use Rattle.history_merge.proofs.Enqueued.{all_filled, operations_in_range}
@@ -10,7 +10,7 @@ use Rattle.history_merge.proofs.filling.fill.Goals as goal
 pub add_later-requires-clause-operations : goal.add_later-requires-clause-operations
 add_later-requires-clause-operations c =
     let whole = c.requires.history in
-    subst (All (λ o. (o.call ≤ MAX_CLOCK) × (o.ret ≤ MAX_CLOCK))) (sym whole.2) (operations_in_range whole.0 whole.1.complete)
+    subst (All (λ o. (o.call ≤ MAX_TICKET) × (o.ret ≤ MAX_TICKET))) (sym whole.2) (operations_in_range whole.0 whole.1.complete)
 
 pub returns-clause-complete : goal.returns-clause-complete
 returns-clause-complete c =

@@ -1,4 +1,4 @@
-use Rattle.std.proofs.Common.{List, ap, arith, count_by, not}
+use Rattle.std.proofs.Common.{List, ◌∙◌, ap, arith, count_by, not}
 use Rattle.std.proofs.lemmas.List.{take_all}
 use Rattle.history_merge.specs.declared.operation.Operation.{Operation}
 use Rattle.history_stats.specs.AtOnce.{values_put_before}
@@ -11,7 +11,7 @@ loop-operation-preserved c = record {
   stays = λ gap. stay_more gap (λ v. not (is_kept_before gap c.args.takes.now v)) c.args.operations.now c.loop-operation.operation-index _
       c.loop-operation.departures.items c.add_one.new.departures.items c.loop-operation.arrivals.items c.add_one.new.arrivals.items
       c.args.departures.now.items c.args.arrivals.now.items c.loop-operation-test.true
-      (c.loop-operation.invariant.stays gap) (c.in_ok-add_one.ensures.stays gap);
+      (c.loop-operation.invariant.stays gap) (rw (c.unpack.ensures.operation ∙ c.operation-item.is) at (c.in_ok-add_one.ensures.stays gap));
   few = omega (arith, c.loop-operation.invariant.few, c.in_ok-add_one.ensures.few);
 }
 

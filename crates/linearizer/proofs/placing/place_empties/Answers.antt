@@ -28,7 +28,7 @@ loop-id-preserved c =
     let free = gap_beside _ _ c.args.gaps.now _ c.in-Some.gap.now 0 _ c.requires (turn of_place).is_listed ((pair of_place).3 0) in
     let calls = c.call_at-call.ensures (turn of_place).o (named_at _ _ _ _ _ (turn of_place) c.operations-operations.ensures.operations) in
     rw (length_push c.loop-id.yielded (c.in-Some.id, c.in-Some.gap), c.in_ok-push.ensures.items)
-    (adds_empty _ _ _ _ _ _ _ _ (turn of_place) c.loop-id.invariant free (c.noop.ensures.operation ∙ sym c.place.ensures) calls c.noop.ensures.position)
+    (adds_empty _ _ _ _ _ _ _ _ (turn of_place) c.loop-id.invariant free (c.new.ensures.operation ∙ sym c.place.ensures) calls c.new.ensures.position)
 
 pub returns : goal.returns
 returns c =

@@ -18,5 +18,5 @@ pub loop-id-preserved : goal.loop-id-preserved
 loop-id-preserved c =
     let of_place = (goal.at.loop-id-preserved c).After-place in
     let calls = c.call_at-call.ensures (turn of_place).o (named_at _ _ _ _ _ (turn of_place) c.operations-operations.ensures.operations) in
-    rw c.in_ok-push.ensures.items (adds_refused _ _ _ _ _ _ _ (turn of_place) c.loop-id.invariant (c.noop.ensures.operation ∙ sym c.place.ensures)
-    calls c.noop.ensures.position)
+    rw c.in_ok-push.ensures.items (adds_refused _ _ _ _ _ _ _ (turn of_place) c.loop-id.invariant (c.new.ensures.operation ∙ sym c.place.ensures)
+    calls c.new.ensures.position)

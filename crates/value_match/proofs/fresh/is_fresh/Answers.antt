@@ -1,24 +1,23 @@
-use Rattle.std.proofs.Common.{arith, None, sym, ◌∙◌}
+use Rattle.std.proofs.Common.{arith, None, sym, ◌∙◌, Some, ap, refl}
 use Rattle.std.proofs.lemmas.List.{get_or_read}
-use Rattle.std.proofs.lemmas.Option.{slice_get-get_or}
-use Rattle.history_merge.specs.declared.operation.OpKind.TheVariants.{Enq}
+use Rattle.std.proofs.lemmas.Option.{slice_get_read}
 use Rattle.value_match.proofs.FreshDequeues.{fresh_at_none, fresh_at_some, source_in_range}
 use Rattle.value_match.proofs.fresh.is_fresh.Goals as goal
 
 pub returns-in_default-get : goal.returns-in_default-get
 returns-in_default-get c =
-    let here = slice_get-get_or c.args.operations.now c.args.place (record { call = 0; ret = 0; thread = 0; kind = Enq 0 }) c.requires.place in
+    let here = slice_get_read _ _ _ _ refl c.requires.place c.index-operations-place.is ∙ ap Some (sym c.unpack-operation.ensures.operation) in
     let read = get_or_read c.args.sources.now _ _ (omega (arith, c.requires.place, c.requires.sources.one_each)) c.index-sources-place.is None in
     λ o there. fresh_at_none _ _ _ _ o _ c.requires.sources here c.in-Deq.is (sym read ∙ sym c.get.ensures ∙ c.in_default-get.is) there
 
 pub comes_too_soon-requires : goal.comes_too_soon-requires
 comes_too_soon-requires c =
-    let here = slice_get-get_or c.args.operations.now c.args.place (record { call = 0; ret = 0; thread = 0; kind = Enq 0 }) c.requires.place in
+    let here = slice_get_read _ _ _ _ refl c.requires.place c.index-operations-place.is ∙ ap Some (sym c.unpack-operation.ensures.operation) in
     let read = get_or_read c.args.sources.now _ _ (omega (arith, c.requires.place, c.requires.sources.one_each)) c.index-sources-place.is None in
     source_in_range _ _ _ _ _ _ c.requires.sources here c.in-Deq.is (sym read ∙ sym c.get.ensures ∙ c.in-Some.is)
 
 pub returns : goal.returns
 returns c =
-    let here = slice_get-get_or c.args.operations.now c.args.place (record { call = 0; ret = 0; thread = 0; kind = Enq 0 }) c.requires.place in
+    let here = slice_get_read _ _ _ _ refl c.requires.place c.index-operations-place.is ∙ ap Some (sym c.unpack-operation.ensures.operation) in
     let read = get_or_read c.args.sources.now _ _ (omega (arith, c.requires.place, c.requires.sources.one_each)) c.index-sources-place.is None in
     λ o there. fresh_at_some _ _ _ _ o _ _ _ c.requires.sources here c.in-Deq.is (sym read ∙ sym c.get.ensures ∙ c.in-Some.is) c.comes_too_soon.ensures there

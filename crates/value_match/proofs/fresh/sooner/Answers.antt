@@ -1,9 +1,8 @@
-use Rattle.history_merge.specs.declared.operation.OpKind.TheVariants.{Enq}
-use Rattle.value_match.proofs.FreshDequeues.{sooner_first, sooner_other}
+use Rattle.std.proofs.Common.{refl, sym, ◌∙◌}
 use Rattle.value_match.proofs.fresh.sooner.Goals as goal
 
 pub returns-in-Some-clause-some : goal.returns-in-Some-clause-some
-returns-in-Some-clause-some c = rw c.in-Some.is (sooner_first _ _ _ (record { call = 0; ret = 0; thread = 0; kind = Enq 0 }) c.if-operations-place.true)
+returns-in-Some-clause-some c = rw c.in-Some.is (λ o x at at'. rw (sym (c.returns_before.ensures o x at at') ∙ c.if-returns_before.true) refl)
 
 pub returns-in_default-clause-some : goal.returns-in_default-clause-some
-returns-in_default-clause-some c = rw c.in-Some.is (sooner_other _ _ _ (record { call = 0; ret = 0; thread = 0; kind = Enq 0 }) c.if-operations-place.false)
+returns-in_default-clause-some c = rw c.in-Some.is (λ o x at at'. rw (sym (c.returns_before.ensures o x at at') ∙ c.if-returns_before.false) refl)

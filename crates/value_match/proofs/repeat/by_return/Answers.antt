@@ -1,7 +1,7 @@
-use Rattle.std.proofs.Common.{rules, None, ap, not, sym, ◌∙◌, ◌<◌, length, arith}
+use Rattle.std.proofs.Common.{rules, None, ap, not, sym, ◌∙◌, ◌<◌, length, arith, Some, refl}
 use Rattle.std.proofs.lemmas.List.{get_or_read}
 use Rattle.std.proofs.lemmas.List.Sorted.{IsNonDecreasingBy-from_sort_by_key, IsPermutation-trans}
-use Rattle.std.proofs.lemmas.Option.{slice_get-get_or}
+use Rattle.std.proofs.lemmas.Option.{slice_get-get_or, slice_get_read}
 use Rattle.history_merge.specs.declared.operation.OpKind.TheVariants.{Enq}
 use Rattle.value_match.proofs.TakenPlaces.{nothing_there, source_read}
 use Rattle.value_match.proofs.ReturnOrder.{by_return, nothing_listed, returns_push, returns_skip}
@@ -20,7 +20,7 @@ loop-place-preserved-then-is_none c =
 
 pub loop-place-preserved : goal.loop-place-preserved
 loop-place-preserved c =
-    let here = slice_get-get_or c.args.operations.now c.loop-place.place (record { call = 0; ret = 0; thread = 0; kind = Enq 0 }) c.loop-place-test.true in
+    let here = slice_get_read _ _ _ _ refl c.loop-place-test.true c.index-operations-place.is ∙ ap Some (sym c.unpack.ensures.operation) in
     rw c.in_ok-push.ensures.items (returns_push _ _ _ _ _ here c.loop-place.invariant)
 
 pub returns : goal.returns

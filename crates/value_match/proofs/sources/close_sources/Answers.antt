@@ -1,6 +1,6 @@
-use Rattle.std.proofs.Common.{arith, subst, sym, ◌∙◌, Some}
+use Rattle.std.proofs.Common.{arith, subst, sym, ◌∙◌, Some, ap, refl}
 use Rattle.std.proofs.lemmas.Bool.{false≢true}
-use Rattle.std.proofs.lemmas.Option.{slice_get-get_or}
+use Rattle.std.proofs.lemmas.Option.{slice_get-get_or, slice_get_read}
 use Rattle.history_merge.specs.declared.operation.OpKind.TheVariants.{Enq}
 use Rattle.value_match.specs.Inner.Sources.{IsSourceOf}
 use Rattle.value_match.proofs.CallPlaces.{call_within, sources_none, no_source, sources_push, sources_all}
@@ -16,8 +16,7 @@ loop-operation-init c = rw c.in_ok-places.ensures.items (sources_none IsSourceOf
 
 pub loop-operation-preserved-in_default : goal.loop-operation-preserved-in_default
 loop-operation-preserved-in_default c =
-    let here = slice_get-get_or c.args.operations.now c.loop-operation.operation-index
-    (record { call = 0; ret = 0; thread = 0; kind = Enq 0 }) c.loop-operation-test.true in
+    let here = slice_get_read _ _ _ _ refl c.loop-operation-test.true c.operation-item.is ∙ ap Some (sym c.unpack-operation.ensures.operation) in
     rw (c.in_ok-push.ensures.items, c.none.ensures) (
       sources_push IsSourceOf _ _ _ _ _ here (no_source _ _ c.in_default.not-Deq) c.loop-operation.invariant.0,
       λ all. no_dequeue _ _ _ here c.in_default.not-Deq (c.loop-operation.invariant.1 all),
@@ -25,8 +24,7 @@ loop-operation-preserved-in_default c =
 
 pub loop-operation-preserved : goal.loop-operation-preserved
 loop-operation-preserved c =
-    let here = slice_get-get_or c.args.operations.now c.loop-operation.operation-index
-    (record { call = 0; ret = 0; thread = 0; kind = Enq 0 }) c.loop-operation-test.true in
+    let here = slice_get_read _ _ _ _ refl c.loop-operation-test.true c.operation-item.is ∙ ap Some (sym c.unpack-operation.ensures.operation) in
     let source = subst (λ kind. IsSourceOf c.args.operations.now kind (Some c.in-Some.place)) (sym c.in-Deq.is) c.in-Some.ensures in
     rw (c.in_ok-push-2.ensures.items, c.some.ensures) (
       sources_push IsSourceOf _ _ _ _ _ here source c.loop-operation.invariant.0,

@@ -1,8 +1,8 @@
-use Rattle.std.proofs.Common.{arith, ap, not, sym, ◌∙◌, None}
+use Rattle.std.proofs.Common.{arith, ap, not, sym, ◌∙◌, None, Some, refl}
 use Rattle.std.specs.Prelude.{is_some}
 use Rattle.std.proofs.lemmas.Bool.{false≢true}
 use Rattle.std.proofs.lemmas.List.{get_or_read}
-use Rattle.std.proofs.lemmas.Option.{slice_get-get_or}
+use Rattle.std.proofs.lemmas.Option.{slice_get-get_or, slice_get_read}
 use Rattle.history_merge.specs.declared.operation.OpKind.TheVariants.{Enq}
 use Rattle.value_match.proofs.CallPlaces.{none_found, found_near, found_more, found_all}
 use Rattle.value_match.proofs.sources.find_others.Goals as goal
@@ -16,7 +16,7 @@ loop-place-preserved c =
     let here = slice_get-get_or c.args.operations.now c.loop-place.place (record { call = 0; ret = 0; thread = 0; kind = Enq 0 }) c.loop-place-test.true in
     let read = get_or_read c.loop-place.sources c.loop-place.place _ (omega (arith, c.loop-place.invariant.one_each)) c.index-sources-place.is None in
     elim c.if-is_none.branch [
-      | then-is_none w ↦ rw w.sources-is (found_more _ _ _ _ _ here w.source_of.ensures c.loop-place.invariant)
+      | then-is_none w ↦ rw w.sources-is (found_more _ _ _ _ _ (slice_get_read _ _ _ _ refl c.loop-place-test.true c.index-operations-place.is ∙ ap Some (sym w.unpack.ensures.operation)) w.source_of.ensures c.loop-place.invariant)
       | else-is_none w ↦ rw w.sources-is (found_near _ _ _ _ here
           (λ none. false≢true (sym (ap is_some (c.get.ensures ∙ read ∙ none)) ∙ c.is_none.ensures ∙ ap not w.if-is_none.false)) c.loop-place.invariant)
     ]

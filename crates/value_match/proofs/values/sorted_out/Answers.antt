@@ -1,6 +1,6 @@
-use Rattle.std.proofs.Common.{arith, sym, subst, None, [], ◌∷◌}
+use Rattle.std.proofs.Common.{arith, sym, subst, None, [], ◌∷◌, ◌∙◌, Some, ap, refl}
 use Rattle.std.proofs.lemmas.List.{get_or_read, map-append}
-use Rattle.std.proofs.lemmas.Option.{slice_get-get_or}
+use Rattle.std.proofs.lemmas.Option.{slice_get-get_or, slice_get_read}
 use Rattle.value_match.specs.Accepted.{value_at}
 use Rattle.value_match.specs.Inner.Sources.{IsDequeuePlace}
 use Rattle.history_merge.specs.declared.operation.Operation.{Operation}
@@ -15,9 +15,9 @@ nowhere = record { call = 0; ret = 0; thread = 0; kind = Enq 0 }
 
 pub loop-place-preserved : goal.loop-place-preserved
 loop-place-preserved c =
-    let here = slice_get-get_or c.args.operations.now c.loop-place.place nowhere c.loop-place-test.true in
+    let here = slice_get_read _ _ _ _ refl c.loop-place-test.true c.index-operations-place.is ∙ ap Some (sym c.unpack.ensures.operation) in
     let known = c.loop-place.invariant in
-    elim c.match-operation.branch [
+    elim c.match-unpack.branch [
       | in-Enq+in_ok-push-in-Enq w ↦
           let made = w.pair_of.ensures in
           let from = subst (IsDequeuePlace c.args.operations.now _) (sym

@@ -1,8 +1,6 @@
-use Rattle.std.proofs.Common.{rules}
+use Rattle.std.proofs.Common.{rules, IsTrue, ◌↔◌, ◌≡◌}
 use Rattle.std.proofs.lemmas.List.Sorted.{IsNonDecreasingBy-from_sort_by_key, length_permutation}
-use Rattle.std.proofs.lemmas.Slice.Eq.{slice_eq-Decides}
 use Rattle.verdicts.proofs.ClaimedViolations.{through}
-use Rattle.verdicts.proofs.Lookups.{eq-Decides}
 use Rattle.verdicts.proofs.SameLists.{sorted_tells}
 use Rattle.verdicts.proofs.claimed_order.holds_each_once.Goals as goal
 
@@ -15,5 +13,5 @@ returns c =
     let by_call = c.sort_unstable_by_key.new.self.items in
     let in_order = IsNonDecreasingBy-from_sort_by_key (λ o. o.call) by_call c.sort_unstable_by_key.ensures.sorted (λ a r q k. search rules) in
     let moved = rw c.in_ok-by_call.ensures.items at c.sort_unstable_by_key.ensures.permutation in
-    let same = slice_eq-Decides eq-Decides by_call operations c.eq.result (rw (← c.as_slice.ensures.value) c.eq.ensures) in
+    let same : IsTrue c.are_same.result ↔ (by_call ≡ operations) = rw (← c.as_slice.ensures.value) c.are_same.ensures in
     through same (sorted_tells (λ o. o.call) operations c.args.lines.now by_call c.requires moved in_order)

@@ -1,14 +1,28 @@
-use Rattle.std.proofs.Common.{sym, ◌∙◌}
-use Rattle.verdicts.proofs.ClaimedViolations.{through}
-use Rattle.verdicts.proofs.ClaimedLines.{one_line_fresh_is, two_lines_fresh_are}
+use Rattle.std.proofs.Common.{subst, ◌↔◌, arith}
+use Rattle.std.specs.Prelude.{IsTrue}
+use Rattle.verdicts.specs.declared.verifying.ViolationKind.TheVariants.{VFresh}
+use Rattle.verdicts.specs.Inner.Claims.{ShowsKind}
+use Rattle.verdicts.proofs.ClaimedLines.{fresh_has_lines, one_line, two_lines}
 use Rattle.verdicts.proofs.claimed_violation.shows_fresh.Goals as goal
 
-pub returns-in-Some : goal.returns-in-Some
-returns-in-Some c = through c.is_never_enqueued.ensures
-    (one_line_fresh_is c.args.operations.now c.args.lines.now _ c.in-Some.deq c.in-len1.len_at_least c.in-len1.len_below
-    (sym c.shown_by.ensures ∙ c.in-Some.is))
+pub returns-in-len1 : goal.returns-in-len1
+returns-in-len1 c =
+    subst (λ lines. IsTrue c.shows_never_enqueued.result ↔ ShowsKind c.args.operations.now VFresh lines)
+    (one_line c.args.lines.now _ c.in-len1.len_at_least c.in-len1.len_below) c.shows_never_enqueued.ensures
 
-pub returns-in-Some-Some : goal.returns-in-Some-Some
-returns-in-Some-Some c = through c.is_enqueued_too_late.ensures
-    (two_lines_fresh_are c.args.operations.now c.args.lines.now _ c.in-Some-Some.deq c.in-Some-Some.enq c.in-len2.len_at_least c.in-len2.len_below
-    (sym c.shown_by-in-len2.ensures ∙ c.in-Some-Some.is-0) (sym c.shown_by-in-len2-2.ensures ∙ c.in-Some-Some.is-1))
+pub returns-in-len2 : goal.returns-in-len2
+returns-in-len2 c =
+    subst (λ lines. IsTrue c.shows_enqueued_too_late.result ↔ ShowsKind c.args.operations.now VFresh lines)
+    (two_lines c.args.lines.now _ c.in-len2.len_at_least c.in-len2.len_below) c.shows_enqueued_too_late.ensures
+
+pub returns-in_default : goal.returns-in_default
+returns-in_default c = (
+  λ f. cc,
+  λ shows. absurd (let few = (fresh_has_lines c.args.operations.now c.args.lines.now shows).0 in omega (arith, few, c.in_default.len_below)),
+)
+
+pub returns-in_default-2 : goal.returns-in_default-2
+returns-in_default-2 c = (
+  λ f. cc,
+  λ shows. absurd (let few = (fresh_has_lines c.args.operations.now c.args.lines.now shows).1 in omega (arith, few, c.in_default.len_at_least)),
+)

@@ -1,7 +1,7 @@
-use Rattle.std.proofs.Common.{sym, ◌∙◌}
+use Rattle.std.proofs.Common.{◌≡◌, ◌-◌, length, drop, length-drop, sym, ◌∙◌, arith}
 use Rattle.std.proofs.lemmas.List.{take_rest}
 use Rattle.verdicts.proofs.ClaimedViolations.{through}
-use Rattle.verdicts.proofs.ClaimedLines.{five_lines_show_no_order, four_lines_order_are, three_lines_order_are}
+use Rattle.verdicts.proofs.ClaimedLines.{four_lines_order_are, order_has_lines, three_lines_order_are}
 use Rattle.verdicts.proofs.claimed_violation.shows_order.Goals as goal
 
 pub returns-in-empty : goal.returns-in-empty
@@ -25,4 +25,13 @@ returns-in-Some c =
 pub returns-in_default-rest : goal.returns-in_default-rest
 returns-in_default-rest c =
     let long = rw take_rest at c.in_default-rest.len_at_least in
-    (λ f. cc, λ shows. absurd (five_lines_show_no_order c.args.operations.now c.args.lines.now long shows))
+    let rest : length (drop 3 c.args.lines.now) ≡ length c.args.lines.now - 3 = length-drop 3 c.args.lines.now in (
+      λ f. cc,
+      λ shows. absurd (let few = (order_has_lines c.args.operations.now c.args.lines.now shows).1 in omega (arith, few, long, rest)),
+    )
+
+pub returns-in_default : goal.returns-in_default
+returns-in_default c = (
+  λ f. cc,
+  λ shows. absurd (let few = (order_has_lines c.args.operations.now c.args.lines.now shows).0 in omega (arith, few, c.in_default.len_below)),
+)

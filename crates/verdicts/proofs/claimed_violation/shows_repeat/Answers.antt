@@ -1,6 +1,6 @@
-use Rattle.std.proofs.Common.{sym, ◌∙◌}
+use Rattle.std.proofs.Common.{sym, ◌∙◌, arith}
 use Rattle.verdicts.proofs.ClaimedViolations.{through}
-use Rattle.verdicts.proofs.ClaimedLines.{three_lines_repeat_are}
+use Rattle.verdicts.proofs.ClaimedLines.{repeat_has_lines, three_lines_repeat_are}
 use Rattle.verdicts.proofs.claimed_violation.shows_repeat.Goals as goal
 
 pub returns : goal.returns
@@ -9,3 +9,9 @@ returns c =
     through c.is_repeat.ensures
     (three_lines_repeat_are c.args.operations.now c.args.lines.now _ shown.enq shown.first shown.second c.in-len3.len_at_least c.in-len3.len_below
     (sym c.shown_by.ensures ∙ shown.is-0) (sym c.shown_by-2.ensures ∙ shown.is-1) (sym c.shown_by-3.ensures ∙ shown.is-2))
+
+pub returns-in_default : goal.returns-in_default
+returns-in_default c = (
+  λ f. cc,
+  λ shows. absurd (let three = repeat_has_lines c.args.operations.now c.args.lines.now shows in omega (arith, three, c.in_default.len_below)),
+)

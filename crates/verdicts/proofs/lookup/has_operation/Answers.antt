@@ -1,7 +1,6 @@
 use Rattle.std.proofs.Common.{Ok, Err, ap, rules}
-use Rattle.std.proofs.lemmas.Bool.Decides.{Decides-at}
 use Rattle.std.proofs.lemmas.List.Sorted.{answers_always}
-use Rattle.verdicts.proofs.Lookups.{searched_by_call, stands_at_its_call, eq-Decides}
+use Rattle.verdicts.proofs.Lookups.{searched_by_call, stands_at_its_call}
 use Rattle.verdicts.proofs.lookup.has_operation.Goals as goal
 
 pub returns-in-Ok : goal.returns-in-Ok
@@ -9,9 +8,8 @@ returns-in-Ok c =
     let operations = c.args.operations.now in
     let position = c.in-Ok.ensures.position (λ o. o.call) (answers_always _ _ _ (λ f a r g k. search rules)) in
     let found = searched_by_call operations c.args.operation.call (Ok c.in-Ok.place) c.requires c.in-Ok.ensures.bound position in
-    let here = stands_at_its_call operations c.args.operation _ c.in-Ok.place c.requires found.0 (found.1 _) in
-    let same = Decides-at c.eq.result _ c.eq.ensures (eq-Decides _ c.args.operation) in
-    (λ t. here.0 (same.0 t), λ among. same.1 (here.1 among))
+    let here = stands_at_its_call operations c.args.operation c.args.operation c.in-Ok.place c.requires found.0 (found.1 _) in
+    (λ t. here.0 ((c.is_at.ensures c.args.operation).0 t), λ among. (c.is_at.ensures c.args.operation).1 (here.1 among))
 
 pub returns-in-Err : goal.returns-in-Err
 returns-in-Err c =

@@ -4,13 +4,13 @@ use Rattle.order_violation.specs.Pairs.{IsOrderAnswerFrom, filled_pair}
 use Rattle.verdicts.specs.declared.verdict.Verdict.TheVariants.{No}
 use Rattle.verdicts.specs.Decided.{IsDecidedFrom}
 use Rattle.verdicts.proofs.Decided.{no_is_decided, pair_is_chosen}
-use Rattle.verdicts.proofs.decision.decide_matching.Goals as goal
+use Rattle.verdicts.proofs.decision.overtaken.Goals as goal
 
-pub returns-in_ok-find_order-in-None : goal.returns-in_ok-find_order-in-None
-returns-in_ok-find_order-in-None c =
+pub returns : goal.returns
+returns c =
     let initial = c.args.matching.now.initial in
     let operations = c.args.matching.now.operations in
-    let pair = subst (IsOrderAnswerFrom initial operations) c.unwrap-pair.ensures c.in_ok-find_order-in-None.ensures in
+    let pair = subst (IsOrderAnswerFrom initial operations) c.unwrap.ensures c.requires.answer in
     subst (λ violation. IsDecidedFrom initial operations (No violation)) (sym c.violation_of.ensures)
-    (no_is_decided initial operations _ c.requires.complete
-    (pair_is_chosen (filled initial operations) (filled_pair (length initial) c.unwrap-pair.result) c.requires pair))
+    (no_is_decided initial operations _ c.requires.clear.complete
+    (pair_is_chosen (filled initial operations) (filled_pair (length initial) c.unwrap.result) c.requires.clear pair))

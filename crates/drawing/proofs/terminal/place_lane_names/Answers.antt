@@ -1,0 +1,14 @@
+use Rattle.std.specs.Prelude.{◌==◌}
+use Rattle.drawing.specs.Inner.Words.{scene_in}
+use Rattle.drawing.specs.Terminal.{lane_column, thread_digits}
+use Rattle.drawing.proofs.Loops.{words_step}
+use Rattle.drawing.proofs.terminal.place_lane_names.Goals as goal
+
+pub loop-thread-preserved : goal.loop-thread-preserved
+loop-thread-preserved c =
+    let columns = c.args.sheet.now.columns in
+    words_step (λ thread. record {
+      column = lane_column columns (scene_in c.args.sheet.now).threads thread;
+      bytes = thread_digits (columns.lane == 1) c.args.tens thread;
+    }) c.args.line.now.items _ _ _ _ _ c.loop-thread-test.true c.loop-thread.invariant
+    (rw (c.lane_column.ensures, c.as_slice.ensures.value, c.in_ok-word.ensures) at c.in_ok-place.ensures)

@@ -1,0 +1,7 @@
+use Rattle.drawing.specs.Terminal.{sign_line}
+use Rattle.drawing.proofs.Loops.{flat_map_step}
+use Rattle.drawing.proofs.terminal.push_signs.Goals as goal
+
+pub loop-sign-preserved : goal.loop-sign-preserved
+loop-sign-preserved c =
+    flat_map_step sign_line c.args.text.now.items _ _ _ _ _ c.loop-sign-test.true c.loop-sign.invariant c.in_ok-push_sign.ensures

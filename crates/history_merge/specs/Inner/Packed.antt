@@ -1,0 +1,54 @@
+-- An operation in few numbers.
+use Rattle.std.specs.Prelude.{◌≡◌, ℕ, ◌+◌, ◌*◌, ◌/◌, ◌%◌, ◌<◌}
+use Rattle.std.proofs.Common.{refl}
+use Rattle.std.proofs.lemmas.Nat.{div-mul-add, mod-mul-add}
+use Rattle.history_merge.specs.declared.operation.OpKind.{OpKind}
+use Rattle.history_merge.specs.declared.operation.OpKind.TheVariants.{Enq, Deq, Empty, Not}
+use Rattle.history_merge.specs.declared.packed.Tag.{Tag}
+use Rattle.history_merge.specs.declared.packed.Tag.TheVariants as tag
+use Rattle.history_merge.specs.declared.packed.TheConstants.{LOWER}
+
+-- what was called and answered
+abbrev pub kind_by : Tag → ℕ → OpKind
+kind_by tag.Enq v = Enq v
+kind_by tag.Deq v = Deq v
+kind_by tag.Empty v = Empty
+kind_by tag.Not v = Not v
+
+-- the same without the value
+abbrev pub tag_of : OpKind → Tag
+tag_of (Enq v) = tag.Enq
+tag_of (Deq v) = tag.Deq
+tag_of Empty = tag.Empty
+tag_of (Not v) = tag.Not
+
+-- its value, or 0
+abbrev pub value_of : OpKind → ℕ
+value_of (Enq v) = v
+value_of (Deq v) = v
+value_of Empty = 0
+value_of (Not v) = v
+
+-- the ticket of two halves
+abbrev pub joined : ℕ → ℕ → ℕ
+joined upper lower = upper * LOWER + lower
+
+-- where there is no value the number is 0, and the lower halves are in their range
+pub record IsPacked (t : Tag) (v lower_call lower_ret : ℕ) : Type 0 where
+  pub value : value_of (kind_by t v) ≡ v
+  pub call : lower_call < LOWER
+  pub ret : lower_ret < LOWER
+
+-- ---- nothing is lost
+
+pub back_upper : (upper lower : ℕ) → lower < LOWER → joined upper lower / LOWER ≡ upper
+back_upper upper lower below = div-mul-add upper LOWER lower below
+
+pub back_lower : (upper lower : ℕ) → lower < LOWER → joined upper lower % LOWER ≡ lower
+back_lower upper lower below = mod-mul-add upper LOWER lower below
+
+pub back_tag : (t : Tag) (v : ℕ) → tag_of (kind_by t v) ≡ t
+back_tag tag.Enq v = refl
+back_tag tag.Deq v = refl
+back_tag tag.Empty v = refl
+back_tag tag.Not v = refl

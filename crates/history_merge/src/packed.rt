@@ -1,0 +1,166 @@
+//! Operations as a history keeps them.
+ghost use Rattle.std.specs.Prelude.{◌≡◌, ◌<◌, IfOk, slice_get};
+ghost use Rattle.history_merge.specs.declared.packed.TheConstants.{PACKED_LIMIT};
+ghost use Rattle.history_merge.specs.Inner.Packed.{tag_of, value_of};
+
+use crate::operation::{OpId, OpKind, Operation};
+use std::alloc::{AllocError, Global};
+use std::fmt::{Debug, Error, Formatter, Write};
+use std::marker::Model;
+
+/// One above the greatest ticket or clock that is packed.
+pub const PACKED_LIMIT: u64 = 1 << 40;
+
+/// How many tickets differ in their lower halves alone.
+const LOWER: u64 = 1 << 32;
+
+/// What was called and answered, without the value.
+#[derive(Clone, Copy)]
+pub(crate) enum Tag {
+    Enq,
+    Deq,
+    Empty,
+    Not,
+}
+
+/// An operation in 24 bytes, seen as the operation.
+#[derive(Clone, Copy)]
+pub struct PackedOperation {
+    // The value; 0 if there is none.
+    value: u64,
+    call: u32,
+    ret: u32,
+    upper_call: u8,
+    upper_ret: u8,
+    thread: u8,
+    tag: Tag,
+}
+
+impl Model for PackedOperation {
+    ghost use Rattle.std.specs.Prelude.{◌/◌, ◌%◌};
+    ghost use Rattle.history_merge.specs.declared.operation.Operation.{Operation};
+    ghost use Rattle.history_merge.specs.declared.packed.TheConstants.{LOWER};
+    ghost use Rattle.history_merge.specs.Inner.Packed.{IsPacked, back_upper, back_lower, back_tag, joined, kind_by, tag_of, value_of};
+
+    ghost Value = { Operation };
+
+    ghost view = { λ a. record {
+      call = joined a.upper_call a.call;
+      ret = joined a.upper_ret a.ret;
+      thread = a.thread;
+      kind = kind_by a.tag a.value;
+    } };
+
+    ghost invariant = { λ a. IsPacked a.tag a.value a.call a.ret };
+
+    ghost inverse = { λ o. record {
+      value = value_of o.kind;
+      call = o.call % LOWER;
+      ret = o.ret % LOWER;
+      upper_call = o.call / LOWER;
+      upper_ret = o.ret / LOWER;
+      thread = o.thread;
+      tag = tag_of o.kind;
+    } };
+
+    ghost inverse_ok = { λ a h t. record {
+      value = h.value t;
+      call = back_lower a.upper_call a.call h.call t;
+      ret = back_lower a.upper_ret a.ret h.ret t;
+      upper_call = back_upper a.upper_call a.call h.call t;
+      upper_ret = back_upper a.upper_ret a.ret h.ret t;
+      thread = a.thread;
+      tag = back_tag a.tag a.value t;
+    } };
+}
+
+impl PackedOperation {
+    /// Packs an operation.
+    #[inline(always)]
+    pub fn new(operation: Operation) -> PackedOperation
+        requires call { operation.call < PACKED_LIMIT }
+        requires ret { operation.ret < PACKED_LIMIT }
+        ensures { result ≡ operation }
+    {
+        PackedOperation {
+            value: value_of(operation.kind),
+            call: (operation.call % LOWER) as u32,
+            ret: (operation.ret % LOWER) as u32,
+            upper_call: (operation.call / LOWER) as u8,
+            upper_ret: (operation.ret / LOWER) as u8,
+            thread: operation.thread,
+            tag: tag_of(operation.kind),
+        }
+    }
+
+    /// Returns the operation.
+    #[inline(always)]
+    pub fn unpack(self) -> Operation
+        ensures operation { result ≡ self }
+        ensures call { result.call < PACKED_LIMIT }
+        ensures ret { result.ret < PACKED_LIMIT }
+    {
+        Operation {
+            call: u64::from(self.upper_call) * LOWER + u64::from(self.call),
+            ret: u64::from(self.upper_ret) * LOWER + u64::from(self.ret),
+            thread: self.thread,
+            kind: match self.tag {
+                Tag::Enq => OpKind::Enq(self.value),
+                Tag::Deq => OpKind::Deq(self.value),
+                Tag::Empty => OpKind::Empty,
+                Tag::Not => OpKind::Not(self.value),
+            },
+        }
+    }
+}
+
+impl Debug for PackedOperation {
+    fn fmt<W: Write>(&self, f: &mut Formatter<W>) -> Result<(), Error> {
+        self.unpack().fmt(f)
+    }
+}
+
+/// Returns the operation at the place, if there is one.
+#[inline(always)]
+pub fn operation_at(operations: &[PackedOperation], place: OpId) -> Option<Operation>
+    ensures { result ≡ slice_get operations.now place }
+{
+    match operations.get(place.place()) {
+        Some(operation) => Some(operation.unpack()),
+        None => None,
+    }
+}
+
+/// Returns the operations in their order, in five words each. Time O(n).
+pub fn unpacked(alloc: Global, operations: &[PackedOperation]) -> Result<Vec<Operation>, AllocError>
+    ensures { IfOk result (λ all. all.items ≡ operations.now) }
+{
+    let mut all = Vec::with_capacity(alloc, operations.len())?;
+    for operation in operations {
+        all.push(operation.unpack())?;
+    }
+    Ok(all)
+}
+
+#[inline(always)]
+fn tag_of(kind: OpKind) -> Tag
+    ensures { result ≡ tag_of kind }
+{
+    match kind {
+        OpKind::Enq(_) => Tag::Enq,
+        OpKind::Deq(_) => Tag::Deq,
+        OpKind::Empty => Tag::Empty,
+        OpKind::Not(_) => Tag::Not,
+    }
+}
+
+/// The value of what was called and answered, or 0.
+#[inline(always)]
+fn value_of(kind: OpKind) -> u64
+    ensures { result ≡ value_of kind }
+{
+    match kind {
+        OpKind::Enq(value) | OpKind::Deq(value) | OpKind::Not(value) => value,
+        OpKind::Empty => 0,
+    }
+}

@@ -1,0 +1,9 @@
+use Rattle.std.proofs.Common.{ap, ◌∙◌, ◌++◌, ◌∷◌, []}
+use Rattle.svg_picture.specs.Markup.{plain_byte}
+use Rattle.svg_picture.proofs.Each.{mapped_step}
+use Rattle.svg_picture.proofs.markup.push_plain.Goals as goal
+
+pub loop-b-preserved : goal.loop-b-preserved
+loop-b-preserved c =
+    mapped_step plain_byte _ _ _ _ _ _ c.loop-b-test.true c.loop-b.invariant
+    (c.in_ok-push.ensures.items ∙ ap (λ v. c.loop-b.text.items ++ v ∷ []) c.plain_byte.ensures)

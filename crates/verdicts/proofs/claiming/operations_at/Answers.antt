@@ -1,0 +1,20 @@
+use Rattle.std.proofs.Common.{◌∙◌, ap, sym}
+use Rattle.std.specs.List.{slice_get}
+use Rattle.verdicts.proofs.FoundLines.{found_none, found_one}
+use Rattle.verdicts.proofs.claiming.operations_at.Goals as goal
+use Rattle.verdicts.proofs.claiming.operations_at.Goals.{in-Some+in_ok-push, in_default}
+
+pub loop-place-preserved : goal.loop-place-preserved
+loop-place-preserved c =
+    let find = slice_get c.args.operations.now in
+    let at = ap find (sym c.place-item.is) ∙ sym c.operation_at.ensures in
+    elim c.match-operation_at.branch [
+      | in-Some+in_ok-push w ↦
+          ap (λ v. v.items) w.listed-is
+          ∙ found_one find c.args.places.now c.loop-place.place-index c.place-item.result c.loop-place.listed.items c.loop-place-test.true
+          c.loop-place.invariant _ _ (at ∙ w.in-Some.is) w.in_ok-push.ensures.items
+      | in_default w ↦
+          ap (λ v. v.items) w.listed-is
+          ∙ found_none find c.args.places.now c.loop-place.place-index c.place-item.result c.loop-place.listed.items c.loop-place-test.true
+          c.loop-place.invariant (at ∙ w.in_default.is)
+    ]
