@@ -1,5 +1,5 @@
 -- Operations are added one by one, each at its position.
-use Rattle.std.proofs.Common.{◌≡◌, ℕ, zero, suc, ◌+◌, ◌<◌, Bool, true, List, [], ◌∷◌, ◌++◌, length, get_or, map, min, take, Some, refl, sym, ◌∙◌, ap}
+use Rattle.std.proofs.Common.{◌≡◌, ℕ, zero, suc, ◌+◌, ◌<◌, ◌≤◌, Bool, true, List, [], ◌∷◌, ◌++◌, length, get_or, map, min, take, Some, refl, sym, ◌∙◌, ap}
 use Rattle.std.proofs.Common.{subst, arith}
 use Rattle.std.specs.Prelude.{filter, slice_get}
 use Rattle.std.specs.List.{AllZip}
@@ -11,10 +11,15 @@ use Rattle.history_merge.specs.declared.operation.Operation.{Operation}
 use Rattle.history_merge.specs.declared.operation.OpKind.{OpKind}
 use Rattle.history_merge.specs.declared.operation.OpKind.TheVariants.{Enq, Deq, Empty, Not}
 use Rattle.history_merge.specs.Operations.{IsAt}
+use Rattle.history_merge.specs.declared.packed.TheConstants.{PACKED_LIMIT}
 use Rattle.history_merge.specs.Legal.{ArePlacesOf}
+use Rattle.history_merge.proofs.Distinct.{contains_at, return_in_range}
 use Rattle.value_match.specs.declared.life.Life.{Life}
 use Rattle.value_match.specs.Lives.{IsLeastFreeGap, is_empty_answer, is_empty_kind, is_refused, is_refused_kind}
+use Rattle.value_match.specs.declared.matching.TheConstants.{MAX_MATCHED}
+use Rattle.value_match.specs.Violations.{IsClear}
 use Rattle.linearizer.specs.declared.position.Placed.{Placed}
+use Rattle.linearizer.specs.declared.timed.TheConstants.{PLACES}
 use Rattle.linearizer.specs.Order.{IsPositionFor, noop_answers, noop_position}
 use Rattle.linearizer.specs.Inner.Placement.{Adds, IsPlaced, position_of}
 use Rattle.linearizer.proofs.Positions.{beside}
@@ -67,6 +72,17 @@ named_within operations read listed k p is reads = rw reads (slice_get_within op
 -- and the operation stands there in a list that is the same
 pub named_at : (operations read listed : List Operation) (k p : ℕ) (is : IsNamed operations listed k p) → read ≡ operations → IsAt read p is.o
 named_at operations read listed k p is reads = subst (λ os. IsAt os p is.o) (sym reads) is.at
+
+-- and small enough to be packed
+pub named_few : (operations listed : List Operation) (k p : ℕ) → IsNamed operations listed k p → length operations ≤ MAX_MATCHED → p < PLACES
+named_few operations listed k p is few = omega (arith, slice_get_within operations p is.o is.at)
+
+-- and the gap before its return is too
+pub named_early : (operations listed : List Operation) (k p gap : ℕ) (is : IsNamed operations listed k p) → IsClear operations
+    → IsLeastFreeGap operations is.o gap → gap < PACKED_LIMIT
+named_early operations listed k p gap is clear free =
+    let returned = return_in_range operations is.o clear.complete (contains_at operations p is.o is.at) in
+    omega (arith, returned, free.in_window.1)
 
 passes_at : {X : Type 0} (p : X → Bool) (xs : List X) (k : ℕ) (x : X) → slice_get (filter p xs) k ≡ Some x → p x ≡ true
 passes_at p xs k x at =

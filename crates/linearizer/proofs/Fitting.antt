@@ -1,20 +1,23 @@
 -- Where no enqueue is called after its gap, no two values are dequeued against the order of their enqueues; and where a value is passed
 -- over, two are.
-use Rattle.std.proofs.Common.{◌≡◌, ℕ, zero, suc, ◌<◌, ◌≤◌, ◌⊎◌, List, [], ◌∷◌, Option, Some, None, ap, arith, inl, inr, subst}
-use Rattle.std.specs.Prelude.{All, Contains, MatchOption, slice_get}
+use Rattle.std.proofs.Common.{◌≡◌, ℕ, zero, suc, ◌<◌, ◌≤◌, ◌⊎◌, List, [], ◌∷◌, Option, Some, None, ap, arith, inl, inr, length, refl, subst, sym, ◌∙◌}
+use Rattle.std.specs.Prelude.{All, Contains, MatchOption, filter_map, slice_get}
+use Rattle.std.proofs.lemmas.List.{length-map}
 use Rattle.std.proofs.lemmas.List.Elements.{All-contains_itself, All-weaker}
 use Rattle.history_merge.specs.declared.operation.Operation.{Operation}
 use Rattle.history_merge.specs.declared.operation.OpKind.TheVariants.{Deq}
 use Rattle.history_merge.specs.Operations.{Did, NoneDid, Precedes}
 use Rattle.history_merge.proofs.Distinct.{contains_at, place_of, return_in_range}
 use Rattle.value_match.specs.declared.life.Life.{Life}
-use Rattle.value_match.specs.Lives.{HoldsLives, IsLife, call_or_never, dequeue_call, dequeue_return, enqueue_call, entered_by, leaves_from}
+use Rattle.value_match.specs.Lives.{HoldsLives, IsLife, call_or_never, dequeue_call, dequeue_return, enqueue_call, entered_by, leaves_from, life_from, lives_of}
 use Rattle.value_match.specs.Violations.{IsClear, NoOrderViolation}
 use Rattle.linearizer.specs.Values.{EachIsChoice, IsChoice, IsValueOrder}
 use Rattle.linearizer.specs.Inner.Placement.{AreCalledInTime}
 use Rattle.linearizer.specs.Inner.Sweep.{IsPassedOver}
 use Rattle.value_match.specs.declared.life.MatchedValue.{MatchedValue}
 use Rattle.value_match.specs.declared.life.TheConstants.{NEVER}
+use Rattle.value_match.specs.declared.matching.TheConstants.{MAX_MATCHED}
+use Rattle.linearizer.specs.declared.timed.TheConstants.{PLACES}
 use Rattle.value_match.proofs.Lists.{mapped_to}
 use Rattle.value_match.proofs.Lives.{life_of_contained}
 use Rattle.linearizer.proofs.Choices.{least_at, made}
@@ -114,13 +117,41 @@ passed_over operations values clear holds passed none =
     is_life_of : (x : Life) → Contains passed.remaining x → IsLife operations x
     is_life_of x among = life_of_contained operations x (subst (λ lives. Contains lives x) holds.0 (passed.among x among))
 
+-- the values of a matching are lives
+are_lives : (operations : List Operation) (values : List MatchedValue) → HoldsLives operations values
+    → All (λ value. IsLife operations value.life) values
+are_lives operations values holds =
+    All-weaker (Contains values) (λ value. IsLife operations value.life)
+    (λ value among. life_of_contained operations value.life
+    (subst (λ lives. Contains lives value.life) holds.0 (mapped_to (λ m. m.life) values value among)))
+    values (All-contains_itself values)
+
 -- each value has entered before the last ticket is over
 pub entered_in_time : (operations : List Operation) (values : List MatchedValue) → IsClear operations → HoldsLives operations values
     → All (λ value. entered_by value.life ≤ NEVER) values
-entered_in_time operations values clear holds = All-weaker (Contains values) (λ value. entered_by value.life ≤ NEVER) each values (All-contains_itself values)
+entered_in_time operations values clear holds =
+    All-weaker (λ value. IsLife operations value.life) (λ value. entered_by value.life ≤ NEVER)
+    (λ value is. let times = times_of_life operations value.life clear is in omega (arith, times.enqueue_is_past)) values
+    (are_lives operations values holds)
+
+-- and is dequeued before that, or never
+pub dequeued_in_time : (operations : List Operation) (values : List MatchedValue) → IsClear operations → HoldsLives operations values
+    → All (λ value. dequeue_return value.life ≤ NEVER) values
+dequeued_in_time operations values clear holds =
+    All-weaker (λ value. IsLife operations value.life) (λ value. dequeue_return value.life ≤ NEVER)
+    (λ value is. returned_by_never operations value.life clear is) values (are_lives operations values holds)
+
+some_of : {X Y : Type 0} (f : X → Option Y) (xs : List X) → length (filter_map f xs) ≤ length xs
+some_of f [] = omega arith
+some_of {Y = Y} f (x ∷ xs) = one_of (f x) refl (some_of f xs)
   where
-    each : (value : MatchedValue) → Contains values value → entered_by value.life ≤ NEVER
-    each value among =
-        let times = times_of_life operations value.life clear (life_of_contained operations value.life
-        (subst (λ lives. Contains lives value.life) holds.0 (mapped_to (λ m. m.life) values value among))) in
-        omega (arith, times.enqueue_is_past)
+    one_of : (o : Option Y) → f x ≡ o → length (filter_map f xs) ≤ length xs → length (filter_map f (x ∷ xs)) ≤ length (x ∷ xs)
+    one_of None is rest = rw is (omega (arith, rest))
+    one_of (Some y) is rest = rw is (omega (arith, rest))
+
+-- there are no more values than places
+pub few_values : (operations : List Operation) (values : List MatchedValue) → HoldsLives operations values → length operations ≤ MAX_MATCHED
+    → length values ≤ PLACES
+few_values operations values holds few =
+    let same : length values ≡ length (lives_of operations) = sym (length-map values (λ m. m.life)) ∙ ap (λ lives. length lives) holds.0 in
+    omega (arith, same, some_of (λ o. life_from operations o o.kind) operations)

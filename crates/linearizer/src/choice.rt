@@ -1,6 +1,7 @@
 ghost use Rattle.std.specs.Prelude.{◌<◌, ◌≤◌, All, IfOk, MatchOption, length};
 ghost use Rattle.value_match.specs.declared.life.TheConstants.{NEVER};
-ghost use Rattle.value_match.specs.Lives.{entered_by};
+ghost use Rattle.value_match.specs.Lives.{dequeue_return, entered_by};
+ghost use Rattle.linearizer.specs.declared.timed.TheConstants.{PLACES};
 ghost use Rattle.linearizer.specs.Inner.Sweep.{IsInOrder, IsPassedOver, TakesOneOf};
 
 use crate::timed::{Moment, Timed, by_time, first_left};
@@ -10,7 +11,7 @@ use value_match::Values;
 /// Values in their chosen order, as their places in their list, with the gap of each enqueue.
 #[derive(Debug, Drop)]
 pub(crate) struct InOrder {
-    pub(crate) places: Vec<usize>,
+    pub(crate) places: Vec<u32>,
     pub(crate) gaps: Vec<u64>,
 }
 
@@ -20,7 +21,9 @@ pub(crate) struct InOrder {
 /// The values stand in two lists, one by when each has entered, the other by when each was dequeued. In each list
 /// those before a cursor are taken, so the one at the cursor is the first of the values that remain.
 pub(crate) fn put_in_order(alloc: Global, values: &Values) -> Result<Option<InOrder>, AllocError>
-    requires { All (λ value. entered_by value.life ≤ NEVER) values.now }
+    requires few { length values.now ≤ PLACES }
+    requires entries { All (λ value. entered_by value.life ≤ NEVER) values.now }
+    requires dequeues { All (λ value. dequeue_return value.life ≤ NEVER) values.now }
     ensures { IfOk result (λ found. MatchOption found (IsPassedOver values.now) (IsInOrder values.now)) }
 {
     let mut places = Vec::with_capacity(alloc, values.len())?;
@@ -33,13 +36,13 @@ pub(crate) fn put_in_order(alloc: Global, values: &Values) -> Result<Option<InOr
     while places.len() < values.len() {
         first_in = first_left(&entries, &taken, first_in);
         first_out = first_left(&dequeues, &taken, first_out);
-        let entry = entries[first_in];
-        let next = choice(values, entry, dequeues[first_out]);
+        let entry = entries[first_in].unpack();
+        let next = choice(values, entry, dequeues[first_out].unpack());
         if entry.time <= values.get(next).life.enqueue_call() {
             return Ok(None);
         }
         taken[next] = true;
-        places.push(next)?;
+        places.push(next as u32)?;
         gaps.push(entry.time - 1)?;
     }
     Ok(Some(InOrder { places, gaps }))

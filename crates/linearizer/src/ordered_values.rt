@@ -11,11 +11,11 @@ use value_match::{FilledMatching, Matching};
 
 /// The accepted values of a matching in their chosen order, with the gap of each enqueue; seen as the operations that they are of.
 ///
-/// It borrows the operations, and holds two words for each value.
+/// It borrows the operations, and holds a word and a half for each value.
 #[derive(Debug, Drop)]
 pub struct OrderedValues<'a> {
     operations: &'a [PackedOperation],
-    places: Vec<usize>,
+    places: Vec<u32>,
     gaps: Vec<u64>,
 }
 
@@ -55,11 +55,12 @@ fn order_of<'a>(
     ensures { IfOk result (λ found. MatchOption found (¬ (NoOrderViolation matching.now))
         (λ order. (order ≡ matching.now) × NoOrderViolation matching.now)) }
 {
+    let operations = matching.operations();
     let Some(ordered) = put_in_order(alloc, &matching.values())? else {
         return Ok(None);
     };
     Ok(Some(OrderedValues {
-        operations: matching.operations(),
+        operations,
         places: ordered.places,
         gaps: ordered.gaps,
     }))
@@ -67,7 +68,7 @@ fn order_of<'a>(
 
 impl<'a> OrderedValues<'a> {
     /// The places of the values in their order, and the gaps of their enqueues.
-    pub(crate) fn parts(&self) -> (&[usize], &[u64])
+    pub(crate) fn parts(&self) -> (&[u32], &[u64])
         ensures order { IsOrderOfPlaces self.now result.0.now }
         ensures gaps { AreEnqueueGaps (lives_at self.now result.0.now) result.1.now }
     {

@@ -1,5 +1,6 @@
 ghost use Rattle.std.specs.Prelude.{◌≡◌, ◌↔◌, ◌<◌, ℕ, [], IfOk, IsTrue, List, MatchOption, OnOk, false, filter, length};
 ghost use Rattle.history_merge.specs.declared.operation.Operation.{Operation};
+ghost use Rattle.history_merge.specs.declared.packed.TheConstants.{PACKED_LIMIT};
 ghost use Rattle.history_merge.specs.Operations.{IsAt};
 ghost use Rattle.value_match.specs.declared.life.Life.{Life};
 ghost use Rattle.value_match.specs.Lives.{AreLeastFreeGaps, is_empty_answer, is_refused};
@@ -49,7 +50,7 @@ pub(crate) struct Merged {
 fn place_enqueues(
     places: &mut Vec<OpId>,
     matching: &FilledMatching,
-    order: &[usize],
+    order: &[u32],
     gaps: &[u64],
     noops: &[Noop],
 ) -> Result<Merged, AllocError>
@@ -67,7 +68,7 @@ fn place_enqueues(
         noops: 0,
     };
     for (rank, place) in order.iter().enumerate() {
-        let enqueue = Placed::enqueue(values.get(*place).enqueue, gaps[rank], rank);
+        let enqueue = Placed::enqueue(values.get(*place as usize).enqueue, gaps[rank], rank);
         let before = Some(enqueue.position);
         place_dequeues(places, &mut so_far, matching, order, gaps, noops, before)?;
         place_noops(places, &mut so_far.noops, noops, before)?;
@@ -82,7 +83,7 @@ fn place_dequeues(
     places: &mut Vec<OpId>,
     so_far: &mut Merged,
     matching: &FilledMatching,
-    order: &[usize],
+    order: &[u32],
     gaps: &[u64],
     noops: &[Noop],
     before: Option<Position>,
@@ -100,7 +101,7 @@ fn place_dequeues(
     let values = matching.values();
     while so_far.dequeues < order.len() {
         let rank = so_far.dequeues;
-        let value = values.get(order[rank]);
+        let value = values.get(order[rank] as usize);
         let enqueue_gap = gaps[rank];
         let left = value.life.leaves_from().max(so_far.left);
         if let Some(dequeue) = value.dequeue {
@@ -205,7 +206,8 @@ fn place_refused(placed: &mut Vec<Noop>, matching: &FilledMatching) -> Result<()
 /// The ticket of the call of the operation at this place.
 fn call_at(operations: &[PackedOperation], place: usize) -> u64
     requires { place < length operations.now }
-    ensures { (o : Operation) → IsAt operations.now place o → result ≡ o.call }
+    ensures call { (o : Operation) → IsAt operations.now place o → result ≡ o.call }
+    ensures in_range { result < PACKED_LIMIT }
 {
     operations[place].unpack().call
 }

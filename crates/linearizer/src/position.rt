@@ -1,6 +1,9 @@
-ghost use Rattle.std.specs.Prelude.{◌≡◌, if◌then◌else◌, nat_lt};
+ghost use Rattle.std.specs.Prelude.{◌≡◌, ◌<◌, if◌then◌else◌, nat_lt};
+ghost use Rattle.history_merge.specs.declared.packed.TheConstants.{PACKED_LIMIT};
+ghost use Rattle.linearizer.specs.declared.timed.TheConstants.{PLACES};
 ghost use Rattle.linearizer.specs.Order.{earlier_dequeues, enqueues, noop_answers, other_dequeues};
 
+use crate::timed::{PackedTimed, Timed};
 use history_merge::OpId;
 use std::marker::Model;
 
@@ -75,8 +78,8 @@ impl Placed {
 /// An operation that changes nothing, seen as the operation and where it stands.
 #[derive(Clone, Copy)]
 pub(crate) struct Noop {
-    operation: OpId,
-    gap: u64,
+    // The operation and its gap.
+    at: PackedTimed,
     call: u64,
 }
 
@@ -86,21 +89,26 @@ impl Model for Noop {
 
     ghost Value = { Placed };
 
-    ghost view = { λ a. record { operation = a.operation; position = record { gap = a.gap; class = class.Noop; rank = a.call } } };
+    ghost view = { λ a. record { operation = a.at.place; position = record { gap = a.at.time; class = class.Noop; rank = a.call } } };
 
-    ghost inverse = { λ p. record { operation = p.operation; gap = p.position.gap; call = p.position.rank } };
+    ghost inverse = { λ p. record { at = record { time = p.position.gap; place = p.operation }; call = p.position.rank } };
 }
 
 impl Noop {
     ghost use Rattle.linearizer.specs.Inner.Placement.{position_of};
 
     pub(crate) fn new(operation: OpId, gap: u64, call: u64) -> Noop
+        requires few { operation < PLACES }
+        requires gap { gap < PACKED_LIMIT }
         ensures operation { result.operation ≡ operation }
         ensures position { position_of result.position ≡ record { gap = gap; class = noop_answers; rank = call } }
     {
+        let at = Timed {
+            time: gap,
+            place: operation.place(),
+        };
         Noop {
-            operation,
-            gap,
+            at: PackedTimed::new(at),
             call,
         }
     }
@@ -109,6 +117,7 @@ impl Noop {
     pub(crate) fn placed(self) -> Placed
         ensures { result ≡ self }
     {
-        Placed::at(self.operation, self.gap, Class::Noop, self.call)
+        let at = self.at.unpack();
+        Placed::at(OpId::new(at.place), at.time, Class::Noop, self.call)
     }
 }

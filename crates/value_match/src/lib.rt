@@ -14,6 +14,7 @@ mod repeat;
 mod sources;
 mod table;
 mod takers;
+mod thread_calls;
 mod unfilling;
 mod values;
 mod violation;

@@ -1,5 +1,6 @@
 ghost use Rattle.std.specs.Prelude.{◌≡◌, ◌≤◌, length, map};
 ghost use Rattle.value_match.specs.declared.life.TheConstants.{NEVER};
+ghost use Rattle.value_match.specs.declared.matching.TheConstants.{MAX_MATCHED};
 ghost use Rattle.history_merge.specs.Initial.{filled};
 ghost use Rattle.value_match.specs.Accepted.{value_at};
 ghost use Rattle.value_match.specs.Filling.{filled_operations, ticket_of};
@@ -62,18 +63,20 @@ pub struct FilledMatching<'a> {
 }
 
 impl<'a> Model for FilledMatching<'a> {
-    ghost use Rattle.std.specs.Prelude.{◌≡◌, List, map, filter};
+    ghost use Rattle.std.specs.Prelude.{◌≡◌, ◌≤◌, List, filter, length, map};
     ghost use Rattle.history_merge.specs.declared.operation.Operation.{Operation};
     ghost use Rattle.value_match.specs.Lives.{HoldsLives, HoldsPlaces, is_empty_answer, is_refused};
     ghost use Rattle.value_match.specs.Accepted.{value_at};
     ghost use Rattle.value_match.specs.Violations.{IsClear};
+    ghost use Rattle.value_match.specs.declared.matching.TheConstants.{MAX_MATCHED};
     ghost use Rattle.value_match.specs.Inner.Matchable.{operations_in};
 
     ghost Value = { List Operation };
 
     ghost view = { λ a. operations_in a.operations };
 
-    ghost invariant = { λ a. IsClear (operations_in a.operations)
+    ghost invariant = { λ a. (length (operations_in a.operations) ≤ MAX_MATCHED)
+        × IsClear (operations_in a.operations)
         × HoldsLives (operations_in a.operations) (map (value_at (operations_in a.operations)) a.values.items)
         × HoldsPlaces (operations_in a.operations) is_empty_answer a.empties.items
         × HoldsPlaces (operations_in a.operations) is_refused a.refused.items };
@@ -96,6 +99,7 @@ impl<'a> FilledMatching<'a> {
     /// The operations, in the order of their calls.
     pub fn operations(&self) -> &[PackedOperation]
         ensures operations { result.now ≡ self.now }
+        ensures few { length self.now ≤ MAX_MATCHED }
         ensures clear { IsClear self.now }
     {
         self.operations.as_slice()

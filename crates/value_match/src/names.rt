@@ -2,6 +2,7 @@ ghost use Rattle.std.specs.Prelude.{◌≡◌, ◌≤◌, length};
 ghost use Rattle.value_match.specs.Inner.Named as named;
 
 use crate::matching::MAX_MATCHED;
+use crate::thread_calls::sums_before;
 use event_records::{MAX_THREADS, NAMES_OF_A_THREAD};
 use history_merge::PackedOperation;
 use std::alloc::{AllocError, Global};
@@ -58,11 +59,5 @@ fn starts_of(operations: &[PackedOperation]) -> [u32; MAX_THREADS] {
         let thread = usize::from(operation.unpack().thread) % MAX_THREADS;
         counts[thread] = counts[thread].wrapping_add(1);
     }
-    let mut starts = [0; MAX_THREADS];
-    let mut sum = 0u32;
-    for thread in 0..MAX_THREADS {
-        starts[thread] = sum;
-        sum = sum.wrapping_add(counts[thread]);
-    }
-    starts
+    sums_before(counts).0
 }

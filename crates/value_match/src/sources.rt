@@ -8,6 +8,7 @@ use crate::matching::MAX_MATCHED;
 use crate::maybe_place::MaybePlace;
 use crate::names::Names;
 use crate::others::{Call, is_called_at, named_place, others_of, place_among};
+use crate::thread_calls::ThreadCalls;
 use history_merge::{OpKind, PackedOperation};
 use std::alloc::{AllocError, Global};
 
@@ -50,7 +51,7 @@ pub(crate) fn sources_of(
     }
 }
 
-/// The sources, if each is close to that of the dequeue before.
+/// The sources, if each is close to that of the dequeue before, or to that of the value before of its thread.
 fn close_sources(
     alloc: Global,
     operations: &[PackedOperation],
@@ -60,6 +61,7 @@ fn close_sources(
     ensures { IfOk result (λ found. MatchOption found ⊤ (AreSources operations.now)) }
 {
     let mut places = Vec::with_capacity(alloc, operations.len())?;
+    let mut calls = ThreadCalls::new(alloc, operations)?;
     let mut all_in_time = true;
     let mut next = 0;
     for operation in operations {
@@ -68,7 +70,7 @@ fn close_sources(
             places.push(MaybePlace::none())?;
             continue;
         };
-        let Some(place) = near_place(operations, value, next) else {
+        let Some(place) = close_place(&mut calls, operations, value, next) else {
             return Ok(None);
         };
         all_in_time = all_in_time && !comes_too_soon(operations, operation, place);
@@ -79,6 +81,22 @@ fn close_sources(
         places,
         all_in_time,
     }))
+}
+
+/// Returns the place of the call for this value, if it is near among those of its thread or near this place.
+#[inline(always)]
+fn close_place(
+    calls: &mut ThreadCalls,
+    operations: &[PackedOperation],
+    value: u64,
+    from: usize,
+) -> Option<usize>
+    ensures { IfSome result (λ place. IsCallPlace operations.now value (Some place)) }
+{
+    match calls.find(operations, value) {
+        Some(place) => Some(place),
+        None => near_place(operations, value, from),
+    }
 }
 
 /// The sources, by the names of the values, near by or among the calls sorted by value.

@@ -1,6 +1,7 @@
 -- The values by their times, and those of them that are left.
-use Rattle.std.specs.Prelude.{◌≡◌, ℕ, ◌<◌, ◌≤◌, ◌⊎◌, Bool, true, false, List, All, Contains, IsPermutation, IsSomeAnd, Some, length, slice_get, take}
+use Rattle.std.specs.Prelude.{◌≡◌, ℕ, ◌+◌, ◌*◌, ◌/◌, ◌%◌, ◌<◌, ◌≤◌, ◌⊎◌, Bool, true, false, List, All, Contains, IsPermutation, IsSomeAnd, Some, length, slice_get, take}
 use Rattle.std.specs.List.Sorted.{IsNonDecreasingBy}
+use Rattle.std.proofs.Math.Nat.{div-add-mod}
 use Rattle.value_match.specs.declared.life.Life.{Life}
 use Rattle.value_match.specs.declared.life.MatchedValue.{MatchedValue}
 use Rattle.value_match.specs.Lives.{dequeue_return, enqueue_call, entered_by, leaves_from}
@@ -10,6 +11,7 @@ use Rattle.linearizer.specs.declared.choice.InOrder.{InOrder}
 use Rattle.linearizer.specs.declared.timed.Moment.{Moment}
 use Rattle.linearizer.specs.declared.timed.Moment.TheVariants.{Entry, Dequeue}
 use Rattle.linearizer.specs.declared.timed.Timed.{Timed}
+use Rattle.linearizer.specs.declared.timed.TheConstants.{PLACES}
 
 -- the time is this number of the value at the place
 abbrev pub IsTimeOf : (Life → ℕ) → List MatchedValue → Timed → Type 0
@@ -65,3 +67,8 @@ pub record IsPassedOver (values : List MatchedValue) : Type 0 where
   pub entered : Life
   pub is_left : Contains remaining entered
   pub too_late : entered_by entered ≤ enqueue_call next
+
+-- ---- nothing is lost of a time and a place in one word
+
+pub back_joined : (word : ℕ) → PLACES * (word / PLACES) + word % PLACES ≡ word
+back_joined word = div-add-mod word PLACES

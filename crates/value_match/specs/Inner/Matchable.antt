@@ -1,9 +1,10 @@
 -- The operations of a matching, and what is found of operations before they are those of one.
-use Rattle.std.specs.Prelude.{List, map}
+use Rattle.std.specs.Prelude.{◌≤◌, List, length, map}
 use Rattle.history_merge.specs.declared.operation.Operation.{Operation}
 use Rattle.value_match.specs.declared.matching.Matchable.{Matchable}
 use Rattle.value_match.specs.declared.matching.Matchable.TheVariants.{Lent, Own}
 use Rattle.value_match.specs.declared.matching.SortedOut.{SortedOut}
+use Rattle.value_match.specs.declared.matching.TheConstants.{MAX_MATCHED}
 use Rattle.value_match.specs.Accepted.{value_at}
 use Rattle.value_match.specs.Lives.{HoldsLives, HoldsPlaces, is_empty_answer, is_refused}
 use Rattle.value_match.specs.Violations.{IsClear}
@@ -15,6 +16,7 @@ operations_in (Own operations) = operations.items
 
 -- the values, the empty answers and the refused enqueues are those of these operations, which have neither of the first two kinds of violation
 pub record IsSortedOutOf (operations : List Operation) (sorted : SortedOut) : Type 0 where
+  pub few : length operations ≤ MAX_MATCHED
   pub clear : IsClear operations
   pub values : HoldsLives operations (map (value_at operations) sorted.values.items)
   pub empties : HoldsPlaces operations is_empty_answer sorted.empties.items

@@ -46,24 +46,24 @@ entered c = rw (c.deref.ensures.value, c.deref-in-loop-entries.ensures.value) at
 dequeued : (c : After-first_left-first_out) → IsFirstLeft c.in_ok-dequeues.dequeues.items c.loop-entries.taken.items c.first_left-first_out.result
 dequeued c = rw (c.deref-in-loop-entries-2.ensures.value, c.deref-in-loop-entries-3.ensures.value) at c.first_left-first_out.ensures
 
-pub index-entry-requires : goal.index-entry-requires
-index-entry-requires c = let first = entered ((goal.at.index-entry-requires c).After-first_left-first_in) in
+pub index-requires : goal.index-requires
+index-requires c = let first = entered ((goal.at.index-requires c).After-first_left-first_in) in
     let inside : c.first_left-first_in.result < length c.in_ok-entries.entries.items = slice_get_within _ _ _ first.is_at in search rules
 
-pub index-requires : goal.index-requires
-index-requires c = let first = dequeued ((goal.at.index-requires c).After-first_left-first_out) in
+pub index-requires-in-loop-entries : goal.index-requires-in-loop-entries
+index-requires-in-loop-entries c = let first = dequeued ((goal.at.index-requires-in-loop-entries c).After-first_left-first_out) in
     let inside : c.first_left-first_out.result < length c.in_ok-dequeues.dequeues.items = slice_get_within _ _ _ first.is_at in search rules
 
 pub choice-next-requires : goal.choice-next-requires
 choice-next-requires c = place_within entered_by c.args.values.now c.in_ok-entries.entries.items c.loop-entries.taken.items
-    c.first_left-first_in.result c.index-entry.result.now c.in_ok-entries.ensures (entered ((goal.at.choice-next-requires c).After-first_left-first_in))
+    c.first_left-first_in.result c.unpack-entry.result c.in_ok-entries.ensures (entered ((goal.at.choice-next-requires c).After-first_left-first_in))
     (search rules)
 
 -- the choice of this turn
 next : (c : After-choice-next) → IsNext c.args.values.now c.loop-entries.taken.items c.choice-next.result
 next c =
     next_at c.args.values.now c.in_ok-entries.entries.items c.in_ok-dequeues.dequeues.items c.loop-entries.taken.items c.first_left-first_in.result
-    c.first_left-first_out.result c.index-entry.result.now c.index.result.now c.choice-next.result
+    c.first_left-first_out.result c.unpack-entry.result c.unpack.result c.choice-next.result
     c.in_ok-entries.ensures c.in_ok-dequeues.ensures (rw (c.deref.ensures.value, c.deref-in-loop-entries.ensures.value) at c.first_left-first_in.ensures)
     (rw (c.deref-in-loop-entries-2.ensures.value, c.deref-in-loop-entries-3.ensures.value) at c.first_left-first_out.ensures) (search rules)
     (search rules) c.choice-next.ensures
@@ -78,22 +78,28 @@ index_mut-requires c = let inside = within ((goal.at.index_mut-requires c).After
 pub get-requires : goal.get-requires
 get-requires c = within ((goal.at.get-requires c).After-choice-next)
 
+pub overflow_cast-next : goal.overflow_cast-next
+overflow_cast-next c =
+    let inside = within ((goal.at.overflow_cast-next c).After-choice-next) in
+    let few = c.requires.few in
+    search rules
+
 -- the entry at the cursor is the least of those that are left, and is in range
-least : (c : After-choice-next) → IsLeastLeft entered_by c.args.values.now c.loop-entries.taken.items c.index-entry.result.now
+least : (c : After-choice-next) → IsLeastLeft entered_by c.args.values.now c.loop-entries.taken.items c.unpack-entry.result
 least c = least_read entered_by c.args.values.now c.in_ok-entries.entries.items c.loop-entries.taken.items c.first_left-first_in.result
-    c.index-entry.result.now c.in_ok-entries.ensures (rw (c.deref.ensures.value, c.deref-in-loop-entries.ensures.value) at c.first_left-first_in.ensures)
+    c.unpack-entry.result c.in_ok-entries.ensures (rw (c.deref.ensures.value, c.deref-in-loop-entries.ensures.value) at c.first_left-first_in.ensures)
     (search rules)
 
 bounded : (c : After-choice-next) → entered_by (least c).value.life ≤ NEVER
-bounded c = All-contains (λ value. entered_by value.life ≤ NEVER) c.args.values.now (least c).value c.requires
-    (contains_at c.args.values.now c.index-entry.result.now.place (least c).value (least c).is_at)
+bounded c = All-contains (λ value. entered_by value.life ≤ NEVER) c.args.values.now (least c).value c.requires.entries
+    (contains_at c.args.values.now c.unpack-entry.result.place (least c).value (least c).is_at)
 
 pub returns-then-entry-enqueue_call : goal.returns-then-entry-enqueue_call
 returns-then-entry-enqueue_call c =
     let turn = (goal.at.returns-then-entry-enqueue_call c).After-choice-next in
     let read = c.get.ensures ∙ get_or_from_slice_get c.args.values.now c.choice-next.result (next turn).value c.get.result (next turn).is_at in
     let called = c.enqueue_call.ensures ∙ ap (λ m. enqueue_call m.life) read in
-    passed_over c.args.values.now c.loop-entries.taken.items _ _ c.choice-next.result c.index-entry.result.now (next turn)
+    passed_over c.args.values.now c.loop-entries.taken.items _ _ c.choice-next.result c.unpack-entry.result (next turn)
     c.loop-entries.invariant.so_far (least turn) (omega (arith, called, c.if-entry-enqueue_call.true))
 
 pub loop-entries-preserved : goal.loop-entries-preserved
@@ -103,7 +109,7 @@ loop-entries-preserved c =
     let called = c.enqueue_call.ensures ∙ ap (λ m. enqueue_call m.life) read in
     rw (c.in_ok-push.ensures.items, c.in_ok-push-2.ensures.items)
     (swept_more c.args.values.now c.in_ok-entries.entries.items c.in_ok-dequeues.dequeues.items c.loop-entries.taken.items _ _ _ _
-    c.loop-entries.places.items c.loop-entries.gaps.items c.choice-next.result c.index-entry.result.now (next turn) c.loop-entries.invariant
+    c.loop-entries.places.items c.loop-entries.gaps.items c.choice-next.result c.unpack-entry.result (next turn) c.loop-entries.invariant
     (entered ((goal.at.loop-entries-preserved c).After-first_left-first_in)) (dequeued ((goal.at.loop-entries-preserved c).After-first_left-first_out))
     (least turn) (bounded turn) (omega (arith, called, c.if-entry-enqueue_call.false)))
 

@@ -1,10 +1,11 @@
-use Rattle.std.proofs.Common.{◌≡◌, ℕ, ◌<◌, ◌∙◌, length, get_or, Some, refl, sym, ap, rules}
+use Rattle.std.proofs.Common.{◌≡◌, ℕ, ◌<◌, ◌∙◌, length, get_or, Some, refl, sym, ap, rules, subst}
 use Rattle.std.specs.Prelude.{filter}
 use Rattle.std.proofs.lemmas.List.{length_push}
 use Rattle.std.proofs.lemmas.Option.{slice_get_read}
 use Rattle.std.proofs.lemmas.Slice.Zip.{zip_end, zip_turn}
 use Rattle.value_match.specs.Lives.{is_empty_answer}
-use Rattle.linearizer.proofs.Additions.{IsNamed, adds_all, adds_empty, gap_beside, named, named_at, named_within}
+use Rattle.linearizer.specs.declared.timed.TheConstants.{PLACES}
+use Rattle.linearizer.proofs.Additions.{IsNamed, adds_all, adds_empty, gap_beside, named, named_at, named_early, named_few, named_within}
 use Rattle.linearizer.proofs.placing.place_empties.Goals as goal
 use Rattle.linearizer.proofs.placing.place_empties.Goals.{After-place}
 
@@ -22,11 +23,22 @@ turn c = named _ _ c.empties.result.now _ _ c.empties.ensures
 pub call_at-call-requires : goal.call_at-call-requires
 call_at-call-requires c = named_within _ _ _ _ _ (turn (goal.at.call_at-call-requires c).After-place) c.operations-operations.ensures.operations
 
+pub new-requires-clause-few : goal.new-requires-clause-few
+new-requires-clause-few c =
+    let of_place = turn (goal.at.new-requires-clause-few c).After-place in
+    subst (λ p. p < PLACES) c.place.ensures (named_few _ _ _ _ of_place c.operations-operations.ensures.few)
+
+pub new-requires-clause-gap : goal.new-requires-clause-gap
+new-requires-clause-gap c =
+    let of_place = (goal.at.new-requires-clause-gap c).After-place in
+    let free = gap_beside _ _ c.args.gaps.now _ c.in-Some.gap.now 0 _ c.requires (turn of_place).is_listed ((pair of_place).3 0) in
+    named_early _ _ _ _ _ (turn of_place) c.operations-operations.ensures.clear free
+
 pub loop-id-preserved : goal.loop-id-preserved
 loop-id-preserved c =
     let of_place = (goal.at.loop-id-preserved c).After-place in
     let free = gap_beside _ _ c.args.gaps.now _ c.in-Some.gap.now 0 _ c.requires (turn of_place).is_listed ((pair of_place).3 0) in
-    let calls = c.call_at-call.ensures (turn of_place).o (named_at _ _ _ _ _ (turn of_place) c.operations-operations.ensures.operations) in
+    let calls = c.call_at-call.ensures.call (turn of_place).o (named_at _ _ _ _ _ (turn of_place) c.operations-operations.ensures.operations) in
     rw (length_push c.loop-id.yielded (c.in-Some.id, c.in-Some.gap), c.in_ok-push.ensures.items)
     (adds_empty _ _ _ _ _ _ _ _ (turn of_place) c.loop-id.invariant free (c.new.ensures.operation ∙ sym c.place.ensures) calls c.new.ensures.position)
 

@@ -7,7 +7,7 @@ use Rattle.linearizer.proofs.timed.by_time.Goals as goal
 
 pub loop-place-preserved : goal.loop-place-preserved
 loop-place-preserved c =
-    rw c.in_ok-push.ensures.items
+    rw (c.in_ok-push.ensures.items, c.new.ensures)
     (one_more_timed (time_at c.args.moment) c.args.values.now c.loop-place.place c.of-time.result c.loop-place.entries.items c.get-value.result
     c.loop-place.invariant
     (slice_get_read c.args.values.now (length c.args.values.now) c.loop-place.place _ refl
