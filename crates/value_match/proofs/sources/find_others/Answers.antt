@@ -16,7 +16,10 @@ loop-place-preserved c =
     let here = slice_get-get_or c.args.operations.now c.loop-place.place (record { call = 0; ret = 0; thread = 0; kind = Enq 0 }) c.loop-place-test.true in
     let read = get_or_read c.loop-place.sources c.loop-place.place _ (omega (arith, c.loop-place.invariant.one_each)) c.index-sources-place.is None in
     elim c.if-is_none.branch [
-      | then-is_none w ↦ rw w.sources-is (found_more _ _ _ _ _ (slice_get_read _ _ _ _ refl c.loop-place-test.true c.index-operations-place.is ∙ ap Some (sym w.unpack.ensures.operation)) w.source_of.ensures c.loop-place.invariant)
+      | then-is_none w ↦
+          let there = slice_get_read _ _ _ _ refl c.loop-place-test.true c.index-operations-place.is in
+          rw w.sources-is
+          (found_more _ _ _ _ _ (there ∙ ap Some (sym w.unpack.ensures.operation)) w.source_of.ensures c.loop-place.invariant)
       | else-is_none w ↦ rw w.sources-is (found_near _ _ _ _ here
           (λ none. false≢true (sym (ap is_some (c.get.ensures ∙ read ∙ none)) ∙ c.is_none.ensures ∙ ap not w.if-is_none.false)) c.loop-place.invariant)
     ]
