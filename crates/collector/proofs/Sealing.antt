@@ -33,11 +33,6 @@ module _ (tokens : List TokenView) (rings rings' : List DrainView) (left left' :
   own_place : r.thread ≡ length p.done
   own_place = head_same _ _ _ _ ordered
 
-  -- the next token fits the next ring
-  pub fits_next : Fits r t
-  fits_next = (subst (λ (ts : List TokenView). AllZip Fits (r ∷ rings') ts) next_token
-      (subst (λ (rs : List DrainView). AllZip Fits rs left) next_ring p.fits)).0
-
   -- a ring that its token seals is one more that is sealed
   pub seals_next : (events : List Event) → events ≡ t.sent → t.thread ≡ r.thread → IsSealing tokens rings' left' (lists ++ events ∷ [])
   seals_next events all own = record {

@@ -6,7 +6,7 @@ use Rattle.verdicts.specs.declared.verifying.Claimed.{Claimed}
 use Rattle.verdicts.specs.declared.verdict.Verdict.{Verdict}
 use Rattle.verdicts.specs.Claims.{IsTrueClaim}
 use Rattle.verdicts.specs.Claiming.{claim_of}
-use Rattle.verdicts.specs.Verdicts.{IsEvidenceFrom, IsExactFrom, IsVerdictFrom}
+use Rattle.verdicts.specs.Verdicts.{IsEvidence, IsExact, IsVerdict}
 use Rattle.verdicts.proofs.TrueClaims.{evidence_is_true}
 use Rattle.history_text.specs.Versions.{HistoryText}
 use Rattle.command_words.specs.declared.options.DrawOptions.{DrawOptions}
@@ -20,8 +20,8 @@ use Rattle.commands.specs.Judging.{AnswersOrNoMemory, Draws, DrawsAlone, DrawsCl
 use Rattle.commands.specs.Judging.{HasFewValues, IsSmall, IsSound, IsTooLarge, IsVerdictClaim}
 
 -- a claim is that of the verdict
-pub claims_verdict : (history : HistoryView) (verdict : Verdict) (claimed : Claimed) → IsVerdictFrom history.initial (operations_of history.events) verdict
-    → IsEvidenceFrom history.initial (operations_of history.events) verdict → IsExactFrom history.initial (operations_of history.events) verdict
+pub claims_verdict : (history : HistoryView) (verdict : Verdict) (claimed : Claimed) → IsVerdict history.initial (operations_of history.events) verdict
+    → IsEvidence history.initial (operations_of history.events) verdict → IsExact history.initial (operations_of history.events) verdict
     → claimed ≡ claim_of history.initial (operations_of history.events) verdict → IsVerdictClaim history claimed
 claims_verdict history verdict claimed chosen evidence exact claim =
     record { verdict = verdict; chosen = chosen; evidence = evidence; exact = exact; claim = claim }

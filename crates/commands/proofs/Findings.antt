@@ -3,7 +3,7 @@ use Rattle.std.proofs.Common.{◌≡◌, ◌∙◌, ℕ, ◌≤◌, ◌⊎◌, L
 use Rattle.history_merge.specs.declared.fault.HistoryFault.{HistoryFault}
 use Rattle.history_merge.specs.declared.fault.HistoryFault.TheVariants.{TicketOrder, BadThread, CallWhilePending, ReturnWithoutCall, WrongReturn}
 use Rattle.history_merge.specs.declared.fault.HistoryFault.TheVariants.{DuplicateValue, Pending, Memory, InitialTwice}
-use Rattle.history_merge.specs.Faults.{IsFirstFaultFrom}
+use Rattle.history_merge.specs.Faults.{IsFirstFault}
 use Rattle.history_merge.specs.Initial.{HistoryView}
 use Rattle.history_merge.specs.Operations.{operations_of}
 use Rattle.event_records.specs.declared.limits.TheConstants.{MAX_INITIAL}
@@ -13,10 +13,10 @@ use Rattle.history_text.specs.declared.version.Version.TheVariants.{One, Two}
 use Rattle.history_text.specs.Versions.{HasText, HaveValueLines, said_in}
 use Rattle.verdicts.specs.declared.verdict.Verdict.{Verdict}
 use Rattle.verdicts.specs.declared.verdict.Verdict.TheVariants.{Yes, No}
-use Rattle.history_merge.specs.Legal.{IsLinearizableFrom}
+use Rattle.history_merge.specs.Legal.{IsLinearizable}
 use Rattle.verdicts.specs.Claiming.{claim_of}
 use Rattle.verdicts.specs.Decided.{IsDecided}
-use Rattle.verdicts.specs.Verdicts.{IsEvidenceFrom, IsExactFrom, IsVerdictFrom}
+use Rattle.verdicts.specs.Verdicts.{IsEvidence, IsExact, IsVerdict}
 use Rattle.std.specs.Prelude.{filter}
 use Rattle.verdicts.specs.Selection.{ArePartOf}
 use Rattle.commands.specs.Answers.{Reply, ShowsNoViolation, shown, judged, memory_fault, answer_of_history_fault}
@@ -25,7 +25,7 @@ use Rattle.text_lines.specs.Input.{Ahead}
 use Rattle.commands.specs.Judging.{IsFaulty, IsShrunk, IsVerdictClaim, AnswersFor, AnswersOrNoMemory, IsSound, Judges, Shrinks, from_none}
 
 -- the first fault is answered, and out of memory as such
-pub fault_found : (history : HistoryView) (fault : HistoryFault) → IsFirstFaultFrom history.initial history.events fault
+pub fault_found : (history : HistoryView) (fault : HistoryFault) → IsFirstFault history.initial history.events fault
     → IsFaulty history (answer_of_history_fault fault) ⊎ (answer_of_history_fault fault ≡ memory_fault)
 fault_found history Memory first = inr refl
 fault_found history (TicketOrder i) first = inl (record { fault = TicketOrder i; first = first; known = (λ e. absurd (cc e)); is = refl })
@@ -44,7 +44,7 @@ faulty_or history answer (inl faulty) = inl (inl faulty)
 faulty_or history answer (inr memory) = inr memory
 
 -- and so, where something else may be answered too
-pub fault_or : {P : Type 0} (history : HistoryView) (fault : HistoryFault) → IsFirstFaultFrom history.initial history.events fault
+pub fault_or : {P : Type 0} (history : HistoryView) (fault : HistoryFault) → IsFirstFault history.initial history.events fault
     → (IsFaulty history (answer_of_history_fault fault) ⊎ P) ⊎ (answer_of_history_fault fault ≡ memory_fault)
 fault_or history fault first =
     faulty_or history (answer_of_history_fault fault) (fault_found history fault first)
@@ -58,15 +58,15 @@ pub few_values : (text : HistoryText) → HasText text → length text.initial �
 few_values text has = few_of_version text.version text.initial has.initial
 
 -- what is decided of a history is the claim of its verdict
-pub decided_claim : (history : HistoryView) (verdict : Verdict) → IsVerdictFrom history.initial (operations_of history.events) verdict
-    → IsEvidenceFrom history.initial (operations_of history.events) verdict
-    → IsExactFrom history.initial (operations_of history.events) verdict
+pub decided_claim : (history : HistoryView) (verdict : Verdict) → IsVerdict history.initial (operations_of history.events) verdict
+    → IsEvidence history.initial (operations_of history.events) verdict
+    → IsExact history.initial (operations_of history.events) verdict
     → IsVerdictClaim history (claim_of history.initial (operations_of history.events) verdict)
 decided_claim history verdict chosen evidence exact =
     record { verdict = verdict; chosen = chosen; evidence = evidence; exact = exact; claim = refl }
 
 -- what is decided of a history that a text says is what `check` answers
-pub judged_text : (version : Version) (history : HistoryView) (verdict : Verdict) → IsSound history → IsDecided history verdict
+pub judged_text : (version : Version) (history : HistoryView) (verdict : Verdict) → IsSound history → IsDecided history.initial (operations_of history.events) verdict
     → AnswersOrNoMemory Judges (said_in version history) (judged (claim_of history.initial (operations_of history.events) verdict))
 judged_text version history verdict complete decided = inl (inr (record {
   complete = complete;
@@ -117,7 +117,7 @@ module _ {A : Type 0} (IsInputOf : Ahead → A → Type 0) (IsFaultOf : Ahead �
 
 -- its verdict shows no violation
 pub shows_none : (version : Version) (history : HistoryView) (verdict : Verdict)
-    → IsExactFrom history.initial (operations_of history.events) verdict → IsLinearizableFrom history.initial (operations_of history.events)
+    → IsExact history.initial (operations_of history.events) verdict → IsLinearizable history.initial (operations_of history.events)
     → ShowsNoViolation (shown (said_in version history) (claim_of history.initial (operations_of history.events) verdict))
 shows_none version history (Yes places) exact linearizable = tt
 shows_none version history (No violation) exact linearizable = absurd (exact linearizable)

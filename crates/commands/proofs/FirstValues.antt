@@ -82,7 +82,7 @@ same_history count history same = λ i. record { initial = same i; events = hist
 -- what is decided of the history of a run
 pub judged_run : (count : ℕ) (lists : List (List Event)) (history : HistoryView) (verdict : Verdict) (version : Version)
     → IsMerged lists history.events → IsCompleteFrom history.initial history.events → history.initial ≡ first_values count
-    → IsDecided history verdict → version ≡ run_version count
+    → IsDecided history.initial (operations_of history.events) verdict → version ≡ run_version count
     → AnswersOrNoMemory (IsShownRun count) lists (shown (said_in version history) (claim_of history.initial (operations_of history.events) verdict))
 judged_run count lists history verdict version merged complete same decided is_version =
     let claim = claim_of history.initial (operations_of history.events) verdict in

@@ -2,7 +2,7 @@
 use Rattle.std.proofs.Common.{◌≡◌, ℕ, ◌≤◌, List, inl, inr, ap, ◌∙◌}
 use Rattle.event_records.specs.declared.event.Event.{Event}
 use Rattle.history_merge.specs.declared.operation.Operation.{Operation}
-use Rattle.history_merge.specs.Legal.{IsLinearizableFrom}
+use Rattle.history_merge.specs.Legal.{IsLinearizable}
 use Rattle.history_merge.specs.Operations.{operations_of}
 use Rattle.event_records.specs.declared.limits.TheConstants.{MAX_THREADS}
 use Rattle.recorder_core.specs.Setting.{Setting}
@@ -15,14 +15,14 @@ use Rattle.verdicts.specs.declared.verifying.Claimed.{Claimed}
 use Rattle.verdicts.specs.declared.verifying.Claimed.TheVariants as claim
 use Rattle.verdicts.specs.declared.verdict.Verdict.{Verdict}
 use Rattle.verdicts.specs.declared.verdict.Verdict.TheVariants.{Yes, No}
-use Rattle.verdicts.specs.Verdicts.{IsExactFrom}
+use Rattle.verdicts.specs.Verdicts.{IsExact}
 use Rattle.verdicts.specs.Claiming.{claim_of, operations_at}
 use Rattle.commands.specs.Answers.{Reply, played}
 use Rattle.commands.specs.Judging.{SimulatesIn}
 
 -- an exact verdict on operations that have a linearization claims `YES`
-claims_yes : (initial : List ℕ) (operations : List Operation) (verdict : Verdict) (claimed : Claimed) → IsLinearizableFrom initial operations
-    → IsExactFrom initial operations verdict → claimed ≡ claim_of initial operations verdict → (order : List Operation) × (claimed ≡ claim.Yes order)
+claims_yes : (initial : List ℕ) (operations : List Operation) (verdict : Verdict) (claimed : Claimed) → IsLinearizable initial operations
+    → IsExact initial operations verdict → claimed ≡ claim_of initial operations verdict → (order : List Operation) × (claimed ≡ claim.Yes order)
 claims_yes initial operations (Yes places) claimed legal exact is = (operations_at operations places, is)
 claims_yes initial operations (No violation) claimed legal exact is = absurd (exact legal)
 
@@ -32,7 +32,7 @@ pub honest_gets_a_yes : (setting : Setting) (schedule : List Attempt) (answer : 
     → (events : List Event) × (order : List Operation) × (answer ≡ played (rejections setting schedule) events (claim.Yes order))
 honest_gets_a_yes setting schedule answer few honest done (inl undone) = absurd (undone.undone done)
 honest_gets_a_yes setting schedule answer few honest done (inr ended) =
-    let legal : IsLinearizableFrom setting.initial (operations_of ended.events) = (
+    let legal : IsLinearizable setting.initial (operations_of ended.events) = (
       effects_order setting (accepted setting schedule),
       effects_order_is_legal setting schedule ended.events few honest done ended.merged,
     ) in

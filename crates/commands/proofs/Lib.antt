@@ -2,13 +2,10 @@
 -- Exits: what a `?` carries on. Found: what an input is. InputFaults, OneInput: an input says one thing, or has one first fault.
 -- Findings, Drawn, Played, Searched, Runs, FirstValues: from what was read, drawn, played, searched, run or wrong in the words to the answer.
 -- OneAnswer: out of memory aside an input has one answer. Converting: a text and its conversion are answered alike.
--- Asked, Printing: what is printed, whole or in front, and what the writer was asked.
 -- Validity, ShrunkTexts: what is written, read again, is a claim that is true.
 -- DrawnVerdicts: a history on its own is drawn as if its verdict followed it.
 -- Honest: an honest schedule that is done is answered by `YES`.
 pub mod Exits
-pub mod Asked
-pub mod Printing
 pub mod Saying
 pub mod InputFaults
 pub mod Found

@@ -8,8 +8,9 @@ use Rattle.history_merge.specs.Complete.{IsCompleteHistory}
 use Rattle.history_merge.specs.Merge.{IsMerged}
 use Rattle.history_merge.specs.Operations.{operations_of}
 use Rattle.history_merge.specs.Initial.{HistoryView, IsCompleteFrom}
-use Rattle.history_merge.proofs.InitialFaults.{complete_from_has_no_fault, complete_from_nothing}
-use Rattle.history_merge.proofs.OneFaultFrom.{one_first_fault_from}
+use Rattle.history_merge.proofs.ExactFaults.{complete_has_no_fault}
+use Rattle.history_merge.proofs.InitialValues.{complete_from_nothing}
+use Rattle.history_merge.proofs.OneFault.{one_first_fault}
 use Rattle.history_stats.proofs.OneStatistics.{one_statistics}
 use Rattle.recorder_core.specs.Setting.{Setting}
 use Rattle.recorder_core.specs.Laws.{collected_lists}
@@ -18,7 +19,7 @@ use Rattle.verdicts.specs.declared.verifying.Claimed.{Claimed}
 use Rattle.verdicts.specs.Claims.{IsTrueClaim}
 use Rattle.verdicts.proofs.EventsHeld.{part_is_one}
 use Rattle.verdicts.proofs.OneSelection.{selection_is_one}
-use Rattle.verdicts.proofs.OneVerdict.{chosen_from_is_one}
+use Rattle.verdicts.proofs.OneVerdict.{chosen_violation_is_one}
 use Rattle.verdicts.proofs.SameLists.{same_lists}
 use Rattle.verdicts.specs.Selection.{ArePartOf, Contents, KeepsViolation, StaysChosen}
 use Rattle.verdicts.proofs.ShrunkEvents.{no_longer}
@@ -98,11 +99,11 @@ module _ {A : Type 0} (IsInputOf : Ahead → A → Type 0) (IsFaultOf : Ahead �
 
 not_both : (history : HistoryView) (answer : Reply) → IsFaulty history answer → IsSound history → ⊥
 not_both history answer faulty complete =
-    faulty.known (complete_from_has_no_fault history.initial history.events faulty.fault faulty.first complete)
+    faulty.known (complete_has_no_fault history.initial history.events faulty.fault faulty.first complete)
 
 one_faulty : (history : HistoryView) (a b : Reply) → IsFaulty history a → IsFaulty history b → a ≡ b
 one_faulty history a b x y = x.is ∙ ap answer_of_history_fault
-    (one_first_fault_from history.initial history.events x.fault y.fault x.known y.known x.first y.first) ∙ sym y.is
+    (one_first_fault history.initial history.events x.fault y.fault x.known y.known x.first y.first) ∙ sym y.is
 
 one_judged : (text : HistoryText) (a b : Reply) → HasText text → IsJudged (said_by text) a → IsJudged (said_by text) b → a ≡ b
 one_judged text a b has x y = x.is ∙ ap (λ c. judged c)
@@ -125,7 +126,7 @@ one_small : (text : HistoryText) (a b : Reply) → HasText text → (x : IsShrun
 one_small text a b has x y =
     let whole = said_by text in
     let few = few_values text has in
-    let violations = chosen_from_is_one text.initial text.events y.violation x.violation x.complete few y.chosen x.chosen in
+    let violations = chosen_violation_is_one text.initial text.events y.violation x.violation x.complete few y.chosen x.chosen in
     let kept = subst (λ v. KeepsViolation whole v y.small) violations y.kept in
     let same = subst (λ v. StaysChosen whole v y.small) violations y.same in
     let selected = selection_is_one whole x.small y.small x.violation (is_whole x.small few x.initial x.small_is_complete)

@@ -8,7 +8,7 @@ use Rattle.history_merge.specs.Initial.{HistoryView}
 use Rattle.history_merge.specs.Operations.{operations_of}
 use Rattle.history_merge.specs.declared.fault.HistoryFault.{HistoryFault}
 use Rattle.history_merge.specs.declared.fault.HistoryFault.TheVariants as history
-use Rattle.history_merge.proofs.InitialFaults.{complete_from_has_no_fault}
+use Rattle.history_merge.proofs.ExactFaults.{complete_has_no_fault}
 use Rattle.verdicts.specs.declared.verifying.Claimed.{Claimed}
 use Rattle.verdicts.specs.Claiming.{claim_of}
 use Rattle.verdicts.proofs.OneVerdict.{verdict_is_one}
@@ -153,7 +153,7 @@ written_is_judged t claimed answer is (inl read) = by_answer read.answered
 
     by_answer : AnswersOrNoMemory Judges read.value answer → (answer ≡ judged claimed) ⊎ (answer ≡ memory_fault)
     by_answer (inr none) = inr none
-    by_answer (inl (inl faulty)) = absurd (faulty.known (complete_from_has_no_fault read.value.initial read.value.events faulty.fault faulty.first
+    by_answer (inl (inl faulty)) = absurd (faulty.known (complete_has_no_fault read.value.initial read.value.events faulty.fault faulty.first
         (subst (λ u. IsSound (said_by u)) same is.complete)))
     by_answer (inl (inr found)) =
         let right = subst (λ u. IsVerdictClaim (said_by u) found.claimed) (sym same) found.right in

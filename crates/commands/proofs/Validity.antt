@@ -3,7 +3,7 @@ use Rattle.std.proofs.Common.{◌≡◌, ◌⊎◌, ◌++◌, arith, refl, sym, 
 use Rattle.history_merge.specs.Operations.{operations_of}
 use Rattle.history_merge.specs.declared.fault.HistoryFault.{HistoryFault}
 use Rattle.history_merge.specs.declared.fault.HistoryFault.TheVariants as history
-use Rattle.history_merge.proofs.InitialFaults.{complete_from_has_no_fault}
+use Rattle.history_merge.proofs.ExactFaults.{complete_has_no_fault}
 use Rattle.verdicts.specs.declared.verifying.Claimed.{Claimed}
 use Rattle.verdicts.specs.Claims.{IsTrueClaim}
 use Rattle.verdicts.proofs.TrueClaims.{evidence_is_true}
@@ -97,7 +97,7 @@ true_is_valid : (claim : ClaimOnText) (answer : Reply) → IsSound (said_by clai
     → AnswersOrNoMemory Verifies claim answer
     → IsValidOrNoMemory answer
 true_is_valid claim answer complete holds (inl (inl faulty)) = absurd (faulty.known
-    (complete_from_has_no_fault claim.text.initial claim.text.events faulty.fault faulty.first complete))
+    (complete_has_no_fault claim.text.initial claim.text.events faulty.fault faulty.first complete))
 true_is_valid claim answer complete holds (inl (inr is)) = inl (is.is ∙ ap (λ valid. verified valid) (is.right.1 holds))
 true_is_valid claim answer complete holds (inr none) = inr none
 

@@ -3,11 +3,11 @@ use Rattle.std.specs.Prelude.{◌≡◌, ◌≢◌, ◌≤◌, Bool, false, IsTr
 use Rattle.event_records.specs.declared.event.Event.{Event}
 use Rattle.history_merge.specs.declared.fault.HistoryFault.{HistoryFault}
 use Rattle.history_merge.specs.declared.fault.HistoryFault.TheVariants.{Memory}
-use Rattle.history_merge.specs.Faults.{IsFirstFaultFrom}
+use Rattle.history_merge.specs.Faults.{IsFirstFault}
 use Rattle.history_merge.specs.Gathering.{BuilderView, HasGathered}
 use Rattle.history_merge.specs.Initial.{HistoryView, IsCompleteFrom}
 use Rattle.history_merge.specs.Complete.{IsCompleteHistory}
-use Rattle.history_merge.specs.Legal.{IsLinearizableFrom}
+use Rattle.history_merge.specs.Legal.{IsLinearizable}
 use Rattle.history_merge.specs.Merge.{IsMerged}
 use Rattle.history_merge.specs.Operations.{operations_of}
 use Rattle.history_stats.specs.declared.statistics.Statistics.{Statistics}
@@ -21,7 +21,8 @@ use Rattle.verdicts.specs.declared.verifying.Claimed.{Claimed}
 use Rattle.verdicts.specs.declared.verdict.Verdict.{Verdict}
 use Rattle.verdicts.specs.Claims.{IsTrueClaim}
 use Rattle.verdicts.specs.Claiming.{claim_of}
-use Rattle.verdicts.specs.Verdicts.{IsChosenFrom, IsEvidenceFrom, IsExactFrom, IsVerdictFrom}
+use Rattle.value_match.specs.Outcome.{IsChosenViolation}
+use Rattle.verdicts.specs.Verdicts.{IsEvidence, IsExact, IsVerdict}
 use Rattle.verdicts.specs.Selection.{KeepsViolation, StaysChosen, IsMinimal, HasShortestCover, ArePartOf, contents_of}
 use Rattle.history_text.specs.Versions.{HistoryText}
 use Rattle.history_text.specs.declared.version.Version.TheVariants.{Two}
@@ -60,15 +61,15 @@ IsSound history = IsCompleteFrom history.initial history.events
 -- the claim of the chosen verdict on a history, which is evidence: `YES` if and only if a linearization exists
 pub record IsVerdictClaim (history : HistoryView) (claimed : Claimed) : Type 0 where
   pub verdict : Verdict
-  pub chosen : IsVerdictFrom history.initial (operations_of history.events) verdict
-  pub evidence : IsEvidenceFrom history.initial (operations_of history.events) verdict
-  pub exact : IsExactFrom history.initial (operations_of history.events) verdict
+  pub chosen : IsVerdict history.initial (operations_of history.events) verdict
+  pub evidence : IsEvidence history.initial (operations_of history.events) verdict
+  pub exact : IsExact history.initial (operations_of history.events) verdict
   pub claim : claimed ≡ claim_of history.initial (operations_of history.events) verdict
 
 -- it is no complete history, and this is its first fault
 pub record IsFaulty (history : HistoryView) (answer : Reply) : Type 0 where
   pub fault : HistoryFault
-  pub first : IsFirstFaultFrom history.initial history.events fault
+  pub first : IsFirstFault history.initial history.events fault
   pub known : fault ≢ Memory
   pub is : answer ≡ answer_of_history_fault fault
 
@@ -96,9 +97,9 @@ IsGathered history builder = HasGathered history.initial history.events builder
 -- shorter cover exists
 pub record IsShrunk (text : HistoryText) (answer : Reply) : Type 0 where
   pub complete : IsSound (said_by text)
-  pub not_linearizable : ¬ (IsLinearizableFrom text.initial (operations_of text.events))
+  pub not_linearizable : ¬ (IsLinearizable text.initial (operations_of text.events))
   pub violation : Violation
-  pub chosen : IsChosenFrom text.initial (operations_of text.events) violation
+  pub chosen : IsChosenViolation text.initial (operations_of text.events) violation
   pub small : HistoryView
   pub small_is_complete : IsSound small
   pub initial : ArePartOf text.initial small.initial
@@ -114,7 +115,7 @@ pub record IsShrunk (text : HistoryText) (answer : Reply) : Type 0 where
 -- `shrink`: the first fault of the history, or its verdict if that is `YES`, or what shows `NO`
 abbrev pub Shrinks : HistoryText → Reply → Type 0
 Shrinks text answer = IsFaulty (said_by text) answer
-    ⊎ ((IsLinearizableFrom text.initial (operations_of text.events) × IsJudged (said_by text) answer) ⊎ IsShrunk text answer)
+    ⊎ ((IsLinearizable text.initial (operations_of text.events) × IsJudged (said_by text) answer) ⊎ IsShrunk text answer)
 
 -- ---- claims
 

@@ -1,11 +1,11 @@
 //! `shrink`: what shows that a history is not linearizable, and no more.
 ghost use Rattle.std.specs.Prelude.{◌≡◌, [], IfSome};
 ghost use Rattle.history_merge.specs.Initial.{IsCompleteFrom};
-ghost use Rattle.history_merge.specs.Legal.{IsLinearizableFrom};
+ghost use Rattle.history_merge.specs.Legal.{IsLinearizable};
 ghost use Rattle.history_merge.specs.Operations.{operations_of};
 ghost use Rattle.history_text.specs.declared.version.Version.TheVariants.{One};
 ghost use Rattle.history_text.specs.Versions.{said_in};
-ghost use Rattle.verdicts.specs.Verdicts.{IsChosenFrom};
+ghost use Rattle.value_match.specs.Outcome.{IsChosenViolation};
 ghost use Rattle.commands.specs.Inputs.{IsHistoryOf, IsFaultOfHistoryInput};
 ghost use Rattle.commands.specs.Judging.{Shrinks, IsShrunk, AnswersFor, AnswersOrNoMemory};
 ghost use Rattle.commands.specs.Outcomes.{answer_of, NamesPlaces};
@@ -48,9 +48,9 @@ fn shrink_violation(
     violation: &Violation,
 ) -> Outcome
     requires version { version ≡ One → history.now.initial ≡ [] }
-    requires chosen { IsChosenFrom history.now.initial (operations_of history.now.events) violation.now }
+    requires chosen { IsChosenViolation history.now.initial (operations_of history.now.events) violation.now }
     requires complete { IsCompleteFrom history.now.initial history.now.events }
-    requires no { ¬ (IsLinearizableFrom history.now.initial (operations_of history.now.events)) }
+    requires no { ¬ (IsLinearizable history.now.initial (operations_of history.now.events)) }
     ensures found { AnswersOrNoMemory IsShrunk (said_in version history.now) (answer_of result) }
     ensures places { NamesPlaces result }
 {

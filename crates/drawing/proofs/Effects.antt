@@ -8,7 +8,7 @@ use Rattle.history_merge.specs.declared.operation.Operation.{Operation}
 use Rattle.history_merge.specs.Complete.{AreComplete}
 use Rattle.history_merge.specs.Operations.{operations_of, Precedes}
 use Rattle.history_merge.proofs.Completeness.{operations_are_complete}
-use Rattle.history_merge.specs.Legal.{IsLegalOrderFrom}
+use Rattle.history_merge.specs.Legal.{IsLegalOrder}
 use Rattle.history_merge.proofs.Distinct.{pairs_at, one_at, contains_at, traced, return_differs_from_call, call_before_return}
 use Rattle.event_records.specs.declared.event.Event.{Event}
 use Rattle.drawing.specs.Layout.{point}
@@ -22,11 +22,6 @@ greatest_from g operations = fold (λ greatest o. max greatest o.call) g operati
 from_rises : (g : ℕ) (operations : List Operation) → g ≤ greatest_from g operations
 from_rises g [] = omega arith
 from_rises g (o ∷ rest) = let more = from_rises (max g o.call) rest in omega arith
-
--- it rises with what it begins with
-from_keeps : (g h : ℕ) (operations : List Operation) → g ≤ h → greatest_from g operations ≤ greatest_from h operations
-from_keeps g h [] le = le
-from_keeps g h (o ∷ rest) le = from_keeps (max g o.call) (max h o.call) rest (omega arith)
 
 -- it rises with more operations
 longer : (g : ℕ) (operations : List Operation) (m n : ℕ) → m ≤ n → greatest_from g (take m operations) ≤ greatest_from g (take n operations)
@@ -61,7 +56,7 @@ of_greatest P g (x ∷ rest) (suc k) holds each =
 
 -- an operation of a linearization takes effect just after the event of a call
 pub point_is_a_call : (initial : List ℕ) (events : List Event) (order : List Operation) (i : ℕ) (o : Operation)
-    → IsLegalOrderFrom initial (operations_of events) order → slice_get order i ≡ Some o
+    → IsLegalOrder initial (operations_of events) order → slice_get order i ≡ Some o
     → (e : Event) × (Contains events e) × ((o : Operation) × Contains (operations_of events) o × (o.call ≡ e.ticket)) × (e.ticket ≡ point order i)
 point_is_a_call initial events [] i o legal at = absurd (cc)
 point_is_a_call initial events (x ∷ rest) i o legal at =

@@ -3,7 +3,7 @@ use Rattle.std.specs.Prelude.{◌≡◌, ℕ, ◌+◌, ◌^◌, ◌<◌, ◌≤�
 use Rattle.event_records.specs.declared.event.Event.{Event}
 use Rattle.history_merge.specs.declared.operation.Operation.{Operation}
 use Rattle.history_merge.specs.Complete.{IsCompleteHistory}
-use Rattle.history_merge.specs.Legal.{IsLegalOrderFrom}
+use Rattle.history_merge.specs.Legal.{IsLegalOrder}
 use Rattle.history_merge.specs.Initial.{HistoryView}
 use Rattle.history_merge.specs.Operations.{IsInWindow, Precedes, operations_of}
 use Rattle.verdicts.specs.declared.verifying.ClaimLine.{ClaimLine}
@@ -81,7 +81,7 @@ NoOtherBars =
 abbrev pub EffectsAreInBars : Type 0
 EffectsAreInBars =
     (initial : List ℕ) (events : List Event) (order : List Operation) (i : ℕ) (o : Operation) → IsCompleteHistory events
-    → IsLegalOrderFrom initial (operations_of events) order → slice_get order i ≡ Some o → IsInWindow o (point order i)
+    → IsLegalOrder initial (operations_of events) order → slice_get order i ≡ Some o → IsInWindow o (point order i)
 
 -- the effects of a `YES` rise in its order
 abbrev pub EffectsRise : Type 0
@@ -120,7 +120,7 @@ EventsAreCounted =
 abbrev pub EffectsHaveRows : Type 0
 EffectsHaveRows =
     (history : HistoryView) (order : List Operation) (i : ℕ) (o : Operation) → IsCompleteHistory history.events
-    → IsLegalOrderFrom history.initial (operations_of history.events) order → slice_get order i ≡ Some o
+    → IsLegalOrder history.initial (operations_of history.events) order → slice_get order i ≡ Some o
     → Contains (rows_of history (Yes order) (operations_of history.events)) (row.Effect o (i + 1) (point order i))
 
 -- the rows of initial values stand one below another, and above those of all events
@@ -140,7 +140,7 @@ RowsTellPrecedence =
 abbrev pub EffectRowsAreInBars : Type 0
 EffectRowsAreInBars =
     (history : HistoryView) (order : List Operation) (i : ℕ) (o : Operation) → IsCompleteHistory history.events
-    → IsLegalOrderFrom history.initial (operations_of history.events) order → slice_get order i ≡ Some o
+    → IsLegalOrder history.initial (operations_of history.events) order → slice_get order i ≡ Some o
     → let rows = rows_of history (Yes order) (operations_of history.events) in
     (row_number rows (row.Ticket o.call) < row_number rows (row.Effect o (i + 1) (point order i)))
     × (row_number rows (row.Effect o (i + 1) (point order i)) < row_number rows (row.Ticket o.ret))
@@ -149,7 +149,7 @@ EffectRowsAreInBars =
 abbrev pub EffectRowsRise : Type 0
 EffectRowsRise =
     (history : HistoryView) (order : List Operation) (i j : ℕ) (o p : Operation) → IsCompleteHistory history.events
-    → IsLegalOrderFrom history.initial (operations_of history.events) order → slice_get order i ≡ Some o → i < j
+    → IsLegalOrder history.initial (operations_of history.events) order → slice_get order i ≡ Some o → i < j
     → let rows = rows_of history (Yes order) (operations_of history.events) in
     row_number rows (row.Effect o (i + 1) (point order i)) < row_number rows (row.Effect p (j + 1) (point order j))
 

@@ -1,9 +1,8 @@
 -- The spans that are joined from those of a history's values are the history's.
-use Rattle.std.proofs.Common.{◌≡◌, ℕ, ◌+◌, ◌<◌, ◌≤◌, Bool, true, cond, List, [], ◌∷◌, ◌++◌, length, get_or, take, map, sym, ◌∙◌, ap, subst, arith}
-use Rattle.std.proofs.lemmas.List.{take_more, map-append}
+use Rattle.std.proofs.Common.{◌≡◌, ℕ, ◌<◌, ◌≤◌, true, List, map, sym, subst, arith}
 use Rattle.std.specs.Prelude.{All, IsPermutation, filter}
 use Rattle.std.proofs.lemmas.Bool.{lt-ltb, ltb-true}
-use Rattle.std.proofs.lemmas.List.Elements.{All-weaker, filter-append, filter_passes}
+use Rattle.std.proofs.lemmas.List.Elements.{All-weaker, filter_passes}
 use Rattle.std.proofs.lemmas.List.Sorted.{All-permutation, Contains-permutation, IsPermutation-sym}
 use Rattle.history_merge.specs.declared.operation.Operation.{Operation}
 use Rattle.value_match.specs.declared.life.Life.{Life}
@@ -62,13 +61,3 @@ module _ (operations : List Operation) (values : List MatchedValue) (clear : IsC
           (joined.same c).0 (lies.0, Contains-permutation stays sorted lies.0 moved lies.1, lies.2),
     );
   }
-
--- the stays of the first n values, with the next one
-pub stays_more : (values : List MatchedValue) (n : ℕ) (m : MatchedValue) (kept : Bool) → n < length values → m ≡ get_or values n m
-    → holds_some (stay_of m.life) ≡ kept
-    → stays_of (take (n + 1) values) ≡ stays_of (take n values) ++ cond kept (stay_of m.life ∷ []) []
-stays_more values n m kept below is test =
-    ap stays_of (take_more values n m below ∙ ap (λ x. take n values ++ x ∷ []) (sym is))
-    ∙ ap (filter holds_some) (map-append (λ (value : MatchedValue). stay_of value.life) (take n values) (m ∷ []))
-    ∙ filter-append holds_some (map (λ value. stay_of value.life) (take n values)) (stay_of m.life ∷ [])
-    ∙ ap (λ b. stays_of (take n values) ++ cond b (stay_of m.life ∷ []) []) test

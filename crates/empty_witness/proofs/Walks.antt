@@ -1,35 +1,38 @@
 -- The walk along the chosen cover, from the call of an empty dequeue to its return.
-use Rattle.std.proofs.Common.{◌≡◌, ◌≢◌, ℕ, ◌<◌, ◌≤◌, ◌⊎◌, List, [], ◌∷◌, ◌++◌, Option, Some, None, refl, sym, subst, inl, inr, arith, append_assoc, rules}
-use Rattle.std.specs.Prelude.{Contains, MatchOption, MatchBool, nat_lt, IsSome}
+use Rattle.std.proofs.Common.{◌≡◌, ◌≢◌, ℕ, ◌<◌, ◌≤◌, ◌⊎◌, List, [], ◌∷◌, ◌++◌, Option, Some, None, refl, sym, subst, inl, inr, arith, append_assoc, rules, length}
+use Rattle.std.specs.Prelude.{Contains, MatchOption, MatchBool, nat_lt, IsSome, option_map}
 use Rattle.std.proofs.lemmas.Bool.{lt-ltb, le-ltb}
 use Rattle.std.proofs.lemmas.List.Elements.{All-contains}
 use Rattle.history_merge.specs.declared.operation.Operation.{Operation}
 use Rattle.history_merge.specs.declared.operation.OpKind.TheVariants.{Deq, Empty}
 use Rattle.history_merge.specs.Operations.{Did, NoneDid}
 use Rattle.history_merge.specs.Complete.{AreComplete}
+use Rattle.history_merge.specs.Initial.{filled}
 use Rattle.history_merge.proofs.Distinct.{return_differs_from_call, return_in_range, call_before_return}
 use Rattle.value_match.specs.declared.life.Life.{Life}
 use Rattle.value_match.specs.declared.life.MatchedValue.{MatchedValue}
 use Rattle.value_match.specs.declared.violation.CoverStep.{CoverStep}
-use Rattle.value_match.specs.declared.violation.Source.TheVariants.{Enq}
-use Rattle.value_match.specs.Lives.{IsLife, HoldsLives, IsMaybeAt, IsCovered, call_or_never, enqueue_return, dequeue_call, dequeue_of, enqueue_of}
+use Rattle.value_match.specs.Lives.{IsLife, HoldsLives, IsCovered, call_or_never, enqueue_return, dequeue_call, dequeue_of, enqueue_of}
 use Rattle.value_match.specs.Violations.{IsClear}
 use Rattle.value_match.specs.Choice.{StaysAtLeast, IsNextOfCover, IsChosenCoverFrom, IsChosenCover}
-use Rattle.value_match.specs.Outcome.{IsSource, NamesCover}
+use Rattle.value_match.specs.Outcome.{NamesCover, NamesStep}
+use Rattle.value_match.specs.Told.{told_place, told_source}
 use Rattle.value_match.specs.Longest.{EntersBefore, IsLongestOf, FindsLongest}
 use Rattle.value_match.proofs.Lists.{one_more_zipped}
 use Rattle.value_match.proofs.Lives.{value_is_life, value_of_life, places_of_value}
+use Rattle.value_match.proofs.ToldPlaces.{value_told}
 use Rattle.empty_witness.specs.Inner.Covered.{NamesChosenCover}
 use Rattle.empty_witness.proofs.Covers.{chosen_cover_violates}
 
 -- the steps taken so far name values of the chosen cover, which goes on from the frontier
-pub record IsCoverSoFar (operations : List Operation) (o : Operation) (steps : List CoverStep) (frontier : ℕ) : Type 0 where
+pub record IsCoverSoFar (initial : List ℕ) (operations : List Operation) (o : Operation) (steps : List CoverStep) (frontier : ℕ) : Type 0 where
   pub lives : List Life
-  pub named : NamesCover operations steps lives
+  pub named : NamesCover initial operations steps lives
   pub past_call : o.call ≤ frontier
-  pub no_return : (x : Operation) → Contains operations x → x.ret ≢ frontier
-  pub goes_on : frontier < o.ret → (rest : List Life) → IsChosenCoverFrom operations o frontier rest → IsChosenCover operations o (lives ++ rest)
-  pub ends : o.ret < frontier → IsChosenCover operations o lives
+  pub no_return : (x : Operation) → Contains (filled initial operations) x → x.ret ≢ frontier
+  pub goes_on : frontier < o.ret → (rest : List Life) → IsChosenCoverFrom (filled initial operations) o frontier rest
+      → IsChosenCover (filled initial operations) o (lives ++ rest)
+  pub ends : o.ret < frontier → IsChosenCover (filled initial operations) o lives
 
 -- no operation returns when a value's dequeue is called, or at the ticket that stands for never
 no_return_at : (operations : List Operation) (v : ℕ) (dequeue : Option Operation) → AreComplete operations
@@ -38,25 +41,32 @@ no_return_at : (operations : List Operation) (v : ℕ) (dequeue : Option Operati
 no_return_at operations v None complete none x among same = let range = return_in_range operations x complete among in omega arith
 no_return_at operations v (Some d) complete did x among same = return_differs_from_call operations x d complete among did.0 same
 
-module _ (operations : List Operation) (values : List MatchedValue) (o : Operation) (clear : IsClear operations)
-    (holds : HoldsLives operations values) (is_empty : Did operations o Empty) (covered : IsCovered operations o) where
+module _ (initial : List ℕ) (operations : List Operation) (values : List MatchedValue) (o : Operation) (clear : IsClear (filled initial operations))
+    (holds : HoldsLives (filled initial operations) values) (is_empty : Did (filled initial operations) o Empty)
+    (covered : IsCovered (filled initial operations) o) where
+  abbrev all : List Operation
+  all = filled initial operations
+
+  abbrev k : ℕ
+  k = length initial
+
   -- before the first step
-  pub no_steps_yet : IsCoverSoFar operations o [] o.call
+  pub no_steps_yet : IsCoverSoFar initial operations o [] o.call
   no_steps_yet = record {
     lives = [];
     named = search rules;
     past_call = omega arith;
-    no_return = λ x among. return_differs_from_call operations x o clear.complete among is_empty.0;
+    no_return = λ x among. return_differs_from_call all x o clear.complete among is_empty.0;
     goes_on = λ below rest chosen. chosen;
-    ends = λ past. let less = call_before_return operations o clear.complete is_empty.0 in absurd (omega arith);
+    ends = λ past. let less = call_before_return all o clear.complete is_empty.0 in absurd (omega arith);
   }
 
   -- a value that covers the gap at the frontier was enqueued before it
-  entered_before : (steps : List CoverStep) (frontier : ℕ) → IsCoverSoFar operations o steps frontier → frontier < o.ret
+  entered_before : (steps : List CoverStep) (frontier : ℕ) → IsCoverSoFar initial operations o steps frontier → frontier < o.ret
       → (value : MatchedValue) × Contains values value × EntersBefore frontier value.life × (frontier < dequeue_call value.life)
   entered_before steps frontier so_far below =
       let life = covered frontier (so_far.past_call, below) in
-      let value = value_of_life operations values life.0 clear holds life.1 in
+      let value = value_of_life all values life.0 clear holds life.1 in
       let differs = so_far.no_return (enqueue_of life.0) life.1.1.0 in
       let entered : EntersBefore frontier life.0 = strictly (enqueue_return life.0) life.2.0 differs in
       (value.0, value.1, subst (EntersBefore frontier) (sym value.2) entered, subst (λ l. frontier < dequeue_call l) (sym value.2) life.2.1)
@@ -65,26 +75,26 @@ module _ (operations : List Operation) (values : List MatchedValue) (o : Operati
       strictly m le differs = let cases : (m < frontier) ⊎ (m ≡ frontier) = grind arith in elim cases [ inl less ↦ less | inr same ↦ absurd (differs same) ]
 
   -- so a next value is found
-  pub next_is_found : (steps : List CoverStep) (frontier : ℕ) (found : Option MatchedValue) → IsCoverSoFar operations o steps frontier
+  pub next_is_found : (steps : List CoverStep) (frontier : ℕ) (found : Option MatchedValue) → IsCoverSoFar initial operations o steps frontier
       → frontier < o.ret → FindsLongest (EntersBefore frontier) values found → IsSome found
   next_is_found steps frontier None so_far below none =
       let value = entered_before steps frontier so_far below in
       absurd (All-contains (λ value. ¬ (EntersBefore frontier value.life)) values value.0 none value.1 value.2)
   next_is_found steps frontier (Some value) so_far below is = search rules
 
-  is_next : (frontier : ℕ) (value : MatchedValue) → IsLongestOf (EntersBefore frontier) values value → IsNextOfCover operations frontier value.life
+  is_next : (frontier : ℕ) (value : MatchedValue) → IsLongestOf (EntersBefore frontier) values value → IsNextOfCover all frontier value.life
   is_next frontier value is = record {
-    is_life = value_is_life operations values value holds is.among;
+    is_life = value_is_life all values value holds is.among;
     before_frontier = is.passes;
     longest = λ other is_other before.
-        let held = value_of_life operations values other clear holds is_other in
+        let held = value_of_life all values other clear holds is_other in
         subst (StaysAtLeast value.life) held.2
         (All-contains (λ other. EntersBefore frontier other.life → StaysAtLeast value.life other.life) values held.0 is.longest held.1
         (subst (EntersBefore frontier) (sym held.2) before));
   }
 
   -- it stays past the frontier
-  pub frontier_rises : (steps : List CoverStep) (frontier : ℕ) (value : MatchedValue) → IsCoverSoFar operations o steps frontier → frontier < o.ret
+  pub frontier_rises : (steps : List CoverStep) (frontier : ℕ) (value : MatchedValue) → IsCoverSoFar initial operations o steps frontier → frontier < o.ret
       → IsLongestOf (EntersBefore frontier) values value → frontier < dequeue_call value.life
   frontier_rises steps frontier value so_far below is =
       let other = entered_before steps frontier so_far below in
@@ -92,43 +102,43 @@ module _ (operations : List Operation) (values : List MatchedValue) (o : Operati
       omega (arith, stays.0, other.3)
 
   -- with the next value
-  pub one_more_step : (steps : List CoverStep) (frontier : ℕ) (value : MatchedValue) → IsCoverSoFar operations o steps frontier → frontier < o.ret
+  pub one_more_step : (steps : List CoverStep) (frontier : ℕ) (value : MatchedValue) → IsCoverSoFar initial operations o steps frontier → frontier < o.ret
       → IsLongestOf (EntersBefore frontier) values value
-      → IsCoverSoFar operations o (steps ++ (record { source = Enq value.enqueue; dequeue = value.dequeue }) ∷ []) (dequeue_call value.life)
+      → IsCoverSoFar initial operations o (steps ++ (record { source = told_source k value.enqueue; dequeue = option_map (told_place k) value.dequeue }) ∷ []) (dequeue_call value.life)
   one_more_step steps frontier value so_far below is = record {
     lives = so_far.lives ++ value.life ∷ [];
-    named = one_more_zipped (λ step life. IsSource operations step.source (enqueue_of life) × IsMaybeAt operations step.dequeue (dequeue_of life)) steps
-        so_far.lives (record { source = Enq value.enqueue; dequeue = value.dequeue }) value.life
-        so_far.named (places_of_value operations values value holds is.among);
+    named = one_more_zipped (NamesStep initial operations) steps so_far.lives
+        (record { source = told_source k value.enqueue; dequeue = option_map (told_place k) value.dequeue }) value.life
+        so_far.named (value_told initial operations value (places_of_value all values value holds is.among) is_life);
     past_call = let rises = frontier_rises steps frontier value so_far below is in omega (arith, so_far.past_call);
-    no_return = no_return_at operations is_life.0 (dequeue_of value.life) clear.complete is_life.2;
+    no_return = no_return_at all is_life.0 (dequeue_of value.life) clear.complete is_life.2;
     goes_on = λ below' rest chosen.
-        subst (IsChosenCover operations o) (sym (append_assoc so_far.lives (value.life ∷ []) rest))
+        subst (IsChosenCover all o) (sym (append_assoc so_far.lives (value.life ∷ []) rest))
         (so_far.goes_on below (value.life ∷ rest) (next, further below' rest chosen));
     ends = λ past. so_far.goes_on below (value.life ∷ []) (next, last past);
   }
     where
-      is_life : IsLife operations value.life
-      is_life = value_is_life operations values value holds is.among
+      is_life : IsLife all value.life
+      is_life = value_is_life all values value holds is.among
 
-      next : IsNextOfCover operations frontier value.life
+      next : IsNextOfCover all frontier value.life
       next = is_next frontier value is
 
-      further : dequeue_call value.life < o.ret → (rest : List Life) → IsChosenCoverFrom operations o (dequeue_call value.life) rest
-          → MatchBool (nat_lt o.ret (dequeue_call value.life)) (rest ≡ []) (IsChosenCoverFrom operations o (dequeue_call value.life) rest)
+      further : dequeue_call value.life < o.ret → (rest : List Life) → IsChosenCoverFrom all o (dequeue_call value.life) rest
+          → MatchBool (nat_lt o.ret (dequeue_call value.life)) (rest ≡ []) (IsChosenCoverFrom all o (dequeue_call value.life) rest)
       further below' rest chosen = rw (le-ltb o.ret (dequeue_call value.life) (omega arith)) chosen
 
       last : o.ret < dequeue_call value.life → MatchBool (nat_lt o.ret (dequeue_call value.life)) (◌≡◌ {A = List Life} [] [])
-          (IsChosenCoverFrom operations o (dequeue_call value.life) [])
+          (IsChosenCoverFrom all o (dequeue_call value.life) [])
       last past = rw (lt-ltb o.ret (dequeue_call value.life) past) refl
 
   -- past the return the cover is whole
-  pub cover_is_whole : (steps : List CoverStep) (frontier : ℕ) → IsCoverSoFar operations o steps frontier → o.ret ≤ frontier
-      → NamesChosenCover operations o steps
+  pub cover_is_whole : (steps : List CoverStep) (frontier : ℕ) → IsCoverSoFar initial operations o steps frontier → o.ret ≤ frontier
+      → NamesChosenCover initial operations o steps
   cover_is_whole steps frontier so_far past =
       let cases : (o.ret < frontier) ⊎ (o.ret ≡ frontier) = grind arith in
       elim cases [
-        | inl after ↦ (so_far.lives, so_far.named, so_far.ends after, chosen_cover_violates operations o so_far.lives clear is_empty (so_far.ends after))
+        | inl after ↦ (so_far.lives, so_far.named, so_far.ends after, chosen_cover_violates all o so_far.lives clear is_empty (so_far.ends after))
         | inr same ↦ absurd (so_far.no_return o is_empty.0 same)
       ]
 

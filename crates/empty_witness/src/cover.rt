@@ -1,33 +1,31 @@
 ghost use Rattle.std.specs.Prelude.{IfOk};
 ghost use Rattle.history_merge.specs.declared.operation.OpKind.TheVariants.{Empty};
 ghost use Rattle.history_merge.specs.Operations.{Did};
+ghost use Rattle.value_match.specs.Filling.{filled_operations};
 ghost use Rattle.value_match.specs.Lives.{IsCovered};
 ghost use Rattle.empty_witness.specs.Inner.Covered.{NamesChosenCover};
 
 use history_merge::Operation;
 use std::alloc::{AllocError, Global};
-use value_match::{Cover, CoverStep, FilledMatching, LongestTable, Source};
+use value_match::{Cover, CoverStep, LongestTable, Matching, told_maybe, told_source};
 
 /// Returns the chosen cover of a window that is covered.
 ///
 /// Time O(n log n) for n values: a table of them, and a look-up for each step.
-pub fn cover_of(
-    alloc: Global,
-    matching: &FilledMatching,
-    answer: &Operation,
-) -> Result<Cover, AllocError>
-    requires is_empty { Did matching.now answer.now Empty }
-    requires covered { IsCovered matching.now answer.now }
-    ensures { IfOk result (λ cover. NamesChosenCover matching.now answer.now cover) }
+pub fn cover_of(alloc: Global, matching: &Matching, answer: &Operation) -> Result<Cover, AllocError>
+    requires is_empty { Did (filled_operations matching.now) answer.now Empty }
+    requires covered { IsCovered (filled_operations matching.now) answer.now }
+    ensures { IfOk result (λ cover. NamesChosenCover matching.now.initial matching.now.operations answer.now cover) }
 {
-    let table = LongestTable::new(alloc, matching.values())?;
+    let initial_count = matching.initial().len();
+    let table = LongestTable::new(alloc, matching.filled().values())?;
     let mut steps = Vec::new(alloc);
     let mut frontier = answer.call;
     while frontier < answer.ret {
         let value = table.longest_before(frontier).unwrap();
         steps.push(CoverStep {
-            source: Source::Enq(value.enqueue),
-            dequeue: value.dequeue,
+            source: told_source(initial_count, value.enqueue),
+            dequeue: told_maybe(initial_count, value.dequeue),
         })?;
         frontier = value.life.dequeue_call();
     }

@@ -6,7 +6,7 @@ mod cover;
 mod gaps;
 mod search;
 mod spans;
-mod unfilling;
+mod told_gaps;
 
 pub use answer::{GapAnswer, Gaps, WitnessAnswer};
 pub use search::{

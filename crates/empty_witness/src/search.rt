@@ -2,7 +2,7 @@ ghost use Rattle.std.specs.Prelude.{◌≡◌, ◌++◌, ℕ, List, All, IfOk};
 ghost use Rattle.history_merge.specs.declared.operation.OpKind.TheVariants.{Empty};
 ghost use Rattle.history_merge.specs.Operations.{Did, IsAt};
 ghost use Rattle.value_match.specs.Filling.{filled_operations};
-ghost use Rattle.empty_witness.specs.Answers.{IsEmptyAnswerAt, IsGapAnswer, IsGapAnswerFrom, IsWitnessAnswer, IsWitnessAnswerFrom};
+ghost use Rattle.empty_witness.specs.Answers.{IsEmptyAnswerAt, IsGapAnswer, IsWitnessAnswer};
 ghost use Rattle.empty_witness.specs.Covered.{AreAllWindows, AreWindowsAt, IsFirstCovered, IsSoonerOf};
 ghost use Rattle.empty_witness.specs.Spans.{AreSpansOf};
 
@@ -10,9 +10,10 @@ use crate::answer::{GapAnswer, Gaps, WitnessAnswer};
 use crate::cover::cover_of;
 use crate::gaps::least_free_gap;
 use crate::spans::{Span, spans_of};
+use crate::told_gaps::{told_gap, told_gaps};
 use history_merge::{OpId, Operation};
 use std::alloc::{AllocError, Global};
-use value_match::{FilledMatching, Matching};
+use value_match::{FilledMatching, Matching, told_place};
 
 /// An empty dequeue of a filled history, with its place there.
 #[derive(Clone, Copy, Debug)]
@@ -38,24 +39,16 @@ pub enum WindowsAnswer {
 /// of memory.
 pub fn gap_for(alloc: Global, matching: &Matching, empty: OpId) -> Result<GapAnswer, AllocError>
     requires { IsEmptyAnswerAt matching.now.operations empty }
-    ensures { IfOk result (IsGapAnswerFrom matching.now.initial matching.now.operations empty) }
+    ensures { IfOk result (IsGapAnswer matching.now.initial matching.now.operations empty) }
 {
     let initial_count = matching.initial().len();
-    prove!(empty.place() < matching.operations().len());
-    let place = OpId::new(initial_count + empty.place());
-    let answer = gap_at(alloc, matching.filled(), place)?;
-    answer.unfilled(alloc, initial_count)
-}
-
-/// Does so in a filled history.
-fn gap_at(alloc: Global, matching: &FilledMatching, empty: OpId) -> Result<GapAnswer, AllocError>
-    requires { IsEmptyAnswerAt matching.now empty }
-    ensures { IfOk result (λ answer. IsGapAnswer matching.now empty answer) }
-{
-    let answer = answer_at(matching, empty);
-    let spans = spans_of(alloc, matching)?;
+    let filled = matching.filled();
+    let place = initial_count + empty.number() as usize;
+    prove!(place < filled.operations().len());
+    let answer = answer_at(filled, OpId::new(place as u32));
+    let spans = spans_of(alloc, filled)?;
     match least_free_gap(spans.as_slice(), &answer.operation) {
-        Some(gap) => Ok(GapAnswer::Free(gap)),
+        Some(gap) => Ok(GapAnswer::Free(told_gap(initial_count, gap))),
         None => Ok(GapAnswer::Covered(cover_of(alloc, matching, &answer.operation)?)),
     }
 }
@@ -66,7 +59,7 @@ fn gap_at(alloc: Global, matching: &FilledMatching, empty: OpId) -> Result<GapAn
 /// Time O((n + m) log n) for n values and m empty dequeues: it sorts the values' stays once, and looks each window up
 /// among them; O(1) if no dequeue is empty. The only error is out of memory.
 pub fn find_witness(alloc: Global, matching: &Matching) -> Result<WitnessAnswer, AllocError>
-    ensures { IfOk result (IsWitnessAnswerFrom matching.now.initial matching.now.operations) }
+    ensures { IfOk result (IsWitnessAnswer matching.now.initial matching.now.operations) }
 {
     let filled = matching.filled();
     let empties = filled.empties();
@@ -88,25 +81,16 @@ pub fn witness_of(
     windows: WindowsAnswer,
 ) -> Result<WitnessAnswer, AllocError>
     requires { AreAllWindows (filled_operations matching.now) windows }
-    ensures { IfOk result (IsWitnessAnswerFrom matching.now.initial matching.now.operations) }
+    ensures { IfOk result (IsWitnessAnswer matching.now.initial matching.now.operations) }
 {
-    let answer = witness_in_filled(alloc, matching.filled(), windows)?;
-    answer.unfilled(alloc, matching.initial().len())
-}
-
-/// Returns it by the places and clocks of the filled history.
-fn witness_in_filled(
-    alloc: Global,
-    matching: &FilledMatching,
-    windows: WindowsAnswer,
-) -> Result<WitnessAnswer, AllocError>
-    requires { AreAllWindows matching.now windows }
-    ensures { IfOk result (λ answer. IsWitnessAnswer matching.now answer) }
-{
+    let initial_count = matching.initial().len();
     match windows {
-        WindowsAnswer::Free(gaps) => Ok(WitnessAnswer::Gaps(Gaps::from_vec(gaps))),
+        WindowsAnswer::Free(gaps) => {
+            let told = told_gaps(alloc, initial_count, gaps)?;
+            Ok(WitnessAnswer::Gaps(Gaps::from_vec(told)))
+        }
         WindowsAnswer::Covered(first) => Ok(WitnessAnswer::Covered {
-            empty: first.place,
+            empty: told_place(initial_count, first.place),
             cover: cover_of(alloc, matching, &first.operation)?,
         }),
     }

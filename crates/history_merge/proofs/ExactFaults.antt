@@ -1,15 +1,14 @@
 -- A list of events is a complete history if and only if it has no fault.
-use Rattle.std.proofs.Common.{◌≡◌, ℕ, true, zero, suc, ◌<◌, ◌≤◌, List, [], ◌∷◌, ◌++◌, length, get_or, take, drop, Option, Some, None, refl, sym, ◌∙◌}
+use Rattle.std.proofs.Common.{◌≡◌, ℕ, zero, suc, ◌+◌, ◌<◌, ◌≤◌, List, [], ◌∷◌, ◌++◌, length, get_or, take, drop, Option, Some, None, refl, sym, ◌∙◌}
 use Rattle.std.proofs.Common.{subst, inl, inr, arith, nat_eq, length-append}
-use Rattle.std.specs.Prelude.{All, Contains, MatchOption, slice_get, ⊤}
-use Rattle.std.specs.Option.{option_eq}
+use Rattle.std.specs.Prelude.{All, Contains, MatchOption, ⊤}
 use Rattle.std.specs.List.{last_or}
 use Rattle.std.proofs.Math.Seq.{get_or-append_seam, take-suc}
-use Rattle.std.proofs.lemmas.List.{get_or_append_left, take_all}
+use Rattle.std.proofs.lemmas.List.{append-nil, get_or-append-add, get_or_append_left, take_all}
 use Rattle.std.proofs.lemmas.List.Elements.{All-nil, All-push, All-contains, Contains-append_right, filter-append}
 use Rattle.std.proofs.lemmas.List.Quantifiers.{all_pairs_push}
 use Rattle.std.proofs.lemmas.Option.{slice_get-get_or, slice_get_within}
-use Rattle.std.proofs.lemmas.Bool.{false≢true, cases_lt, cases_order, eq-eqb, ne_eqb}
+use Rattle.std.proofs.lemmas.Bool.{cases_lt, eq-eqb}
 use Rattle.std.proofs.lemmas.Bool.Decides.{eqb_tells}
 use Rattle.event_records.specs.declared.event.Event.{Event}
 use Rattle.event_records.specs.declared.event.What.TheVariants.{CallEnq}
@@ -17,26 +16,26 @@ use Rattle.event_records.specs.declared.limits.TheConstants.{MAX_TICKET, MAX_THR
 use Rattle.event_records.specs.Turns.{TakesTurns, TicketsRise}
 use Rattle.event_records.specs.Projection.{projection}
 use Rattle.history_merge.specs.declared.fault.HistoryFault.{HistoryFault}
-use Rattle.history_merge.specs.declared.fault.HistoryFault.TheVariants.{TicketOrder, BadThread, CallWhilePending, ReturnWithoutCall, WrongReturn}
-use Rattle.history_merge.specs.declared.fault.HistoryFault.TheVariants.{DuplicateValue, Memory}
+use Rattle.history_merge.specs.declared.fault.HistoryFault.TheVariants.{Memory}
 use Rattle.history_merge.specs.Complete.{AreDistinct, IsCompleteHistory, called_values}
-use Rattle.history_merge.specs.Faults.{fault_at, NoFaultBefore, IsFirstFault, IsFirstFaultAt, repeats_value}
-use Rattle.history_merge.specs.Inner.Faults.{NothingPending, IsFirstRepeat}
-use Rattle.history_merge.proofs.Distinct.{one_at}
+use Rattle.history_merge.specs.Faults.{NoFaultBefore, IsFirstFault, IsFirstFaultAt}
+use Rattle.history_merge.specs.Initial.{IsCompleteFrom}
+use Rattle.history_merge.specs.Inner.Faults.{NothingPending}
 use Rattle.history_merge.proofs.Tracking.{projection-push_own, projection-push_other}
 use Rattle.history_merge.proofs.DistinctValues.{cut_at, distinct_push, new_from_distinct}
 use Rattle.history_merge.proofs.Turns.{TurnsSoFar, turns_push, fits_in_turns, nothing_after_turns}
 use Rattle.history_merge.proofs.FaultKinds.{by_kind}
-use Rattle.history_merge.proofs.FirstFaults.{MayFollow, may_follow, no_fault, one_of_rules}
+use Rattle.history_merge.proofs.FirstFaults.{MayFollow, may_follow, no_fault}
+use Rattle.history_merge.proofs.InitialValues.{initial_distinct, none_distinct, twice_not_distinct}
 
 -- ---- no fault, hence a complete history
 
 -- events without a fault, of which some calls may be pending
-pub record IsSound (events : List Event) : Type 0 where
+pub record IsSound (initial : List ℕ) (events : List Event) : Type 0 where
   pub tickets_rise : TicketsRise events
   pub tickets_in_range : All (λ e. e.ticket ≤ MAX_TICKET) events
   pub threads_in_range : All (λ e. e.thread ≤ MAX_THREAD) events
-  pub values_are_distinct : AreDistinct (called_values events)
+  pub values_are_distinct : AreDistinct (initial ++ called_values events)
   pub turns : (thread : ℕ) → TurnsSoFar (projection thread events)
 
 -- the last event is the one at the last place
@@ -56,12 +55,13 @@ above_all (e ∷ events) ticket rise above k d below =
       | inr here ↦ let same : length events ≡ k = omega arith in subst (λ j. (get_or (e ∷ events) j d).ticket < ticket) same last
     ]
 
-sound_push : (events : List Event) (e : Event) → IsSound events → MayFollow events e → IsSound (events ++ e ∷ [])
-sound_push events e sound may = record {
+sound_push : (initial : List ℕ) (events : List Event) (e : Event) → IsSound initial events → MayFollow initial events e
+    → IsSound initial (events ++ e ∷ [])
+sound_push initial events e sound may = record {
   tickets_rise = all_pairs_push (λ x y. x.ticket < y.ticket) events e sound.tickets_rise (above_all events e.ticket sound.tickets_rise may.rises);
   tickets_in_range = All-push (λ x. x.ticket ≤ MAX_TICKET) events e sound.tickets_in_range may.ticket_in_range;
   threads_in_range = All-push (λ x. x.thread ≤ MAX_THREAD) events e sound.threads_in_range may.thread_in_range;
-  values_are_distinct = distinct_push events e sound.values_are_distinct may.is_new;
+  values_are_distinct = distinct_push initial events e sound.values_are_distinct may.is_new;
   turns = turns;
 }
   where
@@ -74,57 +74,64 @@ sound_push events e sound may = record {
       | inr h ↦ subst TurnsSoFar (sym (projection-push_other events e thread h.0)) (sound.turns thread)
     ]
 
-sound_before : (events : List Event) (n : ℕ) → n ≤ length events → NoFaultBefore events (length events) → IsSound (take n events)
-sound_before events zero within none = record {
+sound_before : (initial : List ℕ) (events : List Event) (n : ℕ) → n ≤ length events → AreDistinct initial → NoFaultBefore initial events (length events)
+    → IsSound initial (take n events)
+sound_before initial events zero within distinct none = record {
   tickets_rise = λ i j d below short. absurd (omega arith);
   tickets_in_range = All-nil (λ x. x.ticket ≤ MAX_TICKET);
   threads_in_range = All-nil (λ x. x.thread ≤ MAX_THREAD);
-  values_are_distinct = λ i j d below short. absurd (omega arith);
+  values_are_distinct = rw append-nil distinct;
   turns = λ thread. tt;
 }
-sound_before events (suc n) within none =
+sound_before initial events (suc n) within distinct none =
     let d : Event = record { ticket = 0; thread = 0; what = CallEnq 0 } in
     let below : n < length events = omega arith in
-    let may = may_follow (take n events) n (get_or events n d) (none n (get_or events n d) below (slice_get-get_or events n d below)) in
+    let may = may_follow initial (take n events) n (get_or events n d) (none n (get_or events n d) below (slice_get-get_or events n d below)) in
     let one_more : take (suc n) events ≡ take n events ++ get_or events n d ∷ [] = take-suc events n d below in
-    subst IsSound (sym one_more) (sound_push (take n events) (get_or events n d) (sound_before events n (omega arith) none) may)
+    subst (IsSound initial) (sym one_more) (sound_push initial (take n events) (get_or events n d) (sound_before initial events n (omega arith) distinct none) may)
+
+sound_without_fault : (initial : List ℕ) (events : List Event) → AreDistinct initial → NoFaultBefore initial events (length events) → IsSound initial events
+sound_without_fault initial events distinct none =
+    subst (IsSound initial) (take_all (length events) events (omega arith)) (sound_before initial events (length events) (omega arith) distinct none)
 
 -- the tickets of events without a fault rise
-pub rise_without_fault : (events : List Event) → NoFaultBefore events (length events) → TicketsRise events
-rise_without_fault events none =
-    let sound : IsSound events = subst IsSound (take_all (length events) events (omega arith)) (sound_before events (length events) (omega arith) none) in
-    sound.tickets_rise
+pub rise_without_fault : (events : List Event) → NoFaultBefore [] events (length events) → TicketsRise events
+rise_without_fault events none = let sound = sound_without_fault [] events none_distinct none in sound.tickets_rise
 
 -- events without a fault and with nothing pending are a complete history
-pub complete_without_fault : (events : List Event) → NoFaultBefore events (length events) → NothingPending events → IsCompleteHistory events
-complete_without_fault events none nothing =
-    let sound : IsSound events = subst IsSound (take_all (length events) events (omega arith)) (sound_before events (length events) (omega arith) none) in
+pub complete_without_fault : (initial : List ℕ) (events : List Event) → AreDistinct initial → NoFaultBefore initial events (length events)
+    → NothingPending events → IsCompleteFrom initial events
+complete_without_fault initial events distinct none nothing =
+    let sound = sound_without_fault initial events distinct none in
     record {
-      tickets_rise = sound.tickets_rise;
-      tickets_in_range = sound.tickets_in_range;
-      threads_in_range = sound.threads_in_range;
-      threads_take_turns = λ thread. subst (λ pending. MatchOption pending (TakesTurns (projection thread events))
-          (λ call. (done : List Event) × (projection thread events ≡ done ++ call ∷ []) × TakesTurns done)) (nothing thread) (sound.turns thread);
+      complete = record {
+        tickets_rise = sound.tickets_rise;
+        tickets_in_range = sound.tickets_in_range;
+        threads_in_range = sound.threads_in_range;
+        threads_take_turns = λ thread. subst (λ pending. MatchOption pending (TakesTurns (projection thread events))
+            (λ call. (done : List Event) × (projection thread events ≡ done ++ call ∷ []) × TakesTurns done)) (nothing thread) (sound.turns thread);
+        values_are_distinct = λ i j d below inside same.
+            let long = length-append initial (called_values events) in
+            sound.values_are_distinct (length initial + i) (length initial + j) d (omega (arith, below)) (omega arith)
+            (get_or-append-add initial (called_values events) i d ∙ same ∙ sym (get_or-append-add initial (called_values events) j d));
+      };
       values_are_distinct = sound.values_are_distinct;
     }
 
--- so a walk over all events without a fault shows a complete history
-pub complete_after_walk : (events : List Event) (n : ℕ) → length events ≤ n → n ≤ length events → NoFaultBefore events n
-    → NothingPending (take n events) → IsCompleteHistory events
-complete_after_walk events n all within none nothing =
-    complete_without_fault events (λ i e below here. none i e (omega arith) here) (subst NothingPending (take_all n events all) nothing)
-
 -- ---- a complete history, hence no fault
 
-may_follow_in : (before later : List Event) (e : Event) → IsCompleteHistory (before ++ e ∷ later) → MayFollow before e
-may_follow_in before later e complete = record {
+may_follow_in : (initial : List ℕ) (before later : List Event) (e : Event) → IsCompleteFrom initial (before ++ e ∷ later) → MayFollow initial before e
+may_follow_in initial before later e whole = record {
   rises = rises before complete.tickets_rise;
   ticket_in_range = All-contains (λ x. x.ticket ≤ MAX_TICKET) (before ++ e ∷ later) e complete.tickets_in_range among;
   thread_in_range = All-contains (λ x. x.thread ≤ MAX_THREAD) (before ++ e ∷ later) e complete.threads_in_range among;
   fits = fits_in_turns (projection e.thread before) e (projection e.thread later) (subst TakesTurns projected (complete.threads_take_turns e.thread));
-  is_new = new_from_distinct before later e complete.values_are_distinct;
+  is_new = new_from_distinct initial before later e whole.values_are_distinct;
 }
   where
+    complete : IsCompleteHistory (before ++ e ∷ later)
+    complete = whole.complete
+
     among : Contains (before ++ e ∷ later) e
     among = Contains-append_right before (e ∷ later) e (zero, omega arith, refl)
 
@@ -143,55 +150,30 @@ may_follow_in before later e complete = record {
         subst (λ o. MatchOption o ⊤ (λ l. l.ticket < e.ticket)) (sym (last_is None x xs x)) below
 
 -- a complete history has no fault
-pub no_fault_in_complete : (events : List Event) → IsCompleteHistory events → NoFaultBefore events (length events)
-no_fault_in_complete events complete i e below here =
-    no_fault (take i events) i e (may_follow_in (take i events) (drop (suc i) events) e (subst IsCompleteHistory (cut_at events i e here) complete))
+pub no_fault_in_complete : (initial : List ℕ) (events : List Event) → IsCompleteFrom initial events → NoFaultBefore initial events (length events)
+no_fault_in_complete initial events complete i e below here =
+    no_fault initial (take i events) i e
+    (may_follow_in initial (take i events) (drop (suc i) events) e (subst (IsCompleteFrom initial) (cut_at events i e here) complete))
 
 -- in a complete history nothing is pending
 pub nothing_pending_in_complete : (events : List Event) → IsCompleteHistory events → NothingPending events
 nothing_pending_in_complete events complete thread = nothing_after_turns (projection thread events) (complete.threads_take_turns thread)
 
-no_first_fault : (events : List Event) (i : ℕ) (fault : HistoryFault) → IsCompleteHistory events → IsFirstFaultAt events i fault → ⊥
-no_first_fault events i fault complete found =
-    let e = found.1.0 in
-    let here = found.1.1 in
-    let none = no_fault_in_complete events complete i e (slice_get_within events i e here) here in
-    let some = found.1.2 in cc
-
--- ---- what a walk over the events finds
-
--- the fault found at a place is the first
-pub first_fault_at : (events : List Event) (i : ℕ) (e : Event) (fault : HistoryFault) → NoFaultBefore events i → slice_get events i ≡ Some e
-    → fault_at (take i events) i e ≡ Some fault → IsFirstFault events fault
-first_fault_at events i e fault none here found =
-    let at_place : (f : HistoryFault) → fault_at (take i events) i e ≡ Some f → IsFirstFaultAt events i f = λ f is. (none, (e, here, is)) in
-    one_of_rules (λ f. fault_at (take i events) i e ≡ Some f → IsFirstFault events f) (take i events) i e fault found
-    (at_place (TicketOrder i)) (at_place (BadThread i)) (at_place (CallWhilePending i)) (at_place (ReturnWithoutCall i)) (at_place (WrongReturn i))
-    (at_place (DuplicateValue i)) found
-
--- the place of the first repeat decides for each event whether it repeats a value
-pub repeats_at : (events : List Event) (repeat : Option ℕ) (i : ℕ) (e : Event) → IsFirstRepeat events repeat → NoFaultBefore events i
-    → slice_get events i ≡ Some e
-    → option_eq nat_eq repeat (Some i) ≡ repeats_value (take i events) e
-repeats_at events None i e first none here = sym (first i e (slice_get_within events i e here) here)
-repeats_at events (Some j) i e first none here = elim (cases_order j i) [
-  | inl same ↦ eq-eqb j i same ∙ sym (subst (λ k. slice_get events k ≡ Some e → repeats_value (take k events) e ≡ true) same repeated here)
-  | inr (inl earlier) ↦
-      let r = first.1.0 in
-      let new = may_follow (take j events) j r (none j r earlier first.1.1) in
-      absurd (false≢true (sym new.is_new ∙ first.1.2))
-  | inr (inr later) ↦ ne_eqb j i (λ same. absurd (omega arith)) ∙ sym (first.0 i e later here)
-]
-  where
-    repeated : slice_get events j ≡ Some e → repeats_value (take j events) e ≡ true
-    repeated here' = subst (λ x. repeats_value (take j events) x ≡ true) (one_at events j first.1.0 e first.1.1 here') first.1.2
+no_first_fault : (initial : List ℕ) (events : List Event) (i : ℕ) (fault : HistoryFault) → IsCompleteFrom initial events
+    → IsFirstFaultAt initial events i fault → ⊥
+no_first_fault initial events i fault complete found =
+    let e = found.2.0 in
+    let here = found.2.1 in
+    let none = no_fault_in_complete initial events complete i e (slice_get_within events i e here) here in
+    let some = found.2.2 in cc
 
 -- only out of memory is left as a fault of a complete history
-pub complete_has_no_fault : (events : List Event) (fault : HistoryFault) → IsFirstFault events fault → IsCompleteHistory events → fault ≡ Memory
-complete_has_no_fault events fault first complete = by_kind (λ f. IsFirstFault events f → f ≡ Memory)
-    (λ i f of found. absurd (no_first_fault events i f complete ((of.first events).0 found)))
+pub complete_has_no_fault : (initial : List ℕ) (events : List Event) (fault : HistoryFault) → IsFirstFault initial events fault
+    → IsCompleteFrom initial events → fault ≡ Memory
+complete_has_no_fault initial events fault first complete = by_kind (λ f. IsFirstFault initial events f → f ≡ Memory)
+    (λ i f of found. absurd (no_first_fault initial events i f complete ((of.first initial events).0 found)))
     (λ ticket found.
-    let call = found.1.0 in
-    let nothing = nothing_pending_in_complete events complete call.0 in
+    let call = found.2.0 in
+    let nothing = nothing_pending_in_complete events complete.complete call.0 in
     let there = call.2 in cc)
-    (λ found. refl) (λ j found. absurd found) fault first
+    (λ found. refl) (λ j found. absurd (twice_not_distinct initial j (initial_distinct initial events complete) found)) fault first

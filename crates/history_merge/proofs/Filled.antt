@@ -15,7 +15,7 @@ use Rattle.history_merge.specs.declared.operation.Operation.{Operation}
 use Rattle.history_merge.specs.declared.operation.OpKind.TheVariants.{Enq}
 use Rattle.history_merge.specs.Complete.{AreComplete, AreDistinct, IsCompleteUpTo, called_values}
 use Rattle.history_merge.specs.Initial.{IsCompleteFrom, event_later_by, filled, filled_events, filling_events_from, filling_from, later_by}
-use Rattle.history_merge.specs.Legal.{IsLegalOrder, IsLegalOrderFrom, IsLinearizable, IsLinearizableFrom}
+use Rattle.history_merge.specs.Legal.{IsLegalOrder, IsLinearizable}
 use Rattle.history_merge.specs.Operations.{operation_of, operations_of}
 use Rattle.history_merge.proofs.Later.{later_injective, legal_earlier, legal_later, not_later}
 use Rattle.history_merge.proofs.Later.{operations_later, projection_later, rise_later, turns_later, values_later}
@@ -48,8 +48,8 @@ enqueue_all clock [] = tt
 enqueue_all clock (v ∷ values) = (refl, enqueue_all (clock + 2) values)
 
 -- each linearization of the filled history begins with the initial values, and goes on with a linearization from these
-pub all_filled_orders : (initial : List ℕ) (operations found : List Operation) → IsLegalOrder (filled initial operations) found
-    → (order : List Operation) × (found ≡ filled initial order) × IsLegalOrderFrom initial operations order
+pub all_filled_orders : (initial : List ℕ) (operations found : List Operation) → IsLegalOrder [] (filled initial operations) found
+    → (order : List Operation) × (found ≡ filled initial order) × IsLegalOrder initial operations order
 all_filled_orders initial operations found legal =
     let n = 2 * length initial in
     let begun = enqueues_begin [] initial (filling_from 0 initial) (map (later_by n) operations) found (enqueue_all 0 initial)
@@ -58,8 +58,8 @@ all_filled_orders initial operations found legal =
     (back.0, begun.1 ∙ ap (λ os. filling_from 0 initial ++ os) back.1, back.2)
 
 -- a linearization from the initial values, after their enqueues, is one of the filled history
-pub filled_order : (initial : List ℕ) (operations order : List Operation) → IsLegalOrderFrom initial operations order
-    → IsLegalOrder (filled initial operations) (filled initial order)
+pub filled_order : (initial : List ℕ) (operations order : List Operation) → IsLegalOrder initial operations order
+    → IsLegalOrder [] (filled initial operations) (filled initial order)
 filled_order initial operations order legal =
     let n = 2 * length initial in
     enqueues_put [] initial (filling_from 0 initial) (map (later_by n) operations) (map (later_by n) order) (enqueue_all 0 initial)
@@ -67,19 +67,19 @@ filled_order initial operations order legal =
 
 -- an order is a linearization from the initial values if and only if after their enqueues it is one of the filled history
 pub filled_orders : (initial : List ℕ) (operations order : List Operation)
-    → IsLegalOrderFrom initial operations order ↔ IsLegalOrder (filled initial operations) (filled initial order)
+    → IsLegalOrder initial operations order ↔ IsLegalOrder [] (filled initial operations) (filled initial order)
 filled_orders initial operations order = (filled_order initial operations order, back)
   where
-    back : IsLegalOrder (filled initial operations) (filled initial order) → IsLegalOrderFrom initial operations order
+    back : IsLegalOrder [] (filled initial operations) (filled initial order) → IsLegalOrder initial operations order
     back legal =
         let n = 2 * length initial in
         let found = all_filled_orders initial operations (filled initial order) legal in
         let same = append_cancel_left (filling_from 0 initial) (map (later_by n) order) (map (later_by n) found.0) found.1 in
-        subst (λ os. IsLegalOrderFrom initial operations os) (sym (later_injective n order found.0 same)) found.2
+        subst (λ os. IsLegalOrder initial operations os) (sym (later_injective n order found.0 same)) found.2
 
 -- so a linearization of the one exists if and only if one of the other does
 pub linearizable_from_exactly : (initial : List ℕ) (operations : List Operation)
-    → IsLinearizableFrom initial operations ↔ IsLinearizable (filled initial operations)
+    → IsLinearizable initial operations ↔ IsLinearizable [] (filled initial operations)
 linearizable_from_exactly initial operations = (
   λ found. (filled initial found.0, filled_order initial operations found.0 found.1),
   λ found. let order = all_filled_orders initial operations found.0 found.1 in (order.0, order.2),

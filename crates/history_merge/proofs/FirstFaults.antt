@@ -1,49 +1,29 @@
 -- A list of events is a complete history if and only if it has no fault.
-use Rattle.std.proofs.Common.{◌≡◌, ℕ, ◌<◌, ◌≤◌, ◌&&◌, Bool, true, false, not, cond, List, Option, Some, None, refl, subst, nat_lt, nat_le}
-use Rattle.std.specs.Prelude.{MatchOption, is_some, is_none, ⊤}
-use Rattle.std.specs.Option.{option_map_or}
+use Rattle.std.proofs.Common.{◌≡◌, ℕ, ◌<◌, ◌≤◌, ◌&&◌, ◌||◌, Bool, true, false, not, cond, List, [], take, Option, Some, None, refl, sym, subst, nat_lt, nat_le}
+use Rattle.std.specs.Prelude.{MatchOption, if◌then◌else◌, is_some, is_none, ⊤}
+use Rattle.std.specs.Bool.{then_some}
+use Rattle.std.specs.Option.{option_map_or, option_or}
 use Rattle.std.specs.List.{last_or}
 use Rattle.std.proofs.lemmas.Bool.{ltb-false, le-ltb, leb-false, lt-leb, or_parts, or_from}
+use Rattle.std.proofs.lemmas.Option.{none-some}
 use Rattle.event_records.specs.declared.event.Event.{Event}
 use Rattle.event_records.specs.declared.limits.TheConstants.{MAX_TICKET, MAX_THREAD}
 use Rattle.event_records.specs.Turns.{is_call, answers}
 use Rattle.history_merge.specs.declared.fault.HistoryFault.{HistoryFault}
 use Rattle.history_merge.specs.declared.fault.HistoryFault.TheVariants.{TicketOrder, BadThread, CallWhilePending, ReturnWithoutCall, WrongReturn}
 use Rattle.history_merge.specs.declared.fault.HistoryFault.TheVariants.{DuplicateValue}
-use Rattle.history_merge.specs.Faults.{fault_at, breaks_ticket_order, answers_pending, repeats_value, pending_call}
+use Rattle.history_merge.specs.Faults.{IsFirstFault, IsFirstFaultAt, fault_at, answers_pending, breaks_ticket_order, calls_initial, repeats_value, pending_call}
 use Rattle.history_merge.specs.Inner.Forming.{FitsTurn}
+use Rattle.history_merge.proofs.InitialValues.{nothing_more}
 use Rattle.history_merge.proofs.Turns.{answer_is_return}
 
 -- the event breaks no rule after the events before it
-pub record MayFollow (before : List Event) (e : Event) : Type 0 where
+pub record MayFollow (initial : List ℕ) (before : List Event) (e : Event) : Type 0 where
   pub rises : MatchOption (last_or None before) ⊤ (λ last. last.ticket < e.ticket)
   pub ticket_in_range : e.ticket ≤ MAX_TICKET
   pub thread_in_range : e.thread ≤ MAX_THREAD
   pub fits : FitsTurn (pending_call e.thread before) e
-  pub is_new : repeats_value before e ≡ false
-
-abbrev first_of : Bool → Bool → Bool → Bool → Bool → Bool → (a b c d f g : HistoryFault) → Option HistoryFault
-first_of p q r s t u a b c d f g = cond p (Some a) (cond q (Some b) (cond r (Some c) (cond s (Some d) (cond t (Some f) (cond u (Some g) None)))))
-
-record AllFalse (p q r s t u : Bool) : Type 0 where
-  pub first : p ≡ false
-  pub second : q ≡ false
-  pub third : r ≡ false
-  pub fourth : s ≡ false
-  pub fifth : t ≡ false
-  pub sixth : u ≡ false
-
-all_false : (p q r s t u : Bool) (a b c d f g : HistoryFault) → first_of p q r s t u a b c d f g ≡ None → AllFalse p q r s t u
-all_false true q r s t u a b c d f g h = cc
-all_false false true r s t u a b c d f g h = cc
-all_false false false true s t u a b c d f g h = cc
-all_false false false false true t u a b c d f g h = cc
-all_false false false false false true u a b c d f g h = cc
-all_false false false false false false true a b c d f g h = cc
-all_false false false false false false false a b c d f g h = record { first = refl; second = refl; third = refl; fourth = refl; fifth = refl; sixth = refl }
-
-none_first : (p q r s t u : Bool) (a b c d f g : HistoryFault) → AllFalse p q r s t u → first_of p q r s t u a b c d f g ≡ None
-none_first p q r s t u a b c d f g h = rw (h.first, h.second, h.third, h.fourth, h.fifth, h.sixth) refl
+  pub is_new : (repeats_value before e || calls_initial initial e) ≡ false
 
 -- the three rules on turns
 record BreaksNoTurn (pending : Option Event) (e : Event) : Type 0 where
@@ -80,52 +60,89 @@ not_above : (last : Option Event) (e : Event) → MatchOption last ⊤ (λ l. l.
 not_above None e h = refl
 not_above (Some last) e h = lt-leb e.ticket last.ticket h
 
+-- ---- rule by rule: the first that is broken, and those after it
+
+passed : (p : Bool) (a : HistoryFault) (rest : Option HistoryFault) → (if p then Some a else rest) ≡ None → (p ≡ false) × (rest ≡ None)
+passed true a rest none = cc
+passed false a rest none = (refl, none)
+
+pass : (p : Bool) (a : HistoryFault) (rest : Option HistoryFault) → p ≡ false → rest ≡ None → (if p then Some a else rest) ≡ None
+pass p a rest is none = rw is none
+
 -- an event without a fault may follow
-pub may_follow : (before : List Event) (i : ℕ) (e : Event) → fault_at before i e ≡ None → MayFollow before e
-may_follow before i e none =
-    let pending = pending_call e.thread before in
-    let rules = all_false (breaks_ticket_order before e) (nat_lt MAX_THREAD e.thread) (is_call e.what && is_some pending)
-    (not (is_call e.what) && is_none pending)
-    (not (is_call e.what) && not (answers_pending pending e)) (repeats_value before e) _ _ _ _ _ _ none in
-    let order = or_parts (nat_lt MAX_TICKET e.ticket) (option_map_or (λ l. nat_le e.ticket l.ticket) (last_or None before) false) rules.first in
+pub may_follow : (initial : List ℕ) (before : List Event) (i : ℕ) (e : Event) → fault_at initial before i e ≡ None → MayFollow initial before e
+may_follow initial before i e none =
+    let ticket = passed _ _ _ none in
+    let thread = passed _ _ _ ticket.1 in
+    let call = passed _ _ _ thread.1 in
+    let return = passed _ _ _ call.1 in
+    let answer = passed _ _ _ return.1 in
+    let order = or_parts _ _ ticket.0 in
     record {
       rises = rises_above (last_or None before) e order.1;
       ticket_in_range = ltb-false MAX_TICKET e.ticket order.0;
-      thread_in_range = ltb-false MAX_THREAD e.thread rules.second;
-      fits = fits_turn pending e (record { no_call_while_pending = rules.third; no_return_without_call = rules.fourth; no_wrong_return = rules.fifth });
-      is_new = rules.sixth;
+      thread_in_range = ltb-false MAX_THREAD e.thread thread.0;
+      fits = fits_turn (pending_call e.thread before) e
+          (record { no_call_while_pending = call.0; no_return_without_call = return.0; no_wrong_return = answer.0 });
+      is_new = (passed _ _ _ answer.1).0;
     }
 
 -- an event that may follow has no fault
-pub no_fault : (before : List Event) (i : ℕ) (e : Event) → MayFollow before e → fault_at before i e ≡ None
-no_fault before i e m =
-    let pending = pending_call e.thread before in
-    let turn = breaks_no_turn pending e m.fits in
-    none_first (breaks_ticket_order before e) (nat_lt MAX_THREAD e.thread) (is_call e.what && is_some pending) (not (is_call e.what) && is_none pending)
-    (not (is_call e.what) && not (answers_pending pending e)) (repeats_value before e) _ _ _ _ _ _ (record {
-      first = or_from (nat_lt MAX_TICKET e.ticket) (option_map_or (λ l. nat_le e.ticket l.ticket) (last_or None before) false)
-          (le-ltb MAX_TICKET e.ticket m.ticket_in_range) (not_above (last_or None before) e m.rises);
-      second = le-ltb MAX_THREAD e.thread m.thread_in_range;
-      third = turn.no_call_while_pending;
-      fourth = turn.no_return_without_call;
-      fifth = turn.no_wrong_return;
-      sixth = m.is_new;
-    })
+pub no_fault : (initial : List ℕ) (before : List Event) (i : ℕ) (e : Event) → MayFollow initial before e → fault_at initial before i e ≡ None
+no_fault initial before i e may =
+    let turn = breaks_no_turn (pending_call e.thread before) e may.fits in
+    let order = or_from _ _ (le-ltb MAX_TICKET e.ticket may.ticket_in_range) (not_above (last_or None before) e may.rises) in
+    pass _ _ _ order (pass _ _ _ (le-ltb MAX_THREAD e.thread may.thread_in_range) (pass _ _ _ turn.no_call_while_pending
+    (pass _ _ _ turn.no_return_without_call (pass _ _ _ turn.no_wrong_return (pass _ _ _ may.is_new refl)))))
 
-one_of : (P : HistoryFault → Type 0) (p q r s t u : Bool) (a b c d f g x : HistoryFault) → first_of p q r s t u a b c d f g ≡ Some x → P a → P b → P c
-    → P d → P f → P g → P x
-one_of P true q r s t u a b c d f g x h pa pb pc pd pf pg = let same : a ≡ x = cc in subst P same pa
-one_of P false true r s t u a b c d f g x h pa pb pc pd pf pg = let same : b ≡ x = cc in subst P same pb
-one_of P false false true s t u a b c d f g x h pa pb pc pd pf pg = let same : c ≡ x = cc in subst P same pc
-one_of P false false false true t u a b c d f g x h pa pb pc pd pf pg = let same : d ≡ x = cc in subst P same pd
-one_of P false false false false true u a b c d f g x h pa pb pc pd pf pg = let same : f ≡ x = cc in subst P same pf
-one_of P false false false false false true a b c d f g x h pa pb pc pd pf pg = let same : g ≡ x = cc in subst P same pg
-one_of P false false false false false false a b c d f g x h pa pb pc pd pf pg = cc
+-- ---- the first of the rules, whether each is broken
 
--- what holds of the six faults of an event holds of the one that it has
-pub one_of_rules : (P : HistoryFault → Type 0) (before : List Event) (i : ℕ) (e : Event) (fault : HistoryFault) → fault_at before i e ≡ Some fault
-    → P (TicketOrder i) → P (BadThread i) → P (CallWhilePending i) → P (ReturnWithoutCall i) → P (WrongReturn i) → P (DuplicateValue i) → P fault
-one_of_rules P before i e fault found =
+some_is : (f g : HistoryFault) → Some f ≡ Some g → f ≡ g
+some_is f g is = cc
+
+abbrev first_of : ℕ → Bool → Bool → Bool → Bool → Bool → Bool → Option HistoryFault
+first_of i p q r s t u = cond p (Some (TicketOrder i)) (cond q (Some (BadThread i)) (cond r (Some (CallWhilePending i))
+    (cond s (Some (ReturnWithoutCall i)) (cond t (Some (WrongReturn i)) (cond u (Some (DuplicateValue i)) None)))))
+
+-- the fault found at a place is the first
+pub first_fault_at : (initial : List ℕ) (events : List Event) (i : ℕ) (fault : HistoryFault) → IsFirstFaultAt initial events i fault
+    → IsFirstFault initial events fault
+first_fault_at initial events i fault found =
+    let e = found.2.0 in
+    let before = take i events in
     let pending = pending_call e.thread before in
-    one_of P (breaks_ticket_order before e) (nat_lt MAX_THREAD e.thread) (is_call e.what && is_some pending) (not (is_call e.what) && is_none pending)
-    (not (is_call e.what) && not (answers_pending pending e)) (repeats_value before e) _ _ _ _ _ _ fault found
+    by_rules (breaks_ticket_order before e) (nat_lt MAX_THREAD e.thread) (is_call e.what && is_some pending) (not (is_call e.what) && is_none pending)
+    (not (is_call e.what) && not (answers_pending pending e)) (repeats_value before e || calls_initial initial e) found.2.2
+  where
+    it_is : (a : HistoryFault) → Some a ≡ Some fault → (IsFirstFaultAt initial events i a → IsFirstFault initial events a) → IsFirstFault initial events fault
+    it_is a is first =
+        let same : fault ≡ a = some_is fault a (sym is) in
+        subst (IsFirstFault initial events) (sym same) (first (subst (IsFirstFaultAt initial events i) same found))
+
+    by_rules : (p q r s t u : Bool) → first_of i p q r s t u ≡ Some fault → IsFirstFault initial events fault
+    by_rules true q r s t u is = it_is (TicketOrder i) is (λ at. at)
+    by_rules false true r s t u is = it_is (BadThread i) is (λ at. at)
+    by_rules false false true s t u is = it_is (CallWhilePending i) is (λ at. at)
+    by_rules false false false true t u is = it_is (ReturnWithoutCall i) is (λ at. at)
+    by_rules false false false false true u is = it_is (WrongReturn i) is (λ at. at)
+    by_rules false false false false false true is = it_is (DuplicateValue i) is (λ at. at)
+    by_rules false false false false false false is = absurd (none-some fault is)
+
+-- the fault if there are initial values is that without, else that of a call with one
+pub fault_from : (initial : List ℕ) (before : List Event) (i : ℕ) (e : Event)
+    → fault_at initial before i e ≡ option_or (fault_at [] before i e) (then_some (calls_initial initial e) (DuplicateValue i))
+fault_from initial before i e =
+    let pending = pending_call e.thread before in
+    rw (sym (nothing_more before e)) (by_rules (breaks_ticket_order before e) (nat_lt MAX_THREAD e.thread) (is_call e.what && is_some pending)
+    (not (is_call e.what) && is_none pending) (not (is_call e.what) && not (answers_pending pending e)) (repeats_value before e)
+    (calls_initial initial e))
+  where
+    by_rules : (p q r s t u w : Bool) → first_of i p q r s t (u || w) ≡ option_or (first_of i p q r s t u) (then_some w (DuplicateValue i))
+    by_rules true q r s t u w = refl
+    by_rules false true r s t u w = refl
+    by_rules false false true s t u w = refl
+    by_rules false false false true t u w = refl
+    by_rules false false false false true u w = refl
+    by_rules false false false false false true w = refl
+    by_rules false false false false false false true = refl
+    by_rules false false false false false false false = refl

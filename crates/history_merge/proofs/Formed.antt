@@ -15,7 +15,6 @@ use Rattle.event_records.specs.declared.limits.TheConstants.{MAX_THREAD}
 use Rattle.event_records.specs.Turns.{is_call, answers, TakesTurns}
 use Rattle.event_records.specs.Projection.{projection}
 use Rattle.history_merge.specs.declared.operation.Operation.{Operation}
-use Rattle.history_merge.specs.declared.operation.OpKind.TheVariants.{Enq}
 use Rattle.history_merge.specs.declared.forming.Forming.{Forming}
 use Rattle.history_merge.specs.Complete.{IsCompleteHistory}
 use Rattle.history_merge.specs.Faults.{pending_call}
@@ -27,10 +26,6 @@ use Rattle.history_merge.proofs.TheirEvents.{returned_after_answer, returned_aft
 use Rattle.history_merge.proofs.Tracking.{pending_call-push_own, pending_call-push_other}
 use Rattle.history_merge.proofs.Turns.{answer_is_return}
 use Rattle.history_merge.proofs.Gathered.{next_of, formed_call, waits_call, waits_answer, waits_other, formed_answer}
-
--- if there is no operation
-abbrev pub nowhere : Operation
-nowhere = record { call = 0; ret = 0; thread = 0; kind = Enq 0 }
 
 waits_for : (o : Option (ℕ × Event)) (call : Event) → option_map (λ found. found.1) o ≡ Some call → (place : ℕ) × (o ≡ Some (place, call))
 waits_for None call h = cc

@@ -1,17 +1,20 @@
--- Initial values one after another: distinct so far, or the first that stands twice.
-use Rattle.std.proofs.Common.{◌≡◌, ◌≢◌, ℕ, true, false, [], ◌∷◌, ◌++◌, List, take, Option, Some, None, refl, sym, ◌∙◌, inr}
-use Rattle.std.proofs.Common.{nat_eq}
+-- Initial values: distinct so far, or the first that stands twice; and histories without initial values.
+use Rattle.std.proofs.Common.{◌≡◌, ◌≢◌, ℕ, ◌<◌, ◌↔◌, ◌||◌, true, false, List, [], ◌∷◌, ◌++◌, length, take}
+use Rattle.std.proofs.Common.{Option, Some, None, refl, sym, ◌∙◌, subst, inr, arith, nat_eq, length-append}
 use Rattle.std.specs.Prelude.{slice_get}
-use Rattle.std.proofs.lemmas.Bool.{eq-eqb, eqb-true, false≢true}
-use Rattle.std.proofs.lemmas.List.Folds.{Any-from_list_any, list_any_at}
-use Rattle.std.proofs.lemmas.List.{get_or_default}
-use Rattle.std.proofs.lemmas.List.Quantifiers.{all_pairs_push}
-use Rattle.history_merge.specs.declared.fault.HistoryFault.TheVariants.{InitialTwice}
-use Rattle.history_merge.specs.Faults.{is_initial}
 use Rattle.std.specs.Option.{option_map_or}
+use Rattle.std.proofs.Math.Bool.{or-false}
+use Rattle.std.proofs.lemmas.Bool.{eq-eqb, eqb-true, false≢true}
+use Rattle.std.proofs.lemmas.List.{get_or_append_left, get_or_default, get_or-take, length-take, take_all}
+use Rattle.std.proofs.lemmas.List.Folds.{Any-from_list_any, list_any_at}
+use Rattle.std.proofs.lemmas.List.Quantifiers.{all_pairs_push}
+use Rattle.std.proofs.lemmas.Option.{slice_get_within, get_or_from_slice_get}
 use Rattle.event_records.specs.declared.event.Event.{Event}
-use Rattle.history_merge.specs.Complete.{AreDistinct, called_value}
-use Rattle.history_merge.specs.Gathering.{HasRefusedInitial, NoInitialCallBefore}
+use Rattle.history_merge.specs.declared.fault.HistoryFault.TheVariants.{InitialTwice}
+use Rattle.history_merge.specs.Complete.{AreDistinct, IsCompleteHistory, called_value, called_values}
+use Rattle.history_merge.specs.Faults.{IsFirstTwice, calls_initial, is_initial, repeats_value}
+use Rattle.history_merge.specs.Gathering.{HasRefusedInitial}
+use Rattle.history_merge.specs.Initial.{IsCompleteFrom}
 
 -- a value that isn't there yet
 pub distinct_more : (values : List ℕ) (v : ℕ) → AreDistinct values → is_initial values v ≡ false → AreDistinct (values ++ v ∷ [])
@@ -26,10 +29,47 @@ twice_at initial j v here distinct there =
     let same = eqb-true _ _ found.4 in
     inr (j, refl, (distinct, (v, here, (found.0, found.2, get_or_default (take j initial) found.0 v found.1 found.2 ∙ found.3 ∙ same))))
 
--- if there are no initial values, no call has one
-pub none_called : (initial : List ℕ) (events : List Event) (n : ℕ) → initial ≡ [] → NoInitialCallBefore initial events n
-none_called initial events n none i e below here = rw none (join (called_value e.what))
+-- if a value stands twice before place n, the values before it aren't distinct
+pub twice_before : (initial : List ℕ) (j n : ℕ) → j < n → AreDistinct (take n initial) → IsFirstTwice initial j → ⊥
+twice_before initial j n below distinct (before, (v, here, earlier)) =
+    let inside = slice_get_within initial j v here in
+    let short = length-take j initial in
+    let long = length-take n initial in
+    let low : earlier.0 < j = omega (arith, earlier.1, short) in
+    distinct earlier.0 j v low (omega (arith, long, inside, below))
+    (get_or-take n initial earlier.0 v (omega arith) ∙ sym (get_or-take j initial earlier.0 v low) ∙ earlier.2
+    ∙ sym (get_or_from_slice_get initial j v v here) ∙ sym (get_or-take n initial j v below))
+
+-- of distinct values none stands twice
+pub twice_not_distinct : (initial : List ℕ) (j : ℕ) → AreDistinct initial → IsFirstTwice initial j → ⊥
+twice_not_distinct initial j distinct twice =
+    let inside = slice_get_within initial j twice.1.0 twice.1.1 in
+    twice_before initial j (length initial) inside (subst AreDistinct (sym (take_all (length initial) initial (omega arith))) distinct) twice
+
+-- of a history that is complete from its initial values, these are distinct
+pub initial_distinct : (initial : List ℕ) (events : List Event) → IsCompleteFrom initial events → AreDistinct initial
+initial_distinct initial events complete i j d below inside same =
+    let long = length-append initial (called_values events) in
+    complete.values_are_distinct i j d below (omega arith)
+    (get_or_append_left initial (called_values events) d i (omega arith) ∙ same ∙ sym (get_or_append_left initial (called_values events) d j inside))
+
+-- ---- no initial values
+
+calls_nothing : (e : Event) → calls_initial [] e ≡ false
+calls_nothing e = join (called_value e.what)
   where
     join : (called : Option ℕ) → option_map_or (is_initial []) called false ≡ false
     join None = refl
     join (Some v) = refl
+
+pub none_distinct : AreDistinct []
+none_distinct i j d below inside = absurd (omega arith)
+
+-- a value that is new among the events is new
+pub nothing_more : (before : List Event) (e : Event) → repeats_value before e ≡ (repeats_value before e || calls_initial [] e)
+nothing_more before e = rw (calls_nothing e) (sym (or-false (repeats_value before e)))
+
+-- a complete history of a queue that is empty first
+pub complete_from_nothing : (events : List Event) → IsCompleteFrom [] events ↔ IsCompleteHistory events
+complete_from_nothing events =
+    (λ whole. whole.complete, λ complete. record { complete = complete; values_are_distinct = complete.values_are_distinct })

@@ -14,7 +14,7 @@ use Rattle.history_merge.specs.declared.operation.Operation.{Operation}
 use Rattle.history_merge.specs.declared.operation.OpKind.{OpKind}
 use Rattle.history_merge.specs.Complete.{called_value, called_values}
 use Rattle.history_merge.specs.Initial.{event_later_by, later_by}
-use Rattle.history_merge.specs.Legal.{IsLegalOrderFrom}
+use Rattle.history_merge.specs.Legal.{IsLegalOrder}
 use Rattle.history_merge.specs.Operations.{Precedes, kind_of, operation_of, operations_of}
 use Rattle.history_merge.specs.Queue.{IsAccepted}
 
@@ -49,7 +49,7 @@ same_kinds n operations = map_map (later_by n) (λ o. o.kind) operations
 pub legal_moved : (move : Operation → Operation) (queue : List ℕ) (operations order : List Operation)
     → ((xs : List Operation) → map (λ o. o.kind) (map move xs) ≡ map (λ o. o.kind) xs)
     → ((x y : Operation) → Precedes (move x) (move y) → Precedes x y)
-    → IsLegalOrderFrom queue operations order → IsLegalOrderFrom queue (map move operations) (map move order)
+    → IsLegalOrder queue operations order → IsLegalOrder queue (map move operations) (map move order)
 legal_moved move queue operations order kinds back legal = record {
   holds_each_once = IsPermutation-map move operations order legal.holds_each_once;
   extends_precedence = apart;
@@ -65,13 +65,13 @@ legal_moved move queue operations order kinds back legal = record {
         (back (get_or order j d) (get_or order i d) (omega (arith, precedes, ap (λ (o : Operation). o.call) early, ap (λ (o : Operation). o.ret) late)))
 
 -- so much later nothing of an order changes
-pub legal_later : (n : ℕ) (queue : List ℕ) (operations order : List Operation) → IsLegalOrderFrom queue operations order
-    → IsLegalOrderFrom queue (map (later_by n) operations) (map (later_by n) order)
+pub legal_later : (n : ℕ) (queue : List ℕ) (operations order : List Operation) → IsLegalOrder queue operations order
+    → IsLegalOrder queue (map (later_by n) operations) (map (later_by n) order)
 legal_later n queue operations order = legal_moved (later_by n) queue operations order (same_kinds n) (λ x y precedes. omega (arith, precedes))
 
 -- and an order of operations that are all so much later is one of these
-pub legal_earlier : (n : ℕ) (queue : List ℕ) (operations found : List Operation) → IsLegalOrderFrom queue (map (later_by n) operations) found
-    → (order : List Operation) × (found ≡ map (later_by n) order) × IsLegalOrderFrom queue operations order
+pub legal_earlier : (n : ℕ) (queue : List ℕ) (operations found : List Operation) → IsLegalOrder queue (map (later_by n) operations) found
+    → (order : List Operation) × (found ≡ map (later_by n) order) × IsLegalOrder queue operations order
 legal_earlier n queue operations found legal = (
   order,
   sym whole,

@@ -1,5 +1,5 @@
 -- Enqueues that precede all other operations stand first in each linearization.
-use Rattle.std.proofs.Common.{◌≡◌, ℕ, zero, suc, ◌<◌, List, [], ◌∷◌, ◌++◌, get_or, refl, sym, ◌∙◌, ap, subst, inl, inr, arith}
+use Rattle.std.proofs.Common.{◌≡◌, ℕ, zero, suc, List, [], ◌∷◌, ◌++◌, refl, sym, ◌∙◌, ap, subst, inl, inr, arith}
 use Rattle.std.specs.Prelude.{All, Contains, IsPermutation, map, ⊤}
 use Rattle.std.proofs.lemmas.List.{append-nil, append_assoc}
 use Rattle.std.proofs.lemmas.List.Elements.{All-contains}
@@ -7,7 +7,7 @@ use Rattle.std.proofs.lemmas.List.Kept.{AllPairs-cons}
 use Rattle.std.proofs.lemmas.List.Sorted.{All-permutation, Contains-permutation, IsPermutation-cons, IsPermutation-sym}
 use Rattle.history_merge.specs.declared.operation.Operation.{Operation}
 use Rattle.history_merge.specs.declared.operation.OpKind.TheVariants.{Enq}
-use Rattle.history_merge.specs.Legal.{IsLegalOrderFrom}
+use Rattle.history_merge.specs.Legal.{IsLegalOrder}
 use Rattle.history_merge.specs.Operations.{Precedes}
 use Rattle.history_merge.specs.Queue.{IsAccepted}
 use Rattle.history_merge.proofs.Cancelling.{rest_permutes}
@@ -15,8 +15,8 @@ use Rattle.history_merge.proofs.Distinct.{contains_cons, not_in_none}
 
 -- each linearization begins with an enqueue that precedes all other operations, and goes on from the queue that holds its value too
 pub first_begins : (queue : List ℕ) (v : ℕ) (x : Operation) (others order : List Operation) → x.kind ≡ Enq v → All (Precedes x) others
-    → IsLegalOrderFrom queue (x ∷ others) order
-    → (rest : List Operation) × (order ≡ x ∷ rest) × IsLegalOrderFrom (queue ++ v ∷ []) others rest
+    → IsLegalOrder queue (x ∷ others) order
+    → (rest : List Operation) × (order ≡ x ∷ rest) × IsLegalOrder (queue ++ v ∷ []) others rest
 first_begins queue v x others [] kind first legal =
     absurd (not_in_none x (Contains-permutation (x ∷ others) [] x legal.holds_each_once (zero, omega arith, refl)))
 first_begins queue v x others (h ∷ rest) kind first legal = (
@@ -48,20 +48,13 @@ first_begins queue v x others (h ∷ rest) kind first legal = (
 
 -- an enqueue that no other operation precedes may stand first
 pub first_put : (queue : List ℕ) (v : ℕ) (x : Operation) (others rest : List Operation) → x.kind ≡ Enq v → All (λ o. ¬ (Precedes o x)) others
-    → IsLegalOrderFrom (queue ++ v ∷ []) others rest → IsLegalOrderFrom queue (x ∷ others) (x ∷ rest)
+    → IsLegalOrder (queue ++ v ∷ []) others rest → IsLegalOrder queue (x ∷ others) (x ∷ rest)
 first_put queue v x others rest kind none legal = record {
   holds_each_once = IsPermutation-cons x others rest legal.holds_each_once;
   extends_precedence = AllPairs-cons (λ earlier later. ¬ (Precedes later earlier)) x rest
       (All-permutation (λ o. ¬ (Precedes o x)) others rest legal.holds_each_once none) legal.extends_precedence;
   is_accepted = subst (λ k. IsAccepted queue (k ∷ map (λ o. o.kind) rest)) (sym kind) legal.is_accepted;
 }
-
--- if calls come before returns, an operation that precedes others isn't preceded by one of them
-pub none_precedes : (x : Operation) (others : List Operation) → x.call < x.ret → All (λ o. o.call < o.ret) others → All (Precedes x) others
-    → All (λ o. ¬ (Precedes o x)) others
-none_precedes x others called called_all first k d below precedes =
-    let own = called_all k d below in
-    let later : x.ret < (get_or others k d).call = first k d below in omega (arith, called, own, later, precedes)
 
 -- each of the first operations precedes all later ones and the others, and none of these precedes it
 abbrev pub LeadAll : List Operation → List Operation → Type 0
@@ -77,10 +70,10 @@ Enqueue (v ∷ values) (x ∷ leading) = (x.kind ≡ Enq v) × Enqueue values le
 
 -- each linearization begins with enqueues that precede all other operations in turn, and goes on from the queue that holds their values
 pub enqueues_begin : (queue values : List ℕ) (leading others order : List Operation) → Enqueue values leading → LeadAll leading others
-    → IsLegalOrderFrom queue (leading ++ others) order
-    → (rest : List Operation) × (order ≡ leading ++ rest) × IsLegalOrderFrom (queue ++ values) others rest
+    → IsLegalOrder queue (leading ++ others) order
+    → (rest : List Operation) × (order ≡ leading ++ rest) × IsLegalOrder (queue ++ values) others rest
 enqueues_begin queue [] [] others order kinds lead legal =
-    (order, refl, subst (λ q. IsLegalOrderFrom q others order) (sym (append-nil queue)) legal)
+    (order, refl, subst (λ q. IsLegalOrder q others order) (sym (append-nil queue)) legal)
 enqueues_begin queue [] (x ∷ leading) others order kinds lead legal = absurd kinds
 enqueues_begin queue (v ∷ values) [] others order kinds lead legal = absurd kinds
 enqueues_begin queue (v ∷ values) (x ∷ leading) others order kinds lead legal =
@@ -88,16 +81,16 @@ enqueues_begin queue (v ∷ values) (x ∷ leading) others order kinds lead lega
     let next = enqueues_begin (queue ++ v ∷ []) values leading others first.0 kinds.1 lead.1 first.2 in (
       next.0,
       first.1 ∙ ap (λ os. x ∷ os) next.1,
-      subst (λ q. IsLegalOrderFrom q others next.0) (append_assoc queue (v ∷ []) values) next.2,
+      subst (λ q. IsLegalOrder q others next.0) (append_assoc queue (v ∷ []) values) next.2,
     )
 
 -- such enqueues may stand first
 pub enqueues_put : (queue values : List ℕ) (leading others rest : List Operation) → Enqueue values leading → LeadAll leading others
-    → IsLegalOrderFrom (queue ++ values) others rest → IsLegalOrderFrom queue (leading ++ others) (leading ++ rest)
-enqueues_put queue [] [] others rest kinds lead legal = subst (λ q. IsLegalOrderFrom q others rest) (append-nil queue) legal
+    → IsLegalOrder (queue ++ values) others rest → IsLegalOrder queue (leading ++ others) (leading ++ rest)
+enqueues_put queue [] [] others rest kinds lead legal = subst (λ q. IsLegalOrder q others rest) (append-nil queue) legal
 enqueues_put queue [] (x ∷ leading) others rest kinds lead legal = absurd kinds
 enqueues_put queue (v ∷ values) [] others rest kinds lead legal = absurd kinds
 enqueues_put queue (v ∷ values) (x ∷ leading) others rest kinds lead legal =
     first_put queue v x (leading ++ others) (leading ++ rest) kinds.0 (λ k d below. (lead.0 k d below).1)
     (enqueues_put (queue ++ v ∷ []) values leading others rest kinds.1 lead.1
-    (subst (λ q. IsLegalOrderFrom q others rest) (sym (append_assoc queue (v ∷ []) values)) legal))
+    (subst (λ q. IsLegalOrder q others rest) (sym (append_assoc queue (v ∷ []) values)) legal))

@@ -4,11 +4,11 @@
 -- TheirEvents: the operations, and the places of those that returned, determine the events.
 -- NextEvents: the same walk from the last event to the first.
 -- Completeness, Distinct: what the operations of a complete history have in common, and what distinguishes them.
+-- InitialValues: distinct initial values, and histories that are complete from them.
 -- FirstFaults, ExactFaults: a list of events is a complete history if and only if it has no fault. FaultKinds: the kinds of faults.
 -- Formed, MetFaults: what the builder holds after each event, and at the end: the operations, or the first fault.
--- OneFault: a list of events has one first fault.
 -- Searching, Clashes: the first event with a property, and what contradicts what.
--- InitialValues, InitialFaults, OneFaultFrom: the faults if the queue holds some values first.
+-- InitialFaults, OneFault: the first fault by that of the events alone and the calls with initial values; there is one first fault.
 -- Cancelling, Leading: enqueues that precede all other operations stand first in each linearization.
 -- Later, Filled, Enqueued: a history whose initial values are enqueued before all else is complete, and has the same linearizations.
 -- Runs, Places: what a run of the sequential specification enqueued and dequeued, and where.
@@ -39,4 +39,3 @@ pub mod Leading
 pub mod Later
 pub mod Filled
 pub mod Enqueued
-pub mod OneFaultFrom

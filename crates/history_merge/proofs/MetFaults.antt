@@ -11,11 +11,8 @@ use Rattle.history_merge.specs.declared.fault.HistoryFault.{HistoryFault}
 use Rattle.history_merge.specs.declared.gathering.OperationsBuilder.{OperationsBuilder}
 use Rattle.history_merge.specs.Faults.{fault_at, NoFaultBefore, IsFirstFault}
 use Rattle.history_merge.specs.Gathering.{HasGatheredEvents, HasMetFault, IsForming}
-use Rattle.history_merge.specs.Complete.{IsCompleteHistory}
-use Rattle.history_merge.specs.declared.fault.HistoryFault.TheVariants.{Memory, Pending}
-use Rattle.history_merge.specs.Faults.{IsLeastPending}
-use Rattle.history_merge.specs.Progress.{HasTracked}
-use Rattle.history_merge.proofs.ExactFaults.{complete_has_no_fault, first_fault_at}
+use Rattle.history_merge.proofs.FirstFaults.{first_fault_at}
+use Rattle.history_merge.proofs.InitialValues.{none_distinct}
 
 pub slice_get-append_left : (xs ys : List Event) (i : ℕ) → i < length xs → slice_get (xs ++ ys) i ≡ slice_get xs i
 slice_get-append_left [] ys i below = absurd (omega arith)
@@ -27,46 +24,53 @@ slice_get-append_seam [] y = refl
 slice_get-append_seam (x ∷ xs) y = slice_get-append_seam xs y
 
 -- later events change nothing of those before
-pub no_fault-append : (events later : List Event) (n : ℕ) → n ≤ length events → NoFaultBefore events n → NoFaultBefore (events ++ later) n
+pub no_fault-append : (events later : List Event) (n : ℕ) → n ≤ length events → NoFaultBefore [] events n → NoFaultBefore [] (events ++ later) n
 no_fault-append events later n within none i e below here =
     rw (take-append-le i events later (omega (arith, below, within))) (none i e below (sym (slice_get-append_left events later i (omega arith)) ∙ here))
 
 -- one more event without a fault
-pub no_fault-push : (events : List Event) (e : Event) → fault_at events (length events) e ≡ None → NoFaultBefore events (length events)
-    → NoFaultBefore (events ++ e ∷ []) (length (events ++ e ∷ []))
+pub no_fault-push : (events : List Event) (e : Event) → fault_at [] events (length events) e ≡ None → NoFaultBefore [] events (length events)
+    → NoFaultBefore [] (events ++ e ∷ []) (length (events ++ e ∷ []))
 no_fault-push events e here none i x below at = elim (cases_lt i (length events)) [
   | inl before ↦ no_fault-append events (e ∷ []) (length events) (omega arith) none i x before at
   | inr above ↦
       let short = simp length-append at below in
       let last : length events ≡ i = omega arith in
-      subst (λ k. slice_get (events ++ e ∷ []) k ≡ Some x → fault_at (take k (events ++ e ∷ [])) k x ≡ None) last
+      subst (λ k. slice_get (events ++ e ∷ []) k ≡ Some x → fault_at [] (take k (events ++ e ∷ [])) k x ≡ None) last
       (λ at_last. let same : e ≡ x = cc (slice_get-append_seam events e) in
-      subst (λ y. fault_at (take (length events) (events ++ e ∷ [])) (length events) y ≡ None) same (rw take-append_seam here)) at
+      subst (λ y. fault_at [] (take (length events) (events ++ e ∷ [])) (length events) y ≡ None) same (rw take-append_seam here)) at
 ]
 
 -- a fault that was met stays the first
 pub met_fault-append : (events later : List Event) (fault : HistoryFault) → HasMetFault events fault → HasMetFault (events ++ later) fault
 met_fault-append events later fault (inl memory) = inl memory
-met_fault-append events later fault (inr (i, (none, (e, here, found)))) =
+met_fault-append events later fault (inr (i, (distinct, none, (e, here, found)))) =
     let within = slice_get_within events i e here in
     inr (
       i,
       (
+        distinct,
         no_fault-append events later i (omega (arith, within)) none,
         (e, slice_get-append_left events later i within ∙ here, rw (take-append-le i events later (omega (arith, within))) found),
       ),
     )
 
 -- the fault of one more event is the first
-pub met_fault-push : (events : List Event) (e : Event) (fault : HistoryFault) → fault_at events (length events) e ≡ Some fault
-    → NoFaultBefore events (length events) → HasMetFault (events ++ e ∷ []) fault
-met_fault-push events e fault found none =
-    inr (length events, (no_fault-append events (e ∷ []) (length events) (omega arith) none, (e, slice_get-append_seam events e, rw take-append_seam found)))
+pub met_fault-push : (events : List Event) (e : Event) (fault : HistoryFault) → fault_at [] events (length events) e ≡ Some fault
+    → NoFaultBefore [] events (length events) → HasMetFault (events ++ e ∷ []) fault
+met_fault-push events e fault found none = inr (
+  length events,
+  (
+    none_distinct,
+    no_fault-append events (e ∷ []) (length events) (omega arith) none,
+    (e, slice_get-append_seam events e, rw take-append_seam found),
+  ),
+)
 
 -- a fault that was met is the first, at the end too
-pub met_fault_is_first : (events : List Event) (fault : HistoryFault) → HasMetFault events fault → IsFirstFault events fault
-met_fault_is_first events fault (inl memory) = subst (IsFirstFault events) (sym memory) tt
-met_fault_is_first events fault (inr (i, (none, (e, here, found)))) = first_fault_at events i e fault none here found
+pub met_fault_is_first : (events : List Event) (fault : HistoryFault) → HasMetFault events fault → IsFirstFault [] events fault
+met_fault_is_first events fault (inl memory) = subst (IsFirstFault [] events) (sym memory) tt
+met_fault_is_first events fault (inr (i, found)) = first_fault_at [] events i fault found
 
 -- after a fault was met, events are passed over
 pub gathered_after_fault : (events : List Event) (e : Event) (builder : OperationsBuilder) → true ≡ is_some builder.fault → HasGatheredEvents events builder
@@ -78,36 +82,25 @@ gathered_after_fault events e builder some gathered = join builder.fault some ga
     join None h known = cc
     join (Some fault) h known = met_fault-append events (e ∷ []) fault known
 
+-- if no fault is kept, the events have none so far
+pub still_forming : (events : List Event) (builder : OperationsBuilder) → builder.fault ≡ None → HasGatheredEvents events builder → IsForming events builder
+still_forming events builder none gathered = subst (λ fault. MatchOption fault (IsForming events builder) (HasMetFault events)) none gathered
+
+none_kept : (kept : Option HistoryFault) → false ≡ is_some kept → kept ≡ None
+none_kept None none = refl
+none_kept (Some fault) none = cc
+
 -- while none was met, the events have none
 pub none_met : (events : List Event) (builder : OperationsBuilder) → false ≡ is_some builder.fault → HasGatheredEvents events builder → IsForming events builder
-none_met events builder none gathered = join builder.fault none gathered
-  where
-    join : (fault : Option HistoryFault) → false ≡ is_some fault → MatchOption fault (IsForming events builder) (HasMetFault events) → IsForming events builder
-    join None h known = known
-    join (Some fault) h known = cc
+none_met events builder none = still_forming events builder (none_kept builder.fault none)
 
 -- events without a fault so far were gathered
 pub gathered_without_fault : (events : List Event) (builder : OperationsBuilder) → false ≡ is_some builder.fault → IsForming events builder
     → HasGatheredEvents events builder
-gathered_without_fault events builder none known = join builder.fault none
-  where
-    join : (fault : Option HistoryFault) → false ≡ is_some fault → MatchOption fault (IsForming events builder) (HasMetFault events)
-    join None h = known
-    join (Some fault) h = cc
-
--- if no fault is kept, the events have none so far
-pub still_forming : (events : List Event) (builder : OperationsBuilder) → builder.fault ≡ None → HasGatheredEvents events builder → IsForming events builder
-still_forming events builder none gathered = subst (λ fault. MatchOption fault (IsForming events builder) (HasMetFault events)) none gathered
+gathered_without_fault events builder none known =
+    subst (λ fault. MatchOption fault (IsForming events builder) (HasMetFault events)) (sym (none_kept builder.fault none)) known
 
 -- a fault that is kept was met
 pub kept_is_met : (events : List Event) (builder : OperationsBuilder) (fault : HistoryFault) → builder.fault ≡ Some fault → HasGatheredEvents events builder
     → HasMetFault events fault
 kept_is_met events builder fault kept gathered = subst (λ kept. MatchOption kept (IsForming events builder) (HasMetFault events)) kept gathered
-
--- a call that is left pending if no fault is kept: then the history isn't complete
-pub left_pending : (builder : OperationsBuilder) (ticket : ℕ) (events : List Event) → builder.fault ≡ None
-    → ((before : List Event) → HasTracked before builder.progress → IsLeastPending before ticket)
-    → HasGatheredEvents events builder → IsCompleteHistory events → Pending ticket ≡ Memory
-left_pending builder ticket events none least gathered complete =
-    let known = still_forming events builder none gathered in
-    complete_has_no_fault events (Pending ticket) (known.no_fault, least events known.tracked) complete

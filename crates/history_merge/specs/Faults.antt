@@ -1,8 +1,8 @@
--- The first fault of a list of events that is no complete history, of a queue that is empty first or holds some values.
+-- The first fault of initial values and a list of events that are no complete history.
 use Rattle.std.specs.Prelude.{◌≡◌, ℕ, ◌<◌, ◌≤◌, Bool, false, ◌||◌, ◌&&◌, not, nat_le, nat_lt, nat_eq, List, length, take, slice_get, Option, Some}
 use Rattle.std.specs.Prelude.{None, is_some, is_none, if◌then◌else◌, ⊤, option_and_then, Contains}
 use Rattle.std.specs.Bool.{then_some}
-use Rattle.std.specs.Option.{option_map_or, option_or}
+use Rattle.std.specs.Option.{option_map_or}
 use Rattle.std.specs.List.{last_or, list_any}
 use Rattle.event_records.specs.declared.event.Event.{Event}
 use Rattle.event_records.specs.Turns.{is_call, answers}
@@ -33,46 +33,6 @@ answers_pending pending e = option_map_or (λ call. answers call.what e.what) pe
 abbrev pub repeats_value : List Event → Event → Bool
 repeats_value before e = option_map_or (was_called before) (called_value e.what) false
 
--- the first rule, in this order, that the event at this place breaks after the events before it
-abbrev pub fault_at : List Event → ℕ → Event → Option HistoryFault
-fault_at before i e =
-    let pending = pending_call e.thread before in
-    if breaks_ticket_order before e then Some (TicketOrder i) else
-    if nat_lt MAX_THREAD e.thread then Some (BadThread i) else
-    if is_call e.what && is_some pending then Some (CallWhilePending i) else
-    if not (is_call e.what) && is_none pending then Some (ReturnWithoutCall i) else
-    if not (is_call e.what) && not (answers_pending pending e) then Some (WrongReturn i) else
-    if repeats_value before e then Some (DuplicateValue i) else
-    None
-
--- the events before place n have no fault
-abbrev pub NoFaultBefore : List Event → ℕ → Type 0
-NoFaultBefore events n = (i : ℕ) (e : Event) → i < n → slice_get events i ≡ Some e → fault_at (take i events) i e ≡ None
-
--- the event at place i has this fault, and the events before it have none
-abbrev pub IsFirstFaultAt : List Event → ℕ → HistoryFault → Type 0
-IsFirstFaultAt events i fault = NoFaultBefore events i × ((e : Event) × (slice_get events i ≡ Some e) × (fault_at (take i events) i e ≡ Some fault))
-
--- this is the least ticket of a call without return
-abbrev pub IsLeastPending : List Event → ℕ → Type 0
-IsLeastPending events ticket =
-    ((thread : ℕ) × (call : Event) × (pending_call thread events ≡ Some call) × (call.ticket ≡ ticket))
-    × ((thread : ℕ) (call : Event) → pending_call thread events ≡ Some call → ticket ≤ call.ticket)
-
--- what is wrong with the events, the first in their order; running out of memory says nothing of them
-abbrev pub IsFirstFault : List Event → HistoryFault → Type 0
-IsFirstFault events (TicketOrder i) = IsFirstFaultAt events i (TicketOrder i)
-IsFirstFault events (BadThread i) = IsFirstFaultAt events i (BadThread i)
-IsFirstFault events (CallWhilePending i) = IsFirstFaultAt events i (CallWhilePending i)
-IsFirstFault events (ReturnWithoutCall i) = IsFirstFaultAt events i (ReturnWithoutCall i)
-IsFirstFault events (WrongReturn i) = IsFirstFaultAt events i (WrongReturn i)
-IsFirstFault events (DuplicateValue i) = IsFirstFaultAt events i (DuplicateValue i)
-IsFirstFault events (Pending ticket) = NoFaultBefore events (length events) × IsLeastPending events ticket
-IsFirstFault events Memory = ⊤
-IsFirstFault events (InitialTwice j) = ⊥
-
--- ---- of a queue that holds some values first
-
 -- whether this is an initial value
 abbrev pub is_initial : List ℕ → ℕ → Bool
 is_initial initial v = list_any (λ w. nat_eq w v) initial
@@ -81,32 +41,46 @@ is_initial initial v = list_any (λ w. nat_eq w v) initial
 abbrev pub calls_initial : List ℕ → Event → Bool
 calls_initial initial e = option_map_or (is_initial initial) (called_value e.what) false
 
--- the first rule that the event at this place breaks; the last rule is that its value is new, among the initial ones too
-abbrev pub fault_from : List ℕ → List Event → ℕ → Event → Option HistoryFault
-fault_from initial before i e = option_or (fault_at before i e) (then_some (calls_initial initial e) (DuplicateValue i))
+-- the first rule, in this order, that the event at this place breaks after the events before it; the last rule is that its value is
+-- new, among the initial ones too
+abbrev pub fault_at : List ℕ → List Event → ℕ → Event → Option HistoryFault
+fault_at initial before i e =
+    let pending = pending_call e.thread before in
+    if breaks_ticket_order before e then Some (TicketOrder i) else
+    if nat_lt MAX_THREAD e.thread then Some (BadThread i) else
+    if is_call e.what && is_some pending then Some (CallWhilePending i) else
+    if not (is_call e.what) && is_none pending then Some (ReturnWithoutCall i) else
+    if not (is_call e.what) && not (answers_pending pending e) then Some (WrongReturn i) else
+    if repeats_value before e || calls_initial initial e then Some (DuplicateValue i) else
+    None
 
 -- the events before place n have no fault
-abbrev pub NoFaultBeforeFrom : List ℕ → List Event → ℕ → Type 0
-NoFaultBeforeFrom initial events n = (i : ℕ) (e : Event) → i < n → slice_get events i ≡ Some e → fault_from initial (take i events) i e ≡ None
+abbrev pub NoFaultBefore : List ℕ → List Event → ℕ → Type 0
+NoFaultBefore initial events n = (i : ℕ) (e : Event) → i < n → slice_get events i ≡ Some e → fault_at initial (take i events) i e ≡ None
 
 -- the initial values are distinct, the event at place i has this fault, and the events before it have none
-abbrev pub IsFirstFaultAtFrom : List ℕ → List Event → ℕ → HistoryFault → Type 0
-IsFirstFaultAtFrom initial events i fault = AreDistinct initial × NoFaultBeforeFrom initial events i
-    × ((e : Event) × (slice_get events i ≡ Some e) × (fault_from initial (take i events) i e ≡ Some fault))
+abbrev pub IsFirstFaultAt : List ℕ → List Event → ℕ → HistoryFault → Type 0
+IsFirstFaultAt initial events i fault = AreDistinct initial × NoFaultBefore initial events i
+    × ((e : Event) × (slice_get events i ≡ Some e) × (fault_at initial (take i events) i e ≡ Some fault))
+
+-- this is the least ticket of a call without return
+abbrev pub IsLeastPending : List Event → ℕ → Type 0
+IsLeastPending events ticket =
+    ((thread : ℕ) × (call : Event) × (pending_call thread events ≡ Some call) × (call.ticket ≡ ticket))
+    × ((thread : ℕ) (call : Event) → pending_call thread events ≡ Some call → ticket ≤ call.ticket)
 
 -- the initial value at place j stands before it too, and those before it are distinct
 abbrev pub IsFirstTwice : List ℕ → ℕ → Type 0
 IsFirstTwice initial j = AreDistinct (take j initial) × ((v : ℕ) × (slice_get initial j ≡ Some v) × Contains (take j initial) v)
 
--- what is wrong with the initial values, else with the events; running out of memory says nothing of them
-abbrev pub IsFirstFaultFrom : List ℕ → List Event → HistoryFault → Type 0
-IsFirstFaultFrom initial events (TicketOrder i) = IsFirstFaultAtFrom initial events i (TicketOrder i)
-IsFirstFaultFrom initial events (BadThread i) = IsFirstFaultAtFrom initial events i (BadThread i)
-IsFirstFaultFrom initial events (CallWhilePending i) = IsFirstFaultAtFrom initial events i (CallWhilePending i)
-IsFirstFaultFrom initial events (ReturnWithoutCall i) = IsFirstFaultAtFrom initial events i (ReturnWithoutCall i)
-IsFirstFaultFrom initial events (WrongReturn i) = IsFirstFaultAtFrom initial events i (WrongReturn i)
-IsFirstFaultFrom initial events (DuplicateValue i) = IsFirstFaultAtFrom initial events i (DuplicateValue i)
-IsFirstFaultFrom initial events (Pending ticket) =
-    AreDistinct initial × NoFaultBeforeFrom initial events (length events) × IsLeastPending events ticket
-IsFirstFaultFrom initial events Memory = ⊤
-IsFirstFaultFrom initial events (InitialTwice j) = IsFirstTwice initial j
+-- what is wrong with the initial values, else with the events, the first in their order; running out of memory says nothing of them
+abbrev pub IsFirstFault : List ℕ → List Event → HistoryFault → Type 0
+IsFirstFault initial events (TicketOrder i) = IsFirstFaultAt initial events i (TicketOrder i)
+IsFirstFault initial events (BadThread i) = IsFirstFaultAt initial events i (BadThread i)
+IsFirstFault initial events (CallWhilePending i) = IsFirstFaultAt initial events i (CallWhilePending i)
+IsFirstFault initial events (ReturnWithoutCall i) = IsFirstFaultAt initial events i (ReturnWithoutCall i)
+IsFirstFault initial events (WrongReturn i) = IsFirstFaultAt initial events i (WrongReturn i)
+IsFirstFault initial events (DuplicateValue i) = IsFirstFaultAt initial events i (DuplicateValue i)
+IsFirstFault initial events (Pending ticket) = AreDistinct initial × NoFaultBefore initial events (length events) × IsLeastPending events ticket
+IsFirstFault initial events Memory = ⊤
+IsFirstFault initial events (InitialTwice j) = IsFirstTwice initial j

@@ -43,11 +43,11 @@ pub record IsForming (events : List Event) (builder : OperationsBuilder) : Type 
   pub called : KnowsCalled events builder.called
   pub formed : HasFormed events builder.forming
   pub count : builder.count ≡ length events
-  pub no_fault : NoFaultBefore events (length events)
+  pub no_fault : NoFaultBefore [] events (length events)
 
 -- the fault is the first of the events, whatever follows them; or out of memory, which says nothing of them
 abbrev pub HasMetFault : List Event → HistoryFault → Type 0
-HasMetFault events fault = (fault ≡ Memory) ⊎ ((i : ℕ) × IsFirstFaultAt events i fault)
+HasMetFault events fault = (fault ≡ Memory) ⊎ ((i : ℕ) × IsFirstFaultAt [] events i fault)
 
 -- these events were added, one after another
 abbrev pub HasGatheredEvents : List Event → OperationsBuilder → Type 0

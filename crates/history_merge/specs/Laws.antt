@@ -2,12 +2,10 @@
 use Rattle.std.specs.Prelude.{◌≡◌, ℕ, ◌≤◌, ◌↔◌, List, [], length}
 use Rattle.event_records.specs.declared.event.Event.{Event}
 use Rattle.event_records.specs.declared.limits.TheConstants.{MAX_CLOCK, MAX_INITIAL}
-use Rattle.history_merge.specs.declared.fault.HistoryFault.{HistoryFault}
 use Rattle.history_merge.specs.declared.operation.Operation.{Operation}
 use Rattle.history_merge.specs.Complete.{AreComplete, IsCompleteHistory, IsCompleteUpTo}
-use Rattle.history_merge.specs.Faults.{IsFirstFault, IsFirstFaultFrom}
 use Rattle.history_merge.specs.Initial.{IsCompleteFrom, filled, filled_events}
-use Rattle.history_merge.specs.Legal.{IsLegalOrder, IsLegalOrderFrom, IsLinearizable, IsLinearizableFrom}
+use Rattle.history_merge.specs.Legal.{IsLegalOrder, IsLinearizable}
 use Rattle.history_merge.specs.Operations.{operations_of}
 
 -- the filled history of a history that is complete from its initial values is complete, by clock
@@ -27,17 +25,17 @@ FilledAreComplete = (initial : List ℕ) (events : List Event) → IsCompleteFro
 -- an order is a linearization from the initial values if and only if, after their enqueues, it is one of the filled history
 abbrev pub FilledOrders : Type 0
 FilledOrders = (initial : List ℕ) (operations order : List Operation)
-    → IsLegalOrderFrom initial operations order ↔ IsLegalOrder (filled initial operations) (filled initial order)
+    → IsLegalOrder initial operations order ↔ IsLegalOrder [] (filled initial operations) (filled initial order)
 
 -- the filled history has no other linearizations
 abbrev pub FilledOrdersAreAll : Type 0
-FilledOrdersAreAll = (initial : List ℕ) (operations found : List Operation) → IsLegalOrder (filled initial operations) found
-    → (order : List Operation) × (found ≡ filled initial order) × IsLegalOrderFrom initial operations order
+FilledOrdersAreAll = (initial : List ℕ) (operations found : List Operation) → IsLegalOrder [] (filled initial operations) found
+    → (order : List Operation) × (found ≡ filled initial order) × IsLegalOrder initial operations order
 
 -- a linearization from the initial values exists if and only if the filled history has one
 abbrev pub LinearizableFromExactly : Type 0
 LinearizableFromExactly = (initial : List ℕ) (operations : List Operation)
-    → IsLinearizableFrom initial operations ↔ IsLinearizable (filled initial operations)
+    → IsLinearizable initial operations ↔ IsLinearizable [] (filled initial operations)
 
 -- with no initial values the filled history is the history
 abbrev pub FilledWithNone : Type 0
@@ -46,7 +44,3 @@ FilledWithNone = (operations : List Operation) → filled [] operations ≡ oper
 -- a history is complete from no initial values if and only if it is complete
 abbrev pub CompleteFromNone : Type 0
 CompleteFromNone = (events : List Event) → IsCompleteFrom [] events ↔ IsCompleteHistory events
-
--- with no initial values the first fault is that of the events
-abbrev pub FirstFaultFromNone : Type 0
-FirstFaultFromNone = (events : List Event) (fault : HistoryFault) → IsFirstFaultFrom [] events fault ↔ IsFirstFault events fault

@@ -1,7 +1,7 @@
 ghost use Rattle.std.specs.Prelude.{◌≤◌, ◌≡◌, [], MatchResult, IfOk, IfErr, length, vec_len};
 ghost use Rattle.event_records.specs.declared.limits.TheConstants.{MAX_EVENTS, MAX_INITIAL};
 ghost use Rattle.history_merge.specs.Complete.{IsCompleteHistory};
-ghost use Rattle.history_merge.specs.Faults.{IsFirstFault, IsFirstFaultFrom};
+ghost use Rattle.history_merge.specs.Faults.{IsFirstFault};
 ghost use Rattle.history_merge.specs.Initial.{IsCompleteFrom};
 
 use crate::builder::HistoryBuilder;
@@ -38,7 +38,7 @@ use std::alloc::Global;
 /// ```
 pub fn history(alloc: Global, events: &[Event]) -> Result<History, HistoryFault>
     requires { length events.now ≤ MAX_EVENTS }
-    ensures outcome { MatchResult result (λ h. h.events ≡ events.now) (IsFirstFault events.now) }
+    ensures outcome { MatchResult result (λ h. h.events ≡ events.now) (IsFirstFault [] events.now) }
     ensures initial { IfOk result (λ h. h.initial ≡ []) }
     ensures complete { IfOk result (λ h. IsCompleteHistory h.events) }
     ensures refused { IfErr result (λ fault. IsCompleteHistory events.now → fault ≡ HistoryFault.Memory) }
@@ -70,7 +70,7 @@ pub fn history_from(
 ) -> Result<History, HistoryFault>
     requires few_initial { vec_len initial ≤ MAX_INITIAL }
     requires few_events { length events.now ≤ MAX_EVENTS }
-    ensures outcome { MatchResult result (λ h. (h.initial ≡ initial.items) × (h.events ≡ events.now)) (IsFirstFaultFrom initial.items events.now) }
+    ensures outcome { MatchResult result (λ h. (h.initial ≡ initial.items) × (h.events ≡ events.now)) (IsFirstFault initial.items events.now) }
     ensures complete { IfOk result (λ h. IsCompleteFrom h.initial h.events) }
     ensures refused { IfErr result (λ fault. IsCompleteFrom initial.items events.now → fault ≡ HistoryFault.Memory) }
 {

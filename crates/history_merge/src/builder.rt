@@ -5,7 +5,7 @@ ghost use Rattle.event_records.specs.declared.limits.TheConstants.{MAX_EVENTS, M
 ghost use Rattle.history_merge.specs.declared.fault.HistoryFault.TheVariants.{DuplicateValue};
 ghost use Rattle.history_merge.specs.Clashes.{IsClash};
 ghost use Rattle.history_merge.specs.Complete.{IsCompleteHistory};
-ghost use Rattle.history_merge.specs.Faults.{IsFirstFault, IsFirstFaultFrom};
+ghost use Rattle.history_merge.specs.Faults.{IsFirstFault};
 ghost use Rattle.history_merge.specs.Gathering.{AreJudged, HasGathered, KeepsFault};
 ghost use Rattle.history_merge.specs.Initial.{IsCompleteFrom};
 ghost use Rattle.history_merge.specs.Inner.Faults.{comes_by};
@@ -130,7 +130,7 @@ impl HistoryBuilder {
     /// ticket without a return. `Memory` comes if memory ran out, and then says nothing of the values and the events.
     pub fn finish(self) -> Result<History, HistoryFault>
         ensures outcome { (initial : List ℕ) (events : List Event) → HasGathered initial events self
-            → MatchResult result (λ whole. (whole.initial ≡ initial) × (whole.events ≡ events)) (IsFirstFaultFrom initial events) }
+            → MatchResult result (λ whole. (whole.initial ≡ initial) × (whole.events ≡ events)) (IsFirstFault initial events) }
         ensures complete { IfOk result (λ whole. IsCompleteFrom whole.initial whole.events) }
         ensures refused { (initial : List ℕ) (events : List Event) → HasGathered initial events self
             → IfErr result (λ fault. IsCompleteFrom initial events → fault ≡ HistoryFault.Memory) }
@@ -188,8 +188,8 @@ fn decided(
     judged: Result<Formed, HistoryFault>,
 ) -> Result<Formed, HistoryFault>
     ensures told { (initial : List ℕ) (events : List Event) → HasInitialCalls initial events first_call
-        → MatchResult judged (λ formed. IsFormedOf events formed × IsCompleteHistory events) (IsFirstFault events)
-        → MatchResult result (λ formed. IsFormedOf events formed × IsCompleteFrom initial events) (IsFirstFaultFrom initial events) }
+        → MatchResult judged (λ formed. IsFormedOf events formed × IsCompleteHistory events) (IsFirstFault [] events)
+        → MatchResult result (λ formed. IsFormedOf events formed × IsCompleteFrom initial events) (IsFirstFault initial events) }
     ensures kept { IsErr judged → IsErr result }
 {
     match first_call? {

@@ -26,7 +26,7 @@ pub enum HistoryFault {
     /// The event at this place is a return of another kind than its thread's call.
     #[error("{name} {0}", name = self.name())]
     WrongReturn(usize),
-    /// The event at this place calls to enqueue a value that an earlier event called to enqueue.
+    /// The event at this place calls to enqueue an initial value, or one that an earlier event called to enqueue.
     #[error("{name} {0}", name = self.name())]
     DuplicateValue(usize),
     /// No event has a fault, but the call of this ticket has no return, and each call before it has one.

@@ -1,5 +1,5 @@
 //! The builder of the operations of a history whose queue is empty at first.
-ghost use Rattle.std.specs.Prelude.{◌≡◌, ◌<◌, ◌≤◌, ℕ, List, [], ◌∷◌, ◌++◌, IfErr, IfOk, IfSome, IsErr, IsSome, MatchResult, length};
+ghost use Rattle.std.specs.Prelude.{◌≡◌, ◌<◌, ◌≤◌, ℕ, List, [], ◌∷◌, ◌++◌, IfSome, IsErr, IsSome, MatchResult, length};
 ghost use Rattle.event_records.specs.declared.event.Event.{Event};
 ghost use Rattle.event_records.specs.declared.limits.TheConstants.{MAX_EVENTS};
 ghost use Rattle.history_merge.specs.Clashes.{IsClash};
@@ -125,9 +125,8 @@ impl OperationsBuilder {
     /// fault, `Pending` names the least call ticket without a return. `Memory` comes if memory ran out, and then says
     /// nothing of the events.
     pub fn finish(self) -> Result<Formed, HistoryFault>
-        ensures outcome { (events : List Event) → HasGatheredEvents events self → MatchResult result (IsFormedOf events) (IsFirstFault events) }
-        ensures complete { (events : List Event) → HasGatheredEvents events self → IfOk result (λ _. IsCompleteHistory events) }
-        ensures refused { (events : List Event) → HasGatheredEvents events self → IfErr result (λ fault. IsCompleteHistory events → fault ≡ HistoryFault.Memory) }
+        ensures outcome { (events : List Event) → HasGatheredEvents events self
+            → MatchResult result (λ formed. IsFormedOf events formed × IsCompleteHistory events) (IsFirstFault [] events) }
         ensures kept { IsSome self.fault → IsErr result }
     {
         let OperationsBuilder {

@@ -1,5 +1,5 @@
 ghost use Rattle.history_merge.specs.Laws.{CompleteFromNone, FilledAreComplete, FilledIsComplete, FilledOperations, FilledWithNone};
-ghost use Rattle.history_merge.specs.Laws.{FilledOrders, FilledOrdersAreAll, FirstFaultFromNone, LinearizableFromExactly};
+ghost use Rattle.history_merge.specs.Laws.{FilledOrders, FilledOrdersAreAll, LinearizableFromExactly};
 
 /// Proves that a history whose queue starts with some values is a complete history itself if these are enqueued
 /// alone, one after another, before all events. The laws are the contract; the body is empty.
@@ -22,5 +22,4 @@ pub fn filled_has_the_same_orders()
 pub fn no_initial_values()
     ensures filled { FilledWithNone }
     ensures complete { CompleteFromNone }
-    ensures fault { FirstFaultFromNone }
 {}

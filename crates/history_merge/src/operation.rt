@@ -99,10 +99,10 @@ impl Operation {
     }
 }
 
-/// The place of an operation in the list of a history's operations, from 0, seen as that number.
+/// The place of an operation in the list of a history's operations, from 0, in half a word; seen as that number.
 #[derive(Clone, Copy, Debug, PartialEq, Eq)]
 pub struct OpId {
-    place: usize,
+    place: u32,
 }
 
 impl Model for OpId {
@@ -117,14 +117,24 @@ impl Model for OpId {
 
 impl OpId {
     /// Names the operation at this place.
-    pub fn new(place: usize) -> OpId
+    #[inline(always)]
+    pub fn new(place: u32) -> OpId
         ensures { result ≡ place }
     {
         OpId { place }
     }
 
-    /// Returns the place.
+    /// Returns the place, as an index.
+    #[inline(always)]
     pub fn place(self) -> usize
+        ensures { result ≡ self }
+    {
+        self.place as usize
+    }
+
+    /// Returns the place in half a word.
+    #[inline(always)]
+    pub fn number(self) -> u32
         ensures { result ≡ self }
     {
         self.place

@@ -1,6 +1,6 @@
-ghost use Rattle.std.specs.Prelude.{◌≡◌, ◌++◌, ◌∷◌, ◌≤◌, List, [], IfNone, IfSome, MatchOption, Some};
+ghost use Rattle.std.specs.Prelude.{◌≡◌, ◌++◌, ◌∷◌, ◌||◌, ◌≤◌, ℕ, List, [], IfNone, IfSome, MatchOption, Some};
 ghost use Rattle.event_records.specs.declared.event.Event.{Event};
-ghost use Rattle.history_merge.specs.Faults.{IsLeastPending, fault_at, pending_call, repeats_value};
+ghost use Rattle.history_merge.specs.Faults.{IsLeastPending, calls_initial, fault_at, pending_call, repeats_value};
 ghost use Rattle.history_merge.specs.Inner.Faults.{NothingPending};
 ghost use Rattle.history_merge.specs.Progress.{HasTracked};
 
@@ -26,9 +26,10 @@ impl Progress {
     }
 
     /// Returns the fault of the event at this place, after the events so far; `repeats` says whether it calls with a
-    /// value that one of these called with.
+    /// value that one of these called with, or with an initial value.
     pub fn fault_of(&self, event: Event, place: usize, repeats: bool) -> Option<HistoryFault>
-        ensures fault { (before : List Event) → HasTracked before self.now → repeats ≡ repeats_value before event → result ≡ fault_at before place event }
+        ensures fault { (initial : List ℕ) (before : List Event) → HasTracked before self.now
+            → repeats ≡ (repeats_value before event || calls_initial initial event) → result ≡ fault_at initial before place event }
         ensures in_range { IfNone result (event.thread ≤ MAX_THREAD) }
         ensures ticket { IfNone result (event.ticket ≤ MAX_TICKET) }
     {

@@ -1,16 +1,14 @@
 -- What an operation overlaps: of the operations before it and of those after it.
 use Rattle.std.proofs.Common.{◌≡◌, ℕ, zero, suc, ◌+◌, ◌<◌, ◌≤◌, List, [], ◌∷◌, length, get_or, take, drop}
-use Rattle.std.proofs.Common.{Bool, true, false, max, refl, sym, ◌∙◌, ap, subst, arith, nat_lt}
-use Rattle.std.specs.Prelude.{All, AllPairs, count_by, nat_le, ◌&&◌, ◌||◌}
+use Rattle.std.proofs.Common.{Bool, true, false, refl, sym, ◌∙◌, ap, subst, arith}
+use Rattle.std.specs.Prelude.{All, AllPairs, nat_le, ◌||◌}
 use Rattle.std.specs.List.{list_any}
 use Rattle.std.proofs.lemmas.Bool.Decides.{nat_tests}
-use Rattle.std.proofs.lemmas.List.{drop_more, get_or-drop, get_or-take, length-drop, length-take, length-take-le, take-append-drop, take_more}
+use Rattle.std.proofs.lemmas.List.{drop_more, get_or-drop, get_or-take, length-drop, length-take, take-append-drop}
 use Rattle.std.proofs.lemmas.List.Elements.{All-from_get_or, All-get_or, All-head, All-tail}
 use Rattle.std.proofs.lemmas.List.Folds.{list_any-append}
-use Rattle.std.proofs.lemmas.List.Sums.{count_by_more_no, count_by_more_yes}
 use Rattle.history_merge.specs.declared.operation.Operation.{Operation}
 use Rattle.history_stats.specs.Counts.{overlap}
-use Rattle.history_stats.specs.Inner.AtOnce.{IsLastReturn}
 
 -- tests that agree on each element find one alike
 pub any_alike : {X : Type 0} (p q : X → Bool) (xs : List X) → All (λ x. p x ≡ q x) xs → list_any p xs ≡ list_any q xs
@@ -96,40 +94,9 @@ first_decides ticket x (y ∷ rest) behind =
     one false true c e h = let wrong = h refl in cc
     one false false c e h = e
 
--- the last return of one operation more
-pub last_more : (operations : List Operation) (i last : ℕ) (d : Operation) → i < length operations → (i ≡ 0 → last ≡ 0)
-    → IsLastReturn (take i operations) last → IsLastReturn (take (i + 1) operations) (max last (get_or operations i d).ret)
-last_more operations i last d within none is ticket =
-    let more = ap (list_any (λ (o : Operation). nat_le ticket o.ret)) (take_more operations i d within)
-    ∙ list_any-append (λ (o : Operation). nat_le ticket o.ret) (take i operations) (get_or operations i d ∷ []) in
-    let before = is ticket in
-    let long : length (take i operations) ≡ i = length-take-le i operations (omega arith) in
-    let longer : length (take (i + 1) operations) ≡ i + 1 = length-take-le (i + 1) operations (omega arith) in
-    more ∙ (λ k. before k || (nat_le ticket (get_or operations i d).ret || false))
-    ∙ both (length (take i operations)) (length (take (i + 1) operations)) (get_or operations i d).ret (omega arith) (λ e. none (omega arith))
-  where
-    both : (n m ret : ℕ) → m ≡ n + 1 → (n ≡ 0 → last ≡ 0)
-        → ((nat_lt 0 n && nat_le ticket last) || (nat_le ticket ret || false)) ≡ (nat_lt 0 m && nat_le ticket (max last ret))
-    both n m ret e h = grind (arith, nat_tests)
-
--- what holds of each two holds of those after a place
-pub pairs_behind : {X : Type 0} (R : X → X → Type 0) (xs : List X) (n : ℕ) → AllPairs R xs → AllPairs R (drop n xs)
-pairs_behind R xs n pairs = λ i j d lt below.
-    let there : n + j < length xs = omega (arith, length-drop n xs) in
-    subst (λ a. R a (get_or (drop n xs) j d)) (sym (get_or-drop n xs i d)) (subst (λ b. R (get_or xs (n + i) d) b) (sym (get_or-drop n xs j d))
-    (pairs (n + i) (n + j) d (omega arith) there))
-
 -- those after the first
 pub behind_first : (x : Operation) (rest : List Operation) → AllPairs (λ a b. a.call < b.call) (x ∷ rest) → All (λ o. x.call < o.call) rest
 behind_first x rest rise = All-from_get_or (λ (o : Operation). x.call < o.call) rest x (λ k below. rise zero (suc k) x (omega arith) (omega arith))
-
--- a count of one element more
-pub counted_more : {X : Type 0} (p : X → Bool) (xs : List X) (i n : ℕ) (d : X) → i < length xs → n ≡ count_by p (take i xs)
-    → (p (get_or xs i d) ≡ true → n + 1 ≡ count_by p (take (i + 1) xs)) × (p (get_or xs i d) ≡ false → n ≡ count_by p (take (i + 1) xs))
-counted_more p xs i n d within is = (
-  λ yes. let e = count_by_more_yes p xs i d within yes in omega (arith, e, is),
-  λ no. let e = count_by_more_no p xs i d within no in omega (arith, e, is),
-)
 
 -- if calls rise, one of some operations is called by a ticket if the first is
 pub first_called : (ticket : ℕ) (operations : List Operation) (d : Operation) → 1 ≤ length operations

@@ -1,43 +1,17 @@
 -- The next line of the input, by what its fields say.
-use Rattle.std.proofs.Common.{◌≡◌, ℕ, List, ap, sym, subst, ◌∙◌, refl, Option, Some, None, Ok, Err}
+use Rattle.std.proofs.Common.{◌≡◌, ℕ, List, ap, sym, subst, ◌∙◌, refl, Option, Ok, Err}
 use Rattle.std.specs.Prelude.{IfOk, IfErr}
 use Rattle.std.specs.declared.result.Result.{Result}
 use Rattle.std.proofs.lemmas.List.Splits.{join_with_byte-slice_split}
 use Rattle.text_lines.specs.declared.fault.TextFault.{TextFault}
-use Rattle.text_lines.specs.declared.fault.TextFault.TheVariants.{Header, Line}
-use Rattle.text_lines.specs.Lines.{line, spaced, front_of, Front, Whole, TooLong, Unfinished, Nothing, fields_of, header_fault}
-use Rattle.text_lines.specs.Input.{Ahead, Ending, Takes}
+use Rattle.text_lines.specs.Lines.{line, spaced, fields_of}
+use Rattle.text_lines.specs.Input.{Ahead, Takes}
 use Rattle.text_lines.specs.Inner.Lines.{IsPartOfLine}
 use Rattle.history_text.specs.Items.{Format, line_of, line_at_front}
-use Rattle.history_text.specs.Inner.Taking.{NoLineFault, HasNoLine, HasHeaderFault, HasLineFault, IsSpelled}
+use Rattle.history_text.specs.Inner.Taking.{HasLineFault, IsSpelled}
 use Rattle.history_text.proofs.Faults.{at_line}
 
 -- ---- lines that aren't whole
-
-no_header : (expected : List ℕ) (ending : Ending) (fault : TextFault) (front : Front) → NoLineFault Header ending fault front
-    → header_fault expected ending front ≡ Some fault
-no_header expected ending fault (Whole bytes rest) h = absurd h
-no_header expected ending fault TooLong h = ap Some (sym h)
-no_header expected ending fault Unfinished h = ap Some (sym h)
-no_header expected ending fault Nothing h = ap Some (sym h)
-
--- if no line is whole, none is the expected first one
-pub no_header_line : (expected : List ℕ) (old : Option Ahead) (fault : TextFault) → HasNoLine Header old fault → HasHeaderFault expected old fault
-no_header_line expected None fault h = tt
-no_header_line expected (Some a) fault h = no_header expected a.ending fault (front_of a.bytes) h
-
-nothing_said : {A : Type 0} (read : ℕ → List (List ℕ) → Result A TextFault) (n : ℕ) (ending : Ending) (fault : TextFault) (front : Front)
-    → NoLineFault (Line n) ending fault front → line_at_front read n ending front ≡ Err fault
-nothing_said read n ending fault (Whole bytes rest) h = absurd h
-nothing_said read n ending fault TooLong h = ap Err (sym h)
-nothing_said read n ending fault Unfinished h = ap Err (sym h)
-nothing_said read n ending fault Nothing h = ap Err (sym h)
-
--- if no line is whole, none says anything
-pub no_line_said : {A : Type 0} (read : ℕ → List (List ℕ) → Result A TextFault) (n : ℕ) (old : Option Ahead) (fault : TextFault)
-    → HasNoLine (Line n) old fault → HasLineFault read n old fault
-no_line_said read n None fault h = tt
-no_line_said read n (Some a) fault h = nothing_said read n a.ending fault (front_of a.bytes) h
 
 -- ---- whole lines
 

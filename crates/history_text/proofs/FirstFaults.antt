@@ -26,12 +26,6 @@ pub first_is : (IsFault : Ending → List ℕ → TextFault → Type 0) (LacksRo
 first_is F L None fault other h = tt
 first_is F L (Some a) fault other h = other_fault (L a.bytes) (F a.ending a.bytes) fault other h
 
--- a fault that implies such a fault is first too
-pub is_first : (P IsFault : Ending → List ℕ → TextFault → Type 0) (LacksRoom : List ℕ → Type 0) (old : Option Ahead) (fault : TextFault) → IsOfInput fault
-    → ((e : Ending) (b : List ℕ) → P e b fault → IsFault e b fault) → IfSome old (λ a. P a.ending a.bytes fault) → HasFirstFault IsFault LacksRoom old fault
-is_first P F L None fault other step h = tt
-is_first P F L (Some a) fault other step h = first_is F L (Some a) fault other (step a.ending a.bytes h)
-
 -- what holds of the input after a front holds of the whole
 moved : (P Q : Ending → List ℕ → Type 0) (old mid : Option Ahead) (front : List ℕ) → Takes old mid front
     → ((e : Ending) (r : List ℕ) → P e r → Q e (front ++ r)) → IfSome mid (λ a. P a.ending a.bytes) → IfSome old (λ a. Q a.ending a.bytes)

@@ -1,30 +1,19 @@
 -- The first line of a verdict as it is read, and what comes after it.
-use Rattle.std.proofs.Common.{◌≡◌, ℕ, ◌+◌, List, ap, subst, refl, Option, Some, None, inl, inr}
+use Rattle.std.proofs.Common.{◌≡◌, ℕ, ◌+◌, List, ap, subst, refl, Option, Some, None, inr}
 use Rattle.verdicts.specs.declared.verifying.ViolationKind.{ViolationKind}
 use Rattle.text_lines.specs.declared.fault.TextFault.{TextFault}
 use Rattle.text_lines.specs.declared.fault.TextFault.TheVariants.{Line}
-use Rattle.text_lines.specs.Lines.{line, front_of, Front, Whole, TooLong, Unfinished, Nothing}
+use Rattle.text_lines.specs.Lines.{line}
 use Rattle.history_text.specs.Items.{ItemFault, NoRoom}
 use Rattle.history_text.specs.Claims.{first_line, IsNoFirstLine, FirstLineFault, operation_format, claim_line_format, IsVerdictTextFault, NoRoomForVerdict}
-use Rattle.text_lines.specs.Input.{Ahead, Ending, Takes}
+use Rattle.text_lines.specs.Input.{Ahead, Takes}
 use Rattle.history_text.specs.Reading.{HasVerdictTextFault}
 use Rattle.text_lines.specs.Inner.Lines.{IsPartOfLine}
-use Rattle.history_text.specs.Inner.Taking.{NoLineFault, HasNoLine, HasFirstLineFault, HasItemsFault, IsOfInput}
+use Rattle.history_text.specs.Inner.Taking.{HasFirstLineFault, HasItemsFault}
 use Rattle.history_text.proofs.Faults.{at_line}
-use Rattle.history_text.proofs.FirstFaults.{first_is, later_fault}
+use Rattle.history_text.proofs.FirstFaults.{later_fault}
 
 -- ---- the first line
-
-no_line : (n : ℕ) (ending : Ending) (fault : TextFault) (front : Front) → NoLineFault (Line n) ending fault front → FirstLineFault n ending fault front
-no_line n ending fault (Whole bytes rest) h = absurd h
-no_line n ending fault TooLong h = h
-no_line n ending fault Unfinished h = h
-no_line n ending fault Nothing h = h
-
--- if no line is whole, none is a first one
-pub no_first_line : (n : ℕ) (old : Option Ahead) (fault : TextFault) → HasNoLine (Line n) old fault → HasFirstLineFault n old fault
-no_first_line n None fault h = tt
-no_first_line n (Some a) fault h = no_line n a.ending fault (front_of a.bytes) h
 
 -- a line that answers nothing is none
 pub other_line : (n m : ℕ) (old new : Option Ahead) (bytes : List ℕ) → m ≡ n → Takes old new (line bytes) → IsPartOfLine bytes → IsNoFirstLine bytes
@@ -33,14 +22,6 @@ other_line n m old new bytes same taken part other =
     at_line (λ end front. FirstLineFault n end (Line m) front) old new bytes taken part (λ end rest. (other, ap Line same))
 
 -- ---- whole verdicts
-
--- the first line has the fault
-pub first_line_is_first : (lines n : ℕ) (old : Option Ahead) (fault : TextFault) → n ≡ lines + 1 → IsOfInput fault → HasFirstLineFault n old fault
-    → HasVerdictTextFault lines old fault
-first_line_is_first lines n None fault n_is of_input h = first_is (IsVerdictTextFault lines) NoRoomForVerdict None fault of_input tt
-first_line_is_first lines n (Some a) fault n_is of_input h =
-    first_is (IsVerdictTextFault lines) NoRoomForVerdict (Some a) fault of_input
-    (inl (subst (λ (m : ℕ). FirstLineFault m a.ending fault (front_of a.bytes)) n_is h))
 
 -- an operation of a `YES` has it
 pub operation_is_first : (lines n : ℕ) (old mid : Option Ahead) (fault : TextFault) → n ≡ lines + 2

@@ -30,10 +30,6 @@ events_agree es fs r s text_e text_f same =
     let counts : end_line (length fs) ≡ end_line (length es) = ap (λ (xs : List Event). end_line (length xs)) (sym parts.0) in
     (parts.0, append_cancel_left (end_line (length es)) r s (parts.1 ∙ ap (λ (l : List ℕ). l ++ s) counts))
 
--- what comes after a front is determined
-pub rest_is : (front bytes r s : List ℕ) (P : List ℕ → Type 0) → bytes ≡ front ++ r → bytes ≡ front ++ s → P r → P s
-rest_is front bytes r s P is_r is_s h = subst P (append_cancel_left front r s (sym is_r ∙ is_s)) h
-
 -- if the events and the last line stand, none of these lines has a fault
 pub events_have_no_fault : (n : ℕ) (ending : Ending) (fault : TextFault) (es : List Event) (r : List ℕ) → HasHistoryText es
     → ItemFault event_format n ending fault (lines_to_end es ++ r) → ⊥

@@ -1,15 +1,15 @@
 -- The setting of a schedule as it is read, and what comes before a schedule's steps.
-use Rattle.std.proofs.Common.{◌≡◌, ℕ, ◌+◌, List, subst, refl, Option, Some, Ok, inl, inr}
+use Rattle.std.proofs.Common.{◌≡◌, ℕ, ◌+◌, List, subst, refl, Option, Ok, inl, inr}
 use Rattle.text_lines.specs.declared.fault.TextFault.{TextFault}
-use Rattle.text_lines.specs.Lines.{line, spaced, fields_of, front_of, header_fault}
+use Rattle.text_lines.specs.Lines.{line, spaced, fields_of}
 use Rattle.history_text.specs.Items.{LineFault, ItemFault, NoRoom}
 use Rattle.history_text.specs.Schedules.{setting_fields, setting_in, step_format, schedule_header, lines_before_steps, IsSetting}
 use Rattle.history_text.specs.Schedules.{IsScheduleTextFault, NoRoomForSchedule}
 use Rattle.text_lines.specs.Input.{Ahead, Takes}
 use Rattle.history_text.specs.Reading.{HasScheduleTextFault}
-use Rattle.history_text.specs.Inner.Taking.{HasHeaderFault, HasLineFault, HasItemsFault, IsOfInput}
+use Rattle.history_text.specs.Inner.Taking.{HasLineFault, HasItemsFault, IsOfInput}
 use Rattle.text_lines.proofs.Consuming.{Takes-append}
-use Rattle.history_text.proofs.FirstFaults.{is_first, line_fault, later_fault}
+use Rattle.history_text.proofs.FirstFaults.{line_fault, later_fault}
 use Rattle.history_text.proofs.StepLines.{setting_ok}
 
 -- a line that says a setting is that of its fields
@@ -18,12 +18,6 @@ pub setting_said : (n : ℕ) (bytes : List ℕ) (setting : ℕ × ℕ) → setti
 setting_said n bytes setting e = let spelled = setting_ok n (fields_of bytes) setting e in (spelled.text, spelled.within)
 
 -- ---- whole schedules
-
--- the first line has the fault
-pub header_is_first : (lines : ℕ) (old : Option Ahead) (fault : TextFault) → IsOfInput fault → HasHeaderFault schedule_header old fault
-    → HasScheduleTextFault lines old fault
-header_is_first lines old fault of_input h =
-    is_first (λ e b f. header_fault schedule_header e (front_of b) ≡ Some f) (IsScheduleTextFault lines) NoRoomForSchedule old fault of_input (λ e b. inl) h
 
 -- the second line has it
 pub setting_is_first : (lines n : ℕ) (old mid : Option Ahead) (fault : TextFault) → n ≡ lines + 2 → IsOfInput fault

@@ -3,7 +3,6 @@ use Rattle.std.proofs.Common.{◌≡◌, ℕ, ◌+◌, ◌<◌, ◌≤◌, List,
 use Rattle.std.proofs.Common.{Option, Some, None, Ok, Err, inl, inr, IfSome, append_assoc}
 use Rattle.std.specs.Prelude.{IfOk}
 use Rattle.std.specs.declared.result.Result.{Result}
-use Rattle.std.specs.List.{AllByRecursion}
 use Rattle.std.specs.Str.{bytes_eq}
 use Rattle.event_records.specs.declared.limits.TheConstants.{MAX_INITIAL}
 use Rattle.text_lines.specs.declared.fault.TextFault.{TextFault}
@@ -13,28 +12,18 @@ use Rattle.text_lines.specs.Input.{Ahead, Takes}
 use Rattle.text_lines.specs.Inner.Lines.{IsPartOfLine}
 use Rattle.history_text.specs.declared.version.Version.{Version}
 use Rattle.history_text.specs.declared.version.Version.TheVariants.{One, Two}
-use Rattle.history_text.specs.Items.{Format, line_of, lines_of, HaveLines, LineFault, ItemFault, NoRoom, FaultAmong, NoRoomAmong}
+use Rattle.history_text.specs.Items.{Format, line_of, lines_of, HaveLines, ItemFault, NoRoom, FaultAmong, NoRoomAmong}
 use Rattle.history_text.specs.Histories.{event_format}
-use Rattle.history_text.specs.Versions.{value_format, count_fields, count_in, lines_of_initial, header_of, lines_before_events, count_before_events}
+use Rattle.history_text.specs.Versions.{value_format, count_fields, lines_of_initial, header_of, lines_before_events, count_before_events}
 use Rattle.history_text.specs.Versions.{HaveValueLines, AfterCount, InitialFault, IsTextFault, NoRoomForText}
 use Rattle.history_text.specs.Reading.{HasTextFault}
-use Rattle.history_text.specs.Inner.Taking.{HasNoLine, HasNoVersion, HasHeaderFault, HasLineFault, HasItemsFault, HasFaultAmong, HasInitialFault, IsOfInput}
+use Rattle.history_text.specs.Inner.Taking.{HasNoVersion, HasHeaderFault, HasItemsFault, HasFaultAmong, HasInitialFault}
 use Rattle.text_lines.proofs.Consuming.{Takes-append}
 use Rattle.text_lines.proofs.Numbers.{text_is}
 use Rattle.history_text.proofs.Faults.{at_line}
-use Rattle.history_text.proofs.FieldLines.{no_header_line}
-use Rattle.history_text.proofs.FirstFaults.{first_is, line_fault, later_fault, takes_item, HaveLines-push}
+use Rattle.history_text.proofs.FirstFaults.{later_fault, takes_item, HaveLines-push}
 
 -- ---- as many items as were told
-
--- the line after some of them has the first fault
-pub required_is_first : {A : Type 0} (format : Format A) (k n m : ℕ) (items : List A) (old mid : Option Ahead) (fault : TextFault) → IsOfInput fault
-    → AllByRecursion format.HasLine items → Takes old mid (lines_of format items) → length items < k → m ≡ n + length items
-    → HasLineFault format.read m mid fault → HasFaultAmong format k n old fault
-required_is_first format k n m items old mid fault of_input each taken fewer m_is h =
-    line_fault (λ e r f. LineFault format.read m e f r) (λ e b f. FaultAmong format k n e f b) (NoRoomAmong format k) old mid
-    (lines_of format items) fault of_input taken
-    (λ e r next. record { items = items; rest = r; fewer = fewer; each = each; front = refl; next = rw (← m_is) next }) h
 
 -- one of them more than there is room for
 pub no_room_among : {A : Type 0} (format : Format A) (k : ℕ) (items : List A) (x : A) (old mid new : Option Ahead) → HaveLines format items
@@ -60,10 +49,6 @@ no_version : (old : Option Ahead) (fault : TextFault) → ((version : Version) �
 no_version None fault h = tt
 no_version (Some a) fault h = h
 
--- if no line is whole, none is the first of a version
-pub no_version_line : (old : Option Ahead) (fault : TextFault) → HasNoLine Header old fault → HasNoVersion old fault
-no_version_line old fault h = no_version old fault (λ version. no_header_line (header_of version) old fault h)
-
 differs : (b : Bool) → (b ≡ true → ⊥) → b ≡ false
 differs true h = absurd (h refl)
 differs false h = refl
@@ -76,11 +61,6 @@ other_version old new bytes taken part other = no_version old Header (λ version
     at_line (λ end front. header_fault (header_of version) end front ≡ Some Header) old new bytes taken part (λ end rest. rw differ refl))
 
 -- ---- initial values
-
--- the line that counts them has the fault
-pub count_is_first : (n : ℕ) (old : Option Ahead) (fault : TextFault) → IsOfInput fault → HasLineFault count_in n old fault → HasInitialFault n old fault
-count_is_first n None fault of_input h = first_is (λ e b f. InitialFault n e f b) (AfterCount (NoRoomAmong value_format)) None fault of_input tt
-count_is_first n (Some a) fault of_input h = first_is (λ e b f. InitialFault n e f b) (AfterCount (NoRoomAmong value_format)) (Some a) fault of_input (inl h)
 
 -- a later line has it
 pub value_is_first : (n m k : ℕ) (old mid : Option Ahead) (fault : TextFault) → m ≡ n + 1 → k ≤ MAX_INITIAL
@@ -106,11 +86,6 @@ initial_taken items k old mid new (Ok v) count values many = (values.0, takes_in
 initial_taken items k old mid new (Err fault) count values many = tt
 
 -- ---- whole histories
-
--- the first line has the fault
-pub version_is_first : (lines : ℕ) (old : Option Ahead) (fault : TextFault) → IsOfInput fault → HasNoVersion old fault → HasTextFault lines old fault
-version_is_first lines None fault of_input h = first_is (IsTextFault lines) NoRoomForText None fault of_input tt
-version_is_first lines (Some a) fault of_input h = first_is (IsTextFault lines) NoRoomForText (Some a) fault of_input (inl h)
 
 -- the count or a value of version 2 has it
 pub initial_is_first : (lines n : ℕ) (old mid : Option Ahead) (fault : TextFault) → n ≡ lines + 2 → Takes old mid (line (header_of Two))

@@ -1,5 +1,5 @@
 -- The claim of a verdict on a history that has a text has a text.
-use Rattle.std.proofs.Common.{◌≡◌, ℕ, suc, ◌+◌, ◌≤◌, List, [], ◌∷◌}
+use Rattle.std.proofs.Common.{◌≡◌, ℕ, ◌+◌, ◌≤◌, List, [], ◌∷◌}
 use Rattle.std.proofs.Common.{length, Option, Some, None, arith, refl, subst, inl, inr}
 use Rattle.std.specs.Prelude.{Contains, slice_get, filter_map, map, option_map}
 use Rattle.std.specs.List.{cons_option, AllByRecursion}
@@ -29,9 +29,6 @@ use Rattle.history_text.specs.Histories.{HasValueInRange, HasEventLine, HasHisto
 use Rattle.history_text.specs.Versions.{HaveValueLines, HasText}
 use Rattle.history_text.specs.Verdicts.{verdict_places, violation_places, claim_of}
 use Rattle.history_text.specs.Claims.{IsKindInRange, HasOperationLine, HasClaimLine, HasVerdictText}
-
-deeper : {X : Type 0} (y : X) (xs : List X) (x : X) → Contains xs x → Contains (y ∷ xs) x
-deeper y xs x among = (suc among.0, omega (arith, among.1), among.2)
 
 all_of : {X : Type 0} (P : X → Type 0) (xs : List X) (x : X) → AllByRecursion P xs → Contains xs x → P x
 all_of P [] x all among = absurd (none_in_nil x among)

@@ -14,9 +14,9 @@ use Rattle.value_match.specs.Lives.{is_empty_answer, is_refused}
 use Rattle.value_match.specs.Violations.{IsClear, NoOrderViolation}
 use Rattle.linearizer.specs.declared.position.Class.TheVariants.{Noop}
 use Rattle.linearizer.specs.declared.position.Placed.{Placed}
-use Rattle.linearizer.specs.Order.{StandsBefore, IsPositionOf, AreChosenAndLegal}
+use Rattle.linearizer.specs.Order.{StandsBefore, IsPositionOf}
 use Rattle.linearizer.specs.Inner.Placement.{Adds, AreByPosition, HoldsNoops, HoldsValues, IsPlaced, NeverFall, dequeues_of, enqueues_of, position_of}
-use Rattle.linearizer.specs.Inner.Merging.{IsMerge}
+use Rattle.linearizer.specs.Inner.Merging.{IsMerge, IsWholeOrder}
 use Rattle.linearizer.proofs.LegalOrder.{chosen_order_is_legal}
 use Rattle.linearizer.proofs.OneOrder.{operations_rise, sorted_is_chosen}
 use Rattle.linearizer.proofs.Partition.{each_once}
@@ -100,7 +100,7 @@ noops_held operations empties all noops first second moved never = record {
 
 -- all operations stand at their positions, and are merged by them
 pub chosen_and_legal : (operations : List Operation) (noops : List Placed) (places : List ℕ) → IsClear operations → NoOrderViolation operations
-    → HoldsNoops operations noops → IsMerge operations noops places → AreChosenAndLegal operations places
+    → HoldsNoops operations noops → IsMerge operations noops places → IsWholeOrder operations places
 chosen_and_legal operations noops places clear none noop merged =
     let lives = held.lives in
     let same = listed_are operations lives listed all zipped in

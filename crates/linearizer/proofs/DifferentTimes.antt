@@ -1,7 +1,6 @@
 -- Different lives have different tickets.
-use Rattle.std.proofs.Common.{◌≡◌, ◌≢◌, ℕ, ◌<◌, ◌≤◌, ◌⊎◌, List, get_or, Option, Some, None, refl, sym, ◌∙◌, ap, subst, inl, inr, arith}
+use Rattle.std.proofs.Common.{◌≡◌, ◌≢◌, ℕ, ◌<◌, ◌≤◌, ◌⊎◌, List, Option, Some, None, refl, sym, ◌∙◌, ap, subst, inl, inr, arith}
 use Rattle.std.specs.Prelude.{Contains, AllPairs, MatchOption, slice_get}
-use Rattle.std.proofs.lemmas.List.Elements.{Contains-get_or}
 use Rattle.history_merge.specs.declared.operation.Operation.{Operation}
 use Rattle.history_merge.specs.declared.operation.OpKind.{OpKind}
 use Rattle.history_merge.specs.declared.operation.OpKind.TheVariants.{Enq, Deq, Empty, Not}
@@ -14,16 +13,9 @@ use Rattle.value_match.specs.Lives.{IsLife, lives_of, life_from, call_or_never, 
 use Rattle.value_match.specs.Lives.{dequeue_return, entered_by, leaves_from, dequeue_of, enqueue_of}
 use Rattle.value_match.specs.Violations.{IsClear}
 use Rattle.linearizer.specs.Values.{IsValueOrder}
-use Rattle.value_match.proofs.Lives.{life_of_contained, one_life_of_enqueue, one_life_of_dequeue}
+use Rattle.value_match.proofs.Lives.{one_life_of_enqueue, one_life_of_dequeue}
 use Rattle.linearizer.proofs.Times.{times_of_life}
 use Rattle.linearizer.proofs.Keys.{kept_rises, one_place}
-
--- the times of two lives that an order of values must tell apart
-pub record HaveDistinctTimes (x y : Life) : Type 0 where
-  pub entered : ¬ (entered_by x ≡ entered_by y)
-  pub returned : (dequeue_return x ≡ dequeue_return y) → dequeue_return x ≡ NEVER
-  pub entered_and_called : ¬ (entered_by x ≡ enqueue_call y)
-  pub returned_and_left : (dequeue_return x ≡ leaves_from y) → leaves_from y ≡ NEVER
 
 -- the operation is one of the life
 abbrev pub IsOf : Life → Operation → Type 0
@@ -155,15 +147,6 @@ returns_at_no_leave operations x y clear is_x is_y same =
       ]
     ]
 
-different_times : (operations : List Operation) (x y : Life) → IsClear operations → IsLife operations x → IsLife operations y → ¬ (x ≡ y)
-    → HaveDistinctTimes x y
-different_times operations x y clear is_x is_y differ = record {
-  entered = λ same. differ (one_life_of_entering operations x y clear is_x is_y same);
-  returned = λ same. elim (one_life_of_dequeue_return operations x y clear is_x is_y same) [ inl one ↦ absurd (differ one) | inr never ↦ never ];
-  entered_and_called = enters_at_no_call operations x y clear is_x is_y;
-  returned_and_left = returns_at_no_leave operations x y clear is_x is_y;
-}
-
 enqueues_itself : (operations : List Operation) (o : Operation) (k : OpKind) (life : Life) → life_from operations o k ≡ Some life → enqueue_call life ≡ o.call
 enqueues_itself operations o (Enq v) life same = let made : ◌≡◌ {A = Life} _ life = injective same in sym (ap (λ l. (enqueue_of l).call) made)
   where
@@ -184,19 +167,3 @@ pub one_place_of_life : (operations : List Operation) (lives : List Life) (i j :
     → slice_get lives i ≡ Some x → slice_get lives j ≡ Some y → x ≡ y → i ≡ j
 one_place_of_life operations lives i j x y clear order at_x at_y same =
     one_place enqueue_call (lives_of operations) lives i j x y (lives_rise operations clear.complete) order.holds_each_once at_x at_y (ap enqueue_call same)
-
--- the times of all lives differ
-pub lives_have_distinct_times : (operations : List Operation) → IsClear operations
-    → AllPairs (λ x y. HaveDistinctTimes x y × HaveDistinctTimes y x) (lives_of operations)
-lives_have_distinct_times operations clear i j d below within =
-    pair (get_or (lives_of operations) i d) (get_or (lives_of operations) j d) (Contains-get_or (lives_of operations) i d (omega arith))
-    (Contains-get_or (lives_of operations) j d within)
-    (lives_rise operations clear.complete i j d below within)
-  where
-    pair : (x y : Life) → Contains (lives_of operations) x → Contains (lives_of operations) y → enqueue_call x < enqueue_call y
-        → HaveDistinctTimes x y × HaveDistinctTimes y x
-    pair x y in_x in_y less =
-        let differ : ¬ (x ≡ y) = λ same. let calls : enqueue_call x ≡ enqueue_call y = ap enqueue_call same in omega arith in
-        let is_x = life_of_contained operations x in_x in
-        let is_y = life_of_contained operations y in_y in
-        (different_times operations x y clear is_x is_y differ, different_times operations y x clear is_y is_x (λ same. differ (sym same)))

@@ -200,12 +200,3 @@ pub one_operation : (operations : List Operation) (lives : List Life) (x y : Ope
     → IsPositionOf operations lives x p → IsPositionOf operations lives y p → x ≡ y
 one_operation operations lives x y p clear in_x in_y at_x at_y =
     one_operation_at operations lives x y p clear in_x in_y (stands_as operations lives x x.kind p at_x) (stands_as operations lives y y.kind p at_y)
-
--- different operations have different positions
-pub positions_are_distinct : (operations : List Operation) (lives : List Life) (x y : Operation) (p q : Position) → IsClear operations
-    → IsValueOrder operations lives → Contains operations x → Contains operations y → IsPositionOf operations lives x p
-    → IsPositionOf operations lives y q → (x ≡ y → p ≡ q) × (p ≡ q → x ≡ y)
-positions_are_distinct operations lives x y p q clear order in_x in_y at_p at_q = (
-  λ same. one_position operations lives x p q clear order at_p (subst (λ o. IsPositionOf operations lives o q) (sym same) at_q),
-  λ same. one_operation operations lives x y q clear in_x in_y (subst (λ r. IsPositionOf operations lives x r) same at_p) at_q,
-)

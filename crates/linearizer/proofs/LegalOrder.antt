@@ -119,7 +119,7 @@ module _ (operations order : List Operation) (clear : IsClear operations) (none 
       gaps_rise_with : (p r : Position) → StandsBefore p r → p.gap ≤ r.gap
       gaps_rise_with p r before = grind arith
 
-  legal : IsLegalOrder operations order
+  legal : IsLegalOrder [] operations order
   legal = record {
     holds_each_once = chosen.holds_each_once;
     extends_precedence = λ i j d below within. extends i j (get_or order i d) (get_or order j d) below (slice_get-get_or order i d (omega arith))
@@ -127,12 +127,7 @@ module _ (operations order : List Operation) (clear : IsClear operations) (none 
     is_accepted = accepted;
   }
 
--- the queue accepts the chosen order
-pub chosen_order_is_accepted : (operations order : List Operation) → IsClear operations → NoOrderViolation operations → IsChosenOrder operations order
-    → IsAccepted [] (map (λ o. o.kind) order)
-chosen_order_is_accepted operations order clear none chosen = accepted operations order clear none chosen
-
 -- the chosen order is legal
 pub chosen_order_is_legal : (operations order : List Operation) → IsClear operations → NoOrderViolation operations → IsChosenOrder operations order
-    → IsLegalOrder operations order
+    → IsLegalOrder [] operations order
 chosen_order_is_legal operations order clear none chosen = legal operations order clear none chosen

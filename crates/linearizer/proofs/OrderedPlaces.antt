@@ -5,7 +5,7 @@ use Rattle.std.specs.List.{cons_option}
 use Rattle.std.specs.Option.{option_map}
 use Rattle.std.proofs.lemmas.List.{length-map}
 use Rattle.std.proofs.lemmas.List.Elements.{All-contains, All-head, All-tail, filter_map-append}
-use Rattle.std.proofs.lemmas.Option.{get_or_from_slice_get, slice_get-get_or, slice_get-map}
+use Rattle.std.proofs.lemmas.Option.{slice_get-get_or, slice_get-map}
 use Rattle.history_merge.specs.declared.operation.Operation.{Operation}
 use Rattle.history_merge.proofs.Distinct.{contains_at}
 use Rattle.value_match.specs.declared.life.MatchedValue.{MatchedValue}
@@ -98,11 +98,3 @@ value_at operations values places rank place holds order at = with_value (get_or
           ∙ slice_get-map (λ m. m.life) values place ∙ ap (option_map (λ m. m.life)) at_place;
       has_places = All-contains (HasPlaces operations) values m holds.1 (contains_at values place m at_place);
     }
-
--- the value that was read at its place
-pub life_read : (operations : List Operation) (values : List MatchedValue) (places : List ℕ) (rank place : ℕ) (m : MatchedValue)
-    → HoldsLives operations values → IsOrderOfPlaces operations places → slice_get places rank ≡ Some place → m ≡ get_or values place m
-    → slice_get (lives_at operations places) rank ≡ Some m.life
-life_read operations values places rank place m holds order at reads =
-    let here = value_at operations values places rank place holds order at in
-    here.has_rank ∙ ap (λ m. Some m.life) (sym (reads ∙ get_or_from_slice_get values place here.value m here.is_at))

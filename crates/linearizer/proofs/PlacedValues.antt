@@ -108,12 +108,6 @@ pub record IsTurn (operations : List Operation) (lives : List Life) (i : ℕ) (m
   pub at : slice_get lives i ≡ Some m.life
   pub gap_is : gap ≡ enqueue_gap lives i
 
--- the place and the rank are in range
-pub value_within : (operations : List Operation) (values : List MatchedValue) (places : List ℕ) (i place : ℕ) → HoldsLives operations values
-    → IsOrderOfPlaces operations places → slice_get places i ≡ Some place → place < length values
-value_within operations values places i place holds order at = let here = value_at operations values places i place holds order at in
-    slice_get_within values place here.value here.is_at
-
 -- each place has its gap
 pub gap_within : (operations : List Operation) (places gaps : List ℕ) (i place : ℕ) → IsOrderOfPlaces operations places
     → AreEnqueueGaps (lives_at operations places) gaps → slice_get places i ≡ Some place → i < length gaps

@@ -76,10 +76,6 @@ pub record AreTimedSoFar (number : Life → ℕ) (values : List MatchedValue) (i
   pub one_each : length entries ≡ i
   pub at_each : (place : ℕ) (timed : Timed) → slice_get entries place ≡ Some timed → (timed.place ≡ place) × IsTimeOf number values timed
 
--- no value has its time at first
-pub none_timed : (number : Life → ℕ) (values : List MatchedValue) → AreTimedSoFar number values 0 []
-none_timed number values = record { one_each = refl; at_each = λ place timed at. cc }
-
 -- one value more with its time
 pub one_more_timed : (number : Life → ℕ) (values : List MatchedValue) (i time : ℕ) (entries : List Timed) (m : MatchedValue)
     → AreTimedSoFar number values i entries → slice_get values i ≡ Some m → time ≡ number m.life

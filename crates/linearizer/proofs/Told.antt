@@ -12,10 +12,11 @@ use Rattle.history_merge.proofs.Distinct.{return_in_range}
 use Rattle.history_merge.proofs.Filled.{all_filled_orders}
 use Rattle.value_match.specs.Filling.{filled_gap}
 use Rattle.value_match.specs.Lives.{AreLeastFreeGaps, IsLeastFreeGap, is_empty_answer}
-use Rattle.value_match.specs.Unfilling.{place_behind}
+use Rattle.value_match.specs.Told.{place_behind}
 use Rattle.value_match.specs.Violations.{IsClear}
-use Rattle.value_match.proofs.Unfilled.{order_back, order_with_none}
-use Rattle.linearizer.specs.Order.{AreChosenAndLegal, AreChosenAndLegalFrom, AreLeastFreeGapsFrom, IsChosenOrder}
+use Rattle.value_match.proofs.ToldPlaces.{order_back, order_with_none}
+use Rattle.linearizer.specs.Order.{AreChosenAndLegal, IsChosenOrder}
+use Rattle.linearizer.specs.Inner.Merging.{IsWholeOrder}
 
 -- gaps in windows of operations that return in range are in range
 below_returns : (operations listed : List Operation) (k : ℕ) (gaps : List ℕ) → All (λ o. o.ret ≤ MAX_CLOCK) listed
@@ -33,7 +34,7 @@ module _ (initial : List ℕ) (operations : List Operation) where
   all = filled initial operations
 
   -- each least free gap is before a return, so its clock is in range
-  pub gaps_in_range : (gaps : List ℕ) → IsClear all → AreLeastFreeGapsFrom initial operations gaps
+  pub gaps_in_range : (gaps : List ℕ) → IsClear all → AreLeastFreeGaps all (map (filled_gap (length initial)) gaps)
       → All (λ gap. filled_gap (length initial) gap ≤ MAX_CLOCK) gaps
   gaps_in_range gaps clear free =
       below_returns all (filter is_empty_answer all) (length initial) gaps
@@ -41,8 +42,8 @@ module _ (initial : List ℕ) (operations : List Operation) where
       (λ i d below. return_in_range all _ clear.complete (Contains-get_or all i d below))) free
 
   -- the chosen order, which begins with the enqueues of the initial values, without these
-  pub order_told : (places : List ℕ) → AreChosenAndLegal all places
-      → AreChosenAndLegalFrom initial operations (filter_map (place_behind (length initial)) places)
+  pub order_told : (places : List ℕ) → IsWholeOrder all places
+      → AreChosenAndLegal initial operations (filter_map (place_behind (length initial)) places)
   order_told places is =
       let legal = all_filled_orders initial operations is.0 is.3 in (
         legal.0,
@@ -52,12 +53,12 @@ module _ (initial : List ℕ) (operations : List Operation) where
       )
 
   -- with no initial values the gaps are as they stand
-  pub gaps_of_none : (gaps : List ℕ) → length initial ≡ 0 → AreLeastFreeGapsFrom initial operations gaps → AreLeastFreeGaps all gaps
+  pub gaps_of_none : (gaps : List ℕ) → length initial ≡ 0 → AreLeastFreeGaps all (map (filled_gap (length initial)) gaps) → AreLeastFreeGaps all gaps
   gaps_of_none gaps none free =
       let same = map_fixed (filled_gap (length initial)) gaps (λ i d below. omega (arith, none)) in
       subst (AreLeastFreeGaps all) same free
 
   -- and so are the places
-  pub order_of_none : (places : List ℕ) → length initial ≡ 0 → AreChosenAndLegal all places → AreChosenAndLegalFrom initial operations places
+  pub order_of_none : (places : List ℕ) → length initial ≡ 0 → IsWholeOrder all places → AreChosenAndLegal initial operations places
   order_of_none places none is =
-      subst (AreChosenAndLegalFrom initial operations) (ap (λ k. filter_map (place_behind k) places) none ∙ order_with_none places) (order_told places is)
+      subst (AreChosenAndLegal initial operations) (ap (λ k. filter_map (place_behind k) places) none ∙ order_with_none places) (order_told places is)

@@ -1,14 +1,13 @@
 -- The chosen order of the operations of a history without violations.
-use Rattle.std.specs.Prelude.{◌≡◌, ℕ, ◌<◌, ◌⊎◌, List, AllPairs, IsPermutation, Some, length, map, slice_get, nat_lt, if◌then◌else◌}
+use Rattle.std.specs.Prelude.{◌≡◌, ℕ, ◌<◌, ◌⊎◌, List, AllPairs, IsPermutation, Some, slice_get, nat_lt, if◌then◌else◌}
 use Rattle.std.specs.List.{AllZip}
 use Rattle.history_merge.specs.declared.operation.Operation.{Operation}
 use Rattle.history_merge.specs.declared.operation.OpKind.{OpKind}
 use Rattle.history_merge.specs.declared.operation.OpKind.TheVariants.{Enq, Deq, Empty, Not}
 use Rattle.history_merge.specs.Initial.{filled}
-use Rattle.history_merge.specs.Legal.{IsLegalOrder, IsLegalOrderFrom, ArePlacesOf}
+use Rattle.history_merge.specs.Legal.{IsLegalOrder, ArePlacesOf}
 use Rattle.value_match.specs.declared.life.Life.{Life}
-use Rattle.value_match.specs.Filling.{filled_gap}
-use Rattle.value_match.specs.Lives.{AreLeastFreeGaps, IsLeastFreeGap, dequeue_of, enqueue_of}
+use Rattle.value_match.specs.Lives.{IsLeastFreeGap, dequeue_of, enqueue_of}
 use Rattle.linearizer.specs.Values.{IsValueOrder, enqueue_gap, dequeue_gap}
 
 -- where an operation stands: its gap, its class within the gap, and its rank within the class
@@ -72,18 +71,9 @@ pub record IsChosenOrder (operations order : List Operation) : Type 0 where
   pub each_has_position : AllZip (λ o position. IsPositionOf operations lives o position) order positions
   pub positions_rise : AllPairs StandsBefore positions
 
--- the places are those of the chosen order, which is legal
-abbrev pub AreChosenAndLegal : List Operation → List ℕ → Type 0
-AreChosenAndLegal operations places =
-    (order : List Operation) × ArePlacesOf operations places order × IsChosenOrder operations order × IsLegalOrder operations order
-
--- the gaps are the least free ones of the history's empty answers, by clocks of its filled history
-abbrev pub AreLeastFreeGapsFrom : List ℕ → List Operation → List ℕ → Type 0
-AreLeastFreeGapsFrom initial operations gaps = AreLeastFreeGaps (filled initial operations) (map (filled_gap (length initial)) gaps)
-
 -- the places are those of an order that is legal for a queue that holds these values first, and that, behind the enqueues of these
 -- values, is the chosen one of the filled history
-abbrev pub AreChosenAndLegalFrom : List ℕ → List Operation → List ℕ → Type 0
-AreChosenAndLegalFrom initial operations places =
+abbrev pub AreChosenAndLegal : List ℕ → List Operation → List ℕ → Type 0
+AreChosenAndLegal initial operations places =
     (order : List Operation) × ArePlacesOf operations places order × IsChosenOrder (filled initial operations) (filled initial order)
-    × IsLegalOrderFrom initial operations order
+    × IsLegalOrder initial operations order

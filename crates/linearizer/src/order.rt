@@ -1,16 +1,17 @@
-ghost use Rattle.std.specs.Prelude.{◌≡◌, ◌≤◌, All, IfOk, filter_map, map};
+ghost use Rattle.std.specs.Prelude.{◌≡◌, ◌≤◌, All, IfOk, filter_map, length, map};
 ghost use Rattle.event_records.specs.declared.limits.TheConstants.{MAX_CLOCK};
 ghost use Rattle.value_match.specs.Filling.{filled_gap, filled_operations};
 ghost use Rattle.value_match.specs.Lives.{AreLeastFreeGaps};
-ghost use Rattle.value_match.specs.Unfilling.{place_behind};
+ghost use Rattle.value_match.specs.Told.{place_behind};
 ghost use Rattle.value_match.specs.Violations.{NoOrderViolation};
-ghost use Rattle.linearizer.specs.Order.{AreChosenAndLegal, AreChosenAndLegalFrom, AreLeastFreeGapsFrom};
+ghost use Rattle.linearizer.specs.Order.{AreChosenAndLegal};
+ghost use Rattle.linearizer.specs.Inner.Merging.{IsWholeOrder};
 
 use crate::ordered_values::OrderedValues;
 use crate::placing::{merge, noops_of};
 use history_merge::OpId;
 use std::alloc::{AllocError, Global};
-use value_match::{FilledMatching, Matching};
+use value_match::{FilledMatching, Matching, told_place};
 
 /// Returns the chosen linearization of a history without violations (Herlihy and Wing 1990), by the order of its values:
 /// the operations' places in `matching.operations()`. The queue holds the initial values first.
@@ -18,9 +19,9 @@ use value_match::{FilledMatching, Matching};
 /// Of two operations the one at the lower gap stands first, where gap `c` is the time between tickets `c` and `c + 1`.
 /// `gaps` has the least free gap of each empty dequeue, in the order of their calls.
 ///
-/// The call takes a few words for each empty dequeue and failed enqueue, and one for each operation; if there are initial
-/// values, one more for each operation and empty dequeue. Its time grows as that of a sort of the empty dequeues and failed
-/// enqueues. The only error is out of memory.
+/// The call takes a few words for each empty dequeue and failed enqueue, and half a word for each operation; if there are
+/// initial values, half a word more for each operation and a word for each empty dequeue. Its time grows as that of a sort of
+/// the empty dequeues and failed enqueues. The only error is out of memory.
 pub fn linearize(
     alloc: Global,
     matching: &Matching,
@@ -29,8 +30,8 @@ pub fn linearize(
 ) -> Result<Vec<OpId>, AllocError>
     requires values { values.now ≡ filled_operations matching.now }
     requires no_order_violation { NoOrderViolation (filled_operations matching.now) }
-    requires least_free_gaps { AreLeastFreeGapsFrom matching.now.initial matching.now.operations gaps.now }
-    ensures { IfOk result (λ places. AreChosenAndLegalFrom matching.now.initial matching.now.operations places.items) }
+    requires least_free_gaps { AreLeastFreeGaps (filled_operations matching.now) (map (filled_gap (length matching.now.initial)) gaps.now) }
+    ensures { IfOk result (λ places. AreChosenAndLegal matching.now.initial matching.now.operations places.items) }
 {
     let initial_count = matching.initial().len();
     if initial_count == 0 {
@@ -51,7 +52,7 @@ fn order_in_filled(
     requires values { values.now ≡ matching.now }
     requires no_order_violation { NoOrderViolation matching.now }
     requires least_free_gaps { AreLeastFreeGaps matching.now gaps.now }
-    ensures { IfOk result (λ places. AreChosenAndLegal matching.now places.items) }
+    ensures { IfOk result (λ places. IsWholeOrder matching.now places.items) }
 {
     let noops = noops_of(alloc, matching, gaps)?;
     merge(alloc, matching, values, &noops)
@@ -83,5 +84,9 @@ fn unfilled(alloc: Global, initial_count: usize, places: &[OpId]) -> Result<Vec<
 fn place_behind(initial_count: usize, place: OpId) -> Option<OpId>
     ensures { result ≡ place_behind initial_count place }
 {
-    place.place().checked_sub(initial_count).map(OpId::new)
+    if place.place() < initial_count {
+        None
+    } else {
+        Some(told_place(initial_count, place))
+    }
 }

@@ -168,7 +168,7 @@ pub(crate) fn noops_of(
     let mut noops = Vec::with_capacity(alloc, count)?;
     place_empties(&mut noops, matching, gaps)?;
     place_refused(&mut noops, matching)?;
-    noops.sort_by_key(|noop| noop.placed().position)?;
+    noops.sort_unstable_by_key(|noop| noop.placed().position);
     Ok(noops)
 }
 

@@ -117,7 +117,7 @@ impl Noop {
     pub(crate) fn placed(self) -> Placed
         ensures { result ≡ self }
     {
-        let at = self.at.unpack();
-        Placed::at(OpId::new(at.place), at.time, Class::Noop, self.call)
+        let operation = OpId::new(self.at.place());
+        Placed::at(operation, self.at.unpack().time, Class::Noop, self.call)
     }
 }

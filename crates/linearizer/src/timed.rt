@@ -52,6 +52,14 @@ impl PackedTimed {
         }
     }
 
+    /// The place alone.
+    #[inline(always)]
+    pub(crate) fn place(self) -> u32
+        ensures { result ≡ self.place }
+    {
+        (self.word % PLACES) as u32
+    }
+
     #[inline(always)]
     pub(crate) fn unpack(self) -> Timed
         ensures { result ≡ self }

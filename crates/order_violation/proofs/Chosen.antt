@@ -1,16 +1,18 @@
 -- A value that overtakes another is an order violation, and each order violation is one.
-use Rattle.std.proofs.Common.{◌≡◌, ◌<◌, ◌≤◌, List, Option, Some, None, refl, sym, ◌∙◌, ap, subst, arith, ℕ}
-use Rattle.std.specs.Prelude.{Contains, All, MatchOption}
+use Rattle.std.proofs.Common.{◌≡◌, ◌<◌, ◌≤◌, List, Option, Some, None, refl, sym, ◌∙◌, ap, subst, arith, ℕ, length}
+use Rattle.std.specs.Prelude.{Contains, All, MatchOption, option_map}
 use Rattle.std.proofs.lemmas.List.Elements.{All-contains}
 use Rattle.history_merge.specs.declared.operation.Operation.{Operation}
 use Rattle.history_merge.specs.declared.operation.OpKind.TheVariants.{Deq}
 use Rattle.history_merge.specs.Operations.{Did, NoneDid, Precedes, IsAt}
 use Rattle.history_merge.specs.Complete.{AreComplete}
+use Rattle.history_merge.specs.Initial.{filled}
 use Rattle.history_merge.proofs.Distinct.{return_in_range, call_before_return}
 use Rattle.value_match.specs.declared.life.Life.{Life}
 use Rattle.value_match.specs.declared.life.MatchedValue.{MatchedValue}
 use Rattle.value_match.specs.declared.life.TheConstants.{NEVER}
-use Rattle.value_match.specs.declared.violation.Source.TheVariants.{Enq}
+use Rattle.value_match.specs.Filling.{behind}
+use Rattle.value_match.specs.Told.{told_place, told_source}
 use Rattle.value_match.specs.Lives.{IsLife, HoldsLives, IsMaybeAt, call_or_never, return_or_never, dequeue_call, dequeue_return, dequeue_of, enqueue_of}
 use Rattle.value_match.specs.Violations.{IsClear, IsOrderViolation, NoOrderViolation}
 use Rattle.value_match.specs.Choice.{StaysAtLeast}
@@ -18,6 +20,7 @@ use Rattle.value_match.specs.Longest.{NonePasses, IsLongestOf}
 use Rattle.order_violation.specs.Overtaking.{Overtakes, IsFirstOvertaking}
 use Rattle.order_violation.specs.Pairs.{IsChosenPair}
 use Rattle.value_match.proofs.Lives.{value_is_life, value_of_life, places_of_value}
+use Rattle.value_match.proofs.ToldPlaces.{value_told}
 
 call_in_range : (operations : List Operation) (v : ℕ) (dequeue : Option Operation) → AreComplete operations
     → MatchOption dequeue (NoneDid operations (Deq v)) (λ d. Did operations d (Deq v)) → call_or_never dequeue ≤ NEVER
@@ -127,15 +130,21 @@ place_missing operations None None d at is missing = cc
 place_missing operations None (Some e) d at is missing = at
 place_missing operations (Some q) o d at is missing = cc
 
-module _ (operations : List Operation) (values : List MatchedValue) (clear : IsClear operations) (holds : HoldsLives operations values) (a b : MatchedValue)
-    (first : IsFirstOvertaking values values b) (longest : IsLongestOf (Overtakes b.life) values a) where
-  dequeue_of_b : (d : Operation) × (dequeue_of b.life ≡ Some d)
-  dequeue_of_b = dequeued operations a.life b.life clear (value_is_life operations values a holds longest.among) longest.passes
+module _ (initial : List ℕ) (operations : List Operation) (values : List MatchedValue) (clear : IsClear (filled initial operations))
+    (holds : HoldsLives (filled initial operations) values) (a b : MatchedValue) (first : IsFirstOvertaking values values b) (longest : IsLongestOf (Overtakes b.life) values a) where
+  abbrev all : List Operation
+  all = filled initial operations
 
-  comes_first : (enq_a' enq_b' deq_b' : Operation) (deq_a' : Option Operation) → IsOrderViolation operations enq_a' enq_b' deq_b' deq_a'
+  abbrev k : ℕ
+  k = length initial
+
+  dequeue_of_b : (d : Operation) × (dequeue_of b.life ≡ Some d)
+  dequeue_of_b = dequeued all a.life b.life clear (value_is_life all values a holds longest.among) longest.passes
+
+  comes_first : (enq_a' enq_b' deq_b' : Operation) (deq_a' : Option Operation) → IsOrderViolation all enq_a' enq_b' deq_b' deq_a'
       → dequeue_of_b.0.ret ≤ deq_b'.ret
   comes_first enq_a' enq_b' deq_b' deq_a' violation =
-      let found = values_of operations values enq_a' enq_b' deq_b' deq_a' clear holds violation in
+      let found = values_of all values enq_a' enq_b' deq_b' deq_a' clear holds violation in
       let le = All-contains (λ other. (a : MatchedValue) → Contains values a → Overtakes other.life a.life
       → dequeue_return b.life ≤ dequeue_return other.life) values found.b first.first found.among_b
       found.a found.among_a found.overtakes in
@@ -143,23 +152,27 @@ module _ (operations : List Operation) (values : List MatchedValue) (clear : IsC
       let there : dequeue_return found.b.life ≡ deq_b'.ret = ap dequeue_return found.is_b in
       omega arith
 
-  stays_longest : (enq_a' : Operation) (deq_a' : Option Operation) → IsOrderViolation operations enq_a' (enqueue_of b.life) dequeue_of_b.0 deq_a'
+  stays_longest : (enq_a' : Operation) (deq_a' : Option Operation) → IsOrderViolation all enq_a' (enqueue_of b.life) dequeue_of_b.0 deq_a'
       → StaysAtLeast a.life (record { enqueue = enq_a'; dequeue = deq_a' })
   stays_longest enq_a' deq_a' violation =
-      let found = values_of operations values enq_a' (enqueue_of b.life) dequeue_of_b.0 deq_a' clear holds violation in
+      let found = values_of all values enq_a' (enqueue_of b.life) dequeue_of_b.0 deq_a' clear holds violation in
       let same : found.b.life ≡ b.life = found.is_b ∙ (λ i. record { enqueue = enqueue_of b.life; dequeue = sym dequeue_of_b.1 i }) in
       subst (StaysAtLeast a.life) found.is_a
       (All-contains (λ other. Overtakes b.life other.life → StaysAtLeast a.life other.life) values found.a longest.longest found.among_a
       (subst (λ l. Overtakes l found.a.life) same found.overtakes))
 
   -- the first value that overtakes another, with the longest that it overtakes, is the chosen pair
-  pub is_chosen_pair : (p : ℕ) → b.dequeue ≡ Some p
-      → IsChosenPair operations (record { enq_a = Enq a.enqueue; enq_b = Enq b.enqueue; deq_b = p; deq_a = a.dequeue })
+  pub is_chosen_pair : (p : ℕ) → b.dequeue ≡ Some p → IsChosenPair initial operations (record {
+    enq_a = told_source k a.enqueue;
+    enq_b = told_source k b.enqueue;
+    deq_b = told_place k p;
+    deq_a = option_map (told_place k) a.dequeue;
+  })
   is_chosen_pair p named =
-      let is_a = value_is_life operations values a holds longest.among in
-      let is_b = value_is_life operations values b holds first.among in
-      let at_a = places_of_value operations values a holds longest.among in
-      let at_b = places_of_value operations values b holds first.among in
+      let is_a = value_is_life all values a holds longest.among in
+      let is_b = value_is_life all values b holds first.among in
+      let at_a = value_told initial operations a (places_of_value all values a holds longest.among) is_a in
+      let at_b = value_told initial operations b (places_of_value all values b holds first.among) is_b in
       record {
         enq_a = enqueue_of a.life;
         enq_b = enqueue_of b.life;
@@ -167,10 +180,11 @@ module _ (operations : List Operation) (values : List MatchedValue) (clear : IsC
         deq_a = dequeue_of a.life;
         at_a = at_a.0;
         at_b = at_b.0;
-        dequeued_b = place_named operations b.dequeue (dequeue_of b.life) dequeue_of_b.0 p at_b.1 dequeue_of_b.1 named;
+        dequeued_b = place_named all _ (dequeue_of b.life) dequeue_of_b.0 _ at_b.1 dequeue_of_b.1
+            (ap (λ q. option_map (behind k) (option_map (told_place k) q)) named);
         dequeued_a = at_a.1;
         is_chosen = record {
-          violates = overtaking_violates operations a.life b.life dequeue_of_b.0 is_a is_b dequeue_of_b.1 longest.passes;
+          violates = overtaking_violates all a.life b.life dequeue_of_b.0 is_a is_b dequeue_of_b.1 longest.passes;
           first = comes_first;
           longest = stays_longest;
         };
@@ -178,5 +192,5 @@ module _ (operations : List Operation) (values : List MatchedValue) (clear : IsC
 
   -- its dequeue has a place
   pub dequeue_is_named : b.dequeue ≡ None → ⊥
-  dequeue_is_named missing = place_missing operations b.dequeue (dequeue_of b.life) dequeue_of_b.0
-      (places_of_value operations values b holds first.among).1 dequeue_of_b.1 missing
+  dequeue_is_named missing = place_missing all b.dequeue (dequeue_of b.life) dequeue_of_b.0
+      (places_of_value all values b holds first.among).1 dequeue_of_b.1 missing

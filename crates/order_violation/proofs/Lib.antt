@@ -1,5 +1,4 @@
 -- The way of the argument: Chosen: a value overtakes another if and only if they are an order violation, and the first that overtakes, with the one that stays longest, is the
--- chosen one. Scans: the first of two lists of candidates, and of one more. Told: a pair of the filled history, by the places of the history.
+-- chosen one. Scans: the first of two lists of candidates, and of one more.
 pub mod Scans
 pub mod Chosen
-pub mod Told

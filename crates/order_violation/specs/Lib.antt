@@ -1,3 +1,2 @@
 pub mod Overtaking
 pub mod Pairs
-pub mod Inner

@@ -1,5 +1,5 @@
 ghost use Rattle.std.specs.Prelude.{◌≡◌, ◌≤◌, IfOk};
-ghost use Rattle.order_violation.specs.Pairs.{IsOrderAnswerFrom};
+ghost use Rattle.order_violation.specs.Pairs.{IsOrderAnswer};
 ghost use Rattle.parallel_finders.specs.declared.TheConstants.{MAX_PIECES};
 
 use crate::MIN_ITEMS;
@@ -23,7 +23,7 @@ pub fn find_order_par<R: Threads + Sync>(
     pieces: usize,
 ) -> Result<Option<OrderPair>, AllocError>
     requires { (1 ≤ pieces) × (pieces ≤ MAX_PIECES) }
-    ensures { IfOk result (IsOrderAnswerFrom matching.now.initial matching.now.operations) }
+    ensures { IfOk result (IsOrderAnswer matching.now.initial matching.now.operations) }
 {
     if matching.filled().values().len() < MIN_ITEMS {
         find_order(alloc, matching)
@@ -39,7 +39,7 @@ pub fn order_in_pieces<R: Threads + Sync>(
     matching: &Matching,
     pieces: usize,
 ) -> Result<Option<OrderPair>, AllocError>
-    ensures { IfOk result (IsOrderAnswerFrom matching.now.initial matching.now.operations) }
+    ensures { IfOk result (IsOrderAnswer matching.now.initial matching.now.operations) }
 {
     let table = table_of(rt, alloc, matching.filled().values())?;
     let first = first_overtaking_par(rt, &table, table.values(), pieces);

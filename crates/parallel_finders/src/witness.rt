@@ -1,5 +1,5 @@
 ghost use Rattle.std.specs.Prelude.{◌≤◌, IfOk};
-ghost use Rattle.empty_witness.specs.Answers.{IsWitnessAnswerFrom};
+ghost use Rattle.empty_witness.specs.Answers.{IsWitnessAnswer};
 ghost use Rattle.parallel_finders.specs.declared.TheConstants.{MAX_PIECES};
 ghost use Rattle.empty_witness.specs.Spans.{AreSpansOf};
 
@@ -25,7 +25,7 @@ pub fn find_witness_par<R: Threads + Sync>(
     pieces: usize,
 ) -> Result<WitnessAnswer, AllocError>
     requires { (1 ≤ pieces) × (pieces ≤ MAX_PIECES) }
-    ensures { IfOk result (IsWitnessAnswerFrom matching.now.initial matching.now.operations) }
+    ensures { IfOk result (IsWitnessAnswer matching.now.initial matching.now.operations) }
 {
     if matching.filled().values().len() < MIN_ITEMS || matching.filled().empties().is_empty() {
         return find_witness(alloc, matching);
@@ -41,7 +41,7 @@ pub fn witness_in_pieces<R: Threads + Sync>(
     matching: &Matching,
     pieces: usize,
 ) -> Result<WitnessAnswer, AllocError>
-    ensures { IfOk result (IsWitnessAnswerFrom matching.now.initial matching.now.operations) }
+    ensures { IfOk result (IsWitnessAnswer matching.now.initial matching.now.operations) }
 {
     let filled = matching.filled();
     let spans = spans_of_par(rt, alloc, filled)?;

@@ -13,7 +13,7 @@ use Rattle.event_records.specs.declared.event.Event.{Event}
 use Rattle.event_records.specs.Projection.{projection}
 use Rattle.history_merge.specs.declared.operation.Operation.{Operation}
 use Rattle.history_merge.specs.declared.operation.OpKind.{OpKind}
-use Rattle.history_merge.specs.Legal.{IsLegalOrderFrom}
+use Rattle.history_merge.specs.Legal.{IsLegalOrder}
 use Rattle.history_merge.specs.Merge.{IsMerged}
 use Rattle.history_merge.specs.Operations.{Precedes, operations_of, operation_of, kind_of}
 use Rattle.history_merge.specs.Queue.{IsAccepted}
@@ -197,5 +197,5 @@ module _ (setting : Setting) (schedule : List Attempt) (merged : List Event) (fe
       IsPermutation-trans _ _ _ a (IsPermutation-trans _ _ _ b c)
 
   -- the order of the effects is a legal one of the collected history
-  pub effects_order_is_legal : IsLegalOrderFrom setting.initial (operations_of merged) (effects_order setting steps)
+  pub effects_order_is_legal : IsLegalOrder setting.initial (operations_of merged) (effects_order setting steps)
   effects_order_is_legal = record { holds_each_once = each_once; extends_precedence = in_precedence; is_accepted = accepted_in_turn }

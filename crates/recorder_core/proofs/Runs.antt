@@ -4,7 +4,7 @@ use Rattle.std.proofs.lemmas.Bool.{ltb-false, leb-false, eq-eqb, or_parts}
 use Rattle.std.specs.Option.{is_none}
 use Rattle.event_records.specs.declared.limits.TheConstants.{MAX_THREAD_OPERATIONS, MAX_OPERATIONS}
 use Rattle.recorder_core.specs.declared.step.Step.{Step}
-use Rattle.recorder_core.specs.declared.step.Step.TheVariants.{AskEnq, Push, Effect, Say, Ret, Drain, Close}
+use Rattle.recorder_core.specs.declared.step.Step.TheVariants.{AskEnq, Push, Effect, Say, Ret, Close}
 use Rattle.event_records.specs.declared.kind.Answer.{Answer}
 use Rattle.recorder_core.specs.declared.step.StepRefused.{StepRefused}
 use Rattle.recorder_core.specs.Setting.{Setting}
@@ -110,11 +110,6 @@ pub may_return : (setting : Setting) (before : List Step) (u : ℕ) (starved : B
 may_return setting before u starved none =
     let p = four_passed _ _ _ _ _ _ _ _ _ none in let e = passed _ _ _ p.4 in
     record { known = leb-false _ _ p.0; open_still = p.1; none_held = ltb-false _ _ p.2; one_pending = leb-false _ _ p.3; has_answer = leb-false _ _ e.0 }
-
--- a drain that isn't refused is of a thread
-pub may_drain : (setting : Setting) (before : List Step) (u k : ℕ) (starved : Bool)
-    → refusal setting before (record { step = Drain u k; starved = starved }) ≡ None → u < setting.threads
-may_drain setting before u k starved none = leb-false _ _ (passed _ _ _ none).0
 
 -- when a thread may close
 pub record MayClose (setting : Setting) (u : ℕ) (before : List Step) : Type 0 where

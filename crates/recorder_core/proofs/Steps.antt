@@ -472,10 +472,6 @@ module _ (old : MachineView) (u i n : ℕ) (thread new : ThreadView) (same : i �
       → TakesStep old (Ret u) (Err r) (record old { threads = set old.threads i new })
   return_refused r is = refused_at (Ret u) r (λ setting before all left. says_return old u thread at_place setting before all left (is_memory r) (Some r) is)
 
-  -- a drain without memory changes nothing
-  pub drain_starved : (n : ℕ) → TakesStep old (Drain u n) (Err Memory) (record old { threads = set old.threads i new })
-  drain_starved n = refused_at (Drain u n) Memory (λ setting before all left. says_drain old u thread at_place setting before all left n true)
-
   -- a close that is refused changes nothing
   pub close_refused : (r : StepRefused) → Some r ≡ find (seen thread none_other) (Closed ∷ Held ∷ PendingRefused ∷ [])
       → TakesStep old (Close u) (Err r) (record old { threads = set old.threads i new })

@@ -5,7 +5,7 @@ ghost use Rattle.event_records.specs.declared.limits.TheConstants.{MAX_EVENTS};
 ghost use Rattle.event_records.specs.declared.event.Event.{Event};
 ghost use Rattle.history_merge.specs.declared.operation.Operation.{Operation};
 ghost use Rattle.history_merge.specs.Initial.{IsCompleteFrom};
-ghost use Rattle.history_merge.specs.Legal.{IsLegalOrderFrom};
+ghost use Rattle.history_merge.specs.Legal.{IsLegalOrder};
 ghost use Rattle.history_merge.specs.Operations.{Precedes, operations_of};
 ghost use Rattle.history_merge.specs.Queue.{accept_all};
 ghost use Rattle.recorder_core.specs.declared.step.Step.TheVariants.{Close};
@@ -95,5 +95,5 @@ pub fn honest_schedules_are_legal()
     ensures { (setting : Setting) (schedule : List Attempt) (merged : List Event)
         → setting.threads ≤ MAX_THREADS → IsHonest setting schedule → IsDone setting schedule
         → IsMerged (collected_lists setting schedule) merged
-        → IsLegalOrderFrom setting.initial (operations_of merged) (effects_order setting (accepted setting schedule)) }
+        → IsLegalOrder setting.initial (operations_of merged) (effects_order setting (accepted setting schedule)) }
 {}

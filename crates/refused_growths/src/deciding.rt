@@ -2,7 +2,8 @@
 ghost use Rattle.std.specs.Prelude.{IfOk};
 ghost use Rattle.history_merge.specs.Operations.{operations_of};
 ghost use Rattle.verdicts.specs.Claiming.{IsWithin};
-ghost use Rattle.verdicts.specs.Verdicts.{IsChosenFrom, IsVerdictFrom};
+ghost use Rattle.value_match.specs.Outcome.{IsChosenViolation};
+ghost use Rattle.verdicts.specs.Verdicts.{IsVerdict};
 
 use crate::histories::{by, history_of};
 use history_merge::OpKind::{Deq, Empty, Enq};
@@ -95,7 +96,7 @@ fn of_a_legal_order(rt: HostRuntime) -> Result<(), Fail> {
 
 /// The verdict on a history.
 pub(crate) fn decided(alloc: Global, history: &History) -> Result<Verdict, AllocError>
-    ensures chosen { IfOk result (λ verdict. IsVerdictFrom history.now.initial (operations_of history.now.events) verdict) }
+    ensures chosen { IfOk result (λ verdict. IsVerdict history.now.initial (operations_of history.now.events) verdict) }
     ensures places { IfOk result (λ verdict. IsWithin history.now.initial (operations_of history.now.events) verdict) }
 {
     match decide(alloc, history) {
@@ -184,7 +185,7 @@ fn is_evidence_again(
 
 /// The history of a violation alone.
 fn shrunk(alloc: Global, history: &History, violation: &Violation) -> Result<History, AllocError>
-    requires { IsChosenFrom history.now.initial (operations_of history.now.events) violation.now }
+    requires { IsChosenViolation history.now.initial (operations_of history.now.events) violation.now }
 {
     match shrink(alloc, history, violation) {
         Ok(small) => Ok(small),

@@ -1,6 +1,6 @@
 -- A list under a lock, which the log leaves of what was there at first.
-use Rattle.std.proofs.Common.{◌≡◌, ℕ, Bool, true, false, List, [], ◌∷◌, ◌++◌, Option, Some, None, refl, sym, ap, ◌∙◌, subst}
-use Rattle.std.specs.Prelude.{if◌then◌else◌, option_and_then, option_to_list, IsSome}
+use Rattle.std.proofs.Common.{◌≡◌, ℕ, Bool, true, false, List, [], ◌∷◌, ◌++◌, Option, Some, None, refl, sym, ap, ◌∙◌}
+use Rattle.std.specs.Prelude.{if◌then◌else◌, option_and_then, option_to_list}
 use Rattle.std.proofs.lemmas.Bool.{eq-eqb}
 use Rattle.std.proofs.lemmas.List.{map-append}
 use Rattle.std.proofs.lemmas.Option.{same_Some}
@@ -9,7 +9,7 @@ use Rattle.tickets.specs.declared.note.Effect.TheVariants as effect
 use Rattle.tickets.specs.declared.note.Note.{Note}
 use Rattle.tickets.specs.Log.{note_at}
 use Rattle.history_merge.specs.declared.operation.OpKind.{OpKind}
-use Rattle.history_merge.specs.Queue.{accept, accept_all, IsAccepted}
+use Rattle.history_merge.specs.Queue.{accept, accept_all}
 use Rattle.stress_run.specs.Noted.{kind_noted, kinds_noted}
 
 -- one operation more is accepted
@@ -51,7 +51,3 @@ take_accepts old new v is =
 -- nothing is taken out of an empty list
 pub none_accepts : (old new : List ℕ) → old ≡ [] → old ≡ option_to_list None ++ new → accept old (kind_noted effect.Empty) ≡ Some new
 none_accepts old new empty is = ap (λ (q : List ℕ). accept q (kind_noted effect.Empty)) empty ∙ ap (λ (q : List ℕ). Some q) (sym empty ∙ is)
-
-pub is_accepted : (initial : List ℕ) (notes : List Note) (s : List ℕ) → accept_all initial (kinds_noted notes) ≡ Some s
-    → IsAccepted initial (kinds_noted notes)
-is_accepted initial notes s legal = subst IsSome (sym legal) refl

@@ -18,7 +18,7 @@ use Rattle.event_records.specs.Projection.{projection}
 use Rattle.event_records.specs.Turns.{TakesTurns, is_call}
 use Rattle.history_merge.specs.declared.operation.Operation.{Operation}
 use Rattle.history_merge.specs.declared.operation.OpKind.{OpKind}
-use Rattle.history_merge.specs.Legal.{IsLinearizableFrom}
+use Rattle.history_merge.specs.Legal.{IsLinearizable}
 use Rattle.history_merge.specs.Merge.{IsMerged}
 use Rattle.history_merge.specs.Operations.{Precedes, operations_of, operation_of, kind_of}
 use Rattle.history_merge.specs.Queue.{IsAccepted}
@@ -210,7 +210,7 @@ module _ (lists : List (List Event)) (notes log : List Note) (merged : List Even
 
   -- the order of the log is a legal one
   pub linearizable : (initial : List ℕ) (next : ℕ) → LooksRise 0 log next → IsAccepted initial (map (λ n. kind_noted n.effect) log)
-      → IsLinearizableFrom initial (operations_of merged)
+      → IsLinearizable initial (operations_of merged)
   linearizable initial next rise accepted =
       let z = lifted note_in all_pairs log (subst (λ (ns : List Note). IsPermutation ns log) (sym notes_in) logged) in
       let ps = z.0 in

@@ -2,7 +2,7 @@
 ghost use Rattle.std.specs.Prelude.{◌≡◌, ◌≢◌, ℕ, ◌*◌, ◌⊎◌, List, [], Err, length, sum_by, IfOk, IfErr};
 ghost use Rattle.event_records.specs.declared.event.Event.{Event};
 ghost use Rattle.history_merge.specs.Initial.{IsCompleteFrom};
-ghost use Rattle.history_merge.specs.Legal.{IsLinearizableFrom};
+ghost use Rattle.history_merge.specs.Legal.{IsLinearizable};
 ghost use Rattle.history_merge.specs.Merge.{IsMerged};
 ghost use Rattle.history_merge.specs.Operations.{operations_of};
 ghost use Rattle.queue_interface.specs.Answers.{AnswersInKind};
@@ -59,7 +59,7 @@ fn run_named<J: OfRun + Send + Sync, R: Threads + Wait + Sync>(
     ensures lists { IfOk result (λ r. AreRecorded r.lists) }
     ensures replays { IfOk result (λ r. Replays sizes.ring initial.items r.lists) }
     ensures fits { IfOk result (λ r. (merged : List Event) → IsMerged r.lists merged → IsCompleteFrom initial.items merged) }
-    ensures linearizable { IfOk result (λ r. (merged : List Event) → IsMerged r.lists merged → IsLinearizableFrom initial.items (operations_of merged)) }
+    ensures linearizable { IfOk result (λ r. (merged : List Event) → IsMerged r.lists merged → IsLinearizable initial.items (operations_of merged)) }
     ensures fault { IfErr result (IsFaultOfRun AnswersInKind [] plan.now sizes) }
 {
     let (tickets, pass, log) = named;
@@ -94,7 +94,7 @@ pub fn run_proved<R: Threads + Wait + Sync>(
     ensures lists { IfOk result (λ r. AreRecorded r.lists) }
     ensures replays { IfOk result (λ r. Replays ring initial.now r.lists) }
     ensures fits { IfOk result (λ r. (merged : List Event) → IsMerged r.lists merged → IsCompleteFrom initial.now merged) }
-    ensures linearizable { IfOk result (λ r. (merged : List Event) → IsMerged r.lists merged → IsLinearizableFrom initial.now (operations_of merged)) }
+    ensures linearizable { IfOk result (λ r. (merged : List Event) → IsMerged r.lists merged → IsLinearizable initial.now (operations_of merged)) }
     ensures sizes { ¬ IsWithinLimits ring tries → result ≡ Err Limit }
     ensures names { ¬ AreInitialNames initial.now → (result ≡ Err Limit) ⊎ (result ≡ Err Memory) }
     ensures preloads { (place : ℕ) → result ≢ Err (Preload place) }

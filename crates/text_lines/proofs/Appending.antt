@@ -1,22 +1,17 @@
 -- Bytes that are written in turn.
 use Rattle.std.proofs.Common.{◌≡◌, ℕ, ◌+◌, ◌-◌, ◌<◌, Bool, false, get_or, ◌∷◌, ◌||◌, ◌&&◌, not, List, [], ◌++◌, length, take, drop, Option}
 use Rattle.std.proofs.Common.{append-nil, append_assoc, sym, ◌∙◌, ap, subst, arith, length-drop, inl, inr, Ok, Err}
-use Rattle.std.specs.Prelude.{◌==◌, OnErr, OnOk}
+use Rattle.std.specs.Prelude.{◌==◌, OnOk}
 use Rattle.std.specs.declared.result.Result.{Result}
 use Rattle.std.specs.Io.KnownBytes.{Appends, Keeps}
 use Rattle.std.specs.List.{flat_map}
 use Rattle.std.proofs.lemmas.Grind.{flat_map-append}
-use Rattle.std.proofs.KnownBytes.{Appends-nil, Appends-trans, Appends-kept}
+use Rattle.std.proofs.KnownBytes.{Appends-trans, Appends-kept}
 use Rattle.std.proofs.Math.Seq.{take-add}
 use Rattle.std.proofs.Math.Bool.{or-false}
 use Rattle.std.proofs.lemmas.List.{take-append-drop, take_all, take_more}
 use Rattle.std.proofs.lemmas.Bool.Decides.{eqb_tells}
 use Rattle.text_lines.specs.Writing.{AppendsFront, Puts}
-
--- what holds anyway holds if a call failed
-pub on_err : {T E : Type 0} (r : Result T E) (P : Type 0) → P → OnErr r P
-on_err (Ok x) P p = tt
-on_err (Err e) P p = p
 
 -- what holds anyway holds if a call succeeded
 pub on_ok : {T E : Type 0} (r : Result T E) (P : Type 0) → P → OnOk r P
@@ -66,10 +61,6 @@ front_first a b xs ys h = record {
   written = h.written;
 }
 
--- nothing is put
-pub Puts-nil : (a : Option (List ℕ)) (kept : List ℕ) → Puts a a kept kept []
-Puts-nil a kept = record { out = []; whole = append-nil kept; written = Appends-nil a }
-
 -- two texts are put in turn
 pub Puts-append : (a b c : Option (List ℕ)) (kept mid rest xs ys : List ℕ) → Puts a b kept mid xs → Puts b c mid rest ys → Puts a c kept rest (xs ++ ys)
 Puts-append a b c kept mid rest xs ys h k = record {
@@ -90,10 +81,6 @@ front_next a b c kept mid xs ys h k = record {
   written = Appends-trans a b c h.out k.front h.written k.written;
 }
 
--- a prefix of what is held back goes out, after which more was to come
-pub front_of_kept : (a b c : Option (List ℕ)) (kept mid xs ys : List ℕ) → Puts a b kept mid xs → AppendsFront b c mid → AppendsFront a c (kept ++ (xs ++ ys))
-front_of_kept a b c kept mid xs ys h k = front_next a b c kept mid xs ys h (front_first b c mid ys k)
-
 -- ---- a text for each of a list
 
 module _ {X : Type 0} (f : X → List ℕ) where
@@ -106,23 +93,7 @@ module _ {X : Type 0} (f : X → List ℕ) where
   pub flat_map-parts : (xs : List X) (i : ℕ) → flat_map f (take i xs) ++ flat_map f (drop i xs) ≡ flat_map f xs
   flat_map-parts xs i = sym (flat_map-append f (take i xs) (drop i xs)) ∙ ap (flat_map f) (take-append-drop i xs)
 
-  -- one more of them is put
-  pub puts_more : (xs : List X) (i : ℕ) (d : X) (a b c : Option (List ℕ)) (kept mid rest : List ℕ) → i < length xs
-      → Puts a b kept mid (flat_map f (take i xs)) → Puts b c mid rest (f (get_or xs i d)) → Puts a c kept rest (flat_map f (take (i + 1) xs))
-  puts_more xs i d a b c kept mid rest within before now = subst (Puts a c kept rest) (sym (flat_map-more xs i d within))
-      (Puts-append a b c kept mid rest _ _ before now)
-
-  -- a prefix of what is held back of the first ones goes out
-  pub stops_at_one : (xs : List X) (i : ℕ) (a b c : Option (List ℕ)) (kept mid : List ℕ) → Puts a b kept mid (flat_map f (take i xs))
-      → AppendsFront b c mid → AppendsFront a c (kept ++ flat_map f xs)
-  stops_at_one xs i a b c kept mid before now = subst (λ (t : List ℕ). AppendsFront a c (kept ++ t)) (flat_map-parts xs i)
-      (front_of_kept a b c kept mid _ (flat_map f (drop i xs)) before now)
-
 -- ---- the beginning and the end of a text
-
--- what is kept back first is a part of the text
-pub Puts-first : (a b : Option (List ℕ)) (kept rest front xs : List ℕ) → kept ≡ front → Puts a b kept rest xs → Puts a b [] rest (front ++ xs)
-Puts-first a b kept rest front xs is h = record { out = h.out; whole = ap (λ (r : List ℕ). r ++ xs) (sym is) ∙ h.whole; written = h.written }
 
 -- more is kept back
 pub Puts-last : (a b : Option (List ℕ)) (kept mid rest xs ys : List ℕ) → rest ≡ mid ++ ys → Puts a b kept mid xs → Puts a b kept rest (xs ++ ys)
@@ -144,7 +115,3 @@ puts_front a b c kept text h k = record {
   whole = h.whole ∙ ap (λ (r : List ℕ). h.out ++ r) k.whole ∙ sym (append_assoc h.out k.front k.rest);
   written = Appends-trans a b c h.out k.front h.written k.written;
 }
-
--- a call that succeeded refused nothing
-pub still : (new old first : Bool) → new ≡ (old || false) → old ≡ first → new ≡ first
-still new old first now before = now ∙ or-false old ∙ before

@@ -1,8 +1,7 @@
 -- What a sink was asked, one call after another.
 use Rattle.std.proofs.Common.{◌≡◌, ℕ, zero, suc, ◌&&◌, not, Bool, List, length, refl, sym, subst, inl, inr}
-use Rattle.std.specs.Prelude.{◌==◌, if◌then◌else◌, OnErr, OnOk, Result}
+use Rattle.std.specs.Prelude.{◌==◌, if◌then◌else◌}
 use Rattle.std.proofs.lemmas.Bool.Decides.{eqb_tells}
-use Rattle.std.proofs.lemmas.Result.{on_err_weaker, on_ok_weaker}
 use Rattle.text_lines.specs.Writing.{Asked, Took, Refused, TakesTimes, IsWritten, IsRefused}
 
 module _ {S : Type 0} (transition : S → Asked → S → Type 0) where
@@ -16,10 +15,6 @@ module _ {S : Type 0} (transition : S → Asked → S → Type 0) where
   takes_then (suc m) n a b c before after =
       let rest = takes_then m n before.0 b c before.2 after in
       (suc rest.0, (before.0, before.1, rest.1))
-
-  -- nothing was asked
-  pub nothing_asked : (a : S) → IsWritten transition a a
-  nothing_asked a = record { calls = 0; taken = refl }
 
   -- a write that took some bytes took
   pub took : (n : ℕ) (piece : List ℕ) (a b : S) → (n ≡ 0 → ⊥) → transition a (if (n == 0) && not (length piece == 0) then Refused else Took) b → transition a Took b
@@ -46,13 +41,3 @@ module _ {S : Type 0} (transition : S → Asked → S → Type 0) where
   -- a body that only writes, and then one that is refused
   pub refused_then : (a b c : S) → IsWritten transition a b → IsRefused transition b c → IsRefused transition a c
   refused_then a b c before after = record { before = after.before; written = written_then a b after.before before after.written; refused = after.refused }
-
-  -- if the first of two bodies only writes, and the second did so if it is well, both did
-  pub both_written : {T E : Type 0} {a b : S} (result : Result T E) (c : S) → IsWritten transition a b → OnOk result (IsWritten transition b c)
-      → OnOk result (IsWritten transition a c)
-  both_written result c before after = on_ok_weaker result (written_then _ _ _ before) after
-
-  -- and if the second was refused, both were
-  pub second_refused : {T E : Type 0} {a b : S} (result : Result T E) (c : S) → IsWritten transition a b → OnErr result (IsRefused transition b c)
-      → OnErr result (IsRefused transition a c)
-  second_refused result c before after = on_err_weaker result (refused_then _ _ _ before) after

@@ -1,7 +1,7 @@
 -- Bytes that a sink keeps back, and passes on in turn.
 use Rattle.std.proofs.Common.{◌≡◌, ℕ, ◌+◌, ◌-◌, List, ◌++◌, length, take, drop, Option, sym, ◌∙◌, ap, subst, arith, length-drop}
 use Rattle.std.specs.Io.KnownBytes.{Appends, Keeps, append_known}
-use Rattle.std.proofs.KnownBytes.{Keeps-trans, append_known-kept, append_known-moved}
+use Rattle.std.proofs.KnownBytes.{Keeps-trans, append_known-moved}
 use Rattle.std.proofs.lemmas.List.{take-append-drop, take_all}
 
 module _ (first a b : Option (List ℕ)) (all kept : List ℕ) (at : ℕ) (known : Keeps (append_known first all) (append_known a (drop at kept))) where
@@ -14,7 +14,3 @@ module _ (first a b : Option (List ℕ)) (all kept : List ℕ) (at : ℕ) (known
       let whole : drop at kept ≡ take n (drop at kept) ++ drop (at + n) kept =
       sym (take-append-drop n (drop at kept)) ∙ ap (λ (t : List ℕ). take n (drop at kept) ++ t) later in
       Keeps-trans _ _ _ known (append_known-moved a b (take n (drop at kept)) (drop (at + n) kept) (drop at kept) front whole)
-
-  -- the inner sink refused
-  pub none_passed_on : Keeps a b → Keeps (append_known first all) (append_known b (drop at kept))
-  none_passed_on same = Keeps-trans _ _ _ known (append_known-kept a b (drop at kept) same)

@@ -1,17 +1,16 @@
 -- Texts that are written to a sink, one after another.
-use Rattle.std.proofs.Common.{◌≡◌, ℕ, ◌+◌, ◌<◌, ◌≤◌, Bool, true, false, ◌||◌, List, [], ◌++◌, length, take, drop, get_or, Option, refl, sym, ◌∙◌, ap, subst}
+use Rattle.std.proofs.Common.{◌≡◌, ℕ, ◌+◌, ◌<◌, Bool, true, false, ◌||◌, List, [], ◌++◌, length, take, drop, get_or, Option, refl, sym, ◌∙◌, ap, subst}
 use Rattle.std.proofs.Common.{append_assoc, Ok, Err}
 use Rattle.std.specs.Prelude.{OnErr, OnOk, is_err}
 use Rattle.std.specs.Result.{IsErrAnd}
 use Rattle.std.specs.declared.result.Result.{Result}
 use Rattle.std.specs.Io.KnownBytes.{Appends}
 use Rattle.std.specs.List.{flat_map}
-use Rattle.std.proofs.KnownBytes.{Appends-nil, Appends-trans}
+use Rattle.std.proofs.KnownBytes.{Appends-trans}
 use Rattle.std.proofs.Math.Bool.{or-false}
-use Rattle.std.proofs.lemmas.List.{take_all}
 use Rattle.text_lines.specs.Writing.{Asked, AppendsFront, PutsText, TakesAll, TakesFront, TakesSome, Writes, IsWritten, IsRefused}
-use Rattle.text_lines.proofs.Appending.{Puts-append, Puts-last, Puts-nil, flat_map-more, flat_map-parts, front_first, front_next, puts_all, puts_front}
-use Rattle.text_lines.proofs.Asking.{nothing_asked, refused_then, written_then}
+use Rattle.text_lines.proofs.Appending.{Puts-append, Puts-last, flat_map-more, flat_map-parts, front_first, front_next, puts_all, puts_front}
+use Rattle.text_lines.proofs.Asking.{refused_then, written_then}
 
 -- true, whatever came before
 pub or_true : (b : Bool) → (b || true) ≡ true
@@ -69,15 +68,7 @@ module _ {S : Type 0} (contents : S → Option (List ℕ)) (has_refused : S → 
   writes_then (Ok x) xs ys a b c h k = all_then xs ys a b c h k
   writes_then (Err e) xs ys a b c h k = front_then xs ys a b c h k
 
-  -- nothing is written
-  pub all_of_none : (a : S) → All [] a a
-  all_of_none a = record { bytes = Appends-nil (contents a); asked = nothing_asked transition a; refused = refl }
-
   -- ---- while bytes are held back
-
-  -- nothing is put
-  pub some_of_none : (a : S) (kept : List ℕ) → Some kept kept [] a a
-  some_of_none a kept = record { bytes = Puts-nil (contents a) kept; asked = nothing_asked transition a; refused = refl }
 
   -- a text is held back after the one before it
   pub some_kept : (kept mid rest xs ys : List ℕ) (a b : S) → rest ≡ mid ++ ys → Some kept mid xs a b → Some kept rest (xs ++ ys) a b
@@ -166,11 +157,6 @@ module _ {S : Type 0} (contents : S → Option (List ℕ)) (has_refused : S → 
         subst (λ (t : List ℕ). PutsText contents has_refused transition kept rest t a c r) (flat_map-parts f xs (i + 1))
         (stops_before Q r kept rest (flat_map f (take (i + 1) xs)) (flat_map f (drop (i + 1) xs)) a c is
         (subst (λ (t : List ℕ). Front (kept ++ t) a c) (sym (flat_map-more f xs i d within)) (front_of_some kept mid _ _ a b c before now)))
-
-    -- where all are put
-    pub all_are_put : (xs : List X) (i : ℕ) (kept rest : List ℕ) (a b : S) → length xs ≤ i → Some kept rest (flat_map f (take i xs)) a b
-        → Some kept rest (flat_map f xs) a b
-    all_are_put xs i kept rest a b all h = subst (λ (ys : List X). Some kept rest (flat_map f ys) a b) (take_all i xs all) h
 
     -- one more of them is written
     pub one_more_written : (xs : List X) (i : ℕ) (d : X) (a b c : S) → i < length xs → All (flat_map f (take i xs)) a b → All (f (get_or xs i d)) b c

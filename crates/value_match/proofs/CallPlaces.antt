@@ -7,7 +7,7 @@ use Rattle.std.specs.List.Sorted.{IsNonDecreasingBy, IsPartitionPoint}
 use lib.Dec.{ltb}
 use Rattle.std.proofs.lemmas.Bool.{false≢true, ltb-true, ltb-false}
 use Rattle.std.proofs.Math.Seq.{get_or-append_seam}
-use Rattle.std.proofs.lemmas.List.Elements.{All-nil, All-push, All-pop, All-contains}
+use Rattle.std.proofs.lemmas.List.Elements.{All-push, All-pop, All-contains}
 use Rattle.std.proofs.lemmas.List.Sorted.{All-permutation, IsPermutation-sym}
 use Rattle.std.proofs.lemmas.List.{get_or_append_left}
 use Rattle.std.proofs.lemmas.Option.{slice_get_within}
@@ -52,10 +52,6 @@ met_all operations n v (Some place) all met = met
 pub record MetOthers (operations : List Operation) (names : Names) (n : ℕ) (calls : List Call) : Type 0 where
   pub are_calls : All (IsCall operations) calls
   pub has_all : (v : ℕ) → ¬ (IsNamed operations names v) → NoneOf calls v → MetCall operations n v None
-
--- no call is among the others at first
-pub others_none : (operations : List Operation) (names : Names) → MetOthers operations names 0 []
-others_none operations names = record { are_calls = All-nil (IsCall operations); has_all = λ v unnamed none k o below at. absurd (omega (arith, below)) }
 
 -- a place that is found by a name has that name
 pub named_if_found : (operations : List Operation) (names : Names) (v : ℕ) (found : Option ℕ) → is_some found ≡ true

@@ -3,7 +3,7 @@ use Rattle.std.proofs.Common.{◌≡◌, ℕ, ◌+◌, ◌<◌, ◌≤◌, ◌�
 use Rattle.std.proofs.Common.{get_or, Option, Some, None, IsTrue, refl}
 use Rattle.std.proofs.Common.{sym, ◌∙◌, ap, subst, inl, inr, arith, nat_lt}
 use Rattle.std.specs.Prelude.{Contains, IfSome}
-use Rattle.std.proofs.lemmas.Bool.{false≢true, ltb-true, ltb-false, lt-ltb, le-ltb, cases_Bool}
+use Rattle.std.proofs.lemmas.Bool.{false≢true, ltb-true, ltb-false, lt-ltb, cases_Bool}
 use Rattle.std.proofs.lemmas.Option.{slice_get_within, slice_get-get_or}
 use Rattle.history_merge.specs.declared.operation.Operation.{Operation}
 use Rattle.history_merge.specs.declared.operation.OpKind.{OpKind}
@@ -14,8 +14,7 @@ use Rattle.history_merge.proofs.Distinct.{contains_at, place_of, one_at, same_va
 use Rattle.history_merge.proofs.DistinctValues.{each_more}
 use Rattle.value_match.specs.Lives.{IsMaybeAt, is_refused}
 use Rattle.value_match.specs.Violations.{IsFreshViolation, IsEnqueuedTooLate, NoFreshViolation}
-use Rattle.value_match.specs.declared.violation.Violation.TheVariants.{Fresh}
-use Rattle.value_match.specs.Outcome.{NamesChosenFresh}
+use Rattle.value_match.specs.Inner.MatchOutcome.{AreChosenFresh}
 use Rattle.value_match.specs.Inner.Sources.{IsCallPlace, IsSourceOf, HoldsSources, IsFreshFrom}
 
 -- an operation that called to enqueue a value was accepted or refused
@@ -249,12 +248,13 @@ none_fresh operations n all none deq enq violates =
 -- the first that is found is the chosen one
 pub first_fresh : (operations : List Operation) (sources : List (Option ℕ)) (n place : ℕ) (source : Option ℕ) → length operations ≤ n
     → source ≡ get_or sources place None → IsFirstFresh operations sources n (Some place)
-    → NamesChosenFresh operations (Fresh place source)
+    → AreChosenFresh operations (record { deq = place; enq = source })
 first_fresh operations sources n place source all is found =
     let enq = found.2.0 in (
       found.0,
       enq,
-      (found.1, subst (λ s. IsMaybeAt operations s enq) (sym is) found.2.1),
+      found.1,
+      subst (λ s. IsMaybeAt operations s enq) (sym is) found.2.1,
       record {
         violates = found.2.2;
         first = λ deq' enq' violates'.

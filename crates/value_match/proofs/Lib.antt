@@ -4,7 +4,8 @@
 -- ReturnOrder, TakenPlaces, RepeatedDequeues: two dequeues of one source, the chosen pair of them first.
 -- MatchedDequeues, Lives: the one dequeue of each accepted value; the lives that there are, each once.
 -- FilledOperations: those of a filled history, which are matched where there are initial values.
--- FilledLines, CoverLives, Unfilled: what is found of a filled history is found of the history, by its own places.
+-- FilledLines, ToldPlaces: what is found at places of a filled history, told by places of the history.
+-- CoverLives: what a cover's lives are.
 -- SortedOut: all operations sorted out into values, empty answers and refused enqueues.
 -- Longest, Fronts: of the values whose enqueues returned before a ticket the one that stays longest.
 pub mod Lists
@@ -21,4 +22,4 @@ pub mod SortedOut
 pub mod Fronts
 pub mod FilledLines
 pub mod CoverLives
-pub mod Unfilled
+pub mod ToldPlaces

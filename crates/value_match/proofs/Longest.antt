@@ -26,15 +26,6 @@ module _ (Passes : Life → Type 0) where
   abbrev StaysPast : MatchedValue → MatchedValue → Type 0
   StaysPast value other = Passes other.life → StaysAtLeast value.life other.life
 
-  passed_by : (seen : List MatchedValue) (x : MatchedValue) (found : Option MatchedValue) → FindsLongest Passes seen found → ¬ (Passes x.life)
-      → FindsLongest Passes (seen ++ x ∷ []) found
-  passed_by seen x None none not = All-push (λ value. ¬ (Passes value.life)) seen x none not
-  passed_by seen x (Some a) is not = record {
-    among = Contains-append_left seen (x ∷ []) a is.among;
-    passes = is.passes;
-    longest = All-push (StaysPast a) seen x is.longest (λ passes. absurd (not passes));
-  }
-
   alone : (seen : List MatchedValue) (x : MatchedValue) → NonePasses Passes seen → Passes x.life → IsLongestOf Passes (seen ++ x ∷ []) x
   alone seen x none passes = record {
     among = Contains-push seen x;
@@ -57,13 +48,6 @@ module _ (Passes : Life → Type 0) where
         seen is.longest)
         (λ _. longer.stays_second);
   }
-
-  -- the next value does not pass
-  pub longest_stays : (values : List MatchedValue) (i : ℕ) (x : MatchedValue) (found : Option MatchedValue) → i < length values
-      → x ≡ get_or values i x → FindsLongest Passes (take i values) found
-      → ¬ (Passes x.life) → FindsLongest Passes (take (i + 1) values) found
-  longest_stays values i x found within is so_far not = subst (λ seen. FindsLongest Passes seen found) (sym (one_more values i x within is))
-      (passed_by (take i values) x found so_far not)
 
   -- the next value passes
   pub longest_changes : (values : List MatchedValue) (i : ℕ) (x r : MatchedValue) (found : Option MatchedValue) → i < length values

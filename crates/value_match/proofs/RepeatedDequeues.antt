@@ -11,11 +11,9 @@ use Rattle.history_merge.specs.declared.operation.OpKind.TheVariants.{Enq, Deq, 
 use Rattle.history_merge.specs.Complete.{AreComplete}
 use Rattle.history_merge.specs.Operations.{IsAt, enqueued_value}
 use Rattle.history_merge.proofs.Distinct.{contains_at, place_of, one_at, pairs_at, calls_rise, same_return, same_value_call}
-use Rattle.value_match.specs.declared.violation.Source.TheVariants as source
-use Rattle.value_match.specs.declared.violation.Violation.TheVariants.{Repeat}
 use Rattle.value_match.specs.Violations.{NoFreshViolation, IsRepeatViolation}
 use Rattle.value_match.specs.Choice.{IsChosenRepeat}
-use Rattle.value_match.specs.Outcome.{NamesChosenRepeat}
+use Rattle.value_match.specs.Inner.MatchOutcome.{AreChosenRepeat}
 use Rattle.value_match.specs.Inner.Sources.{IsCallPlace, IsSourceOf, HoldsSources, TakesFrom, IsTakenTwice, IsByReturn}
 use Rattle.value_match.proofs.FreshDequeues.{calls_for}
 use Rattle.value_match.proofs.TakenPlaces.{HasTaken, SeesOneMore}
@@ -120,9 +118,9 @@ pub repeat_chosen : (operations : List Operation) (sources takers : List (Option
     → HoldsSources operations sources → NoFreshViolation operations
     → IsByReturn operations sources order → n < length order → TakesFrom sources (get_or order n (0, 0)).1 p → get_or takers p None ≡ Some first
     → HasTaken (IsSeen order n) sources takers
-    → NamesChosenRepeat operations (Repeat (source.Enq p) first (get_or order n (0, 0)).1)
+    → AreChosenRepeat operations (record { enq = p; first = first; second = (get_or order n (0, 0)).1 })
 repeat_chosen operations sources takers order n p first complete holds no_fresh by below from held known =
-    (second.call, one.0, two.0, (second.at_source, one.1, two.1), (no_fresh, chosen))
+    (second.call, one.0, two.0, second.at_source, one.1, two.1, no_fresh, chosen)
   where
     two : (o : Operation) × IsAt operations (get_or order n (0, 0)).1 o × ((get_or order n (0, 0)).0 ≡ o.ret)
     two = entry_at operations sources order n by below

@@ -1,9 +1,9 @@
 -- The operations sorted out by what they did, met by a walk over them.
-use Rattle.std.proofs.Common.{◌≡◌, ℕ, ◌+◌, ◌<◌, ◌≤◌, Bool, true, false, cond, List, [], ◌∷◌, ◌++◌, length, get_or, take, Option, Some, None, refl}
+use Rattle.std.proofs.Common.{◌≡◌, ℕ, ◌+◌, ◌<◌, Bool, true, false, cond, List, [], ◌∷◌, ◌++◌, length, get_or, take, Option, Some, None, refl}
 use Rattle.std.proofs.Common.{sym, ◌∙◌, ap, subst}
 use Rattle.std.specs.Prelude.{All, IfSome, find, filter, filter_map, map, slice_get}
 use Rattle.std.specs.List.{cons_option}
-use Rattle.std.proofs.lemmas.List.{take_more, take_all, append-nil, map-append, get_or-map, length-map}
+use Rattle.std.proofs.lemmas.List.{take_more, append-nil, map-append, get_or-map, length-map}
 use Rattle.std.proofs.lemmas.List.Elements.{All-get_or, All-push, filter_map-append, filter-append}
 use Rattle.std.proofs.lemmas.Option.{slice_get_within, get_or_from_slice_get}
 use Rattle.history_merge.specs.declared.operation.Operation.{Operation}
@@ -12,7 +12,7 @@ use Rattle.history_merge.specs.Operations.{IsAt}
 use Rattle.history_merge.proofs.Distinct.{contains_at, one_at}
 use Rattle.value_match.specs.declared.life.Life.{Life}
 use Rattle.value_match.specs.declared.life.MatchedValue.{MatchedValue}
-use Rattle.value_match.specs.Lives.{IsMaybeAt, HoldsLives, HoldsPlaces, life_from, is_dequeue_of, is_empty_answer, is_refused, dequeue_of, enqueue_of}
+use Rattle.value_match.specs.Lives.{IsMaybeAt, life_from, is_dequeue_of, is_empty_answer, is_refused, dequeue_of, enqueue_of}
 use Rattle.value_match.specs.Lives.{HasPlaces}
 use Rattle.value_match.specs.Accepted.{value_at, operation_at, maybe_operation_at}
 use Rattle.value_match.specs.declared.accepted.Pair.{Pair}
@@ -152,30 +152,6 @@ pair_within operations pairs i pair all below is =
     inside None none = tt
     inside (Some p) at = slice_get_within operations p _ at
 
--- what is read of a pair is its value
-pub pair_read : (operations : List Operation) (pairs : List Pair) (i : ℕ) (pair : Pair) (d : MatchedValue) → i < length pairs
-    → pair ≡ get_or pairs i pair → value_at operations pair ≡ get_or (map (value_at operations) pairs) i d
-pair_read operations pairs i pair d below is = sym (get_or-map (value_at operations) pairs i pair d below ∙ ap (value_at operations) (sym is))
-
 -- ---- all operations
-
--- all values are sorted out
-pub lives_sorted : (operations : List Operation) (n : ℕ) (values : List MatchedValue) (empties refused : List ℕ) → length operations ≤ n
-    → IsSortedOut operations n values empties refused → HoldsLives operations values
-lives_sorted operations n values empties refused all known = (
-  known.lives
-      ∙ ap (filter_map (λ o. life_from operations o o.kind)) (take_all n operations all),
-  known.places,
-)
-
--- all empty answers are sorted out
-pub empties_sorted : (operations : List Operation) (n : ℕ) (values : List MatchedValue) (empties refused : List ℕ) → length operations ≤ n
-    → IsSortedOut operations n values empties refused → HoldsPlaces operations is_empty_answer empties
-empties_sorted operations n values empties refused all known = known.empty_answers ∙ ap (λ os. map Some (filter is_empty_answer os)) (take_all n operations all)
-
--- all refused enqueues are sorted out
-pub refused_sorted : (operations : List Operation) (n : ℕ) (values : List MatchedValue) (empties refused : List ℕ) → length operations ≤ n
-    → IsSortedOut operations n values empties refused → HoldsPlaces operations is_refused refused
-refused_sorted operations n values empties refused all known = known.refused_enqueues ∙ ap (λ os. map Some (filter is_refused os)) (take_all n operations all)
 
 -- the dequeue's place is in range

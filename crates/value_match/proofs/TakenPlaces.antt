@@ -1,6 +1,6 @@
 -- Which operation has its source at a place, met by a walk over the operations in some order.
-use Rattle.std.proofs.Common.{◌≡◌, ◌≢◌, ℕ, true, false, zero, suc, ◌+◌, ◌<◌, ◌≤◌}
-use Rattle.std.proofs.Common.{◌⊎◌, List, length, get_or, set, replicate, Option, Some, None, refl}
+use Rattle.std.proofs.Common.{◌≡◌, ◌≢◌, ℕ, true, false, ◌+◌, ◌<◌, ◌≤◌}
+use Rattle.std.proofs.Common.{◌⊎◌, List, length, get_or, set, Option, Some, None, refl}
 use Rattle.std.proofs.Common.{sym, ◌∙◌, ap, subst, inl, inr, arith, get_or-set_other, get_or-set_same, length-set}
 use Rattle.std.specs.Prelude.{slice_get, is_some}
 use Rattle.std.proofs.lemmas.Bool.{false≢true, cases_eq}
@@ -19,20 +19,6 @@ pub record SeesOneMore (seen after : ℕ → Type 0) (i : ℕ) : Type 0 where
   pub before : (j : ℕ) → seen j → after j
   pub here : after i
   pub only : (j : ℕ) → after j → seen j ⊎ (j ≡ i)
-
-nothing_at : (n i : ℕ) → get_or {A = Option ℕ} (replicate n None) i None ≡ None
-nothing_at zero i = refl
-nothing_at (suc n) zero = refl
-nothing_at (suc n) (suc i) = nothing_at n i
-
--- nothing is taken at first
-pub nothing_taken : (seen : ℕ → Type 0) (sources takers : List (Option ℕ)) → ((i : ℕ) → seen i → ⊥) → takers ≡ replicate (length sources) None
-    → length takers ≡ length sources → HasTaken seen sources takers
-nothing_taken seen sources takers none is one_each = record {
-  one_each = one_each;
-  taken = λ p i here. let nothing = nothing_at (length sources) p in let same = ap (λ (ts : List (Option ℕ)). get_or ts p None) is in cc;
-  takes = λ i p there from. absurd (none i there);
-}
 
 -- where there isn't some there is none
 pub nothing_there : (place : Option ℕ) → is_some place ≡ false → place ≡ None

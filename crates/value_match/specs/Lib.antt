@@ -6,5 +6,5 @@ pub mod Outcome
 pub mod Longest
 pub mod Fronts
 pub mod Filling
-pub mod Unfilling
+pub mod Told
 pub mod Inner

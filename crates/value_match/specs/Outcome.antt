@@ -1,5 +1,5 @@
 -- What a violation names, and what matching answers.
-use Rattle.std.specs.Prelude.{◌≡◌, ℕ, List, Option, length}
+use Rattle.std.specs.Prelude.{◌≡◌, ℕ, ◌<◌, List, Option, length, option_map}
 use Rattle.std.specs.List.{AllZip}
 use Rattle.history_merge.specs.declared.operation.Operation.{Operation}
 use Rattle.history_merge.specs.Initial.{filled}
@@ -15,48 +15,61 @@ use Rattle.value_match.specs.declared.matching.Matched.TheVariants as matched
 use Rattle.value_match.specs.Lives.{IsMaybeAt, dequeue_of, enqueue_of}
 use Rattle.value_match.specs.Violations.{FullViolation, fresh, repeat, order, witness, IsClear}
 use Rattle.value_match.specs.Choice.{IsChosenFullViolation}
-use Rattle.value_match.specs.Filling.{filled_violation}
+use Rattle.value_match.specs.Filling.{behind}
 
--- the source is this enqueue: operations alone have no initial values
-abbrev pub IsSource : List Operation → Source → Operation → Type 0
-IsSource operations (Enq place) enqueue = IsAt operations place enqueue
-IsSource operations (Initial place) enqueue = ⊥
+-- in the filled history, the operation at this place of the history
+abbrev pub IsOperation : List ℕ → List Operation → ℕ → Operation → Type 0
+IsOperation initial operations place o = IsAt (filled initial operations) (behind (length initial) place) o
+
+-- the same where there is a place
+abbrev pub IsMaybeOperation : List ℕ → List Operation → Option ℕ → Option Operation → Type 0
+IsMaybeOperation initial operations place o = IsMaybeAt (filled initial operations) (option_map (behind (length initial)) place) o
+
+-- in the filled history, the enqueue of the value from this source: an operation, or that of the initial value at this place
+abbrev pub IsSource : List ℕ → List Operation → Source → Operation → Type 0
+IsSource initial operations (Enq place) enqueue = IsOperation initial operations place enqueue
+IsSource initial operations (Initial place) enqueue = (place < length initial) × IsAt (filled initial operations) place enqueue
+
+-- the step names the operations of this life
+abbrev pub NamesStep : List ℕ → List Operation → CoverStep → Life → Type 0
+NamesStep initial operations step life = IsSource initial operations step.source (enqueue_of life)
+    × IsMaybeOperation initial operations step.dequeue (dequeue_of life)
 
 -- the steps name these lives, one by one
-abbrev pub NamesCover : List Operation → List CoverStep → List Life → Type 0
-NamesCover operations steps cover = AllZip (λ step life. IsSource operations step.source (enqueue_of life)
-    × IsMaybeAt operations step.dequeue (dequeue_of life)) steps cover
+abbrev pub NamesCover : List ℕ → List Operation → List CoverStep → List Life → Type 0
+NamesCover initial operations steps cover = AllZip (NamesStep initial operations) steps cover
 
 -- the sources and places of the violation are those of the operations that show it
-abbrev pub Names : List Operation → Violation → FullViolation → Type 0
-Names operations (Fresh deq enq) (fresh d e) = IsAt operations deq d × IsMaybeAt operations enq e
-Names operations (Repeat enq first second) (repeat e d d') = IsSource operations enq e × IsAt operations first d × IsAt operations second d'
-Names operations (Order enq_a enq_b deq_b deq_a) (order a b d d') =
-    IsSource operations enq_a a × IsSource operations enq_b b × IsAt operations deq_b d × IsMaybeAt operations deq_a d'
-Names operations (Witness empty cover) (witness o lives) = IsAt operations empty o × NamesCover operations cover lives
-Names operations _ _ = ⊥
+abbrev pub Names : List ℕ → List Operation → Violation → FullViolation → Type 0
+Names initial operations (Fresh deq enq) (fresh d e) = IsOperation initial operations deq d × IsMaybeOperation initial operations enq e
+Names initial operations (Repeat enq first second) (repeat e d d') =
+    IsSource initial operations enq e × IsOperation initial operations first d × IsOperation initial operations second d'
+Names initial operations (Order enq_a enq_b deq_b deq_a) (order a b d d') =
+    IsSource initial operations enq_a a × IsSource initial operations enq_b b
+    × IsOperation initial operations deq_b d × IsMaybeOperation initial operations deq_a d'
+Names initial operations (Witness empty cover) (witness o lives) = IsOperation initial operations empty o × NamesCover initial operations cover lives
+Names initial operations _ _ = ⊥
 
--- the violation is the chosen one of these operations
-abbrev pub IsChosenViolation : List Operation → Violation → Type 0
-IsChosenViolation operations violation = (full : FullViolation) × Names operations violation full × IsChosenFullViolation operations full
+-- the violation is the chosen one of the history
+abbrev pub IsChosenViolation : List ℕ → List Operation → Violation → Type 0
+IsChosenViolation initial operations violation =
+    (full : FullViolation) × Names initial operations violation full × IsChosenFullViolation (filled initial operations) full
 
 -- the violation names the chosen dequeue of a value that was not there
-abbrev pub NamesChosenFresh : List Operation → Violation → Type 0
-NamesChosenFresh operations violation =
-    (deq : Operation) × (enq : Option Operation) × Names operations violation (fresh deq enq) × IsChosenFullViolation operations (fresh deq enq)
+abbrev pub NamesChosenFresh : List ℕ → List Operation → Violation → Type 0
+NamesChosenFresh initial operations violation =
+    (deq : Operation) × (enq : Option Operation) × Names initial operations violation (fresh deq enq)
+    × IsChosenFullViolation (filled initial operations) (fresh deq enq)
 
 -- the violation names the chosen two dequeues of one value, and no dequeue is of a value that was not there
-abbrev pub NamesChosenRepeat : List Operation → Violation → Type 0
-NamesChosenRepeat operations violation =
-    (enq : Operation) × (first : Operation) × (second : Operation) × Names operations violation (repeat enq first second)
-    × IsChosenFullViolation operations (repeat enq first second)
+abbrev pub NamesChosenRepeat : List ℕ → List Operation → Violation → Type 0
+NamesChosenRepeat initial operations violation =
+    (enq : Operation) × (first : Operation) × (second : Operation) × Names initial operations violation (repeat enq first second)
+    × IsChosenFullViolation (filled initial operations) (repeat enq first second)
 
--- a matching of the history where the first two kinds of violation are absent in its filled history, else the chosen violation of
--- the first of them
-abbrev pub IsMatchedFrom : List ℕ → List Operation → Matched → Type 0
-IsMatchedFrom initial operations (matched.Clear matching) =
+-- a matching of the history where the first two kinds of violation are absent, else the chosen violation of the first of them
+abbrev pub IsMatched : List ℕ → List Operation → Matched → Type 0
+IsMatched initial operations (matched.Clear matching) =
     (matching ≡ record { initial = initial; operations = operations }) × IsClear (filled initial operations)
-IsMatchedFrom initial operations (matched.Fresh violation) =
-    NamesChosenFresh (filled initial operations) (filled_violation (length initial) violation)
-IsMatchedFrom initial operations (matched.Repeat violation) =
-    NamesChosenRepeat (filled initial operations) (filled_violation (length initial) violation)
+IsMatched initial operations (matched.Fresh violation) = NamesChosenFresh initial operations violation
+IsMatched initial operations (matched.Repeat violation) = NamesChosenRepeat initial operations violation

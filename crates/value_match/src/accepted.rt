@@ -95,8 +95,8 @@ fn value_of(operations: &[PackedOperation], pair: Pair) -> MatchedValue
             enqueue: operations[pair.enqueue as usize].unpack(),
             dequeue: maybe_operation(operations, pair.dequeue),
         },
-        enqueue: OpId::new(pair.enqueue as usize),
-        dequeue: maybe_id(pair.dequeue),
+        enqueue: OpId::new(pair.enqueue),
+        dequeue: pair.dequeue.id(),
     }
 }
 
@@ -107,16 +107,6 @@ fn maybe_operation(operations: &[PackedOperation], place: MaybePlace) -> Option<
 {
     match place.get() {
         Some(place) => Some(operations[place].unpack()),
-        None => None,
-    }
-}
-
-#[inline(always)]
-fn maybe_id(place: MaybePlace) -> Option<OpId>
-    ensures { result ≡ place }
-{
-    match place.get() {
-        Some(place) => Some(OpId::new(place)),
         None => None,
     }
 }

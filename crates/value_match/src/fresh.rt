@@ -1,22 +1,30 @@
-ghost use Rattle.std.specs.Prelude.{◌≡◌, ◌||◌, ◌↔◌, ◌<◌, nat_lt, if◌then◌else◌, IsTrue, IfSome, MatchOption, None, length, slice_index_or};
+ghost use Rattle.std.specs.Prelude.{◌≡◌, ◌||◌, ◌↔◌, ◌<◌, ◌≤◌, nat_lt, if◌then◌else◌, IsTrue, IfSome, MatchOption, None, length, slice_index_or};
 ghost use Rattle.history_merge.specs.declared.operation.Operation.{Operation};
 ghost use Rattle.history_merge.specs.Complete.{AreComplete};
 ghost use Rattle.history_merge.specs.Operations.{IsAt};
 ghost use Rattle.value_match.specs.Lives.{is_refused};
-ghost use Rattle.value_match.specs.Outcome.{NamesChosenFresh};
+ghost use Rattle.value_match.specs.Inner.MatchOutcome.{AreChosenFresh};
 ghost use Rattle.value_match.specs.Inner.Sources.{AreSources, HoldsSources, IsFreshFrom};
 ghost use Rattle.value_match.specs.Violations.{NoFreshViolation};
 
+use crate::matching::MAX_MATCHED;
 use crate::maybe_place::MaybePlace;
 use crate::sources::Sources;
-use crate::violation::Violation;
 use history_merge::{OpId, OpKind, Operation, PackedOperation};
 
+/// The places of a dequeue of a value that was not there, and of the call for this value if there is one.
+#[derive(Clone, Copy, Debug)]
+pub(crate) struct FreshPlaces {
+    pub(crate) deq: OpId,
+    pub(crate) enq: Option<OpId>,
+}
+
 /// The dequeue of least return ticket among those of a value that was not there, if there is one, by the sources of all dequeues.
-pub(crate) fn first_fresh(operations: &[PackedOperation], sources: &Sources) -> Option<Violation>
+pub(crate) fn first_fresh(operations: &[PackedOperation], sources: &Sources) -> Option<FreshPlaces>
     requires complete { AreComplete operations.now }
+    requires few { length operations.now ≤ MAX_MATCHED }
     requires sources { AreSources operations.now sources.now }
-    ensures { MatchOption result (NoFreshViolation operations.now) (NamesChosenFresh operations.now) }
+    ensures { MatchOption result (NoFreshViolation operations.now) (AreChosenFresh operations.now) }
 {
     if sources.all_in_time {
         return None;
@@ -25,10 +33,11 @@ pub(crate) fn first_fresh(operations: &[PackedOperation], sources: &Sources) -> 
 }
 
 /// The same by looking at each dequeue.
-fn find_fresh(operations: &[PackedOperation], sources: &[MaybePlace]) -> Option<Violation>
+fn find_fresh(operations: &[PackedOperation], sources: &[MaybePlace]) -> Option<FreshPlaces>
     requires complete { AreComplete operations.now }
+    requires few { length operations.now ≤ MAX_MATCHED }
     requires sources { HoldsSources operations.now sources.now }
-    ensures { MatchOption result (NoFreshViolation operations.now) (NamesChosenFresh operations.now) }
+    ensures { MatchOption result (NoFreshViolation operations.now) (AreChosenFresh operations.now) }
 {
     let mut first = None;
     for place in 0..operations.len() {
@@ -42,14 +51,14 @@ fn find_fresh(operations: &[PackedOperation], sources: &[MaybePlace]) -> Option<
 }
 
 /// The dequeue at this place with the call for its value, if there is one.
-fn fresh_at(sources: &[MaybePlace], deq: usize) -> Violation
-    requires { deq < length sources.now }
-    ensures { result ≡ Violation.Fresh deq (slice_index_or sources.now deq None) }
+fn fresh_at(sources: &[MaybePlace], deq: usize) -> FreshPlaces
+    requires place { deq < length sources.now }
+    requires few { length sources.now ≤ MAX_MATCHED }
+    ensures { result ≡ record { deq = deq; enq = slice_index_or sources.now deq None } }
 {
-    let enq = sources[deq].get();
-    Violation::Fresh {
-        deq: OpId::new(deq),
-        enq: enq.map(OpId::new),
+    FreshPlaces {
+        deq: OpId::new(deq as u32),
+        enq: sources[deq].id(),
     }
 }
 

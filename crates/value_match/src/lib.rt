@@ -15,7 +15,7 @@ mod sources;
 mod table;
 mod takers;
 mod thread_calls;
-mod unfilling;
+mod told;
 mod values;
 mod violation;
 
@@ -25,6 +25,6 @@ pub use matching::{FilledMatching, MAX_MATCHED, Matched, Matching};
 pub use places::Places;
 pub use presorting::presort;
 pub use table::{Front, LongestTable, fronts_of};
-pub use unfilling::{unfilled_cover, unfilled_place, unfilled_source};
+pub use told::{told_maybe, told_place, told_source};
 pub use values::match_values;
 pub use violation::{Cover, CoverStep, Source, Violation};

@@ -1,5 +1,6 @@
 ghost use Rattle.std.specs.Prelude.{◌≡◌, ◌<◌, ◌+◌, ◌^◌, Some, None};
 
+use history_merge::OpId;
 use std::marker::Model;
 
 /// A place, or none, in half a word; seen as an `Option` of the place.
@@ -49,5 +50,16 @@ impl MaybePlace {
         ensures { result ≡ self }
     {
         (self.above as usize).checked_sub(1)
+    }
+
+    /// The operation at the place, if there is one.
+    #[inline(always)]
+    pub(crate) fn id(self) -> Option<OpId>
+        ensures { result ≡ self }
+    {
+        match self.above.checked_sub(1) {
+            Some(place) => Some(OpId::new(place)),
+            None => None,
+        }
     }
 }

@@ -1,7 +1,7 @@
 ghost use Rattle.std.specs.Prelude.{◌≡◌, ◌<◌, length, map, slice_index_or};
-ghost use Rattle.value_match.specs.Unfilling.{unfilled_place};
+ghost use Rattle.value_match.specs.Told.{told_place};
 
-use crate::unfilling::unfilled_place;
+use crate::told::told_place;
 use history_merge::OpId;
 use std::marker::Model;
 
@@ -16,17 +16,17 @@ pub struct Places<'a> {
 
 impl<'a> Model for Places<'a> {
     ghost use Rattle.std.specs.Prelude.{ℕ, List, map};
-    ghost use Rattle.value_match.specs.Unfilling.{unfilled_place};
+    ghost use Rattle.value_match.specs.Told.{told_place};
 
     ghost Value = { List ℕ };
 
-    ghost view = { λ a. map (unfilled_place a.initial_count) a.filled.now };
+    ghost view = { λ a. map (told_place a.initial_count) a.filled.now };
 }
 
 impl<'a> Places<'a> {
     /// Makes the places after this many initial values.
     pub(crate) fn new(initial_count: usize, filled: &'a [OpId]) -> Places<'a>
-        ensures { result ≡ map (unfilled_place initial_count) filled.now }
+        ensures { result ≡ map (told_place initial_count) filled.now }
     {
         Places {
             initial_count,
@@ -46,6 +46,6 @@ impl<'a> Places<'a> {
         requires { place < length self.now }
         ensures { result ≡ slice_index_or self.now place result }
     {
-        unfilled_place(self.initial_count, self.filled[place])
+        told_place(self.initial_count, self.filled[place])
     }
 }

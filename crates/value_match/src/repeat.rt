@@ -1,28 +1,35 @@
 ghost use Rattle.std.specs.Prelude.{◌≡◌, ◌<◌, ◌≤◌, IfOk, None, length, slice_index_or};
 ghost use Rattle.history_merge.specs.Complete.{AreComplete};
-ghost use Rattle.value_match.specs.Outcome.{NamesChosenRepeat};
+ghost use Rattle.value_match.specs.Inner.MatchOutcome.{AreChosenRepeat};
 ghost use Rattle.value_match.specs.Inner.Sources.{HoldsSources, IsByReturn, IsTakenTwice};
 ghost use Rattle.value_match.specs.Violations.{NoFreshViolation};
 
 use crate::matching::MAX_MATCHED;
 use crate::maybe_place::MaybePlace;
 use crate::presorting::presort;
-use crate::violation::{Source, Violation};
 use history_merge::{OpId, PackedOperation};
 use std::alloc::{AllocError, Global};
 
+/// The places of two dequeues of one value, in the order of their returns, and of its enqueue.
+#[derive(Clone, Copy, Debug)]
+pub(crate) struct RepeatPlaces {
+    pub(crate) enq: OpId,
+    pub(crate) first: OpId,
+    pub(crate) second: OpId,
+}
+
 /// Of the values that are dequeued twice the one whose second dequeue returns first, with these two dequeues.
-pub fn find_repeat(
+pub(crate) fn find_repeat(
     alloc: Global,
     operations: &[PackedOperation],
     sources: &[MaybePlace],
-) -> Result<Violation, AllocError>
+) -> Result<RepeatPlaces, AllocError>
     requires complete { AreComplete operations.now }
     requires few { length operations.now ≤ MAX_MATCHED }
     requires sources { HoldsSources operations.now sources.now }
     requires no_fresh { NoFreshViolation operations.now }
     requires twice { IsTakenTwice sources.now }
-    ensures { IfOk result (NamesChosenRepeat operations.now) }
+    ensures { IfOk result (AreChosenRepeat operations.now) }
 {
     let order = by_return(alloc, operations, sources)?;
     let mut takers = vec![in alloc; MaybePlace::none(); operations.len()]?;
@@ -32,10 +39,10 @@ pub fn find_repeat(
             continue;
         };
         if let Some(first) = place_at(takers.as_slice(), source) {
-            return Ok(Violation::Repeat {
-                enq: Source::Enq(OpId::new(source)),
-                first: OpId::new(first),
-                second: OpId::new(place),
+            return Ok(RepeatPlaces {
+                enq: OpId::new(source as u32),
+                first: OpId::new(first as u32),
+                second: OpId::new(place as u32),
             });
         }
         takers[source] = MaybePlace::some(place);

@@ -4,7 +4,7 @@ ghost use Rattle.value_match.specs.Inner.Sources.{IsCallPlace};
 use crate::matching::MAX_MATCHED;
 use crate::others::is_called_at;
 use event_records::{MAX_THREADS, NAMES_OF_A_THREAD};
-use history_merge::PackedOperation;
+use history_merge::{Operation, PackedOperation};
 use std::alloc::{AllocError, Global};
 
 /// How far from the call for a thread's value dequeued last the call for its next is looked for.
@@ -34,17 +34,15 @@ impl ThreadCalls {
         let mut places = vec![in alloc; 0; count as usize]?;
         for (place, operation) in operations.iter().enumerate() {
             let operation = operation.unpack();
-            if operation.kind.enqueued_value().is_none() {
-                continue;
-            }
             let thread = usize::from(operation.thread) % MAX_THREADS;
             let end = ends[thread];
-            ends[thread] = end.wrapping_add(1);
+            // What isn't a call is written too, without a branch, and the thread's next call takes its place.
             if let Ok(end) = usize::try_from(end)
                 && let Some(called) = places.get_mut(end)
             {
                 *called = place as u32;
             }
+            ends[thread] = end.wrapping_add(calls_of(operation));
         }
         Ok(ThreadCalls {
             places,
@@ -89,17 +87,22 @@ impl ThreadCalls {
     }
 }
 
-/// For each thread how many calls to enqueue those of lower number have, and how many there are of all.
+/// For each thread how many calls to enqueue those of lower number have, and how many there are of all, with one more for each
+/// thread.
 fn starts_of(operations: &[PackedOperation]) -> ([u32; MAX_THREADS], u32) {
-    let mut counts = [0u32; MAX_THREADS];
+    let mut counts = [1u32; MAX_THREADS];
     for operation in operations {
         let operation = operation.unpack();
-        if operation.kind.enqueued_value().is_some() {
-            let thread = usize::from(operation.thread) % MAX_THREADS;
-            counts[thread] = counts[thread].wrapping_add(1);
-        }
+        let thread = usize::from(operation.thread) % MAX_THREADS;
+        counts[thread] = counts[thread].wrapping_add(calls_of(operation));
     }
     sums_before(counts)
+}
+
+/// 1 for a call to enqueue, and 0 for one to dequeue.
+#[inline(always)]
+fn calls_of(operation: Operation) -> u32 {
+    u32::from(operation.kind.enqueued_value().is_some())
 }
 
 /// For each number the sum of those before it, and the sum of all.

@@ -2,21 +2,20 @@ ghost use Rattle.std.specs.Prelude.{◌≡◌, ◌<◌, ◌≤◌, ◌^◌, IfOk
 ghost use Rattle.history_merge.specs.Complete.{AreComplete};
 ghost use Rattle.history_merge.specs.Initial.{filled};
 ghost use Rattle.history_merge.specs.Operations.{operations_of};
-ghost use Rattle.value_match.specs.Outcome.{IsMatchedFrom};
+ghost use Rattle.value_match.specs.Outcome.{IsMatched};
 ghost use Rattle.value_match.specs.Inner.MatchOutcome.{IsMatchOutcomeOf};
 ghost use Rattle.value_match.specs.Inner.Matchable.{IsSortedOutOf, operations_in};
 ghost use Rattle.value_match.specs.Inner.Sources.{HoldsDequeues};
 ghost use Rattle.value_match.specs.Violations.{IsClear};
 
 use crate::accepted::Pair;
-use crate::fresh::first_fresh;
+use crate::fresh::{FreshPlaces, first_fresh};
 use crate::matching::{FilledMatching, MAX_MATCHED, Matchable, Matched, Matching, SortedOut};
 use crate::maybe_place::MaybePlace;
-use crate::repeat::find_repeat;
+use crate::repeat::{RepeatPlaces, find_repeat};
 use crate::sources::sources_of;
 use crate::takers::takers_of;
-use crate::unfilling::unfilled_violation;
-use crate::violation::Violation;
+use crate::told::{told_fresh, told_repeat};
 use history_merge::{History, OpId, OpKind, PackedOperation, fill};
 use std::alloc::{AllocError, Global};
 
@@ -24,8 +23,8 @@ use std::alloc::{AllocError, Global};
 #[derive(Debug, Drop)]
 pub(crate) enum MatchOutcome {
     Clear(SortedOut),
-    Fresh(Violation),
-    Repeat(Violation),
+    Fresh(FreshPlaces),
+    Repeat(RepeatPlaces),
 }
 
 /// The matching of a history, or the chosen violation where it has one of the first two kinds.
@@ -43,51 +42,39 @@ pub(crate) enum MatchOutcome {
 /// each operation, and two more for each call or dequeue that is sorted. Where there are initial values the answer holds the
 /// filled history's operations.
 pub fn match_values(alloc: Global, history: &History) -> Result<Matched<'_>, AllocError>
-    ensures matched { IfOk result (IsMatchedFrom history.now.initial (operations_of history.now.events)) }
+    ensures matched { IfOk result (IsMatched history.now.initial (operations_of history.now.events)) }
     ensures complete { AreComplete (filled history.now.initial (operations_of history.now.events)) }
 {
     let initial = history.initial();
     let operations = history.operations();
     if initial.is_empty() {
         let found = find(alloc, operations)?;
-        return matched(
-            alloc,
-            initial,
-            operations,
-            Matchable::Lent(operations),
-            found,
-        );
+        let all = Matchable::Lent(operations);
+        return Ok(matched(initial, operations, all, found));
     }
     let filled = fill(alloc, initial, operations)?;
     let found = find(alloc, filled.as_slice())?;
-    matched(alloc, initial, operations, Matchable::Own(filled), found)
+    Ok(matched(initial, operations, Matchable::Own(filled), found))
 }
 
 /// What is found of a history, by what is found of its filled history.
 fn matched<'a>(
-    alloc: Global,
     initial: &'a [u64],
     operations: &'a [PackedOperation],
     all: Matchable<'a>,
     found: MatchOutcome,
-) -> Result<Matched<'a>, AllocError>
+) -> Matched<'a>
     requires all { operations_in all ≡ filled initial.now operations.now }
     requires found { IsMatchOutcomeOf (operations_in all) found }
-    ensures { IfOk result (IsMatchedFrom initial.now operations.now) }
+    ensures { IsMatched initial.now operations.now result }
 {
     match found {
         MatchOutcome::Clear(sorted) => {
             let matching = FilledMatching::new(all, sorted);
-            Ok(Matched::Clear(Matching::new(initial, operations, matching)))
+            Matched::Clear(Matching::new(initial, operations, matching))
         }
-        MatchOutcome::Fresh(violation) => {
-            let told = unfilled_violation(alloc, initial.len(), violation)?;
-            Ok(Matched::Fresh(told))
-        }
-        MatchOutcome::Repeat(violation) => {
-            let told = unfilled_violation(alloc, initial.len(), violation)?;
-            Ok(Matched::Repeat(told))
-        }
+        MatchOutcome::Fresh(places) => Matched::Fresh(told_fresh(initial.len(), places)),
+        MatchOutcome::Repeat(places) => Matched::Repeat(told_repeat(initial.len(), places)),
     }
 }
 
@@ -97,8 +84,8 @@ fn find(alloc: Global, operations: &[PackedOperation]) -> Result<MatchOutcome, A
     ensures { IfOk result (IsMatchOutcomeOf operations.now) }
 {
     let sources = sources_of(alloc, operations)?;
-    if let Some(violation) = first_fresh(operations, &sources) {
-        return Ok(MatchOutcome::Fresh(violation));
+    if let Some(places) = first_fresh(operations, &sources) {
+        return Ok(MatchOutcome::Fresh(places));
     }
     match takers_of(alloc, sources.places.as_slice())? {
         Some(dequeues) => {
@@ -106,8 +93,8 @@ fn find(alloc: Global, operations: &[PackedOperation]) -> Result<MatchOutcome, A
             Ok(MatchOutcome::Clear(sorted))
         }
         None => {
-            let violation = find_repeat(alloc, operations, sources.places.as_slice())?;
-            Ok(MatchOutcome::Repeat(violation))
+            let places = find_repeat(alloc, operations, sources.places.as_slice())?;
+            Ok(MatchOutcome::Repeat(places))
         }
     }
 }
@@ -129,8 +116,8 @@ fn sorted_out(
     for (place, operation) in operations.iter().enumerate() {
         match operation.unpack().kind {
             OpKind::Enq(_) => values.push(pair_of(place, dequeues[place]))?,
-            OpKind::Empty => empties.push(OpId::new(place))?,
-            OpKind::Not(_) => refused.push(OpId::new(place))?,
+            OpKind::Empty => empties.push(OpId::new(place as u32))?,
+            OpKind::Not(_) => refused.push(OpId::new(place as u32))?,
             OpKind::Deq(_) => {}
         }
     }

@@ -2,8 +2,6 @@ use event_records::OwnedSlice;
 use history_merge::OpId;
 
 /// Where an accepted value comes from.
-///
-/// What is found in a filled history names enqueues alone; what a history's answers name are its initial values too.
 #[derive(Clone, Copy, Debug, PartialEq, Eq)]
 pub enum Source {
     /// The successful enqueue at this place among the operations.

@@ -1,9 +1,10 @@
 -- What is chosen in the whole stays chosen in the selection by its lines.
-use Rattle.std.proofs.Common.{◌≡◌, ℕ, Bool, true, false, List, [], ◌∷◌, Option, Some, None, refl, ap, subst, arith, zero}
-use Rattle.std.specs.Prelude.{Contains, filter, MatchBool, nat_lt}
+use Rattle.std.proofs.Common.{◌≡◌, ℕ, Bool, true, false, List, [], ◌∷◌, Option, Some, None, refl, ap, subst, arith, zero, length}
+use Rattle.std.specs.Prelude.{Contains, filter, MatchBool, nat_lt, option_map}
 use Rattle.history_merge.specs.declared.operation.Operation.{Operation}
 use Rattle.history_merge.specs.declared.operation.OpKind.TheVariants.{Empty}
 use Rattle.history_merge.specs.Complete.{AreComplete}
+use Rattle.history_merge.specs.Initial.{filled}
 use Rattle.history_merge.proofs.Distinct.{one_at}
 use Rattle.value_match.specs.declared.life.Life.{Life}
 use Rattle.value_match.specs.declared.violation.CoverStep.{CoverStep}
@@ -14,7 +15,8 @@ use Rattle.value_match.specs.declared.violation.Violation.TheVariants as violati
 use Rattle.value_match.specs.Lives.{IsLife, IsCovered, IsMaybeAt, dequeue_call, dequeue_of, enqueue_of}
 use Rattle.value_match.specs.Violations.{FullViolation, fresh, repeat, order, witness, IsViolationOf, IsClear, lines_of}
 use Rattle.value_match.specs.Choice.{IsChosenFullViolation, IsChosenCoverFrom}
-use Rattle.value_match.specs.Outcome.{IsSource, Names, NamesCover, IsChosenViolation}
+use Rattle.value_match.specs.Filling.{behind}
+use Rattle.value_match.specs.Outcome.{IsMaybeOperation, IsSource, Names, NamesCover, NamesStep, IsChosenViolation}
 use Rattle.value_match.proofs.Lists.{one_deeper}
 use Rattle.empty_witness.proofs.Covers.{violation_covers, chosen_cover_is_shortest}
 use Rattle.verdicts.specs.Selection.{selects, IsShortestCover}
@@ -33,47 +35,54 @@ one_maybe_at operations (Some place) None y at_x at_y = absurd at_x
 one_maybe_at operations (Some place) (Some x) None at_x at_y = absurd at_y
 one_maybe_at operations (Some place) (Some x) (Some y) at_x at_y = ap (λ o. Some o) (one_at operations place x y at_x at_y)
 
-one_source : (operations : List Operation) (s : Source) (x y : Operation) → IsSource operations s x → IsSource operations s y → x ≡ y
-one_source operations (source.Enq p) x y at_x at_y = one_at operations p x y at_x at_y
-one_source operations (source.Initial p) x y at_x at_y = absurd at_x
+module _ (initial : List ℕ) (operations : List Operation) where
+  abbrev k : ℕ
+  k = length initial
 
-one_cover : (operations : List Operation) (steps : List CoverStep) (xs ys : List Life) → NamesCover operations steps xs
-    → NamesCover operations steps ys → xs ≡ ys
-one_cover operations = one_beside (λ step life. IsSource operations step.source (enqueue_of life)
-    × IsMaybeAt operations step.dequeue (dequeue_of life)) one_life
-  where
-    one_life : (step : CoverStep) (x y : Life) → IsSource operations step.source (enqueue_of x) × IsMaybeAt operations step.dequeue (dequeue_of x)
-        → IsSource operations step.source (enqueue_of y) × IsMaybeAt operations step.dequeue (dequeue_of y) → x ≡ y
-    one_life step x y names_x names_y =
-        let enqueues = one_source operations step.source (enqueue_of x) (enqueue_of y) names_x.0 names_y.0 in
-        let dequeues = one_maybe_at operations step.dequeue (dequeue_of x) (dequeue_of y) names_x.1 names_y.1 in
-        λ i. record { enqueue = enqueues i; dequeue = dequeues i }
+  abbrev all : List Operation
+  all = filled initial operations
 
--- places name one violation
-pub names_one : (operations : List Operation) (named : Violation) (x y : FullViolation) → Names operations named x → Names operations named y → x ≡ y
-names_one operations (violation.Fresh deq enq) (fresh d e) (fresh d' e') names_x names_y =
-    let deqs = one_at operations deq d d' names_x.0 names_y.0 in let enqs = one_maybe_at operations enq e e' names_x.1 names_y.1 in cc
-names_one operations (violation.Fresh deq enq) (fresh d e) _ names_x names_y = absurd names_y
-names_one operations (violation.Fresh deq enq) _ _ names_x names_y = absurd names_x
-names_one operations (violation.Repeat enq first second) (repeat e d f) (repeat e' d' f') names_x names_y =
-    let enqs = one_source operations enq e e' names_x.0 names_y.0 in
-    let firsts = one_at operations first d d' names_x.1 names_y.1 in
-    let seconds = one_at operations second f f' names_x.2 names_y.2 in
-    cc
-names_one operations (violation.Repeat enq first second) (repeat e d f) _ names_x names_y = absurd names_y
-names_one operations (violation.Repeat enq first second) _ _ names_x names_y = absurd names_x
-names_one operations (violation.Order enq_a enq_b deq_b deq_a) (order a b d e) (order a' b' d' e') names_x names_y =
-    let first = one_source operations enq_a a a' names_x.0 names_y.0 in
-    let second = one_source operations enq_b b b' names_x.1 names_y.1 in
-    let deqs = one_at operations deq_b d d' names_x.2 names_y.2 in
-    let last = one_maybe_at operations deq_a e e' names_x.3 names_y.3 in
-    cc
-names_one operations (violation.Order enq_a enq_b deq_b deq_a) (order a b d e) _ names_x names_y = absurd names_y
-names_one operations (violation.Order enq_a enq_b deq_b deq_a) _ _ names_x names_y = absurd names_x
-names_one operations (violation.Witness empty cover) (witness o lives) (witness o' lives') names_x names_y =
-    let empties = one_at operations empty o o' names_x.0 names_y.0 in let covers = one_cover operations cover lives lives' names_x.1 names_y.1 in cc
-names_one operations (violation.Witness empty cover) (witness o lives) _ names_x names_y = absurd names_y
-names_one operations (violation.Witness empty cover) _ _ names_x names_y = absurd names_x
+  maybe_one : (place : Option ℕ) (x y : Option Operation) → IsMaybeOperation initial operations place x → IsMaybeOperation initial operations place y → x ≡ y
+  maybe_one place x y at_x at_y = one_maybe_at all (option_map (behind k) place) x y at_x at_y
+
+  one_source : (s : Source) (x y : Operation) → IsSource initial operations s x → IsSource initial operations s y → x ≡ y
+  one_source (source.Enq p) x y at_x at_y = one_at all (behind k p) x y at_x at_y
+  one_source (source.Initial p) x y at_x at_y = one_at all p x y at_x.1 at_y.1
+
+  one_cover : (steps : List CoverStep) (xs ys : List Life) → NamesCover initial operations steps xs → NamesCover initial operations steps ys → xs ≡ ys
+  one_cover = one_beside (NamesStep initial operations) one_life
+    where
+      one_life : (step : CoverStep) (x y : Life) → NamesStep initial operations step x → NamesStep initial operations step y → x ≡ y
+      one_life step x y names_x names_y =
+          let enqueues = one_source step.source (enqueue_of x) (enqueue_of y) names_x.0 names_y.0 in
+          let dequeues = maybe_one step.dequeue (dequeue_of x) (dequeue_of y) names_x.1 names_y.1 in
+          λ i. record { enqueue = enqueues i; dequeue = dequeues i }
+
+  -- places name one violation
+  pub names_one : (named : Violation) (x y : FullViolation) → Names initial operations named x → Names initial operations named y → x ≡ y
+  names_one (violation.Fresh deq enq) (fresh d e) (fresh d' e') names_x names_y =
+      let deqs = one_at all (behind k deq) d d' names_x.0 names_y.0 in let enqs = maybe_one enq e e' names_x.1 names_y.1 in cc
+  names_one (violation.Fresh deq enq) (fresh d e) _ names_x names_y = absurd names_y
+  names_one (violation.Fresh deq enq) _ _ names_x names_y = absurd names_x
+  names_one (violation.Repeat enq first second) (repeat e d f) (repeat e' d' f') names_x names_y =
+      let enqs = one_source enq e e' names_x.0 names_y.0 in
+      let firsts = one_at all (behind k first) d d' names_x.1 names_y.1 in
+      let seconds = one_at all (behind k second) f f' names_x.2 names_y.2 in
+      cc
+  names_one (violation.Repeat enq first second) (repeat e d f) _ names_x names_y = absurd names_y
+  names_one (violation.Repeat enq first second) _ _ names_x names_y = absurd names_x
+  names_one (violation.Order enq_a enq_b deq_b deq_a) (order a b d e) (order a' b' d' e') names_x names_y =
+      let first = one_source enq_a a a' names_x.0 names_y.0 in
+      let second = one_source enq_b b b' names_x.1 names_y.1 in
+      let deqs = one_at all (behind k deq_b) d d' names_x.2 names_y.2 in
+      let last = maybe_one deq_a e e' names_x.3 names_y.3 in
+      cc
+  names_one (violation.Order enq_a enq_b deq_b deq_a) (order a b d e) _ names_x names_y = absurd names_y
+  names_one (violation.Order enq_a enq_b deq_b deq_a) _ _ names_x names_y = absurd names_x
+  names_one (violation.Witness empty cover) (witness o lives) (witness o' lives') names_x names_y =
+      let empties = one_at all (behind k empty) o o' names_x.0 names_y.0 in let covers = one_cover cover lives lives' names_x.1 names_y.1 in cc
+  names_one (violation.Witness empty cover) (witness o lives) _ names_x names_y = absurd names_y
+  names_one (violation.Witness empty cover) _ _ names_x names_y = absurd names_x
 
 module _ (operations : List Operation) (complete : AreComplete operations) (values calls : ℕ → Bool) where
   abbrev small : List Operation
@@ -151,7 +160,9 @@ shortest operations (witness empty cover) complete chosen =
     (record { complete = complete; no_fresh = chosen.0; no_repeat = chosen.1 }) chosen.3.cover_is_chosen is
 
 -- the chosen violation has a shortest cover
-pub has_shortest_cover : (operations : List Operation) (named : Violation) → AreComplete operations → IsChosenViolation operations named
-    → (full : FullViolation) → Names operations named full → IsShortestCover operations full
-has_shortest_cover operations named complete chosen full names =
-    subst (IsShortestCover operations) (names_one operations named chosen.0 full chosen.1 names) (shortest operations chosen.0 complete chosen.2)
+pub has_shortest_cover : (initial : List ℕ) (operations : List Operation) (named : Violation) → AreComplete (filled initial operations)
+    → IsChosenViolation initial operations named
+    → (full : FullViolation) → Names initial operations named full → IsShortestCover (filled initial operations) full
+has_shortest_cover initial operations named complete chosen full names =
+    subst (IsShortestCover (filled initial operations)) (names_one initial operations named chosen.0 full chosen.1 names)
+    (shortest (filled initial operations) chosen.0 complete chosen.2)

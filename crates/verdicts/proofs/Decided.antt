@@ -13,27 +13,26 @@ use Rattle.value_match.specs.declared.violation.CoverStep.{CoverStep}
 use Rattle.value_match.specs.Violations.{fresh, repeat, order, witness, IsClear, NoOrderViolation, lines_of}
 use Rattle.value_match.specs.declared.matching.Matched.{Matched}
 use Rattle.value_match.specs.declared.matching.Matched.TheVariants as matched
-use Rattle.value_match.specs.Outcome.{IsChosenViolation, IsMatchedFrom}
+use Rattle.value_match.specs.Outcome.{IsChosenViolation, IsMatched}
 use Rattle.order_violation.specs.declared.pair.OrderPair.{OrderPair}
 use Rattle.order_violation.specs.Pairs.{IsChosenPair}
 use Rattle.empty_witness.specs.declared.answer.WitnessAnswer.TheVariants as found
 use Rattle.empty_witness.specs.Answers.{IsWitnessAnswer}
-use Rattle.linearizer.specs.Order.{AreChosenAndLegalFrom}
+use Rattle.linearizer.specs.Order.{AreChosenAndLegal}
 use Rattle.verdicts.specs.declared.shown.LinePlace.TheVariants as place
 use Rattle.verdicts.specs.declared.verdict.Verdict.TheVariants.{Yes, No}
 use Rattle.verdicts.specs.declared.verifying.Claimed.TheVariants as claimed
 use Rattle.verdicts.specs.Claiming.{IsPlaceWithin}
 use Rattle.verdicts.specs.Laws.{TrueClaimDecides}
-use Rattle.verdicts.specs.Decided.{IsDecidedFrom}
+use Rattle.verdicts.specs.Decided.{IsDecided}
 use Rattle.verdicts.specs.Shown.{violation_places}
-use Rattle.verdicts.specs.Verdicts.{IsChosenFrom}
 use Rattle.verdicts.proofs.Excludes.{violation_excludes_order}
 use Rattle.verdicts.proofs.Chosen.{chosen_is_violation}
 use Rattle.verdicts.proofs.NamedPlaces.{all_within, each_shown, in_range}
 
 -- a chosen violation decides
 pub no_is_decided : (initial : List ℕ) (operations : List Operation) (violation : Violation) → AreComplete (filled initial operations)
-    → IsChosenFrom initial operations violation → IsDecidedFrom initial operations (No violation)
+    → IsChosenViolation initial operations violation → IsDecided initial operations (No violation)
 no_is_decided initial operations violation complete chosen =
     let all = filled initial operations in
     let full = chosen_is_violation all chosen.0 complete chosen.2 in
@@ -50,8 +49,8 @@ all_operations : (initial : List ℕ) (operations : List Operation) (places : Li
 all_operations initial operations places each = All-map (IsPlaceWithin initial operations) place.Op places each
 
 -- a chosen order decides
-pub yes_is_decided : (initial : List ℕ) (operations : List Operation) (places : List ℕ) → AreChosenAndLegalFrom initial operations places
-    → IsDecidedFrom initial operations (Yes places)
+pub yes_is_decided : (initial : List ℕ) (operations : List Operation) (places : List ℕ) → AreChosenAndLegal initial operations places
+    → IsDecided initial operations (Yes places)
 yes_is_decided initial operations places chosen = record {
   chosen = (chosen.0, chosen.1, chosen.2);
   evidence = (chosen.0, chosen.1, chosen.3);
@@ -60,30 +59,30 @@ yes_is_decided initial operations places chosen = record {
 }
 
 -- the chosen pair is the chosen violation where the first two kinds are absent
-pub pair_is_chosen : (operations : List Operation) (pair : OrderPair) → IsClear operations → IsChosenPair operations pair
-    → IsChosenViolation operations (violation.Order pair.enq_a pair.enq_b pair.deq_b pair.deq_a)
-pair_is_chosen operations pair clear is =
+pub pair_is_chosen : (initial : List ℕ) (operations : List Operation) (pair : OrderPair) → IsClear (filled initial operations)
+    → IsChosenPair initial operations pair → IsChosenViolation initial operations (violation.Order pair.enq_a pair.enq_b pair.deq_b pair.deq_a)
+pair_is_chosen initial operations pair clear is =
     (order is.enq_a is.enq_b is.deq_b is.deq_a, (is.at_a, is.at_b, is.dequeued_b, is.dequeued_a), (clear.no_fresh, clear.no_repeat, is.is_chosen))
 
 -- the chosen empty answer with its cover is the chosen violation where the first three kinds are absent
-pub witness_is_chosen : (operations : List Operation) (empty : ℕ) (cover : List CoverStep) → IsClear operations → NoOrderViolation operations
-    → IsWitnessAnswer operations (found.Covered empty cover)
-    → IsChosenViolation operations (violation.Witness empty cover)
-witness_is_chosen operations empty cover clear none is = (witness is.0 is.1, (is.2, is.3), (clear.no_fresh, clear.no_repeat, none, is.4))
+pub witness_is_chosen : (initial : List ℕ) (operations : List Operation) (empty : ℕ) (cover : List CoverStep) → IsClear (filled initial operations)
+    → NoOrderViolation (filled initial operations) → IsWitnessAnswer initial operations (found.Covered empty cover)
+    → IsChosenViolation initial operations (violation.Witness empty cover)
+witness_is_chosen initial operations empty cover clear none is = (witness is.0 is.1, (is.2, is.3), (clear.no_fresh, clear.no_repeat, none, is.4))
 
 -- what matching answers where it refuses is the chosen violation
 refused_is_chosen : (initial : List ℕ) (operations : List Operation) (answer : Matched) (violation : Violation)
-    → IsMatchedFrom initial operations answer → (answer ≡ matched.Fresh violation) ⊎ (answer ≡ matched.Repeat violation)
-    → IsChosenFrom initial operations violation
+    → IsMatched initial operations answer → (answer ≡ matched.Fresh violation) ⊎ (answer ≡ matched.Repeat violation)
+    → IsChosenViolation initial operations violation
 refused_is_chosen initial operations answer violation is (inl same) =
-    let h = subst (IsMatchedFrom initial operations) same is in (fresh h.0 h.1, h.2, h.3)
+    let h = subst (IsMatched initial operations) same is in (fresh h.0 h.1, h.2, h.3)
 refused_is_chosen initial operations answer violation is (inr same) =
-    let h = subst (IsMatchedFrom initial operations) same is in (repeat h.0 h.1 h.2, h.3, h.4)
+    let h = subst (IsMatched initial operations) same is in (repeat h.0 h.1 h.2, h.3, h.4)
 
 -- so the `NO` is decided
 pub refused_is_decided : (initial : List ℕ) (operations : List Operation) (answer : Matched) (violation : Violation)
-    → AreComplete (filled initial operations) → IsMatchedFrom initial operations answer
-    → (answer ≡ matched.Fresh violation) ⊎ (answer ≡ matched.Repeat violation) → IsDecidedFrom initial operations (No violation)
+    → AreComplete (filled initial operations) → IsMatched initial operations answer
+    → (answer ≡ matched.Fresh violation) ⊎ (answer ≡ matched.Repeat violation) → IsDecided initial operations (No violation)
 refused_is_decided initial operations answer violation complete is refused =
     no_is_decided initial operations violation complete (refused_is_chosen initial operations answer violation is refused)
 

@@ -55,7 +55,7 @@ one v = rw (eq-eqb v v refl)
 abbrev kinds_of : List Operation → List OpKind
 kinds_of listed = map (λ o. o.kind) listed
 
-module _ (operations listed : List Operation) (complete : AreComplete operations) (legal : IsLegalOrder operations listed) where
+module _ (operations listed : List Operation) (complete : AreComplete operations) (legal : IsLegalOrder [] operations listed) where
   -- each operation of the history has a place in the order, and the order has no other
   place_of : (o : Operation) → Contains operations o → (i : ℕ) × (slice_get listed i ≡ Some o)
   place_of o is = listed_place listed o (Contains-permutation operations listed o legal.holds_each_once is)

@@ -43,7 +43,7 @@ use Rattle.verdicts.specs.declared.verdict.Verdict.{Verdict}
 use Rattle.verdicts.specs.declared.verdict.Verdict.TheVariants.{Yes, No}
 use Rattle.verdicts.specs.Claiming.{is_operation, line_at, operations_named, verdict_places}
 use Rattle.verdicts.specs.Shown.{violation_places}
-use Rattle.verdicts.specs.Verdicts.{IsVerdictFrom}
+use Rattle.verdicts.specs.Verdicts.{IsVerdict}
 use Rattle.verdicts.proofs.CoverGaps.{IsCalledInside, chosen_are_lives, handover, all_stay}
 use Rattle.value_match.proofs.FilledOperations.{length_filled, length_filling}
 use Rattle.verdicts.proofs.NamedPlaces.{IsShownAt, each_shown, zip_lengths}
@@ -241,11 +241,6 @@ module _ (operations : List Operation) (empty : Operation) (clear : IsClear oper
       by_line (y, in_cover, inr same) =
           let dequeues = life_dequeues operations y o (are y in_cover) same in
           (dequeues.1.0, λ none. let kinds : Deq dequeues.0 ≡ Empty = sym dequeues.1.1 ∙ none in cc)
-
--- a history has two events for each operation
-pub two_events_each : (events : List Event) → IsCompleteUpTo MAX_CLOCK events → length (operations_of events) + length (operations_of events) ≤ length events
-two_events_each events complete = few_apart events (operations_of events) complete (λ o among. among)
-    (apart_from_rise (operations_of events) (operations_rise (operations_of events) (events, complete, refl)))
 
 -- ---- verdicts
 
@@ -452,7 +447,7 @@ verdict_has_few_lines initial events verdict whole few_initial few_events chosen
     in_filled : (listed : List Operation) → length (filled initial listed) ≡ length initial + length listed
     in_filled listed = length_filled initial listed
 
-    by_verdict : (verdict : Verdict) → IsVerdictFrom initial (operations_of events) verdict
+    by_verdict : (verdict : Verdict) → IsVerdict initial (operations_of events) verdict
         → (length (operations_named verdict) ≤ MAX_OPERATIONS) × (length (verdict_places verdict) ≤ most)
     by_verdict (Yes places) is =
         let shorter_order = few_in_order (filled_events initial events) (filled_is_complete initial events whole few_initial) most (omega arith) few

@@ -1,7 +1,6 @@
 -- The way of the argument, from what is found to what is claimed, verified and shrunk:
 -- Excludes: beside a violation no order is legal. Linearizable, Exactly: without one there is a linearization.
 -- Chosen, Decided, OneVerdict: the chosen violation or order of a history decides, and is the only one.
--- NoneTold: with no initial values the answer is what is found.
 -- Lookups, ClaimedViolations, ClaimedCovers, ClaimedOrders: when the lines of a claim are evidence.
 -- FoundLines, NamedLines, NamedPlaces, TrueClaims, FewLines: what a verdict claims, and that this is true.
 -- SameLists, CollectedSets, Selections, ChosenSelections, CoverGaps: what stays of the violations in a selection of the operations.
@@ -47,4 +46,3 @@ pub mod FewLines
 pub mod EventsHeld
 pub mod OneSelection
 pub mod LinesTell
-pub mod NoneTold

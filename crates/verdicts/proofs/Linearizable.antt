@@ -34,7 +34,7 @@ free_gaps_exist operations clear none =
 
 -- without a violation there is a linearization
 pub linearizable_without_violations : (operations : List Operation) → IsClear operations → NoOrderViolation operations → NoWitnessViolation operations
-    → IsLinearizable operations
+    → IsLinearizable [] operations
 linearizable_without_violations operations clear no_order no_witness =
     let gaps = free_gaps_exist operations clear no_witness in
     let chosen = chosen_order_exists operations gaps.0 clear no_order gaps.1 in

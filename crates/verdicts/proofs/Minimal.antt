@@ -26,8 +26,8 @@ use Rattle.verdicts.proofs.Selections.{violation_in_whole, violation_in_selected
 
 -- no selection but the whole of these operations fails to be linearizable
 abbrev pub AreMinimal : List Operation → Type 0
-AreMinimal operations = ¬ (IsLinearizable operations) × ((values calls : ℕ → Bool) → (filter (selects values calls) operations ≡ operations → ⊥)
-    → IsLinearizable (filter (selects values calls) operations))
+AreMinimal operations = ¬ (IsLinearizable [] operations) × ((values calls : ℕ → Bool) → (filter (selects values calls) operations ≡ operations → ⊥)
+    → IsLinearizable [] (filter (selects values calls) operations))
 
 -- a filter keeps all, or some element fails its test
 pub all_or_one : {X : Type 0} (p : X → Bool) (xs : List X) → (filter p xs ≡ xs) ⊎ ((x : X) × Contains xs x × (p x ≡ false))
@@ -236,7 +236,7 @@ module _ (operations : List Operation) (complete : AreComplete operations) (valu
         by_kind (witness empty' cover') is' =
             no_cover empty cover (record { complete = complete; no_fresh = chosen.0; no_repeat = chosen.1 }) chosen.3 named empty' cover' is'
 
-    smaller_is_linearizable : (full : FullViolation) → IsChosenFullViolation operations full → SelectsLines (lines_of full) values calls → IsLinearizable smaller
+    smaller_is_linearizable : (full : FullViolation) → IsChosenFullViolation operations full → SelectsLines (lines_of full) values calls → IsLinearizable [] smaller
     smaller_is_linearizable full chosen named =
         (linearizable_exactly smaller (selected_are_complete (selects values' calls') small
         (selected_are_complete (selects values calls) operations complete))).1 (none_is_left full chosen named)

@@ -1,9 +1,8 @@
 -- What a violation names stands at places of the history, and its lines are those of the filled history's operations.
-use Rattle.std.proofs.Common.{◌≡◌, ℕ, ◌+◌, ◌-◌, ◌*◌, ◌<◌, Bool, true, false, List, [], ◌∷◌, ◌++◌, length, map, Option, Some, None}
-use Rattle.std.proofs.Common.{refl, sym, ◌∙◌, ap, subst, arith, inl, inr, nat_lt}
-use Rattle.std.specs.Prelude.{All, Contains, flat_map, if◌then◌else◌, option_map, option_to_list, slice_get}
+use Rattle.std.proofs.Common.{◌≡◌, ℕ, ◌+◌, ◌-◌, ◌*◌, ◌<◌, List, [], ◌∷◌, ◌++◌, length, map, Option, Some, None}
+use Rattle.std.proofs.Common.{refl, sym, ◌∙◌, ap, subst, arith, inl, inr}
+use Rattle.std.specs.Prelude.{All, Contains, flat_map, option_map, option_to_list, slice_get}
 use Rattle.std.specs.List.{AllZip, cons_option}
-use Rattle.std.proofs.lemmas.Bool.{ltb-true}
 use Rattle.std.proofs.lemmas.List.Elements.{All-nil, All-cons, Contains-append_left, Contains-append_right}
 use Rattle.std.proofs.lemmas.Option.{slice_get_within}
 use Rattle.history_merge.specs.declared.operation.Operation.{Operation}
@@ -17,8 +16,8 @@ use Rattle.value_match.specs.declared.violation.Source.{Source}
 use Rattle.value_match.specs.declared.violation.Source.TheVariants as source
 use Rattle.value_match.specs.declared.violation.Violation.{Violation}
 use Rattle.value_match.specs.declared.violation.Violation.TheVariants as violation
-use Rattle.value_match.specs.Lives.{IsMaybeAt, dequeue_of, enqueue_of, operations_of_life}
-use Rattle.value_match.specs.Outcome.{IsSource, Names, NamesCover}
+use Rattle.value_match.specs.Lives.{dequeue_of, enqueue_of, operations_of_life}
+use Rattle.value_match.specs.Outcome.{IsMaybeOperation, IsOperation, IsSource, Names, NamesCover}
 use Rattle.value_match.specs.Violations.{FullViolation, fresh, repeat, order, witness, lines_of}
 use Rattle.value_match.proofs.Lists.{mapped_to}
 use Rattle.verdicts.specs.declared.shown.LinePlace.{LinePlace}
@@ -26,7 +25,6 @@ use Rattle.verdicts.specs.declared.shown.LinePlace.TheVariants.{Op, Initial}
 use Rattle.verdicts.specs.declared.verifying.ClaimLine.{ClaimLine}
 use Rattle.verdicts.specs.declared.verifying.ClaimLine.TheVariants as line
 use Rattle.verdicts.specs.Claiming.{IsPlaceWithin, line_at, lines_at, lines_of_history}
-use Rattle.value_match.specs.Filling.{behind, filled_source, filled_step, filled_violation}
 use Rattle.verdicts.specs.Shown.{maybe_place, place_of_source, violation_places, places_of_step}
 use Rattle.value_match.proofs.FilledLines.{filled_at}
 use Rattle.verdicts.proofs.ShownLines.{accepted_value, early_line, later_line, line_of}
@@ -68,7 +66,7 @@ module _ (initial : List ℕ) (operations : List Operation) where
   abbrev pub IsShownAt : LinePlace → Operation → Type 0
   IsShownAt place o = (line_at initial operations place ≡ Some (line_of (2 * length initial) o)) × Contains (filled initial operations) o
 
-  shown_at : (p : ℕ) (o : Operation) → IsAt all (behind k p) o → IsShownAt (Op p) o
+  shown_at : (p : ℕ) (o : Operation) → IsOperation initial operations p o → IsShownAt (Op p) o
   shown_at p o at = elim (filled_at initial operations (k + p) o at) [
     | inl early ↦ let within = early.within in absurd (omega arith)
     | inr late ↦
@@ -89,21 +87,17 @@ module _ (initial : List ℕ) (operations : List Operation) where
     | inr late ↦ let behind = late.behind in absurd (omega arith)
   ]
 
-  source_shown : (s : Source) (o : Operation) → IsSource all (filled_source k s) o → IsShownAt (place_of_source s) o
+  source_shown : (s : Source) (o : Operation) → IsSource initial operations s o → IsShownAt (place_of_source s) o
   source_shown (source.Enq p) o at = shown_at p o at
-  source_shown (source.Initial p) o at = by_count (nat_lt p k) refl at
-    where
-      by_count : (within : Bool) → nat_lt p k ≡ within → IsSource all (if within then source.Enq p else source.Initial p) o → IsShownAt (Initial p) o
-      by_count true is at' = initial_shown p o (ltb-true p k is) at'
-      by_count false is at' = absurd at'
+  source_shown (source.Initial p) o at = initial_shown p o at.0 at.1
 
-  maybe_shown : (p : Option ℕ) (o : Option Operation) → IsMaybeAt all (option_map (behind k) p) o → AllZip IsShownAt (maybe_place p) (option_to_list o)
+  maybe_shown : (p : Option ℕ) (o : Option Operation) → IsMaybeOperation initial operations p o → AllZip IsShownAt (maybe_place p) (option_to_list o)
   maybe_shown None None at = tt
   maybe_shown None (Some o) at = absurd at
   maybe_shown (Some p) None at = absurd at
   maybe_shown (Some p) (Some o) at = (shown_at p o at, tt)
 
-  cover_shown : (steps : List CoverStep) (cover : List Life) → NamesCover all (map (filled_step k) steps) cover
+  cover_shown : (steps : List CoverStep) (cover : List Life) → NamesCover initial operations steps cover
       → AllZip IsShownAt (flat_map places_of_step steps) (flat_map operations_of_life cover)
   cover_shown [] [] names = tt
   cover_shown [] (life ∷ cover) names = absurd names
@@ -115,7 +109,7 @@ module _ (initial : List ℕ) (operations : List Operation) where
   )
 
   -- the places of a violation are those of its operations' lines, one by one
-  pub each_shown : (named : Violation) (full : FullViolation) → Names all (filled_violation k named) full → AllZip IsShownAt (violation_places named) (lines_of full)
+  pub each_shown : (named : Violation) (full : FullViolation) → Names initial operations named full → AllZip IsShownAt (violation_places named) (lines_of full)
   each_shown (violation.Fresh deq enq) (fresh d e) names = (shown_at deq d names.0, maybe_shown enq e names.1)
   each_shown (violation.Fresh deq enq) (repeat e d f) names = absurd names
   each_shown (violation.Fresh deq enq) (order a b d e) names = absurd names

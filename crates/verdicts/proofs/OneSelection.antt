@@ -139,7 +139,7 @@ module _ (whole x : HistoryView) (violation : Violation) (is_x : IsWhole x) (sta
       let moved = linearizable_there (lifted values x.initial) (lifted_rises values x.initial) (filled part.initial part.operations) filled_linear in
       violation_excludes_order (filter passes (filled_of x)) full (selected_are_complete passes (filled_of x) complete)
       (violation_in_selected (filled_of x) values (calls_behind (contents_of x) empties) full is_violation line_passes)
-      (subst IsLinearizable (sym (selection_filled (contents_of x) values empties)) moved)
+      (subst (IsLinearizable []) (sym (selection_filled (contents_of x) values empties)) moved)
 
   none_differs : part ≢ contents_of x → ⊥
   none_differs differs = not_linearizable (minimal.1 part (values, empties, refl) differs)

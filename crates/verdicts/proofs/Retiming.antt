@@ -171,14 +171,14 @@ module _ (h : ℕ → ℕ) (rises : Rises h) where
 
     -- ---- legal orders
 
-    order_stays : (found : List Operation) → IsLegalOrder xs found → IsLegalOrder ys (map (retimed h) found)
+    order_stays : (found : List Operation) → IsLegalOrder [] xs found → IsLegalOrder [] ys (map (retimed h) found)
     order_stays found =
         legal_moved (retimed h) [] xs found (map_map (retimed h) (λ o. o.kind)) (λ x y. below_back x.ret y.call)
 
-    pub linearizable_there : IsLinearizable xs → IsLinearizable ys
+    pub linearizable_there : IsLinearizable [] xs → IsLinearizable [] ys
     linearizable_there found = (map (retimed h) found.0, order_stays found.0 found.1)
 
-    pub linearizable_back : AreComplete xs → AreComplete ys → IsLinearizable ys → IsLinearizable xs
+    pub linearizable_back : AreComplete xs → AreComplete ys → IsLinearizable [] ys → IsLinearizable [] xs
     linearizable_back complete complete' found =
         (linearizable_exactly xs complete).1 (λ full is. violation_excludes_order ys (retimed_violation h full) complete' (violation_there full is) found)
 

@@ -18,7 +18,7 @@ use Rattle.history_merge.specs.Operations.{operations_of}
 use Rattle.history_merge.proofs.Distinct.{call_before_return, place_of}
 use Rattle.history_merge.proofs.Filled.{filled_are_complete, linearizable_from_exactly}
 use Rattle.value_match.specs.declared.violation.Violation.{Violation}
-use Rattle.value_match.specs.Outcome.{Names}
+use Rattle.value_match.specs.Outcome.{IsChosenViolation, Names}
 use Rattle.value_match.specs.Violations.{FullViolation, lines_of}
 use Rattle.value_match.specs.Choice.{IsChosenFullViolation}
 use Rattle.value_match.proofs.Lists.{kept, keeps, mapped_from, mapped_to, one_deeper, passed_filter}
@@ -30,7 +30,7 @@ use Rattle.verdicts.specs.Claiming.{line_at}
 use Rattle.verdicts.specs.Selection.{AreLinearizable, ArePartOf, Contents, IsMinimal, KeepsViolation, StaysChosen, contents_of, select, selects, value_of}
 use Rattle.verdicts.specs.Selection.{violation_lines}
 use Rattle.verdicts.specs.Shown.{violation_places}
-use Rattle.verdicts.specs.Verdicts.{filled_of, IsChosenFrom}
+use Rattle.verdicts.specs.Verdicts.{filled_of}
 use Rattle.verdicts.specs.Inner.Selecting.{SelectsNamed, call_in, holds_ticket, value_in}
 use Rattle.verdicts.proofs.Chosen.{chosen_is_violation}
 use Rattle.verdicts.proofs.ChosenSelections.{stays_chosen}
@@ -43,11 +43,8 @@ use Rattle.verdicts.proofs.NamedPlaces.{each_shown, line_there, shown_lines}
 use Rattle.verdicts.proofs.Retiming.{violation_from, chosen_back, linearizable_back, retimed, retimed_violation, same_back}
 use Rattle.verdicts.proofs.ShownLines.{call_of_line, line_of, line_of_call, same_line, value_of_line}
 use Rattle.verdicts.proofs.ShrunkEvents.{kept_filled_are_complete, kept_is_complete_from, no_longer, operations_kept}
-use Rattle.verdicts.proofs.TrueClaims.{same_kind_from}
+use Rattle.verdicts.proofs.TrueClaims.{same_kind}
 use Rattle.verdicts.proofs.ViolationPlaces.{retimed_kind, retimed_lines, violation_at}
-use Rattle.value_match.proofs.Unfilled.{violation_back}
-use Rattle.value_match.specs.Filling.{filled_violation}
-use Rattle.value_match.specs.Unfilling.{unfilled_violation}
 
 -- tests that pass together are one
 same_tests : (a b : Bool) → (a ≡ true → b ≡ true) → (b ≡ true → a ≡ true) → a ≡ b
@@ -166,7 +163,7 @@ enqueued_in_filling whole o among early =
     ]
 
 module _ (whole : HistoryView) (violation : Violation) (is_whole : IsWhole whole)
-    (chosen : IsChosenFrom whole.initial (operations_of whole.events) violation)
+    (chosen : IsChosenViolation whole.initial (operations_of whole.events) violation)
     (values calls : ℕ → Bool) (named : SelectsNamed (violation_lines whole violation) values calls)
     (small : HistoryView) (is_small : IsWhole small) (selected : IsSelectedBy whole values calls small) where
   abbrev n : ℕ
@@ -274,12 +271,9 @@ module _ (whole : HistoryView) (violation : Violation) (is_whole : IsWhole whole
 
   -- ---- its claim
 
-  small_named : (found : Violation) × Names (filled_of small) (filled_violation (length small.initial) found) small_full
+  small_named : (found : Violation) × Names small.initial (operations_of small.events) found small_full
   small_named =
-      let found = violation_at (filled_of small) small_full in_small in
-      let is = chosen_is_violation (filled_of small) small_full complete' small_chosen in
-      let back = violation_back small.initial (operations_of small.events) found.0 small_full found.1 is in
-      (unfilled_violation (length small.initial) found.0, subst (λ v. Names (filled_of small) v small_full) (sym back) found.1)
+      violation_at small.initial (operations_of small.events) small_full (chosen_is_violation (filled_of small) small_full complete' small_chosen) in_small
 
   same_lines : violation_lines small small_named.0 ≡ violation_lines whole violation
   same_lines =
@@ -306,8 +300,8 @@ module _ (whole : HistoryView) (violation : Violation) (is_whole : IsWhole whole
     small_named.0,
     (small_full, small_named.1, small_chosen),
     λ i. claimed.No
-        ((same_kind_from small.initial (operations_of small.events) small_named.0 small_full small_named.1 ∙ sym (retimed_kind h small_full)
-        ∙ ap kind_of before.1 ∙ sym (same_kind_from whole.initial (operations_of whole.events) violation full chosen.1)) i)
+        ((same_kind small.initial (operations_of small.events) small_named.0 small_full small_named.1 ∙ sym (retimed_kind h small_full)
+        ∙ ap kind_of before.1 ∙ sym (same_kind whole.initial (operations_of whole.events) violation full chosen.1)) i)
         (same_lines i),
   )
 
@@ -322,10 +316,6 @@ module _ (whole : HistoryView) (violation : Violation) (is_whole : IsWhole whole
   )
 
   -- ---- nothing can be left out
-
-  calls_shown : (o : Operation) → Contains (lines_of small_full) o → calls_at (lines_of full) (h o.call) ≡ true
-  calls_shown o among = calls_at_call (lines_of full) (retimed h o) (h o.call)
-      (subst (λ os. Contains os (retimed h o)) small_lines (mapped_to (retimed h) (lines_of small_full) o among)) refl
 
   line_before : (l : Operation) → Contains (lines_of full) l → (o : Operation) × Contains (lines_of small_full) o × (retimed h o ≡ l)
   line_before l among = mapped_from (retimed h) (lines_of small_full) l (subst (λ os. Contains os l) (sym small_lines) among)
@@ -388,7 +378,7 @@ module _ (whole : HistoryView) (violation : Violation) (is_whole : IsWhole whole
           (linearizable_from_exactly part.initial part.operations).1
           (linearizable_back (lifted values' small.initial) (lifted_rises values' small.initial) (filled part.initial part.operations)
           (kept_filled_are_complete small.initial small.events is_small.complete values' (selects values' empties') is_small.few)
-          (subst AreComplete same (selected_are_complete passes (filled_of small) complete')) (subst IsLinearizable same linear))
+          (subst AreComplete same (selected_are_complete passes (filled_of small) complete')) (subst (IsLinearizable []) same linear))
 
 -- ---- what is ensured of the small history
 
@@ -431,7 +421,7 @@ few_events whole values calls initial events few are =
 
 -- the small history is what is to be shrunk
 pub are_shrunk : (whole : HistoryView) (violation : Violation) (values calls : ℕ → Bool) (small : HistoryView) → IsWhole whole
-    → IsChosenFrom whole.initial (operations_of whole.events) violation → SelectsNamed (violation_lines whole violation) values calls
+    → IsChosenViolation whole.initial (operations_of whole.events) violation → SelectsNamed (violation_lines whole violation) values calls
     → AreSelected whole values calls small.initial small.events → IsShrunk whole violation small
 are_shrunk whole violation values calls small is_whole chosen named are = record {
   kept = keeps_violation whole violation is_whole chosen values calls named small is_small selected;

@@ -13,7 +13,7 @@ use Rattle.event_records.specs.declared.limits.TheConstants.{MAX_TICKET}
 use Rattle.history_merge.specs.declared.operation.Operation.{Operation}
 use Rattle.history_merge.specs.Complete.{called_values}
 use Rattle.history_merge.specs.Initial.{IsCompleteFrom, filled}
-use Rattle.history_merge.specs.Legal.{ArePlacesOf, IsLegalOrderFrom}
+use Rattle.history_merge.specs.Legal.{ArePlacesOf, IsLegalOrder}
 use Rattle.history_merge.specs.Operations.{operations_of}
 use Rattle.history_merge.proofs.Distinct.{contains_at, operation_within, pairs_at, contains_cons, not_in_none, place_of}
 use Rattle.value_match.specs.declared.violation.Violation.{Violation}
@@ -29,34 +29,21 @@ use Rattle.verdicts.specs.Laws.{EvidenceIsTrueClaim}
 use Rattle.verdicts.specs.Shown.{violation_places}
 use Rattle.value_match.proofs.FilledLines.{filled_at}
 use Rattle.verdicts.proofs.NamedPlaces.{IsShownAt, each_shown, shown_lines}
-use Rattle.value_match.specs.Filling.{filled_violation}
 use Rattle.verdicts.specs.declared.shown.LinePlace.{LinePlace}
 use Rattle.verdicts.proofs.ShownLines.{accepted_value, early_line, later_line, line_of}
 use Rattle.value_match.proofs.Lists.{one_deeper}
 
 -- a violation and the operations that it names are of one kind
-pub same_kind : (operations : List Operation) (violation : Violation) (full : FullViolation) → Names operations violation full
+pub same_kind : (initial : List ℕ) (operations : List Operation) (violation : Violation) (full : FullViolation) → Names initial operations violation full
     → violation_kind violation ≡ kind_of full
-same_kind operations (Fresh deq enq) (fresh d e) names = refl
-same_kind operations (Fresh deq enq) _ names = absurd names
-same_kind operations (Repeat enq first second) (repeat e d d') names = refl
-same_kind operations (Repeat enq first second) _ names = absurd names
-same_kind operations (Order enq_a enq_b deq_b deq_a) (order a b d d') names = refl
-same_kind operations (Order enq_a enq_b deq_b deq_a) _ names = absurd names
-same_kind operations (Witness empty cover) (witness o lives) names = refl
-same_kind operations (Witness empty cover) _ names = absurd names
-
--- so are a violation of a history and those of the filled history
-pub same_kind_from : (initial : List ℕ) (operations : List Operation) (violation : Violation) (full : FullViolation)
-    → Names (filled initial operations) (filled_violation (length initial) violation) full → violation_kind violation ≡ kind_of full
-same_kind_from initial operations violation full names =
-    kind_filled violation ∙ same_kind (filled initial operations) (filled_violation (length initial) violation) full names
-  where
-    kind_filled : (violation : Violation) → violation_kind violation ≡ violation_kind (filled_violation (length initial) violation)
-    kind_filled (Fresh deq enq) = refl
-    kind_filled (Repeat enq first second) = refl
-    kind_filled (Order enq_a enq_b deq_b deq_a) = refl
-    kind_filled (Witness empty cover) = refl
+same_kind initial operations (Fresh deq enq) (fresh d e) names = refl
+same_kind initial operations (Fresh deq enq) _ names = absurd names
+same_kind initial operations (Repeat enq first second) (repeat e d d') names = refl
+same_kind initial operations (Repeat enq first second) _ names = absurd names
+same_kind initial operations (Order enq_a enq_b deq_b deq_a) (order a b d d') names = refl
+same_kind initial operations (Order enq_a enq_b deq_b deq_a) _ names = absurd names
+same_kind initial operations (Witness empty cover) (witness o lives) names = refl
+same_kind initial operations (Witness empty cover) _ names = absurd names
 
 -- ---- the lines of a `NO`
 
@@ -137,12 +124,12 @@ operations_there operations (p ∷ places) (o ∷ listed) at =
 -- the claim of evidence is so
 pub evidence_is_true : EvidenceIsTrueClaim
 evidence_is_true initial events (found.Yes places) whole few is =
-    subst (IsLegalOrderFrom initial (operations_of events)) (sym (operations_there (operations_of events) places is.0 is.1)) is.2
+    subst (IsLegalOrder initial (operations_of events)) (sym (operations_there (operations_of events) places is.0 is.1)) is.2
 evidence_is_true initial events (found.No violation) whole few is =
     let operations = operations_of events in
     let each = each_shown initial operations violation is.0 is.1 in (
       lines_of is.0,
       ap (map (stands_for initial)) (shown_lines initial operations (violation_places violation) (lines_of is.0) each)
           ∙ lines_stand initial events whole (lines_of is.0) (shown_among initial operations (violation_places violation) (lines_of is.0) each),
-      (is.0, sym (same_kind_from initial operations violation is.0 is.1), refl, is.2),
+      (is.0, sym (same_kind initial operations violation is.0 is.1), refl, is.2),
     )

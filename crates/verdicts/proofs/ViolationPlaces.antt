@@ -1,65 +1,108 @@
 -- The places of a violation whose lines are operations, and its lines at other tickets.
-use Rattle.std.proofs.Common.{◌≡◌, ℕ, zero, List, [], ◌∷◌, ◌++◌, Option, Some, None, refl, sym, ◌∙◌, ap, arith, map}
-use Rattle.std.specs.Prelude.{Contains, flat_map, option_map, option_to_list}
+use Rattle.std.proofs.Common.{◌≡◌, ℕ, zero, List, [], ◌∷◌, ◌++◌, length, Option, Some, None, refl, sym, ◌∙◌, ap, arith, map}
+use Rattle.std.specs.Prelude.{Contains, MatchOption, flat_map, option_map, option_to_list, ⊤}
 use Rattle.std.proofs.lemmas.List.{map-append}
 use Rattle.std.proofs.lemmas.List.Elements.{Contains-append_left, Contains-append_right}
 use Rattle.history_merge.specs.declared.operation.Operation.{Operation}
+use Rattle.history_merge.specs.declared.operation.OpKind.TheVariants.{Deq}
+use Rattle.history_merge.specs.Initial.{filled}
+use Rattle.history_merge.specs.Operations.{Did, NoneDid, Precedes}
 use Rattle.history_merge.proofs.Distinct.{place_of}
 use Rattle.value_match.specs.declared.life.Life.{Life}
 use Rattle.value_match.specs.declared.violation.CoverStep.{CoverStep}
-use Rattle.value_match.specs.declared.violation.Source.TheVariants as source
 use Rattle.value_match.specs.declared.violation.Violation.{Violation}
 use Rattle.value_match.specs.declared.violation.Violation.TheVariants as violation
 use Rattle.value_match.specs.Lives.{IsMaybeAt, dequeue_of, enqueue_of, operations_of_life}
 use Rattle.value_match.specs.Outcome.{Names, NamesCover}
-use Rattle.value_match.specs.Violations.{FullViolation, fresh, repeat, order, witness, lines_of}
+use Rattle.value_match.specs.Told.{told_place, told_source}
+use Rattle.value_match.specs.Violations.{FullViolation, fresh, repeat, order, witness, IsViolationOf, lines_of}
+use Rattle.value_match.proofs.CoverLives.{AreLives, covers_are_lives}
 use Rattle.value_match.proofs.Lists.{one_deeper}
+use Rattle.value_match.proofs.ToldPlaces.{call_told, dequeue_told, empty_told, fresh_dequeues, maybe_told, source_told}
 use Rattle.verdicts.specs.Claims.{kind_of}
 use Rattle.verdicts.proofs.Retiming.{retimed, retimed_violation, retimed_life}
 
 -- ---- places
 
-module _ (operations : List Operation) where
+module _ (initial : List ℕ) (operations : List Operation) where
+  abbrev k : ℕ
+  k = length initial
+
+  abbrev all : List Operation
+  all = filled initial operations
+
   -- all of these are operations
   abbrev pub AreAmong : List Operation → Type 0
-  AreAmong listed = (o : Operation) → Contains listed o → Contains operations o
+  AreAmong listed = (o : Operation) → Contains listed o → Contains (filled initial operations) o
 
-  maybe_at : (d : Option Operation) → AreAmong (option_to_list d) → (place : Option ℕ) × IsMaybeAt operations place d
+  maybe_at : (d : Option Operation) → AreAmong (option_to_list d) → (place : Option ℕ) × IsMaybeAt all place d
   maybe_at None among = (None, tt)
-  maybe_at (Some d) among = let at = place_of operations d (among d (zero, omega arith, refl)) in (Some at.0, at.1)
+  maybe_at (Some d) among = let at = place_of all d (among d (zero, omega arith, refl)) in (Some at.0, at.1)
 
-  cover_at : (cover : List Life) → AreAmong (flat_map operations_of_life cover) → (steps : List CoverStep) × NamesCover operations steps cover
-  cover_at [] among = ([], tt)
-  cover_at (life ∷ cover) among =
+  cover_at : (cover : List Life) → AreLives cover → AreAmong (flat_map operations_of_life cover)
+      → (steps : List CoverStep) × NamesCover initial operations steps cover
+  cover_at [] are among = ([], tt)
+  cover_at (life ∷ cover) are among =
       let own = λ (o : Operation) (at : Contains (operations_of_life life) o). among o (Contains-append_left (operations_of_life life)
       (flat_map operations_of_life cover) o at) in
-      let enqueue = place_of operations (enqueue_of life) (own (enqueue_of life) (zero, omega arith, refl)) in
+      let enqueue = place_of all (enqueue_of life) (own (enqueue_of life) (zero, omega arith, refl)) in
       let dequeue = maybe_at (dequeue_of life) (λ o at. own o (one_deeper (enqueue_of life) (option_to_list (dequeue_of life)) o at)) in
-      let rest = cover_at cover (λ o at. among o (Contains-append_right (operations_of_life life) (flat_map operations_of_life cover) o at)) in
-      (record { source = source.Enq enqueue.0; dequeue = dequeue.0 } ∷ rest.0, ((enqueue.1, dequeue.1), rest.1))
+      let rest = cover_at cover are.2 (λ o at. among o (Contains-append_right (operations_of_life life) (flat_map operations_of_life cover) o at)) in (
+        record { source = told_source k enqueue.0; dequeue = option_map (told_place k) dequeue.0 } ∷ rest.0,
+        (
+          (
+            source_told initial operations enqueue.0 (enqueue_of life) enqueue.1,
+            maybe_told initial operations dequeue.0 (dequeue_of life) dequeue.1 are.1,
+          ),
+          rest.1,
+        ),
+      )
 
-  -- a violation whose lines are operations has places
-  pub violation_at : (full : FullViolation) → AreAmong (lines_of full) → (found : Violation) × Names operations found full
-  violation_at (fresh deq enq) among =
-      let d = place_of operations deq (among deq (zero, omega arith, refl)) in
+  -- a violation has places
+  pub violation_at : (full : FullViolation) → IsViolationOf (filled initial operations) full → AreAmong (lines_of full)
+      → (found : Violation) × Names initial operations found full
+  violation_at (fresh deq enq) is among =
+      let d = place_of all deq (among deq (zero, omega arith, refl)) in
       let e = maybe_at enq (λ o at. among o (one_deeper deq (option_to_list enq) o at)) in
-      (violation.Fresh d.0 e.0, (d.1, e.1))
-  violation_at (repeat enq first second) among =
-      let e = place_of operations enq (among enq (zero, omega arith, refl)) in
-      let d = place_of operations first (among first (1, omega arith, refl)) in
-      let f = place_of operations second (among second (2, omega arith, refl)) in
-      (violation.Repeat (source.Enq e.0) d.0 f.0, (e.1, d.1, f.1))
-  violation_at (order enq_a enq_b deq_b deq_a) among =
-      let a = place_of operations enq_a (among enq_a (zero, omega arith, refl)) in
-      let b = place_of operations enq_b (among enq_b (1, omega arith, refl)) in
-      let d = place_of operations deq_b (among deq_b (2, omega arith, refl)) in
+      let dequeues = fresh_dequeues all deq enq is in (
+        violation.Fresh (told_place k d.0) (option_map (told_place k) e.0),
+        (dequeue_told initial operations d.0 deq dequeues.0 d.1 dequeues.1, call_told initial operations d.0 deq e.0 enq d.1 e.1 is),
+      )
+  violation_at (repeat enq first second) is among =
+      let e = place_of all enq (among enq (zero, omega arith, refl)) in
+      let d = place_of all first (among first (1, omega arith, refl)) in
+      let f = place_of all second (among second (2, omega arith, refl)) in (
+        violation.Repeat (told_source k e.0) (told_place k d.0) (told_place k f.0),
+        (
+          source_told initial operations e.0 enq e.1,
+          dequeue_told initial operations d.0 first is.value d.1 is.dequeues.1,
+          dequeue_told initial operations f.0 second is.value f.1 is.dequeues_again.1,
+        ),
+      )
+  violation_at (order enq_a enq_b deq_b deq_a) is among =
+      let a = place_of all enq_a (among enq_a (zero, omega arith, refl)) in
+      let b = place_of all enq_b (among enq_b (1, omega arith, refl)) in
+      let d = place_of all deq_b (among deq_b (2, omega arith, refl)) in
       let e = maybe_at deq_a (λ o at. among o (one_deeper enq_a (enq_b ∷ deq_b ∷ option_to_list deq_a) o
-      (one_deeper enq_b (deq_b ∷ option_to_list deq_a) o (one_deeper deq_b (option_to_list deq_a) o at)))) in
-      (violation.Order (source.Enq a.0) (source.Enq b.0) d.0 e.0, (a.1, b.1, d.1, e.1))
-  violation_at (witness empty cover) among =
-      let o = place_of operations empty (among empty (zero, omega arith, refl)) in
-      let steps = cover_at cover (λ x at. among x (one_deeper empty (flat_map operations_of_life cover) x at)) in
-      (violation.Witness o.0 steps.0, (o.1, steps.1))
+      (one_deeper enq_b (deq_b ∷ option_to_list deq_a) o (one_deeper deq_b (option_to_list deq_a) o at)))) in (
+        violation.Order (told_source k a.0) (told_source k b.0) (told_place k d.0) (option_map (told_place k) e.0),
+        (
+          source_told initial operations a.0 enq_a a.1,
+          source_told initial operations b.0 enq_b b.1,
+          dequeue_told initial operations d.0 deq_b is.b d.1 is.dequeues_b.1,
+          maybe_told initial operations e.0 deq_a e.1 (dequeues deq_a is.dequeued_later),
+        ),
+      )
+    where
+      dequeues : (d : Option Operation) → MatchOption d (NoneDid all (Deq is.a)) (λ x. Did all x (Deq is.a) × Precedes deq_b x)
+          → MatchOption d ⊤ (λ x. (v : ℕ) × (x.kind ≡ Deq v))
+      dequeues None none = tt
+      dequeues (Some x) did = (is.a, did.0.1)
+  violation_at (witness empty cover) is among =
+      let o = place_of all empty (among empty (zero, omega arith, refl)) in
+      let are = covers_are_lives all empty empty cover is.covers in
+      let steps = cover_at cover are (λ x at. among x (one_deeper empty (flat_map operations_of_life cover) x at)) in
+      (violation.Witness (told_place k o.0) steps.0, (empty_told initial operations o.0 empty o.1 is.answers_empty.1, steps.1))
 
 -- ---- other tickets
 

@@ -3,7 +3,7 @@ use Rattle.std.specs.Prelude.{◌≡◌, ℕ, ◌*◌, ◌&&◌, nat_le, nat_eq,
 use Rattle.event_records.specs.declared.limits.TheConstants.{MAX_TICKET}
 use Rattle.history_merge.specs.declared.operation.Operation.{Operation}
 use Rattle.history_merge.specs.Initial.{filled, later_by}
-use Rattle.history_merge.specs.Legal.{IsLegalOrderFrom}
+use Rattle.history_merge.specs.Legal.{IsLegalOrder}
 use Rattle.value_match.specs.Filling.{filling_at}
 use Rattle.value_match.specs.Violations.{FullViolation, fresh, repeat, order, witness, IsViolationOf, lines_of}
 use Rattle.verdicts.specs.declared.verifying.ClaimLine.{ClaimLine}
@@ -47,5 +47,5 @@ ShowsInFilled initial operations kind lines = (shown : List Operation) × StandF
 
 -- the lines are a linearization of the operations, or those of a violation of this kind
 abbrev pub IsTrueClaim : List ℕ → List Operation → Claimed → Type 0
-IsTrueClaim initial operations (Yes lines) = IsLegalOrderFrom initial operations lines
+IsTrueClaim initial operations (Yes lines) = IsLegalOrder initial operations lines
 IsTrueClaim initial operations (No kind lines) = ShowsInFilled initial operations kind lines

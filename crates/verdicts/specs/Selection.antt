@@ -5,18 +5,17 @@ use Rattle.history_merge.specs.declared.operation.Operation.{Operation}
 use Rattle.history_merge.specs.declared.operation.OpKind.{OpKind}
 use Rattle.history_merge.specs.declared.operation.OpKind.TheVariants.{Enq, Deq, Empty, Not}
 use Rattle.history_merge.specs.Initial.{HistoryView}
-use Rattle.history_merge.specs.Legal.{IsLinearizableFrom}
+use Rattle.history_merge.specs.Legal.{IsLinearizable}
 use Rattle.history_merge.specs.Operations.{operations_of}
 use Rattle.value_match.specs.declared.life.Life.{Life}
 use Rattle.value_match.specs.declared.violation.Violation.{Violation}
 use Rattle.value_match.specs.Violations.{FullViolation, witness, IsWitnessViolation}
-use Rattle.value_match.specs.Outcome.{Names}
+use Rattle.value_match.specs.Outcome.{IsChosenViolation, Names}
 use Rattle.verdicts.specs.declared.verdict.Verdict.TheVariants.{No}
 use Rattle.verdicts.specs.declared.verifying.ClaimLine.{ClaimLine}
 use Rattle.verdicts.specs.Claiming.{claim_of, lines_at, lines_of_history}
 use Rattle.verdicts.specs.Shown.{violation_places}
-use Rattle.value_match.specs.Filling.{filled_violation}
-use Rattle.verdicts.specs.Verdicts.{IsChosenFrom, filled_of}
+use Rattle.verdicts.specs.Verdicts.{filled_of}
 
 -- the value of an operation; an empty answer has none
 abbrev pub value_of : OpKind → Option ℕ
@@ -48,7 +47,7 @@ IsValueClosed whole selected = (values : ℕ → Bool) × (empties : ℕ → Boo
 
 -- a linearization exists for a queue that holds the initial values first
 abbrev pub AreLinearizable : Contents → Type 0
-AreLinearizable contents = IsLinearizableFrom contents.initial contents.operations
+AreLinearizable contents = IsLinearizable contents.initial contents.operations
 
 -- no selection but the whole fails to be linearizable
 abbrev pub IsMinimal : Contents → Type 0
@@ -65,7 +64,7 @@ KeepsViolation whole violation small = IsValueClosed (contents_of whole) (conten
 
 -- the claim of the chosen violation of the small history is that of the violation in the whole
 abbrev pub StaysChosen : HistoryView → Violation → HistoryView → Type 0
-StaysChosen whole violation small = (found : Violation) × IsChosenFrom small.initial (operations_of small.events) found
+StaysChosen whole violation small = (found : Violation) × IsChosenViolation small.initial (operations_of small.events) found
     × (claim_of small.initial (operations_of small.events) (No found) ≡ claim_of whole.initial (operations_of whole.events) (No violation))
 
 -- some elements, in their order
@@ -79,5 +78,5 @@ IsShortestCover operations _ = ⊤
 
 -- the same of the violation that the places name
 abbrev pub HasShortestCover : HistoryView → Violation → Type 0
-HasShortestCover history violation = (full : FullViolation) → Names (filled_of history) (filled_violation (length history.initial) violation) full
+HasShortestCover history violation = (full : FullViolation) → Names history.initial (operations_of history.events) violation full
     → IsShortestCover (filled_of history) full

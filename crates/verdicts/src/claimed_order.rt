@@ -1,7 +1,7 @@
 ghost use Rattle.std.specs.Prelude.{◌≡◌, ◌↔◌, IsTrue, IfOk, IsPermutation, AllPairs, map, MatchBool, Some, None, length};
 ghost use Rattle.history_merge.specs.Operations.{Precedes};
 ghost use Rattle.history_merge.specs.Queue.{IsAccepted, accept};
-ghost use Rattle.history_merge.specs.Legal.{IsLegalOrderFrom};
+ghost use Rattle.history_merge.specs.Legal.{IsLegalOrder};
 ghost use Rattle.verdicts.specs.Inner.Claims.{CallsRise, IsLookedUp};
 
 use crate::lookup::{Filled, is_at};
@@ -16,7 +16,7 @@ pub fn is_legal_order(
     lines: &[Operation],
 ) -> Result<bool, AllocError>
     requires { IsLookedUp filled.now }
-    ensures { IfOk result (λ legal. IsTrue legal ↔ IsLegalOrderFrom filled.now.initial.now filled.now.operations.now lines.now) }
+    ensures { IfOk result (λ legal. IsTrue legal ↔ IsLegalOrder filled.now.initial.now filled.now.operations.now lines.now) }
 {
     if !extends_precedence(lines) {
         return Ok(false);

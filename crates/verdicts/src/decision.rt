@@ -1,10 +1,11 @@
 ghost use Rattle.std.specs.Prelude.{◌≡◌, ◌≤◌, IfOk};
+ghost use Rattle.history_merge.specs.Operations.{operations_of};
 ghost use Rattle.value_match.specs.Filling.{filled_operations};
 ghost use Rattle.value_match.specs.Violations.{IsClear, NoOrderViolation};
-ghost use Rattle.order_violation.specs.Pairs.{IsOrderAnswerFrom};
-ghost use Rattle.empty_witness.specs.Answers.{IsWitnessAnswerFrom};
+ghost use Rattle.order_violation.specs.Pairs.{IsOrderAnswer};
+ghost use Rattle.empty_witness.specs.Answers.{IsWitnessAnswer};
 ghost use Rattle.parallel_finders.specs.declared.TheConstants.{MAX_PIECES};
-ghost use Rattle.verdicts.specs.Decided.{IsDecided, IsDecidedFrom};
+ghost use Rattle.verdicts.specs.Decided.{IsDecided};
 
 use crate::verdict::{Order, Verdict};
 use empty_witness::{WitnessAnswer, find_witness};
@@ -31,7 +32,7 @@ use value_match::{Matched, Matching, Violation, match_values};
 /// assert!(rt; matches!(&verdict, Verdict::No(_)));
 /// ```
 pub fn decide(alloc: Global, history: &History) -> Result<Verdict, AllocError>
-    ensures { IfOk result (IsDecided history.now) }
+    ensures { IfOk result (IsDecided history.now.initial (operations_of history.now.events)) }
 {
     match match_values(alloc, history)? {
         Matched::Clear(matching) => decide_matching(alloc, &matching),
@@ -51,7 +52,7 @@ pub fn decide_par<R: Threads + Sync>(
     pieces: usize,
 ) -> Result<Verdict, AllocError>
     requires { (1 ≤ pieces) × (pieces ≤ MAX_PIECES) }
-    ensures { IfOk result (IsDecided history.now) }
+    ensures { IfOk result (IsDecided history.now.initial (operations_of history.now.events)) }
 {
     match match_values(alloc, history)? {
         Matched::Clear(matching) => decide_matching_par(rt, alloc, &matching, pieces),
@@ -63,7 +64,7 @@ pub fn decide_par<R: Threads + Sync>(
 /// order of their enqueues is looked for only where there is one.
 fn decide_matching(alloc: Global, matching: &Matching) -> Result<Verdict, AllocError>
     requires { IsClear (filled_operations matching.now) }
-    ensures { IfOk result (IsDecidedFrom matching.now.initial matching.now.operations) }
+    ensures { IfOk result (IsDecided matching.now.initial matching.now.operations) }
 {
     match order_values(alloc, matching)? {
         Some(values) => {
@@ -86,7 +87,7 @@ fn decide_matching_par<R: Threads + Sync>(
 ) -> Result<Verdict, AllocError>
     requires clear { IsClear (filled_operations matching.now) }
     requires pieces { (1 ≤ pieces) × (pieces ≤ MAX_PIECES) }
-    ensures { IfOk result (IsDecidedFrom matching.now.initial matching.now.operations) }
+    ensures { IfOk result (IsDecided matching.now.initial matching.now.operations) }
 {
     match order_values(alloc, matching)? {
         Some(values) => {
@@ -110,8 +111,8 @@ fn decide_in_order(
     requires values { values.now ≡ filled_operations matching.now }
     requires clear { IsClear (filled_operations matching.now) }
     requires in_order { NoOrderViolation (filled_operations matching.now) }
-    requires answer { IsWitnessAnswerFrom matching.now.initial matching.now.operations answer }
-    ensures { IfOk result (IsDecidedFrom matching.now.initial matching.now.operations) }
+    requires answer { IsWitnessAnswer matching.now.initial matching.now.operations answer }
+    ensures { IfOk result (IsDecided matching.now.initial matching.now.operations) }
 {
     match answer {
         WitnessAnswer::Covered { empty, cover } => {
@@ -128,8 +129,8 @@ fn decide_in_order(
 fn overtaken(matching: &Matching, pair: Option<OrderPair>) -> Verdict
     requires clear { IsClear (filled_operations matching.now) }
     requires overtaken { ¬ (NoOrderViolation (filled_operations matching.now)) }
-    requires answer { IsOrderAnswerFrom matching.now.initial matching.now.operations pair }
-    ensures { IsDecidedFrom matching.now.initial matching.now.operations result }
+    requires answer { IsOrderAnswer matching.now.initial matching.now.operations pair }
+    ensures { IsDecided matching.now.initial matching.now.operations result }
 {
     Verdict::No(violation_of(pair.unwrap()))
 }

@@ -18,8 +18,7 @@ pub use decision::{decide, decide_par};
 pub use history_merge::{History, HistoryFault, OpId, OpKind, Operation, history};
 pub use laws::{
     a_true_claim_decides, a_verdict_has_few_lines, evidence_is_a_true_claim,
-    lines_tell_a_violation, no_legal_order, one_finding, one_verdict, told_as_found_of_none,
-    violations_are_all,
+    lines_tell_a_violation, no_legal_order, one_finding, one_verdict, violations_are_all,
 };
 pub use shown::LinePlace;
 pub use shrinking::shrink;

@@ -3,7 +3,7 @@ ghost use Rattle.event_records.specs.declared.limits.TheConstants.{MAX_EVENTS, M
 ghost use Rattle.history_merge.specs.Initial.{IsCompleteFrom};
 ghost use Rattle.history_merge.specs.Operations.{operations_of};
 ghost use Rattle.verdicts.specs.Selection.{ArePartOf, HasShortestCover, IsMinimal, KeepsViolation, StaysChosen, contents_of};
-ghost use Rattle.verdicts.specs.Verdicts.{IsChosenFrom};
+ghost use Rattle.value_match.specs.Outcome.{IsChosenViolation};
 
 use crate::claiming::violation_lines;
 use crate::selection::Selection;
@@ -37,7 +37,7 @@ pub fn shrink(
     history: &History,
     violation: &Violation,
 ) -> Result<History, AllocError>
-    requires { IsChosenFrom history.now.initial (operations_of history.now.events) violation.now }
+    requires { IsChosenViolation history.now.initial (operations_of history.now.events) violation.now }
     ensures kept { IfOk result (λ small. KeepsViolation history.now violation.now small) }
     ensures same_violation { IfOk result (λ small. StaysChosen history.now violation.now small) }
     ensures minimal { IfOk result (λ small. IsMinimal (contents_of small)) }

@@ -1,9 +1,9 @@
 -- How the kinds that words give are put together.
-use Rattle.std.proofs.Common.{◌≡◌, ℕ, suc, ◌+◌, ◌*◌, ◌≤◌, List, [], ◌∷◌, ◌++◌, length, flat_map, All, sym, ap, ◌∙◌, subst, zero-add, add-zero}
+use Rattle.std.proofs.Common.{◌≡◌, ℕ, suc, ◌+◌, ◌*◌, ◌≤◌, List, [], ◌∷◌, ◌++◌, length, flat_map, All, sym, ap, ◌∙◌, subst, add-zero}
 use Rattle.std.proofs.Common.{length-append, append_assoc, arith}
 use Rattle.std.proofs.lemmas.List.{append-nil}
 use Rattle.std.proofs.lemmas.List.Concat.{flat_map-append, length-flat_map}
-use Rattle.std.proofs.lemmas.List.Elements.{All-nil, All-push, All-weaker}
+use Rattle.std.proofs.lemmas.List.Elements.{All-push, All-weaker}
 use Rattle.rand_core.specs.Steps.{first_words}
 use Rattle.rand_pcg.specs.Lcg.{Lcg}
 use Rattle.rand_pcg.specs.Pcg.{pcg64}
@@ -13,10 +13,6 @@ use Rattle.event_records.specs.declared.limits.TheConstants.{MAX_WORKERS}
 use Rattle.workloads.specs.Plans.{IsPlan}
 use Rattle.workloads.specs.Seeds.{kind_of_word, kinds_of_words, generator_of, IsSeeded}
 use Rattle.workloads.specs.Inner.Seeds.{GivesKinds}
-
--- no draw gives no kind
-pub gives_none : (percent : ℕ) (generator : Lcg) → GivesKinds percent generator [] generator
-gives_none percent generator = record { begins = λ more. ap (λ (n : ℕ). kinds_of_words percent n generator) (zero-add more) }
 
 first_kind : (percent more : ℕ) (before : Lcg) → kinds_of_words percent (1 + more) before ≡ kind_of_word percent
     (pcg64 before).0 ∷ kinds_of_words percent more (pcg64 before).1
@@ -54,14 +50,6 @@ pub record GivesRows (percent operations : ℕ) (before : Lcg) (rows : List (Lis
   pub lengths : All (λ row. length row ≡ operations) rows
   pub total : length (flat_map (λ row. row) rows) ≡ length rows * operations
   pub kinds : GivesKinds percent before (flat_map (λ row. row) rows) after
-
--- no draw gives no row
-pub gives_no_rows : (percent operations : ℕ) (generator : Lcg) → GivesRows percent operations generator [] generator
-gives_no_rows percent operations generator = record {
-  lengths = All-nil (λ (row : List Kind). length row ≡ operations);
-  total = omega arith;
-  kinds = gives_none percent generator;
-}
 
 -- one row more
 pub gives_row : (percent operations : ℕ) (before middle after : Lcg) (rows longer : List (List Kind)) (row : List Kind)

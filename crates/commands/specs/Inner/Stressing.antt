@@ -2,7 +2,7 @@
 use Rattle.std.specs.Prelude.{◌≡◌, ℕ, List}
 use Rattle.event_records.specs.declared.event.Event.{Event}
 use Rattle.history_merge.specs.Initial.{IsCompleteFrom}
-use Rattle.history_merge.specs.Legal.{IsLinearizableFrom}
+use Rattle.history_merge.specs.Legal.{IsLinearizable}
 use Rattle.history_merge.specs.Merge.{IsMerged}
 use Rattle.history_merge.specs.Operations.{operations_of}
 use Rattle.history_text.specs.Versions.{said_in}
@@ -22,4 +22,4 @@ pub record IsShownRun (count : ℕ) (lists : List (List Event)) (answer : Reply)
 
 -- by ticket the lists are linearizable
 abbrev pub IsLinearizableRun : ℕ → List (List Event) → Type 0
-IsLinearizableRun count lists = (events : List Event) → IsMerged lists events → IsLinearizableFrom (first_values count) (operations_of events)
+IsLinearizableRun count lists = (events : List Event) → IsMerged lists events → IsLinearizable (first_values count) (operations_of events)

@@ -86,7 +86,7 @@ fn compare_clear(
 
 /// Returns the operation at a place of the filled history, which begins with this many enqueues of initial values.
 fn told_id(first: usize, id: OpId) -> OpId {
-    OpId::new(id.place().saturating_sub(first))
+    OpId::new((id.place().saturating_sub(first) & 0xffff_ffff) as u32)
 }
 
 /// The initial value or the enqueue at a place of the filled history.
@@ -256,7 +256,8 @@ fn compare_gaps(
     for index in 0..empties.len() {
         let empty = empties.get(index);
         let found = gap_for(alloc, matching, empty)?;
-        let answer = operation_at(filled, OpId::new(first.saturating_add(empty.place())))?;
+        let place = first.saturating_add(empty.place()) & 0xffff_ffff;
+        let answer = operation_at(filled, OpId::new(place as u32))?;
         let plain = plain_gap(filled.operations(), values, &answer);
         match found {
             GapAnswer::Free(gap) => {

@@ -1,22 +1,27 @@
-use super::places::enqueue_of;
 use super::small_histories::{by, history_of, in_turn, matching_of, op};
 use history_merge::OpKind::{Deq, Empty, Enq, Not};
 use history_merge::{OpId, Operation};
 use std::alloc::{AllocError, Global};
 use std::process::Abort;
 use std::test::Fail;
-use value_match::{Life, LongestTable, Matched, MatchedValue, Values, Violation, match_values};
+use value_match::{
+    Life, LongestTable, Matched, MatchedValue, Source, Values, Violation, match_values,
+};
+
+/// The place of the enqueue, if the value isn't an initial one.
+fn enqueue_of(source: Source) -> Option<OpId> {
+    match source {
+        Source::Enq(id) => Some(id),
+        Source::Initial(_) => None,
+    }
+}
 
 /// The places that a violation of the first two kinds names.
 fn places(matched: &Matched) -> Option<[Option<OpId>; 3]> {
     match matched {
         Matched::Fresh(Violation::Fresh { deq, enq }) => Some([Some(*deq), *enq, None]),
         Matched::Repeat(Violation::Repeat { enq, first, second }) => {
-            Some([
-                Some(OpId::new(enqueue_of(*enq))),
-                Some(*first),
-                Some(*second),
-            ])
+            Some([enqueue_of(*enq), Some(*first), Some(*second)])
         }
         _ => None,
     }
@@ -26,7 +31,7 @@ fn places(matched: &Matched) -> Option<[Option<OpId>; 3]> {
 fn check_places(
     rt: &(impl Abort + AllocGlobal),
     operations: &[Operation],
-    named: [Option<usize>; 3],
+    named: [Option<u32>; 3],
 ) -> Result<(), Fail> {
     let history = history_of(rt.alloc(), operations)?;
     let named = named.map(|place| place.map(OpId::new));
@@ -39,7 +44,7 @@ fn check_places(
 fn names_the_dequeue_of_a_value_that_was_not_there(rt: HostRuntime) -> Result<(), Fail> {
     let (early, first) = (op(0, 3, Deq(9)), by(1, 1, 2, Deq(8)));
     let repeated_before = in_turn([Enq(7), Deq(7), Deq(7), Deq(9)]);
-    let cases: [(&[Operation], usize, Option<usize>); 5] = [
+    let cases: [(&[Operation], u32, Option<u32>); 5] = [
         // never enqueued
         (&in_turn([Deq(9)]), 0, None),
         // enqueued only afterwards
@@ -104,7 +109,7 @@ fn others(alloc: Global, operations: &[Operation]) -> Result<(usize, [Vec<OpId>;
 }
 
 /// A value of these operations, with their places.
-fn value_of(enqueue: (usize, Operation), dequeue: Option<(usize, Operation)>) -> MatchedValue {
+fn value_of(enqueue: (u32, Operation), dequeue: Option<(u32, Operation)>) -> MatchedValue {
     MatchedValue {
         life: Life {
             enqueue: enqueue.1,

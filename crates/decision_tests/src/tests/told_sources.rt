@@ -29,7 +29,7 @@ fn enqueued(value: u64) -> OpKind {
     OpKind::Enq(value)
 }
 
-fn id(place: usize) -> OpId {
+fn id(place: u32) -> OpId {
     OpId::new(place)
 }
 

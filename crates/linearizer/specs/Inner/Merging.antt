@@ -1,10 +1,11 @@
 -- The enqueues, the dequeues and the no-ops, merged by their positions.
-use Rattle.std.specs.Prelude.{◌≡◌, ℕ, ◌<◌, ◌≤◌, ◌⊎◌, ◌++◌, List, All, IsPermutation, IsSomeAnd, Option, Some, length, map, slice_get, take}
+use Rattle.std.specs.Prelude.{[], ◌≡◌, ℕ, ◌<◌, ◌≤◌, ◌⊎◌, ◌++◌, List, All, IsPermutation, IsSomeAnd, Option, Some, length, map, slice_get, take}
 use Rattle.history_merge.specs.declared.operation.Operation.{Operation}
+use Rattle.history_merge.specs.Legal.{ArePlacesOf, IsLegalOrder}
 use Rattle.value_match.specs.declared.life.Life.{Life}
 use Rattle.linearizer.specs.declared.position.Position.{Position as Stored}
 use Rattle.linearizer.specs.declared.position.Placed.{Placed}
-use Rattle.linearizer.specs.Order.{Position, StandsBefore, dequeue_position, enqueue_position}
+use Rattle.linearizer.specs.Order.{IsChosenOrder, Position, StandsBefore, dequeue_position, enqueue_position}
 use Rattle.linearizer.specs.Inner.Placement.{AreByPosition, HoldsUpTo, HoldsValues, NeverFall, position_of}
 
 -- where the enqueue of the i-th value or of a later one stands
@@ -45,3 +46,8 @@ pub record IsMergedUpTo (operations : List Operation) (lives : List Life) (noops
 -- the places of the operations of the values and of the no-ops, by rising position
 abbrev pub IsMerge : List Operation → List Placed → List ℕ → Type 0
 IsMerge operations noops places = (values : List Placed) × HoldsValues operations values × AreByPosition (values ++ noops) places
+
+-- the places are those of the chosen order of these operations, which is legal for a queue that is empty at first
+abbrev pub IsWholeOrder : List Operation → List ℕ → Type 0
+IsWholeOrder operations places =
+    (order : List Operation) × ArePlacesOf operations places order × IsChosenOrder operations order × IsLegalOrder [] operations order

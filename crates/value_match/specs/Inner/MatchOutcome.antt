@@ -1,13 +1,29 @@
 -- What matching finds of operations, before they are those of a matching.
-use Rattle.std.specs.Prelude.{List}
+use Rattle.std.specs.Prelude.{List, Option}
 use Rattle.history_merge.specs.declared.operation.Operation.{Operation}
+use Rattle.history_merge.specs.Operations.{IsAt}
+use Rattle.value_match.specs.declared.fresh.FreshPlaces.{FreshPlaces}
+use Rattle.value_match.specs.declared.repeat.RepeatPlaces.{RepeatPlaces}
 use Rattle.value_match.specs.declared.values.MatchOutcome.{MatchOutcome}
 use Rattle.value_match.specs.declared.values.MatchOutcome.TheVariants as found
-use Rattle.value_match.specs.Outcome.{NamesChosenFresh, NamesChosenRepeat}
+use Rattle.value_match.specs.Choice.{IsChosenFresh, IsChosenRepeat}
+use Rattle.value_match.specs.Lives.{IsMaybeAt}
+use Rattle.value_match.specs.Violations.{NoFreshViolation}
 use Rattle.value_match.specs.Inner.Matchable.{IsSortedOutOf}
+
+-- the places are those of the chosen dequeue of a value that was not there, and of the call for this value
+abbrev pub AreChosenFresh : List Operation → FreshPlaces → Type 0
+AreChosenFresh operations found =
+    (deq : Operation) × (enq : Option Operation) × IsAt operations found.deq deq × IsMaybeAt operations found.enq enq × IsChosenFresh operations deq enq
+
+-- the places are those of the chosen two dequeues of one value and of its enqueue, and no dequeue is of a value that was not there
+abbrev pub AreChosenRepeat : List Operation → RepeatPlaces → Type 0
+AreChosenRepeat operations found =
+    (enq : Operation) × (first : Operation) × (second : Operation) × IsAt operations found.enq enq × IsAt operations found.first first
+    × IsAt operations found.second second × NoFreshViolation operations × IsChosenRepeat operations enq first second
 
 -- what matching finds of these operations
 abbrev pub IsMatchOutcomeOf : List Operation → MatchOutcome → Type 0
 IsMatchOutcomeOf operations (found.Clear sorted) = IsSortedOutOf operations sorted
-IsMatchOutcomeOf operations (found.Fresh violation) = NamesChosenFresh operations violation
-IsMatchOutcomeOf operations (found.Repeat violation) = NamesChosenRepeat operations violation
+IsMatchOutcomeOf operations (found.Fresh places) = AreChosenFresh operations places
+IsMatchOutcomeOf operations (found.Repeat places) = AreChosenRepeat operations places

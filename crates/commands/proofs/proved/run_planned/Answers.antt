@@ -1,6 +1,6 @@
 use Rattle.std.proofs.lemmas.Result.{err_from_is_err_and}
 use Rattle.std.proofs.Common.{subst, List, ℕ}
-use Rattle.history_merge.specs.Legal.{IsLinearizableFrom}
+use Rattle.history_merge.specs.Legal.{IsLinearizable}
 use Rattle.history_merge.specs.Operations.{operations_of}
 use Rattle.command_words.specs.Options.{settings_of}
 use Rattle.commands.specs.Outcomes.{answer_of}
@@ -15,7 +15,7 @@ returns-clause-found g c =
 
 pub returns-clause-linearizable : goal.returns-clause-linearizable
 returns-clause-linearizable g c = c.judge_run.ensures.linearizable (λ events merged.
-    subst (λ (values : List ℕ). IsLinearizableFrom values (operations_of events)) c.requires.first
+    subst (λ (values : List ℕ). IsLinearizable values (operations_of events)) c.requires.first
     (c.in_ok-recorded.ensures.linearizable events merged))
 
 pub returns-in_err-recorded-clause-found : goal.returns-in_err-recorded-clause-found

@@ -1,5 +1,5 @@
 use Rattle.std.proofs.Common.{◌∙◌, sym, subst, List, ℕ}
-use Rattle.history_merge.specs.Legal.{IsLinearizableFrom}
+use Rattle.history_merge.specs.Legal.{IsLinearizable}
 use Rattle.history_merge.specs.Operations.{operations_of}
 use Rattle.commands.proofs.Findings.{shows_none}
 use Rattle.commands.proofs.FirstValues.{judged_run, none_in_version_1}
@@ -15,7 +15,7 @@ returns-clause-linearizable g c = λ run.
     let history = c.in_ok-history.history in
     let same = c.in_ok-history.ensures.initial ∙ c.requires in
     shows_none c.run_version.result history c.in_ok-verdict.verdict c.in_ok-verdict.ensures.exact
-    (subst (λ (values : List ℕ). IsLinearizableFrom values (operations_of history.events)) (sym same)
+    (subst (λ (values : List ℕ). IsLinearizable values (operations_of history.events)) (sym same)
     (run history.events c.in_ok-history.ensures.merged))
 
 pub returns-clause-places : goal.returns-clause-places

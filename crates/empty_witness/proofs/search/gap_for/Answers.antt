@@ -1,56 +1,56 @@
-use Rattle.std.proofs.Common.{◌≡◌, ℕ, ◌∙◌, List, length, ap, arith, sym, subst}
-use Rattle.std.specs.Prelude.{IfOk, Result}
-use Rattle.std.specs.declared.alloc.AllocError.{AllocError}
+use Rattle.std.proofs.Common.{◌≡◌, ◌∙◌, ℕ, List, ap, arith, length, subst, sym}
 use Rattle.std.proofs.lemmas.Option.{slice_get_within}
-use Rattle.std.proofs.lemmas.Result.{IfOk-weaker}
 use Rattle.history_merge.specs.declared.operation.Operation.{Operation}
+use Rattle.history_merge.specs.Operations.{IsAt}
 use Rattle.value_match.specs.Filling.{behind, filled_operations}
-use Rattle.empty_witness.specs.declared.answer.GapAnswer.{GapAnswer}
-use Rattle.empty_witness.specs.Answers.{IsEmptyAnswerAt, IsGapAnswer, IsGapAnswerFrom}
-use Rattle.empty_witness.specs.Inner.Unfilling.{unfilled_gap_answer}
-use Rattle.empty_witness.proofs.Told.{empty_behind, gap_told}
+use Rattle.value_match.specs.Lives.{IsCovered, IsLeastFreeGap}
+use Rattle.empty_witness.specs.Answers.{IsEmptyAnswerAt}
+use Rattle.empty_witness.specs.Spans.{AreSpansOf}
+use Rattle.empty_witness.proofs.ToldGaps.{empty_behind, gap_told}
 use Rattle.empty_witness.proofs.search.gap_for.Goals as goal
-use Rattle.empty_witness.proofs.search.gap_for.Goals.{After-filled}
-
-pub overflow_add-initial_count : goal.overflow_add-initial_count
-overflow_add-initial_count c =
-    omega (arith, c.initial-initial_count.type_inv.1, c.operations.type_inv.1, c.if-prove.false, c.place.ensures, c.place-2.ensures)
+use Rattle.empty_witness.proofs.search.gap_for.Goals.{After-answer_at-answer}
 
 pub prove-unreachable-requires : goal.prove-unreachable-requires
 prove-unreachable-requires c =
-    let within = slice_get_within c.args.matching.now.operations c.args.empty c.requires.0 c.requires.1 in
-    let long = ap (λ (l : List Operation). length l) c.operations.ensures in
-    omega (arith, c.if-prove.true, c.place.ensures, within, long)
-
--- the place in the filled history
-is_place : (c : After-filled) → behind (length c.args.matching.now.initial) c.args.empty ≡ c.new-place.result
-is_place c =
-    let many = ap (λ (l : List ℕ). length l) c.initial-initial_count.ensures.initial in
-    omega (arith, c.new-place.ensures, c.place-2.ensures, many)
-
--- where the empty dequeue stands
-is_behind : (c : After-filled) → IsEmptyAnswerAt c.filled.result.now c.new-place.result
-is_behind c =
     let matching = c.args.matching.now in
-    rw c.filled.ensures
-    (subst (IsEmptyAnswerAt (filled_operations matching)) (is_place c) (empty_behind matching.initial matching.operations c.args.empty c.requires))
-
-pub gap_at-requires : goal.gap_at-requires
-gap_at-requires c = is_behind c
-
--- the answer, told
-told : (c : After-filled) (answer : GapAnswer) (result : Result GapAnswer AllocError) → IsGapAnswer c.filled.result.now c.new-place.result answer
-    → IfOk result (λ a. a ≡ unfilled_gap_answer (length c.initial-initial_count.result.now) answer)
-    → IfOk result (IsGapAnswerFrom c.args.matching.now.initial c.args.matching.now.operations c.args.empty)
-told c answer result is same =
-    let matching = c.args.matching.now in
-    let in_filled = subst (λ (all : List Operation). IsGapAnswer all c.new-place.result answer) c.filled.ensures is in
-    let at_place = subst (λ p. IsGapAnswer (filled_operations matching) p answer) (sym (is_place c)) in_filled in
+    let empty = empty_behind matching.initial matching.operations c.args.empty c.requires in
+    let within = slice_get_within (filled_operations matching) (behind (length matching.initial) c.args.empty) empty.0 empty.1 in
+    let long = ap (λ (l : List Operation). length l) (c.operations.ensures.operations ∙ c.filled-filled.ensures) in
     let many = ap (λ (l : List ℕ). length l) c.initial-initial_count.ensures.initial in
-    IfOk-weaker result _ (IsGapAnswerFrom matching.initial matching.operations c.args.empty)
-    (λ a equal. gap_told matching.initial matching.operations c.args.empty answer a c.requires at_place
-    (equal ∙ ap (λ (n : ℕ). unfilled_gap_answer n answer) many))
-    same
+    omega (arith, c.if-prove.true, c.number.ensures, within, long, many)
+
+pub answer_at-answer-requires : goal.answer_at-answer-requires
+answer_at-answer-requires c =
+    let matching = c.args.matching.now in
+    let many = ap (λ (l : List ℕ). length l) c.initial-initial_count.ensures.initial in
+    let place : behind (length matching.initial) c.args.empty ≡ c.new.result = omega (arith, c.new.ensures, c.number.ensures, many) in
+    rw c.filled-filled.ensures
+    (subst (IsEmptyAnswerAt (filled_operations matching)) place (empty_behind matching.initial matching.operations c.args.empty c.requires))
+
+-- where the answer stands, and what it is
+answer_at_place : (c : After-answer_at-answer) → IsAt (filled_operations c.args.matching.now) (behind (length c.args.matching.now.initial) c.args.empty)
+    c.answer_at-answer.result.operation
+answer_at_place c =
+    let at = subst (λ (all : List Operation). IsAt all c.new.result c.answer_at-answer.result.operation) c.filled-filled.ensures c.answer_at-answer.ensures.at in
+    let many = ap (λ (l : List ℕ). length l) c.initial-initial_count.ensures.initial in
+    let place : behind (length c.args.matching.now.initial) c.args.empty ≡ c.new.result = omega (arith, c.new.ensures, c.number.ensures, many) in
+    subst (λ p. IsAt (filled_operations c.args.matching.now) p c.answer_at-answer.result.operation) (sym place) at
+
+pub returns-in-Some : goal.returns-in-Some
+returns-in-Some c =
+    let matching = c.args.matching.now in
+    let o = c.answer_at-answer.result.operation in
+    let count = ap (λ (l : List ℕ). length l) c.initial-initial_count.ensures.initial in
+    let are = subst (AreSpansOf c.filled-filled.result.now) (sym c.as_slice.ensures.value) c.in_ok-spans.ensures in
+    let free = subst (λ (all : List Operation). IsLeastFreeGap all o c.in-Some.gap) c.filled-filled.ensures (c.in-Some.ensures c.filled-filled.result.now are) in
+    let at = answer_at_place ((goal.at.returns-in-Some c).After-answer_at-answer) in
+    rw (c.told_gap.ensures, count) (o, at, gap_told matching.initial matching.operations _ o c.in-Some.gap at c.answer_at-answer.ensures.is_empty.1 free)
 
 pub returns : goal.returns
-returns c = told (goal.at.returns c).After-filled c.in_ok-answer.answer c.unfilled.result c.in_ok-answer.ensures c.unfilled.ensures
+returns c =
+    let matching = c.args.matching.now in
+    let o = c.answer_at-answer.result.operation in
+    let are = subst (AreSpansOf c.filled-filled.result.now) (sym c.as_slice.ensures.value) c.in_ok-spans.ensures in
+    let covered = subst (λ (all : List Operation). IsCovered all o) c.filled-filled.ensures (c.in-None.ensures c.filled-filled.result.now are) in
+    let cover = c.in_ok-cover_of-in-None.ensures in
+    (o, cover.0, answer_at_place ((goal.at.returns c).After-answer_at-answer), cover.1, covered, cover.2, cover.3)

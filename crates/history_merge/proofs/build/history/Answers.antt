@@ -1,5 +1,8 @@
-use Rattle.history_merge.proofs.InitialFaults.{plain_outcome}
+use Rattle.std.proofs.Common.{subst}
+use Rattle.std.proofs.lemmas.Result.{MatchResult-weaker}
+use Rattle.history_merge.specs.Faults.{IsFirstFault}
 use Rattle.history_merge.proofs.build.history.Goals as goal
 
 pub returns-clause-outcome : goal.returns-clause-outcome
-returns-clause-outcome c = plain_outcome c.args.events.now c.new.result.items c.history_from.result c.new.ensures.items c.history_from.ensures.outcome
+returns-clause-outcome c = MatchResult-weaker c.history_from.result c.history_from.ensures.outcome (λ h found. found.1)
+    (λ fault first. subst (λ values. IsFirstFault values c.args.events.now fault) c.new.ensures.items first)

@@ -1,5 +1,5 @@
 use Rattle.std.proofs.Common.{List, ℕ, arith, sym, subst, refl}
-use Rattle.history_merge.specs.Legal.{IsLinearizableFrom}
+use Rattle.history_merge.specs.Legal.{IsLinearizable}
 use Rattle.history_merge.specs.Operations.{operations_of}
 use Rattle.recorder_core.proofs.Fitting.{merged_is_complete_from, recorded_is_fit}
 use Rattle.recorder_core.proofs.Replayed.{lists_replay}
@@ -23,5 +23,5 @@ returns-clause-linearizable g c = λ merged is.
     let run = c.in_ok-lists.ensures in
     let end = c.close_with_log-total.ensures in
     let fit = recorded_is_fit _ (returns-clause-lists g c) in
-    subst (λ (values : List ℕ). IsLinearizableFrom values (operations_of merged)) (sym c.requires.run.1)
+    subst (λ (values : List ℕ). IsLinearizable values (operations_of merged)) (sym c.requires.run.1)
     (linearizable _ _ _ merged fit (run.told refl) end.noted is g.J.OfRun.initial _ end.rise c.into_log-log.ensures.accepted)

@@ -2,7 +2,7 @@ use Rattle.std.proofs.Common.{List, ℕ, IfOk, subst, ap, ◌∙◌}
 use Rattle.std.proofs.lemmas.Result.{IfOk-weaker, IfErr-weaker}
 use Rattle.event_records.specs.declared.event.Event.{Event}
 use Rattle.history_merge.specs.Initial.{IsCompleteFrom}
-use Rattle.history_merge.specs.Legal.{IsLinearizableFrom}
+use Rattle.history_merge.specs.Legal.{IsLinearizable}
 use Rattle.history_merge.specs.Merge.{IsMerged}
 use Rattle.history_merge.specs.Operations.{operations_of}
 use Rattle.recorder_core.specs.Replay.{Replays}
@@ -13,7 +13,7 @@ use Rattle.stress_run.proofs.proving.run_proved.Goals as goal
 pub returns-clause-linearizable : goal.returns-clause-linearizable
 returns-clause-linearizable g c =
     subst (λ (values : List ℕ). IfOk c.run_named.result (λ r. (merged : List Event) → IsMerged r.lists merged
-    → IsLinearizableFrom values (operations_of merged))) c.in_ok-sizes.ensures.held.0 c.run_named.ensures.linearizable
+    → IsLinearizable values (operations_of merged))) c.in_ok-sizes.ensures.held.0 c.run_named.ensures.linearizable
 
 pub returns-clause-fits : goal.returns-clause-fits
 returns-clause-fits g c =

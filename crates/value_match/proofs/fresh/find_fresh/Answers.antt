@@ -26,8 +26,8 @@ returns-in_err-deq c =
     (subst (IsFirstFresh c.args.operations.now c.args.sources.now c.loop-place.place) c.in_err-deq.was c.loop-place.invariant) in
     rw c.from_residual.ensures none
 
-pub fresh_at-requires : goal.fresh_at-requires
-fresh_at-requires c =
+pub fresh_at-requires-clause-place : goal.fresh_at-requires-clause-place
+fresh_at-requires-clause-place c =
     let found = subst (IsFirstFresh c.args.operations.now c.args.sources.now c.loop-place.place) c.in_ok-deq.was c.loop-place.invariant in
     omega (arith, slice_get_within c.args.operations.now c.in_ok-deq.deq found.0 found.1, c.requires.sources.one_each)
 

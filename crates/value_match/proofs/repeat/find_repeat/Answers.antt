@@ -1,4 +1,5 @@
-use Rattle.std.proofs.Common.{sym, subst, ◌∙◌, arith}
+use Rattle.std.proofs.Common.{Some, sym, subst, ◌∙◌, arith}
+use Rattle.std.proofs.lemmas.Option.{slice_get_within}
 use Rattle.value_match.specs.Inner.Sources.{IsByReturn}
 use Rattle.value_match.proofs.TakenPlaces.{taken_skip, taken_more, source_read}
 use Rattle.value_match.proofs.RepeatedDequeues.{sees_more, entry_in_range, source_inside, repeat_chosen, none_twice}
@@ -20,6 +21,12 @@ place_at-requires-in-loop-entry c =
     let by = subst (IsByReturn c.args.operations.now c.args.sources.now) (sym c.deref-entry-items.ensures.value) c.in_ok-order.ensures in
     let from = source_read _ _ _ (entry_in_range _ _ _ _ c.requires.sources by c.loop-entry-test.true) (sym c.place_at.ensures ∙ c.in-Some.is) in
     rw c.as_slice.ensures.value (source_inside _ _ _ _ _ _ c.requires.sources c.requires.no_fresh by c.loop-entry-test.true from c.loop-entry.invariant)
+
+pub overflow_cast-first : goal.overflow_cast-first
+overflow_cast-first c =
+    let held = rw c.as_slice.ensures.value at (sym c.place_at-in-loop-entry.ensures ∙ c.in-Some-place_at.is) in
+    let taken = c.loop-entry.invariant.taken c.in-Some.source c.in-Some-place_at.first held in
+    omega (arith, slice_get_within c.args.sources.now c.in-Some-place_at.first (Some c.in-Some.source) taken.1, c.requires.sources.one_each, c.requires.few)
 
 pub returns-in-Some-place_at : goal.returns-in-Some-place_at
 returns-in-Some-place_at c =

@@ -1,7 +1,5 @@
-use Rattle.std.proofs.Common.{length, map, subst}
-use Rattle.history_merge.specs.Initial.{filled}
-use Rattle.value_match.specs.Filling.{behind, filled_step}
-use Rattle.empty_witness.specs.Answers.{IsWitnessAnswerFrom}
+use Rattle.std.proofs.Common.{subst}
+use Rattle.empty_witness.specs.Answers.{IsWitnessAnswer}
 use Rattle.verdicts.proofs.Decided.{no_is_decided, witness_is_chosen, yes_is_decided}
 use Rattle.verdicts.proofs.decision.decide_in_order.Goals as goal
 
@@ -10,8 +8,8 @@ returns-in-Covered c =
     let initial = c.args.matching.now.initial in
     let operations = c.args.matching.now.operations in
     no_is_decided initial operations _ c.requires.clear.complete
-    (witness_is_chosen (filled initial operations) (behind (length initial) c.in-Covered.empty) (map (filled_step (length initial)) c.in-Covered.cover)
-    c.requires.clear c.requires.in_order (subst (IsWitnessAnswerFrom initial operations) c.in-Covered.is c.requires.answer))
+    (witness_is_chosen initial operations c.in-Covered.empty c.in-Covered.cover c.requires.clear c.requires.in_order
+    (subst (IsWitnessAnswer initial operations) c.in-Covered.is c.requires.answer))
 
 pub returns-in_ok-places-in-Gaps : goal.returns-in_ok-places-in-Gaps
 returns-in_ok-places-in-Gaps c =

@@ -1,6 +1,7 @@
 use Rattle.std.proofs.Common.{◌≡◌, arith, length, ◌∙◌, ap, subst, nat_cmp}
 use Rattle.std.specs.BTreeSet.{contains}
 use Rattle.std.proofs.lemmas.Result.{IfOk-weaker}
+use Rattle.history_merge.specs.Operations.{operations_of}
 use Rattle.history_merge.proofs.Filled.{filled_are_complete}
 use Rattle.verdicts.specs.Selection.{violation_lines}
 use Rattle.verdicts.specs.Inner.Selecting.{SelectsNamed}
@@ -8,8 +9,6 @@ use Rattle.verdicts.proofs.ChosenSelections.{has_shortest_cover}
 use Rattle.verdicts.proofs.ShrunkEvents.{no_longer}
 use Rattle.verdicts.proofs.ShrunkHistories.{IsShrunk, IsWhole, are_complete, are_selected, are_shrunk, few_events}
 use Rattle.verdicts.proofs.shrinking.shrink.Goals as goal
-use Rattle.value_match.specs.Filling.{filled_violation}
-use Rattle.verdicts.specs.Verdicts.{filled_of}
 
 pub history_of-requires-clause-few_initial : goal.history_of-requires-clause-few_initial
 history_of-requires-clause-few_initial c =
@@ -55,8 +54,7 @@ returns c =
       kept = IfOk-weaker small (IsShrunk whole violation) _ (λ s is. is.kept) shrunk;
       same_violation = IfOk-weaker small (IsShrunk whole violation) _ (λ s is. is.same_violation) shrunk;
       minimal = IfOk-weaker small (IsShrunk whole violation) _ (λ s is. is.minimal) shrunk;
-      shortest = IfOk-weaker small (IsShrunk whole violation) _ (λ s is. has_shortest_cover (filled_of whole)
-          (filled_violation (length whole.initial) violation)
+      shortest = IfOk-weaker small (IsShrunk whole violation) _ (λ s is. has_shortest_cover whole.initial (operations_of whole.events) violation
           (filled_are_complete whole.initial whole.events is_whole.complete is_whole.few) c.requires) shrunk;
       initial = IfOk-weaker small (IsShrunk whole violation) _ (λ s is. is.initial) shrunk;
       events = IfOk-weaker small (IsShrunk whole violation) _ (λ s is. is.events) shrunk;

@@ -3,6 +3,7 @@ use Rattle.history_merge.specs.Faults.{fault_at}
 use Rattle.history_merge.proofs.Clashes.{kept-append}
 use Rattle.history_merge.proofs.ExactFaults.{rise_without_fault}
 use Rattle.history_merge.proofs.FirstFaults.{may_follow}
+use Rattle.history_merge.proofs.InitialValues.{nothing_more}
 use Rattle.history_merge.proofs.MetFaults.{met_fault-push, no_fault-push}
 use Rattle.history_merge.proofs.gathering.OperationsBuilder.follow.Goals as goal
 
@@ -10,21 +11,21 @@ pub returns-in-Some-clause-judged : goal.returns-in-Some-clause-judged
 returns-in-Some-clause-judged c = λ events known few.
     let e = c.args.event in
     let note = c.in_ok-repeats.ensures events e refl known.called (c.operations.ensures events known.formed) in
-    let fault = sym (c.fault_of.ensures.fault events known.tracked note.0) ∙ c.in-Some.is in
-    met_fault-push events e c.in-Some.fault (subst (λ n. fault_at events n e ≡ Some c.in-Some.fault) known.count fault) known.no_fault
+    let fault = sym (c.fault_of.ensures.fault [] events known.tracked (note.0 ∙ nothing_more events e)) ∙ c.in-Some.is in
+    met_fault-push events e c.in-Some.fault (subst (λ n. fault_at [] events n e ≡ Some c.in-Some.fault) known.count fault) known.no_fault
 
 pub returns-clause-judged : goal.returns-clause-judged
 returns-clause-judged c = λ events known few.
     let e = c.args.event in
     let note = c.in_ok-repeats.ensures events e refl known.called (c.operations.ensures events known.formed) in
-    let none = sym (c.fault_of.ensures.fault events known.tracked note.0) ∙ c.in_default.is in
-    let may = may_follow events _ e none in
+    let none = sym (c.fault_of.ensures.fault [] events known.tracked (note.0 ∙ nothing_more events e)) ∙ c.in_default.is in
+    let may = may_follow [] events _ e none in
     record {
       tracked = c.add-2.ensures events known.tracked;
       called = note.1;
       formed = c.in_ok-add.ensures events (record { rises = may.rises; fits = may.fits }) known.formed;
       count = simp length-append (omega (arith, known.count, few, c.saturating_add-self.ensures));
-      no_fault = no_fault-push events e (subst (λ n. fault_at events n e ≡ None) known.count none) known.no_fault;
+      no_fault = no_fault-push events e (subst (λ n. fault_at [] events n e ≡ None) known.count none) known.no_fault;
     }
 
 pub returns-in_err-repeats-clause-clash : goal.returns-in_err-repeats-clause-clash

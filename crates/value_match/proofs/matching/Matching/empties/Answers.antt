@@ -1,6 +1,6 @@
 use Rattle.std.proofs.Common.{subst}
 use Rattle.value_match.specs.Lives.{HoldsPlaces, is_empty_answer}
-use Rattle.value_match.proofs.Unfilled.{empties_told}
+use Rattle.value_match.proofs.ToldPlaces.{empties_told}
 use Rattle.value_match.proofs.matching.Matching.empties.Goals as goal
 
 pub returns : goal.returns

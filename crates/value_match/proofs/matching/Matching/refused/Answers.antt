@@ -1,6 +1,6 @@
 use Rattle.std.proofs.Common.{subst}
 use Rattle.value_match.specs.Lives.{HoldsPlaces, is_refused}
-use Rattle.value_match.proofs.Unfilled.{refused_told}
+use Rattle.value_match.proofs.ToldPlaces.{refused_told}
 use Rattle.value_match.proofs.matching.Matching.refused.Goals as goal
 
 pub returns : goal.returns

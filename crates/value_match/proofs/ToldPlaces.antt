@@ -1,0 +1,237 @@
+-- What is found at places of a filled history, told by places of the history.
+use Rattle.std.proofs.Common.{◌≡◌, ℕ, ◌+◌, ◌-◌, ◌*◌, ◌<◌, ◌≤◌, Bool, true, false, List, [], ◌∷◌, ◌++◌, length, map, Option, Some, None}
+use Rattle.std.proofs.Common.{refl, sym, ◌∙◌, ap, ap₂, subst, arith, inl, inr, nat_lt}
+use Rattle.std.specs.Prelude.{MatchOption, filter, filter_map, if◌then◌else◌, option_map, slice_get, ⊤}
+use Rattle.std.specs.List.{cons_option}
+use Rattle.std.proofs.lemmas.List.Elements.{filter-append}
+use Rattle.std.proofs.lemmas.Bool.{le-ltb, lt-ltb, ltb-false, ltb-true}
+use Rattle.history_merge.specs.declared.operation.Operation.{Operation}
+use Rattle.history_merge.specs.declared.operation.OpKind.TheVariants.{Enq, Deq, Empty, Not}
+use Rattle.history_merge.specs.Initial.{filled, filling_from, later_by}
+use Rattle.history_merge.specs.Legal.{ArePlacesOf}
+use Rattle.history_merge.specs.Operations.{Did, IsAt, NoneDid}
+use Rattle.value_match.specs.declared.fresh.FreshPlaces.{FreshPlaces}
+use Rattle.value_match.specs.declared.life.MatchedValue.{MatchedValue}
+use Rattle.value_match.specs.declared.repeat.RepeatPlaces.{RepeatPlaces}
+use Rattle.value_match.specs.declared.violation.Source.TheVariants as source
+use Rattle.value_match.specs.declared.violation.Violation.TheVariants as violation
+use Rattle.value_match.specs.Filling.{behind}
+use Rattle.value_match.specs.Lives.{HasPlaces, HoldsPlaces, IsLife, IsMaybeAt, dequeue_of, enqueue_of, is_empty_answer, is_refused}
+use Rattle.value_match.specs.Outcome.{IsMaybeOperation, IsOperation, IsSource, NamesChosenFresh, NamesChosenRepeat, NamesStep}
+use Rattle.value_match.specs.Told.{place_behind, told_place, told_source}
+use Rattle.value_match.specs.Violations.{IsFreshViolation}
+use Rattle.value_match.specs.Inner.MatchOutcome.{AreChosenFresh, AreChosenRepeat}
+use Rattle.value_match.proofs.FilledLines.{earlier, earlier_later, earlier_none, filled_at, filled_earlier, one_later}
+
+-- ---- what stands at a place of the filled history
+
+-- the dequeue of a value that was not there is a dequeue
+pub fresh_dequeues : (operations : List Operation) (deq : Operation) (enq : Option Operation) → IsFreshViolation operations deq enq
+    → (v : ℕ) × (deq.kind ≡ Deq v)
+fresh_dequeues operations deq None is = (is.value, is.dequeues.1)
+fresh_dequeues operations deq (Some enq) is = (is.value, is.dequeues.1)
+
+module _ (initial : List ℕ) (operations : List Operation) where
+  abbrev k : ℕ
+  k = length initial
+
+  abbrev all : List Operation
+  all = filled initial operations
+
+  -- what isn't the enqueue of an initial value stands behind these
+  pub stands_behind : (p : ℕ) (o : Operation) → IsAt all p o → ((v : ℕ) → o.kind ≡ Enq v → o.call < 2 * k → ⊥) → k ≤ p
+  stands_behind p o at other = elim (filled_at initial operations p o at) [
+    | inl early ↦
+        let call : 2 * p ≡ o.call = ap (λ (x : Operation). x.call) early.is in
+        let within = early.within in
+        absurd (other early.value (sym (ap (λ (x : Operation). x.kind) early.is)) (omega arith))
+    | inr late ↦ late.behind
+  ]
+
+  -- the operation at a place of the filled history, where it stands behind the initial values
+  operation_told : (p : ℕ) (o : Operation) → IsAt all p o → k ≤ p → IsOperation initial operations (told_place k p) o
+  operation_told p o at after = let back : p ≡ behind k (told_place k p) = omega arith in subst (λ q. IsAt all q o) back at
+
+  -- an empty answer
+  pub empty_told : (p : ℕ) (o : Operation) → IsAt all p o → o.kind ≡ Empty → IsOperation initial operations (told_place k p) o
+  empty_told p o at is = operation_told p o at (stands_behind p o at (λ v enq early. let clash : Empty ≡ Enq v = sym is ∙ enq in cc))
+
+  -- a dequeue
+  pub dequeue_told : (p : ℕ) (o : Operation) (v : ℕ) → IsAt all p o → o.kind ≡ Deq v → IsOperation initial operations (told_place k p) o
+  dequeue_told p o v at is = operation_told p o at (stands_behind p o at (λ w enq early. let clash : Deq v ≡ Enq w = sym is ∙ enq in cc))
+
+  -- a dequeue, where there is one
+  pub maybe_told : (p : Option ℕ) (o : Option Operation) → IsMaybeAt all p o → MatchOption o ⊤ (λ d. (v : ℕ) × (d.kind ≡ Deq v))
+      → IsMaybeOperation initial operations (option_map (told_place k) p) o
+  maybe_told None None at is = tt
+  maybe_told None (Some o) at is = absurd at
+  maybe_told (Some p) None at is = absurd at
+  maybe_told (Some p) (Some o) at is = dequeue_told p o is.0 at is.1
+
+  -- the enqueue of a value
+  pub source_told : (p : ℕ) (o : Operation) → IsAt all p o → IsSource initial operations (told_source k p) o
+  source_told p o at = by_count (nat_lt p k) refl
+    where
+      by_count : (within : Bool) → nat_lt p k ≡ within
+          → IsSource initial operations (if within then source.Initial p else source.Enq (told_place k p)) o
+      by_count true is = (ltb-true p k is, at)
+      by_count false is = operation_told p o at (ltb-false p k is)
+
+  -- the operations of a value
+  pub value_told : (value : MatchedValue) → HasPlaces all value → IsLife all value.life
+      → NamesStep initial operations (record { source = told_source k value.enqueue; dequeue = option_map (told_place k) value.dequeue }) value.life
+  value_told value at is =
+      (source_told value.enqueue (enqueue_of value.life) at.0, maybe_told value.dequeue (dequeue_of value.life) at.1 (dequeues (dequeue_of value.life) is.2))
+    where
+      dequeues : (d : Option Operation) → MatchOption d (NoneDid all (Deq is.0)) (λ d. Did all d (Deq is.0)) → MatchOption d ⊤ (λ d. (v : ℕ) × (d.kind ≡ Deq v))
+      dequeues None none = tt
+      dequeues (Some d) did = (is.0, did.1)
+
+  -- the enqueue that the dequeue returned before, or that was refused, is none of an initial value
+  pub call_told : (deq : ℕ) (d : Operation) (enq : Option ℕ) (e : Option Operation) → IsAt all deq d → IsMaybeAt all enq e → IsFreshViolation all d e
+      → IsMaybeOperation initial operations (option_map (told_place k) enq) e
+  call_told deq d None None at_d at_e is = tt
+  call_told deq d None (Some e) at_d at_e is = absurd at_e
+  call_told deq d (Some p) None at_d at_e is = absurd at_e
+  call_told deq d (Some p) (Some e) at_d at_e is = operation_told p e at_e (stands_behind p e at_e too_late)
+    where
+      late : 2 * k ≤ d.ret
+      late = elim (filled_at initial operations deq d at_d) [
+        | inl early ↦ let clash : Enq early.value ≡ Deq is.value = ap (λ (x : Operation). x.kind) early.is ∙ is.dequeues.1 in absurd (cc)
+        | inr later ↦ let ret : later.operation.ret + 2 * k ≡ d.ret = ap (λ (x : Operation). x.ret) later.is in omega arith
+      ]
+
+      too_late : (v : ℕ) → e.kind ≡ Enq v → e.call < 2 * k → ⊥
+      too_late v enq early = elim is.enqueues [
+        | inl refused ↦ let clash : Not is.value ≡ Enq v = sym refused.1 ∙ enq in cc
+        | inr accepted ↦ let after = accepted.1 in omega (arith, late)
+      ]
+
+  -- the chosen dequeue of a value that was not there
+  pub fresh_told : (found : FreshPlaces) → AreChosenFresh all found
+      → NamesChosenFresh initial operations (violation.Fresh (told_place k found.deq) (option_map (told_place k) found.enq))
+  fresh_told found (deq, enq, at_deq, at_enq, chosen) = (
+    deq,
+    enq,
+    (
+      dequeue_told found.deq deq (fresh_dequeues all deq enq chosen.violates).0 at_deq (fresh_dequeues all deq enq chosen.violates).1,
+      call_told found.deq deq found.enq enq at_deq at_enq chosen.violates,
+    ),
+    chosen,
+  )
+
+  -- the chosen value that is dequeued twice
+  pub repeat_told : (found : RepeatPlaces) → AreChosenRepeat all found
+      → NamesChosenRepeat initial operations
+      (violation.Repeat (told_source k found.enq) (told_place k found.first) (told_place k found.second))
+  repeat_told found (enq, first, second, at_enq, at_first, at_second, none, chosen) =
+      let is = chosen.violates in (
+        enq,
+        first,
+        second,
+        (
+          source_told found.enq enq at_enq,
+          dequeue_told found.first first is.value at_first is.dequeues.1,
+          dequeue_told found.second second is.value at_second is.dequeues_again.1,
+        ),
+        (none, chosen),
+      )
+
+  -- ---- lists of places
+
+  -- what stands at places of the filled history, and was called at a ticket of the history, stands at the places told
+  places_told : (places : List ℕ) (listed : List Operation) → ArePlacesOf all places (map (later_by (2 * length initial)) listed)
+      → ArePlacesOf operations (map (told_place k) places) listed
+  places_told [] [] at = refl
+  places_told [] (o ∷ listed) at = absurd (cc)
+  places_told (p ∷ places) [] at = absurd (cc)
+  places_told (p ∷ places) (o ∷ listed) at =
+      let first : slice_get all p ≡ Some (later_by (2 * length initial) o) = cc in
+      let later : map (slice_get all) places ≡ map (λ o. Some o) (map (later_by (2 * length initial)) listed) = cc in
+      ap₂ (λ (x : Option Operation) (xs : List (Option Operation)). x ∷ xs) (one_told p o first) (places_told places listed later)
+    where
+      one_told : (p : ℕ) (o : Operation) → slice_get all p ≡ Some (later_by (2 * length initial) o) → slice_get operations (p - k) ≡ Some o
+      one_told p o at' = elim (filled_at initial operations p (later_by (2 * length initial) o) at') [
+        | inl early ↦
+            let call : 2 * p ≡ o.call + 2 * length initial = ap (λ (x : Operation). x.call) early.is in
+            let within = early.within in
+            absurd (omega arith)
+        | inr late ↦ late.stands ∙ ap (λ x. Some x) (one_later (2 * length initial) late.operation o late.is)
+      ]
+
+  -- an operation that no enqueue is, by a test, is one of the history, later
+  filter_filled : (test : Operation → Bool) → ((o : Operation) (v : ℕ) → o.kind ≡ Enq v → test o ≡ false)
+      → ((o : Operation) → test (later_by (2 * length initial) o) ≡ test o)
+      → filter test all ≡ map (later_by (2 * length initial)) (filter test operations)
+  filter_filled test none same =
+      filter-append test (filling_from 0 initial) (map (later_by (2 * length initial)) operations)
+      ∙ ap (λ xs. xs ++ filter test (map (later_by (2 * length initial)) operations)) (no_filling 0 initial)
+      ∙ later_passes operations
+    where
+      no_filling : (clock : ℕ) (values : List ℕ) → filter test (filling_from clock values) ≡ []
+      no_filling clock [] = refl
+      no_filling clock (v ∷ values) = rw (none (record { call = clock; ret = clock + 1; thread = 0; kind = Enq v }) v refl) (no_filling (clock + 2) values)
+
+      later_passes : (os : List Operation) → filter test (map (later_by (2 * length initial)) os) ≡ map (later_by (2 * length initial)) (filter test os)
+      later_passes [] = refl
+      later_passes (o ∷ os) = by_test (test o) refl (later_passes os)
+        where
+          by_test : (b : Bool) → test o ≡ b
+              → filter test (map (later_by (2 * length initial)) os) ≡ map (later_by (2 * length initial)) (filter test os)
+              → filter test (map (later_by (2 * length initial)) (o ∷ os)) ≡ map (later_by (2 * length initial)) (filter test (o ∷ os))
+          by_test true is rest = rw (same o, is) (ap (λ xs. later_by (2 * length initial) o ∷ xs) rest)
+          by_test false is rest = rw (same o, is) rest
+
+  -- the places of the empty answers and of the refused enqueues
+  pub empties_told : (places : List ℕ) → HoldsPlaces all is_empty_answer places
+      → HoldsPlaces operations is_empty_answer (map (told_place k) places)
+  empties_told places holds = places_told places (filter is_empty_answer operations)
+      (subst (ArePlacesOf all places) (filter_filled is_empty_answer (λ o v is. rw is refl) (λ o. refl)) holds)
+
+  -- the places of failed enqueues are the history's
+  pub refused_told : (places : List ℕ) → HoldsPlaces all is_refused places → HoldsPlaces operations is_refused (map (told_place k) places)
+  refused_told places holds = places_told places (filter is_refused operations)
+      (subst (ArePlacesOf all places) (filter_filled is_refused (λ o v is. rw is refl) (λ o. refl)) holds)
+
+  -- ---- the places of a `YES`
+
+  places_back : (places : List ℕ) (listed : List Operation) → ArePlacesOf all places listed
+      → ArePlacesOf operations (filter_map (place_behind k) places) (filter_map (earlier (2 * length initial)) listed)
+  places_back [] [] at = refl
+  places_back [] (o ∷ listed) at = absurd (cc)
+  places_back (p ∷ places) [] at = absurd (cc)
+  places_back (p ∷ places) (o ∷ listed) at =
+      let first : slice_get all p ≡ Some o = cc in
+      let later : map (slice_get all) places ≡ map (λ o. Some o) listed = cc in
+      one_more p o first (places_back places listed later)
+    where
+      one_more : (p : ℕ) (o : Operation) → slice_get all p ≡ Some o
+          → ArePlacesOf operations (filter_map (place_behind k) places) (filter_map (earlier (2 * length initial)) listed)
+          → ArePlacesOf operations (cons_option (place_behind k p) (filter_map (place_behind k) places))
+          (cons_option (earlier (2 * length initial) o) (filter_map (earlier (2 * length initial)) listed))
+      one_more p o at' rest = elim (filled_at initial operations p o at') [
+        | inl early ↦
+            let call : 2 * p ≡ o.call = ap (λ (x : Operation). x.call) early.is in
+            let within = early.within in
+            rw (lt-ltb p k within, earlier_none (2 * k) o (omega arith)) rest
+        | inr late ↦
+            let was : earlier (2 * k) o ≡ Some late.operation = ap (earlier (2 * k)) (sym late.is) ∙ earlier_later (2 * k) late.operation in
+            rw (le-ltb p k late.behind, was) (ap₂ (λ (x : Option Operation) (xs : List (Option Operation)). x ∷ xs) late.stands rest)
+      ]
+
+  -- the order of a `YES`, after the enqueues of the initial values
+  pub order_back : (places : List ℕ) (listed : List Operation) → ArePlacesOf all places (filled initial listed)
+      → ArePlacesOf operations (filter_map (place_behind k) places) listed
+  order_back places listed at = subst (ArePlacesOf operations (filter_map (place_behind k) places)) (filled_earlier initial listed)
+      (places_back places (filled initial listed) at)
+
+-- ---- with no initial values it is so as it stands
+
+-- a place stays as it is
+pub place_with_none : (p : ℕ) → told_place 0 p ≡ p
+place_with_none p = omega arith
+
+-- an order stays as it is
+pub order_with_none : (places : List ℕ) → filter_map (place_behind 0) places ≡ places
+order_with_none [] = refl
+order_with_none (p ∷ places) = rw (le-ltb p 0 (omega arith)) (ap₂ (λ (q : ℕ) (ps : List ℕ). q ∷ ps) (place_with_none p) (order_with_none places))

@@ -1,0 +1,59 @@
+//! Places of a history, told by those of its filled history, in which the enqueues of its initial values come first.
+ghost use Rattle.std.specs.Prelude.{◌≡◌, option_map};
+ghost use Rattle.value_match.specs.declared.violation.Violation.TheVariants.{Fresh, Repeat};
+ghost use Rattle.value_match.specs.Told.{told_place, told_source};
+
+use crate::fresh::FreshPlaces;
+use crate::repeat::RepeatPlaces;
+use crate::violation::{Source, Violation};
+use history_merge::OpId;
+
+/// Returns the place of an operation of a history with this many initial values.
+#[inline(always)]
+pub fn told_place(initial_count: usize, place: OpId) -> OpId
+    ensures { result ≡ told_place initial_count place }
+{
+    let place = place.number() as usize;
+    OpId::new(place.saturating_sub(initial_count) as u32)
+}
+
+/// Returns the place of the operation that there may be.
+#[inline(always)]
+pub fn told_maybe(initial_count: usize, place: Option<OpId>) -> Option<OpId>
+    ensures { result ≡ option_map (told_place initial_count) place }
+{
+    place.map(|place| told_place(initial_count, place))
+}
+
+/// Returns where the value comes from whose enqueue stands at this place.
+#[inline(always)]
+pub fn told_source(initial_count: usize, enqueue: OpId) -> Source
+    ensures { result ≡ told_source initial_count enqueue }
+{
+    if enqueue.place() < initial_count {
+        Source::Initial(enqueue.place())
+    } else {
+        Source::Enq(told_place(initial_count, enqueue))
+    }
+}
+
+/// The violation that a dequeue of a value that was not there is.
+pub(crate) fn told_fresh(initial_count: usize, found: FreshPlaces) -> Violation
+    ensures { result ≡ Fresh (told_place initial_count found.deq) (option_map (told_place initial_count) found.enq) }
+{
+    Violation::Fresh {
+        deq: told_place(initial_count, found.deq),
+        enq: told_maybe(initial_count, found.enq),
+    }
+}
+
+/// The violation that two dequeues of one value are.
+pub(crate) fn told_repeat(initial_count: usize, found: RepeatPlaces) -> Violation
+    ensures { result ≡ Repeat (told_source initial_count found.enq) (told_place initial_count found.first) (told_place initial_count found.second) }
+{
+    Violation::Repeat {
+        enq: told_source(initial_count, found.enq),
+        first: told_place(initial_count, found.first),
+        second: told_place(initial_count, found.second),
+    }
+}
