@@ -1,5 +1,6 @@
 -- The walk along the chosen cover, from the call of an empty dequeue to its return.
-use Rattle.std.proofs.Common.{◌≡◌, ◌≢◌, ℕ, ◌<◌, ◌≤◌, ◌⊎◌, List, [], ◌∷◌, ◌++◌, Option, Some, None, refl, sym, subst, inl, inr, arith, append_assoc, rules, length}
+use Rattle.std.proofs.Common.{◌≡◌, ◌≢◌, ℕ, ◌<◌, ◌≤◌, ◌⊎◌, List, [], ◌∷◌, ◌++◌, Option, Some, None}
+use Rattle.std.proofs.Common.{refl, sym, subst, inl, inr, arith, append_assoc, rules, length}
 use Rattle.std.specs.Prelude.{Contains, MatchOption, MatchBool, nat_lt, IsSome, option_map}
 use Rattle.std.proofs.lemmas.Bool.{lt-ltb, le-ltb}
 use Rattle.std.proofs.lemmas.List.Elements.{All-contains}
@@ -104,7 +105,8 @@ module _ (initial : List ℕ) (operations : List Operation) (values : List Match
   -- with the next value
   pub one_more_step : (steps : List CoverStep) (frontier : ℕ) (value : MatchedValue) → IsCoverSoFar initial operations o steps frontier → frontier < o.ret
       → IsLongestOf (EntersBefore frontier) values value
-      → IsCoverSoFar initial operations o (steps ++ (record { source = told_source k value.enqueue; dequeue = option_map (told_place k) value.dequeue }) ∷ []) (dequeue_call value.life)
+      → IsCoverSoFar initial operations o
+      (steps ++ (record { source = told_source k value.enqueue; dequeue = option_map (told_place k) value.dequeue }) ∷ []) (dequeue_call value.life)
   one_more_step steps frontier value so_far below is = record {
     lives = so_far.lives ++ value.life ∷ [];
     named = one_more_zipped (NamesStep initial operations) steps so_far.lives

@@ -1,5 +1,6 @@
 -- What holds of SVG pictures.
-use Rattle.std.specs.Prelude.{◌≡◌, ℕ, ◌+◌, ◌<◌, ◌≤◌, ◌↔◌, ◌&&◌, ◌||◌, not, nat_le, ⊤, Bool, true, List, [], ◌∷◌, ◌++◌, map, codes, Contains}
+use Rattle.std.specs.Prelude.{◌≡◌, ℕ, ◌+◌, ◌<◌, ◌≤◌, ◌↔◌, ◌&&◌, ◌||◌, not}
+use Rattle.std.specs.Prelude.{nat_le, ⊤, Bool, true, List, [], ◌∷◌, ◌++◌, map, codes, Contains}
 use Rattle.std.specs.List.{list_all, list_any}
 use Rattle.std.specs.Str.{bytes_eq}
 use Rattle.history_merge.specs.declared.operation.Operation.{Operation}

@@ -1,5 +1,6 @@
 -- The fields of a line, one after another.
-use Rattle.std.proofs.Common.{◌≡◌, ℕ, ◌+◌, ◌-◌, ◌<◌, List, [], ◌∷◌, ◌++◌, length, get_or, take, drop, arith, ap, sym, ◌∙◌, refl, add-one, drop-cons}
+use Rattle.std.proofs.Common.{◌≡◌, ℕ, ◌+◌, ◌-◌, ◌<◌, List, [], ◌∷◌, ◌++◌, length}
+use Rattle.std.proofs.Common.{get_or, take, drop, arith, ap, sym, ◌∙◌, refl, add-one, drop-cons}
 use Rattle.std.proofs.Common.{false, length-drop, suc, Bool, true, cond, inl, inr}
 use Rattle.std.specs.List.{onto_first, slice_split}
 use Rattle.std.proofs.lemmas.List.{take-append-drop, get_or-take, take_all, length-take-le}

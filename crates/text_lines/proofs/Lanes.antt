@@ -1,5 +1,6 @@
 -- Digits that are found many at a time.
-use Rattle.std.proofs.Common.{◌≡◌, ℕ, ◌+◌, ◌-◌, ◌*◌, ◌%◌, ◌^◌, ◌<◌, ◌≤◌, List, length, take, get_or, Bool, true, false, not, map, cond, eqb, replicate, Fits, w8, nat_le}
+use Rattle.std.proofs.Common.{◌≡◌, ℕ, ◌+◌, ◌-◌, ◌*◌, ◌%◌, ◌^◌, ◌<◌, ◌≤◌, List, length}
+use Rattle.std.proofs.Common.{take, get_or, Bool, true, false, not, map, cond, eqb, replicate, Fits, w8, nat_le}
 use Rattle.std.proofs.Common.{arith, ap, sym, subst, ◌∙◌, refl, [], ◌∷◌}
 use Rattle.std.specs.Char.{is_ascii_digit}
 use Rattle.std.specs.List.{prefix_len}

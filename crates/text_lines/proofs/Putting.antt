@@ -1,5 +1,6 @@
 -- Texts that are written to a sink, one after another.
-use Rattle.std.proofs.Common.{◌≡◌, ℕ, ◌+◌, ◌<◌, Bool, true, false, ◌||◌, List, [], ◌++◌, length, take, drop, get_or, Option, refl, sym, ◌∙◌, ap, subst}
+use Rattle.std.proofs.Common.{◌≡◌, ℕ, ◌+◌, ◌<◌, Bool, true, false, ◌||◌, List, [], ◌++◌}
+use Rattle.std.proofs.Common.{length, take, drop, get_or, Option, refl, sym, ◌∙◌, ap, subst}
 use Rattle.std.proofs.Common.{append_assoc, Ok, Err}
 use Rattle.std.specs.Prelude.{OnErr, OnOk, is_err}
 use Rattle.std.specs.Result.{IsErrAnd}
