@@ -40,6 +40,7 @@ impl CalledValues {
 
     /// Whether the event calls with a value that an earlier one called with; it notes the value. The operations are
     /// those of the events before.
+    #[inline(always)]
     pub fn note(&mut self, what: What, operations: &[PackedOperation]) -> Result<bool, AllocError>
         ensures { (events : List Event) (e : Event) → e.what ≡ what → KnowsCalled events self.old → operations.now ≡ operations_so_far events
             → IfOk result (λ repeats. (repeats ≡ repeats_value events e) × KnowsCalled (events ++ e ∷ []) self.new) }
@@ -77,6 +78,19 @@ impl CalledValues {
             self.least[name] = value + 1;
             return Ok(false);
         }
+        self.note_in_set(value, operations)
+    }
+
+    /// Does so from the first value on that doesn't rise.
+    #[inline(never)]
+    fn note_in_set(
+        &mut self,
+        value: u64,
+        operations: &[PackedOperation],
+    ) -> Result<bool, AllocError>
+        ensures { (events : List Event) (e : Event) → called_value e.what ≡ Some value → KnowsCalled events self.old → operations.now ≡ operations_so_far events
+            → IfOk result (λ repeats. (repeats ≡ was_called events value) × KnowsCalled (events ++ e ∷ []) self.new) }
+    {
         let mut values = values_of(self.alloc, operations)?;
         let is_new = values.insert(value)?;
         self.others = Some(values);

@@ -18,7 +18,7 @@ use std::marker::Model;
 /// Each value of this type is one: tickets rise, each thread's calls and returns alternate, each call has a return,
 /// no two calls enqueue one value, and the initial values are distinct and enqueued by no call.
 ///
-/// It keeps the initial values and the operations, from which it restores the events: some four words for each
+/// It keeps the initial values and the operations, from which it restores the events: some three words for each
 /// operation.
 #[derive(Debug, Drop)]
 pub struct History {

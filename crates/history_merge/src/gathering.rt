@@ -5,8 +5,10 @@ ghost use Rattle.event_records.specs.declared.limits.TheConstants.{MAX_EVENTS};
 ghost use Rattle.history_merge.specs.Clashes.{IsClash};
 ghost use Rattle.history_merge.specs.Complete.{IsCompleteHistory};
 ghost use Rattle.history_merge.specs.Faults.{IsFirstFault};
-ghost use Rattle.history_merge.specs.Gathering.{HasClash, HasGatheredEvents, HasMetFault, IsForming};
+ghost use Rattle.event_records.specs.Turns.{TicketsRise};
+ghost use Rattle.history_merge.specs.Gathering.{HasClash, HasFormed, HasGatheredEvents, HasMetFault, IsForming};
 ghost use Rattle.history_merge.specs.Inner.Forming.{IsFormedOf};
+ghost use Rattle.history_merge.specs.Progress.{HasTracked};
 
 use crate::called::CalledValues;
 use crate::clash::{Clash, Placed, Sought, clash_of, first_event};
@@ -87,17 +89,27 @@ impl OperationsBuilder {
     {
         let repeats = self.called.note(event.what, self.forming.operations())?;
         if let Some(fault) = self.progress.fault_of(event, self.count, repeats) {
-            let placed = Placed {
-                place: self.count,
-                event,
-            };
-            self.clash = clash_of(fault, placed, &self.progress, &self.forming);
+            self.keep_clash(fault, event);
             return Err(fault);
         }
         self.forming.add(event)?;
         self.progress.add(event);
         self.count = self.count.saturating_add(1);
         Ok(())
+    }
+
+    /// Keeps what an event that has this fault contradicts. Time O(n).
+    #[inline(never)]
+    fn keep_clash(&mut self, fault: HistoryFault, event: Event)
+        ensures clash { (initial : List ℕ) (events : List Event) → HasTracked events self.old.progress → HasFormed events self.old.forming
+            → TicketsRise events → length events < MAX_EVENTS → self.old.count ≡ length events → HasClash initial (events ++ event ∷ []) self.new }
+        ensures fault { self.new.fault ≡ self.old.fault }
+    {
+        let placed = Placed {
+            place: self.count,
+            event,
+        };
+        self.clash = clash_of(fault, placed, &self.progress, &self.forming);
     }
 
     /// Returns whether it keeps a fault that decides if the event at this place is the first that calls with an initial value.

@@ -11,7 +11,7 @@ use std::marker::Model;
 /// One above the greatest ticket or clock that is packed.
 pub const PACKED_LIMIT: u64 = 1 << 40;
 
-/// How many tickets differ in their lower halves alone.
+/// How many numbers differ in their lower halves alone.
 const LOWER: u64 = 1 << 32;
 
 /// What was called and answered, without the value.
@@ -23,11 +23,12 @@ pub(crate) enum Tag {
     Not,
 }
 
-/// An operation in 24 bytes, seen as the operation.
+/// An operation in 20 bytes, seen as the operation.
 #[derive(Clone, Copy)]
 pub struct PackedOperation {
-    // The value; 0 if there is none.
-    value: u64,
+    // The halves of the value; 0 if there is none.
+    value: u32,
+    upper_value: u32,
     call: u32,
     ret: u32,
     upper_call: u8,
@@ -40,7 +41,8 @@ impl Model for PackedOperation {
     ghost use Rattle.std.specs.Prelude.{◌/◌, ◌%◌};
     ghost use Rattle.history_merge.specs.declared.operation.Operation.{Operation};
     ghost use Rattle.history_merge.specs.declared.packed.TheConstants.{LOWER};
-    ghost use Rattle.history_merge.specs.Inner.Packed.{IsPacked, back_upper, back_lower, back_tag, joined, kind_by, tag_of, value_of};
+    ghost use Rattle.history_merge.specs.Inner.Packed.{IsPacked, back_lower, back_lower_value, back_tag, back_upper, back_upper_value};
+    ghost use Rattle.history_merge.specs.Inner.Packed.{joined, kind_by, tag_of, value_of};
 
     ghost Value = { Operation };
 
@@ -48,13 +50,14 @@ impl Model for PackedOperation {
       call = joined a.upper_call a.call;
       ret = joined a.upper_ret a.ret;
       thread = a.thread;
-      kind = kind_by a.tag a.value;
+      kind = kind_by a.tag (joined a.upper_value a.value);
     } };
 
-    ghost invariant = { λ a. IsPacked a.tag a.value a.call a.ret };
+    ghost invariant = { λ a. IsPacked a.tag a.upper_value a.value a.call a.ret };
 
     ghost inverse = { λ o. record {
-      value = value_of o.kind;
+      value = value_of o.kind % LOWER;
+      upper_value = value_of o.kind / LOWER;
       call = o.call % LOWER;
       ret = o.ret % LOWER;
       upper_call = o.call / LOWER;
@@ -64,13 +67,14 @@ impl Model for PackedOperation {
     } };
 
     ghost inverse_ok = { λ a h t. record {
-      value = h.value t;
+      value = back_lower_value a.tag a.upper_value a.value h.no_value h.value t;
+      upper_value = back_upper_value a.tag a.upper_value a.value h.no_value h.value t;
       call = back_lower a.upper_call a.call h.call t;
       ret = back_lower a.upper_ret a.ret h.ret t;
       upper_call = back_upper a.upper_call a.call h.call t;
       upper_ret = back_upper a.upper_ret a.ret h.ret t;
       thread = a.thread;
-      tag = back_tag a.tag a.value t;
+      tag = back_tag a.tag (joined a.upper_value a.value) t;
     } };
 }
 
@@ -82,8 +86,10 @@ impl PackedOperation {
         requires ret { operation.ret < PACKED_LIMIT }
         ensures { result ≡ operation }
     {
+        let value = value_of(operation.kind);
         PackedOperation {
-            value: value_of(operation.kind),
+            value: (value % LOWER) as u32,
+            upper_value: (value / LOWER) as u32,
             call: (operation.call % LOWER) as u32,
             ret: (operation.ret % LOWER) as u32,
             upper_call: (operation.call / LOWER) as u8,
@@ -100,15 +106,16 @@ impl PackedOperation {
         ensures call { result.call < PACKED_LIMIT }
         ensures ret { result.ret < PACKED_LIMIT }
     {
+        let value = u64::from(self.upper_value) * LOWER + u64::from(self.value);
         Operation {
             call: u64::from(self.upper_call) * LOWER + u64::from(self.call),
             ret: u64::from(self.upper_ret) * LOWER + u64::from(self.ret),
             thread: self.thread,
             kind: match self.tag {
-                Tag::Enq => OpKind::Enq(self.value),
-                Tag::Deq => OpKind::Deq(self.value),
+                Tag::Enq => OpKind::Enq(value),
+                Tag::Deq => OpKind::Deq(value),
                 Tag::Empty => OpKind::Empty,
-                Tag::Not => OpKind::Not(self.value),
+                Tag::Not => OpKind::Not(value),
             },
         }
     }

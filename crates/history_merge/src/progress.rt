@@ -56,9 +56,13 @@ impl Progress {
         requires { event.thread ≤ MAX_THREAD }
         ensures { (before : List Event) → HasTracked before self.old → HasTracked (before ++ event ∷ []) self.new }
     {
-        let call = is_call(event.what).then_some(event);
-        self.pending[usize::from(event.thread)] = call;
+        let thread = usize::from(event.thread);
         self.last_ticket = Some(event.ticket);
+        if is_call(event.what) {
+            self.pending[thread] = Some(event);
+        } else {
+            self.pending[thread] = None;
+        }
     }
 
     /// Returns the pending call of this thread.

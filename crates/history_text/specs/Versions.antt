@@ -87,10 +87,6 @@ count_before_events Two initial = 2 + length initial
 abbrev pub text_by : Version → List ℕ → List Event → List ℕ
 text_by version initial events = lines_before_events version initial ++ lines_to_end events
 
--- the text of version 2
-abbrev pub history_text_2 : List ℕ → List Event → List ℕ
-history_text_2 initial events = text_by Two initial events
-
 -- the text of either version
 abbrev pub text_of : HistoryText → List ℕ
 text_of t = text_by t.version t.initial t.events

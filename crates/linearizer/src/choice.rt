@@ -4,7 +4,7 @@ ghost use Rattle.value_match.specs.Lives.{dequeue_return, entered_by};
 ghost use Rattle.linearizer.specs.declared.timed.TheConstants.{PLACES};
 ghost use Rattle.linearizer.specs.Inner.Sweep.{IsInOrder, IsPassedOver, TakesOneOf};
 
-use crate::timed::{Moment, Timed, by_time, first_left};
+use crate::timed::{Timed, by_time, first_left};
 use std::alloc::{AllocError, Global};
 use value_match::Values;
 
@@ -29,13 +29,14 @@ pub(crate) fn put_in_order(alloc: Global, values: &Values) -> Result<Option<InOr
     let mut places = Vec::with_capacity(alloc, values.len())?;
     let mut gaps = Vec::with_capacity(alloc, values.len())?;
     let mut taken = vec![in alloc; false; values.len()]?;
-    let entries = by_time(alloc, values, Moment::Entry)?;
-    let dequeues = by_time(alloc, values, Moment::Dequeue)?;
+    let by_time = by_time(alloc, values)?;
+    let entries = by_time.entries.as_slice();
+    let dequeues = by_time.dequeues.as_slice();
     let mut first_in = 0;
     let mut first_out = 0;
     while places.len() < values.len() {
-        first_in = first_left(&entries, &taken, first_in);
-        first_out = first_left(&dequeues, &taken, first_out);
+        first_in = first_left(entries, &taken, first_in);
+        first_out = first_left(dequeues, &taken, first_out);
         let entry = entries[first_in].unpack();
         let next = choice(values, entry, dequeues[first_out].unpack());
         if entry.time <= values.get(next).life.enqueue_call() {

@@ -1,12 +1,14 @@
-ghost use Rattle.std.specs.Prelude.{◌≡◌, ◌<◌, ◌≤◌, All, Contains, IfOk, length, take};
+ghost use Rattle.std.specs.Prelude.{◌≡◌, ◌<◌, ◌≤◌, All, Contains, IfOk, IsPermutation, length, take};
+ghost use Rattle.std.specs.List.Sorted.{IsNonDecreasingBy};
 ghost use Rattle.history_merge.specs.declared.packed.TheConstants.{PACKED_LIMIT};
 ghost use Rattle.value_match.specs.declared.life.TheConstants.{NEVER};
 ghost use Rattle.linearizer.specs.declared.timed.TheConstants.{PLACES};
-ghost use Rattle.linearizer.specs.Inner.Sweep.{AreByTime, IsFirstLeft, IsLeft, IsTaken, time_at};
+ghost use Rattle.value_match.specs.Lives.{dequeue_return, entered_by};
+ghost use Rattle.linearizer.specs.Inner.Sweep.{AreByTime, IsFirstLeft, IsLeft, IsTaken};
 
 use std::alloc::{AllocError, Global};
 use std::marker::Model;
-use value_match::{Life, Values, presort};
+use value_match::{Values, presort};
 
 /// One above the greatest place that is packed.
 pub(crate) const PLACES: u64 = 1 << 24;
@@ -71,45 +73,41 @@ impl PackedTimed {
     }
 }
 
-/// Which of a value's times is meant.
-#[derive(Clone, Copy)]
-pub(crate) enum Moment {
-    /// That by which it has entered.
-    Entry,
-    /// That at which its dequeue returned.
-    Dequeue,
+/// The values by the time by which each has entered, and by that at which its dequeue returned.
+#[derive(Drop)]
+pub(crate) struct ByTime {
+    pub(crate) entries: Vec<PackedTimed>,
+    pub(crate) dequeues: Vec<PackedTimed>,
 }
 
-impl Moment {
-    fn of(self, life: &Life) -> u64
-        ensures { result ≡ time_at self life.now }
-    {
-        match self {
-            Moment::Entry => life.entered_by(),
-            Moment::Dequeue => life.dequeue_return(),
-        }
-    }
-}
-
-/// The values by their times of one sort.
-pub(crate) fn by_time(
-    alloc: Global,
-    values: &Values,
-    moment: Moment,
-) -> Result<Vec<PackedTimed>, AllocError>
+/// The values by these two times.
+pub(crate) fn by_time(alloc: Global, values: &Values) -> Result<ByTime, AllocError>
     requires few { length values.now ≤ PLACES }
-    requires times { All (λ value. time_at moment value.life ≤ NEVER) values.now }
-    ensures { IfOk result (λ entries. AreByTime (time_at moment) values.now entries.items) }
+    requires entries { All (λ value. entered_by value.life ≤ NEVER) values.now }
+    requires dequeues { All (λ value. dequeue_return value.life ≤ NEVER) values.now }
+    ensures entries { IfOk result (λ by_time. AreByTime entered_by values.now by_time.entries.items) }
+    ensures dequeues { IfOk result (λ by_time. AreByTime dequeue_return values.now by_time.dequeues.items) }
 {
     let mut entries = Vec::with_capacity(alloc, values.len())?;
+    let mut dequeues = Vec::with_capacity(alloc, values.len())?;
     for place in 0..values.len() {
-        let value = values.get(place);
-        let time = moment.of(&value.life);
+        let life = values.get(place).life;
+        let time = life.entered_by();
         entries.push(PackedTimed::new(Timed { time, place }))?;
+        let time = life.dequeue_return();
+        dequeues.push(PackedTimed::new(Timed { time, place }))?;
     }
-    presort(&mut entries, &|entry: &PackedTimed| entry.unpack().time);
-    entries.sort_unstable_by_key(|entry| entry.unpack().time);
-    Ok(entries)
+    sort_by_time(&mut entries);
+    sort_by_time(&mut dequeues);
+    Ok(ByTime { entries, dequeues })
+}
+
+fn sort_by_time(timed: &mut Vec<PackedTimed>)
+    ensures permutation { IsPermutation timed.old.items timed.new.items }
+    ensures never_falls { IsNonDecreasingBy (λ timed. timed.time) timed.new.items }
+{
+    presort(timed, &|timed: &PackedTimed| timed.unpack().time);
+    timed.sort_unstable_by_key(|timed| timed.unpack().time);
 }
 
 /// The place of the first entry whose value is left, where all before the place `from` are taken.

@@ -1,5 +1,5 @@
 -- Bytes that are written in turn.
-use Rattle.std.proofs.Common.{◌≡◌, ℕ, ◌+◌, ◌-◌, ◌<◌, Bool, false, get_or, ◌∷◌, ◌||◌, ◌&&◌, not, List, [], ◌++◌, length, take, drop, Option}
+use Rattle.std.proofs.Common.{◌≡◌, ℕ, ◌+◌, ◌-◌, ◌<◌, Bool, get_or, ◌∷◌, ◌||◌, ◌&&◌, not, List, [], ◌++◌, length, take, drop, Option}
 use Rattle.std.proofs.Common.{append-nil, append_assoc, sym, ◌∙◌, ap, subst, arith, length-drop, inl, inr, Ok, Err}
 use Rattle.std.specs.Prelude.{◌==◌, OnOk}
 use Rattle.std.specs.declared.result.Result.{Result}

@@ -3,7 +3,6 @@
 -- Digits, Numbers, Fields: numbers and words, read as they are spelled; the fields of a line.
 -- Tables: lines that are judged by a table of their forms.
 -- Scanning: what stands at the front, found in one pass.
--- Lanes: digits that are found many at a time.
 -- Lengths: how many digits a number has.
 -- MemoryOrNot: out of memory, and the other faults.
 -- Appending, Asking, Putting, Holding: bytes that are written in turn, what a sink was asked, both together, and what it keeps back.
@@ -22,4 +21,3 @@ pub mod Tables
 pub mod Scanning
 pub mod MemoryOrNot
 pub mod Lengths
-pub mod Lanes

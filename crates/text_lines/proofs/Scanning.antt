@@ -22,7 +22,7 @@ use Rattle.std.proofs.lemmas.Int.Digits.{digits_value-lt}
 use Rattle.std.proofs.Math.Nat.{pow-suc, pow-le-pow_right}
 use Rattle.text_lines.proofs.Numbers.{number_spelled, both, digits_test}
 use Rattle.text_lines.proofs.WrittenLines.{all_digits}
-use Rattle.text_lines.proofs.Lanes.{by_digit, digit_at}
+use Rattle.text_lines.proofs.Digits.{by_digit, digit_at}
 
 -- ---- how great the number of some digits is
 
@@ -129,7 +129,7 @@ pub twenty_beyond : (bytes : List ℕ) (count : ℕ) → count ≤ length bytes 
     → (get_or bytes 0 0 ≡ 48 → ⊥) → (get_or bytes 0 0 ≡ 49 → ⊥) → 2 ^ 64 ≤ digits_value 10 (take count bytes)
 twenty_beyond bytes count within digits is zero_no one_no =
     let long = twenty_front bytes count within digits is in
-    let first = digit_at bytes count 0 1 (record { within = within; digits = digits }) (omega (arith, is)) refl in
+    let first = digit_at bytes count 0 1 within digits (omega (arith, is)) refl in
     let more = long.two (omega (arith, zero_no, one_no, first.low)) in
     omega (arith, more)
 

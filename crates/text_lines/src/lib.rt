@@ -15,7 +15,6 @@ mod memory;
 mod scan;
 mod sink;
 mod source;
-mod wide;
 mod write_buffer;
 
 pub use buffered::Buffered;

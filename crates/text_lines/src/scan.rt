@@ -5,7 +5,7 @@ ghost use Rattle.std.specs.Str.Parse.{digits_value};
 ghost use Rattle.text_lines.specs.Lines.{begins_with_digit};
 ghost use Rattle.text_lines.specs.Inner.Digits.{AreDigitsFront};
 
-use crate::wide::digits_front;
+use core::dec2flt::read_digits;
 
 /// As many digits are in range, whatever they are.
 const ALWAYS_IN_RANGE: usize = 19;
@@ -32,6 +32,14 @@ pub fn number_front(bytes: &[u8]) -> Option<(u64, &[u8])>
         return None;
     }
     Some((value, &bytes[count..]))
+}
+
+/// Returns how many digits stand at the front, and their value in 64 bits.
+#[inline(always)]
+fn digits_front(bytes: &[u8]) -> (usize, u64)
+    ensures { AreDigitsFront bytes.now result.0 result.1 }
+{
+    read_digits(bytes, 0, 0)
 }
 
 /// Whether a number of 20 digits or more is in range, by its value in 64 bits.

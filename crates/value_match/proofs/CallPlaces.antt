@@ -1,11 +1,13 @@
 -- Places of calls and of sources, met by walks over the operations.
 use Rattle.std.proofs.Common.{◌≡◌, ℕ, ◌+◌, ◌<◌, ◌≤◌, ◌⊎◌, true, false, List, [], ◌∷◌, ◌++◌, length, get_or, Option}
-use Rattle.std.proofs.Common.{Some, None, refl, sym, ◌∙◌, set}
+use Rattle.std.proofs.Common.{Some, None, refl, sym, ◌∙◌, set, ap, cond, Bool}
 use Rattle.std.proofs.Common.{subst, inl, inr, arith, get_or-set_other, get_or-set_same, length-set, length-append}
-use Rattle.std.specs.Prelude.{All, Contains, IsPermutation, MatchOption, is_some}
+use Rattle.std.specs.Prelude.{All, Contains, IsPermutation}
 use Rattle.std.specs.List.Sorted.{IsNonDecreasingBy, IsPartitionPoint}
+use Rattle.std.specs.BTreeSet.{BTreeSet, contains}
+use Rattle.std.specs.Ordering.{is_eq, nat_cmp}
 use lib.Dec.{ltb}
-use Rattle.std.proofs.lemmas.Bool.{false≢true, ltb-true, ltb-false}
+use Rattle.std.proofs.lemmas.Bool.{eq-eqb, false≢true, ltb-true, ltb-false}
 use Rattle.std.proofs.Math.Seq.{get_or-append_seam}
 use Rattle.std.proofs.lemmas.List.Elements.{All-push, All-pop, All-contains}
 use Rattle.std.proofs.lemmas.List.Sorted.{All-permutation, IsPermutation-sym}
@@ -17,10 +19,8 @@ use Rattle.history_merge.specs.declared.operation.OpKind.{OpKind}
 use Rattle.history_merge.specs.declared.operation.OpKind.TheVariants.{Enq, Deq, Empty, Not}
 use Rattle.history_merge.proofs.Distinct.{place_of}
 use Rattle.history_merge.proofs.DistinctValues.{each_more}
-use Rattle.value_match.specs.declared.names.Names.{Names}
+use Rattle.history_merge.proofs.KnownValues.{is_eq-nat_cmp}
 use Rattle.value_match.specs.declared.others.Call.{Call}
-use Rattle.value_match.specs.Inner.Named as named
-use Rattle.value_match.specs.Inner.Named.{IsNamed}
 use Rattle.value_match.specs.Inner.Others.{IsCall, NoneOf, HoldsOthers, IsNearSource, HoldsNear}
 use Rattle.value_match.specs.Inner.Sources.{IsCallPlace, IsSourceOf, HoldsSources}
 
@@ -48,54 +48,48 @@ met_all operations n v None all met =
     λ o among calls. let at = place_of operations o among in met at.0 o (let within = slice_get_within operations at.0 o at.1 in omega arith) at.1 calls
 met_all operations n v (Some place) all met = met
 
--- of the values that aren't where their names tell, the calls among the first n operations
-pub record MetOthers (operations : List Operation) (names : Names) (n : ℕ) (calls : List Call) : Type 0 where
+-- of the values that are wanted, the calls among the first n operations
+pub record MetOthers (wanted : BTreeSet ℕ) (operations : List Operation) (n : ℕ) (calls : List Call) : Type 0 where
   pub are_calls : All (IsCall operations) calls
-  pub has_all : (v : ℕ) → ¬ (IsNamed operations names v) → NoneOf calls v → MetCall operations n v None
+  pub has_all : (v : ℕ) → contains nat_cmp wanted v ≡ true → NoneOf calls v → MetCall operations n v None
 
--- a place that is found by a name has that name
-pub named_if_found : (operations : List Operation) (names : Names) (v : ℕ) (found : Option ℕ) → is_some found ≡ true
-    → MatchOption found (¬ (IsNamed operations names v)) (λ place. (place ≡ named.place_of names v) × IsNamed operations names v) → IsNamed operations names v
-named_if_found operations names v None some found = absurd (false≢true some)
-named_if_found operations names v (Some place) some found = found.1
-
--- an operation that called to enqueue nothing, a call of a value that is where its name says, and any other call
-module _ (operations : List Operation) (names : Names) (i : ℕ) (o : Operation) (calls : List Call) (here : IsAt operations i o)
-    (met : MetOthers operations names i calls) where
+-- an operation that called to enqueue nothing, a call of a value that isn't wanted, and any other call
+module _ (wanted : BTreeSet ℕ) (operations : List Operation) (i : ℕ) (o : Operation) (calls : List Call) (here : IsAt operations i o)
+    (met : MetOthers wanted operations i calls) where
   -- an operation that calls to enqueue nothing adds no call
-  pub others_no_call : enqueued_value o.kind ≡ None → MetOthers operations names (i + 1) calls
+  pub others_no_call : enqueued_value o.kind ≡ None → MetOthers wanted operations (i + 1) calls
   others_no_call none = record {
     are_calls = met.are_calls;
-    has_all =
-        λ v unnamed none_of. met_no_call operations i o v None here none (met.has_all v unnamed none_of);
+    has_all = λ v is_wanted none_of. met_no_call operations i o v None here none (met.has_all v is_wanted none_of);
   }
 
-  -- a call whose value is where its name says adds none
-  pub others_named : (w : ℕ) → enqueued_value o.kind ≡ Some w → IsNamed operations names w → MetOthers operations names (i + 1) calls
-  others_named w called named = record {
+  -- a call whose value isn't wanted adds none
+  pub others_unwanted : (w : ℕ) → enqueued_value o.kind ≡ Some w → contains nat_cmp wanted w ≡ false → MetOthers wanted operations (i + 1) calls
+  others_unwanted w called unwanted = record {
     are_calls = met.are_calls;
-    has_all = λ v unnamed none_of. met_other operations i o v None here
-        (λ same. unnamed (subst (IsNamed operations names) (let e = sym called ∙ same in cc) named)) (met.has_all v unnamed none_of);
+    has_all = λ v is_wanted none_of. met_other operations i o v None here
+        (λ same. let e : w ≡ v = let both = sym called ∙ same in cc in false≢true (sym unwanted ∙ ap (contains nat_cmp wanted) e ∙ is_wanted))
+        (met.has_all v is_wanted none_of);
   }
 
   -- any other call is added with its place
-  pub others_more : (w : ℕ) → enqueued_value o.kind ≡ Some w → MetOthers operations names (i + 1) (calls ++ record { value = w; place = i } ∷ [])
+  pub others_more : (w : ℕ) → enqueued_value o.kind ≡ Some w → MetOthers wanted operations (i + 1) (calls ++ record { value = w; place = i } ∷ [])
   others_more w called = record {
     are_calls = All-push (IsCall operations) calls (record { value = w; place = i }) met.are_calls (o, here, called);
-    has_all = λ v unnamed none_of.
+    has_all = λ v is_wanted none_of.
         let parts = All-pop (λ (call : Call). ¬ (call.value ≡ v)) (calls ++ record { value = w; place = i } ∷ []) calls
         (Some (record { value = w; place = i })) refl none_of in
-        met_other operations i o v None here (λ same. parts.1 (let e = sym called ∙ same in cc)) (met.has_all v unnamed parts.0);
+        met_other operations i o v None here (λ same. parts.1 (let e = sym called ∙ same in cc)) (met.has_all v is_wanted parts.0);
   }
 
--- all calls without a name, by their values
-pub others_sorted : (operations : List Operation) (names : Names) (n : ℕ) (calls sorted : List Call) → length operations ≤ n
-    → MetOthers operations names n calls → IsPermutation calls sorted
-    → IsNonDecreasingBy (λ call. call.value) sorted → HoldsOthers operations names sorted
-others_sorted operations names n calls sorted all met moved rises = record {
+-- all calls of values that are wanted, by their values
+pub others_sorted : (wanted : BTreeSet ℕ) (operations : List Operation) (n : ℕ) (calls sorted : List Call) → length operations ≤ n
+    → MetOthers wanted operations n calls → IsPermutation calls sorted
+    → IsNonDecreasingBy (λ call. call.value) sorted → HoldsOthers wanted operations sorted
+others_sorted wanted operations n calls sorted all met moved rises = record {
   are_calls = All-permutation (IsCall operations) calls sorted moved met.are_calls;
-  has_all = λ v unnamed none_of. met_all operations n v None all
-      (met.has_all v unnamed (All-permutation (λ (call : Call). ¬ (call.value ≡ v)) sorted calls (IsPermutation-sym calls sorted moved) none_of));
+  has_all = λ v is_wanted none_of. met_all operations n v None all
+      (met.has_all v is_wanted (All-permutation (λ (call : Call). ¬ (call.value ≡ v)) sorted calls (IsPermutation-sym calls sorted moved) none_of));
   rises = rises;
 }
 
@@ -109,8 +103,40 @@ abbrev pub HasSources : List Operation → ℕ → List (Option ℕ) → Type 0
 HasSources = HasSourcesBy IsSourceOf
 
 -- some of them aren't found yet
-abbrev pub HasNear : List Operation → ℕ → List (Option ℕ) → Type 0
-HasNear = HasSourcesBy IsNearSource
+abbrev pub HasNear : BTreeSet ℕ → List Operation → ℕ → List (Option ℕ) → Type 0
+HasNear wanted = HasSourcesBy (IsNearSource wanted)
+
+-- where more values are wanted, what is near by stays so
+near_wider : (wanted more : BTreeSet ℕ) (operations : List Operation) (kind : OpKind) (source : Option ℕ)
+    → ((v : ℕ) → contains nat_cmp wanted v ≡ true → contains nat_cmp more v ≡ true)
+    → IsNearSource wanted operations kind source → IsNearSource more operations kind source
+near_wider wanted more operations (Deq v) None wider near = wider v near
+near_wider wanted more operations (Deq v) (Some p) wider near = near
+near_wider wanted more operations (Enq v) source wider near = near
+near_wider wanted more operations (Not v) source wider near = near
+near_wider wanted more operations Empty source wider near = near
+
+-- the same of the first n operations, when one value more is wanted
+pub wants_more : (wanted more : BTreeSet ℕ) (w : ℕ) (operations : List Operation) (n : ℕ) (sources : List (Option ℕ))
+    → ((v : ℕ) → contains nat_cmp more v ≡ cond (is_eq (nat_cmp w v)) true (contains nat_cmp wanted v))
+    → HasNear wanted operations n sources → HasNear more operations n sources
+wants_more wanted more w operations n sources adds near = record {
+  one_each = near.one_each;
+  each = λ i o below at. near_wider wanted more operations o.kind (get_or sources i None) wider (near.each i o below at);
+}
+  where
+    either : (here before : Bool) → before ≡ true → cond here true before ≡ true
+    either true before is = refl
+    either false before is = is
+
+    wider : (v : ℕ) → contains nat_cmp wanted v ≡ true → contains nat_cmp more v ≡ true
+    wider v is = adds v ∙ either (is_eq (nat_cmp w v)) (contains nat_cmp wanted v) is
+
+-- that value is wanted
+pub is_wanted : (wanted more : BTreeSet ℕ) (w : ℕ) → ((v : ℕ) → contains nat_cmp more v ≡ cond (is_eq (nat_cmp w v)) true (contains nat_cmp wanted v))
+    → contains nat_cmp more w ≡ true
+is_wanted wanted more w adds =
+    adds w ∙ ap (λ b. cond b true (contains nat_cmp wanted w)) (is_eq-nat_cmp w w ∙ eq-eqb w w refl)
 
 -- no source is needed at first
 pub sources_none : (Is : List Operation → OpKind → Option ℕ → Type 0) (operations : List Operation) → HasSourcesBy Is operations 0 []
@@ -124,11 +150,12 @@ no_source operations (Not v) other = refl
 no_source operations Empty other = refl
 
 -- nor one near by
-pub no_near_source : (operations : List Operation) (kind : OpKind) → ((v : ℕ) → ¬ (kind ≡ Deq v)) → IsNearSource operations kind None
-no_near_source operations (Deq v) other = tt
-no_near_source operations (Enq v) other = refl
-no_near_source operations (Not v) other = refl
-no_near_source operations Empty other = refl
+pub no_near_source : (wanted : BTreeSet ℕ) (operations : List Operation) (kind : OpKind) → ((v : ℕ) → ¬ (kind ≡ Deq v))
+    → IsNearSource wanted operations kind None
+no_near_source wanted operations (Deq v) other = absurd (other v refl)
+no_near_source wanted operations (Enq v) other = refl
+no_near_source wanted operations (Not v) other = refl
+no_near_source wanted operations Empty other = refl
 
 -- the source of one operation more
 pub sources_push : (Is : List Operation → OpKind → Option ℕ → Type 0) (operations : List Operation) (n : ℕ) (o : Operation)
@@ -178,56 +205,64 @@ none_among calls v i rises point differs k d below same =
 -- ---- sources that are near
 
 -- the sources near by of all operations
-pub near_all : (operations : List Operation) (n : ℕ) (sources : List (Option ℕ)) → length operations ≤ n → n ≤ length operations
-    → HasNear operations n sources → HoldsNear operations sources
-near_all operations n sources all within known = record {
+pub near_all : (wanted : BTreeSet ℕ) (operations : List Operation) (n : ℕ) (sources : List (Option ℕ)) → length operations ≤ n → n ≤ length operations
+    → HasNear wanted operations n sources → HoldsNear wanted operations sources
+near_all wanted operations n sources all within known = record {
   one_each = omega (arith, known.one_each);
   each = λ i o at. known.each i o (let below = slice_get_within operations i o at in omega arith) at;
 }
 
 -- the sources of the first n operations are found, and some of the others
-pub record HasFound (operations : List Operation) (n : ℕ) (sources : List (Option ℕ)) : Type 0 where
+pub record HasFound (wanted : BTreeSet ℕ) (operations : List Operation) (n : ℕ) (sources : List (Option ℕ)) : Type 0 where
   pub one_each : length sources ≡ length operations
   pub found : (i : ℕ) (o : Operation) → i < n → IsAt operations i o → IsSourceOf operations o.kind (get_or sources i None)
-  pub near : (i : ℕ) (o : Operation) → n ≤ i → IsAt operations i o → IsNearSource operations o.kind (get_or sources i None)
+  pub near : (i : ℕ) (o : Operation) → n ≤ i → IsAt operations i o → IsNearSource wanted operations o.kind (get_or sources i None)
 
 -- none of the far sources is found at first
-pub none_found : (operations : List Operation) (sources : List (Option ℕ)) → HoldsNear operations sources → HasFound operations 0 sources
-none_found operations sources near = record {
+pub none_found : (wanted : BTreeSet ℕ) (operations : List Operation) (sources : List (Option ℕ)) → HoldsNear wanted operations sources
+    → HasFound wanted operations 0 sources
+none_found wanted operations sources near = record {
   one_each = near.one_each;
   found = λ i o below at. absurd (omega (arith, below));
   near = λ i o after at. near.each i o at;
 }
 
 -- a source that was near
-near_source : (operations : List Operation) (kind : OpKind) (source : Option ℕ) → IsNearSource operations kind source → ¬ (source ≡ None)
-    → IsSourceOf operations kind source
-near_source operations (Deq v) None near some = absurd (some refl)
-near_source operations (Deq v) (Some p) near some = near
-near_source operations (Enq v) source near some = near
-near_source operations (Not v) source near some = near
-near_source operations Empty source near some = near
+pub near_source : (wanted : BTreeSet ℕ) (operations : List Operation) (kind : OpKind) (source : Option ℕ) → IsNearSource wanted operations kind source
+    → ¬ (source ≡ None) → IsSourceOf operations kind source
+near_source wanted operations (Deq v) None near some = absurd (some refl)
+near_source wanted operations (Deq v) (Some p) near some = near
+near_source wanted operations (Enq v) source near some = near
+near_source wanted operations (Not v) source near some = near
+near_source wanted operations Empty source near some = near
 
--- a source that was near by is found
-pub found_near : (operations : List Operation) (n : ℕ) (o : Operation) (sources : List (Option ℕ)) → IsAt operations n o
-    → ¬ (get_or sources n None ≡ None) → HasFound operations n sources → HasFound operations (n + 1) sources
-found_near operations n o sources here some known = record {
+-- a source is as it was
+pub found_here : (wanted : BTreeSet ℕ) (operations : List Operation) (n : ℕ) (o : Operation) (sources : List (Option ℕ)) → IsAt operations n o
+    → IsSourceOf operations o.kind (get_or sources n None) → HasFound wanted operations n sources → HasFound wanted operations (n + 1) sources
+found_here wanted operations n o sources here is known = record {
   one_each = known.one_each;
-  found = each_more (λ i x. IsSourceOf operations x.kind (get_or sources i None)) operations n o here
-      (near_source operations o.kind (get_or sources n None) (known.near n o (omega arith) here) some) known.found;
+  found = each_more (λ i x. IsSourceOf operations x.kind (get_or sources i None)) operations n o here is known.found;
   near = λ i x after at. known.near i x (omega (arith, after)) at;
 }
 
+-- the value of a dequeue has no call, where none of those that are wanted is of it
+pub found_nowhere : (wanted : BTreeSet ℕ) (operations : List Operation) (o : Operation) (v : ℕ) (source : Option ℕ) (calls : List Call)
+    → o.kind ≡ Deq v → source ≡ None → HoldsOthers wanted operations calls → NoneOf calls v → IsNearSource wanted operations o.kind source
+    → IsSourceOf operations o.kind source
+found_nowhere wanted operations o v source calls is none others none_of near =
+    let wanted_is = subst (IsNearSource wanted operations (Deq v)) none (subst (λ kind. IsNearSource wanted operations kind source) is near) in
+    subst (λ kind. IsSourceOf operations kind source) (sym is) (subst (IsCallPlace operations v) (sym none) (others.has_all v wanted_is none_of))
+
 -- one source more is found
-pub found_more : (operations : List Operation) (n : ℕ) (o : Operation) (sources : List (Option ℕ)) (source : Option ℕ) → IsAt operations n o
-    → IsSourceOf operations o.kind source → HasFound operations n sources
-    → HasFound operations (n + 1) (set sources n source)
-found_more operations n o sources source here is known = record {
+pub found_more : (wanted : BTreeSet ℕ) (operations : List Operation) (n : ℕ) (o : Operation) (sources : List (Option ℕ)) (source : Option ℕ)
+    → IsAt operations n o → IsSourceOf operations o.kind source → HasFound wanted operations n sources
+    → HasFound wanted operations (n + 1) (set sources n source)
+found_more wanted operations n o sources source here is known = record {
   one_each = length-set sources n source ∙ known.one_each;
   found = each_more (λ i x. IsSourceOf operations x.kind (get_or (set sources n source) i None)) operations n o here
       (subst (IsSourceOf operations o.kind) (sym (get_or-set_same sources n source None within)) is)
       (λ i x below at. subst (IsSourceOf operations x.kind) (sym (get_or-set_other sources n i source None (omega (arith, below)))) (known.found i x below at));
-  near = λ i x after at. subst (IsNearSource operations x.kind) (sym (get_or-set_other sources n i source None (omega (arith, after))))
+  near = λ i x after at. subst (IsNearSource wanted operations x.kind) (sym (get_or-set_other sources n i source None (omega (arith, after))))
       (known.near i x (omega (arith, after)) at);
 }
   where
@@ -235,14 +270,14 @@ found_more operations n o sources source here is known = record {
     within = let inside = slice_get_within operations n o here in omega (arith, known.one_each)
 
 -- the sources of all operations are found
-pub found_all : (operations : List Operation) (n : ℕ) (sources : List (Option ℕ)) → length operations ≤ n → HasFound operations n sources
-    → HoldsSources operations sources
-found_all operations n sources all known = record {
+pub found_all : (wanted : BTreeSet ℕ) (operations : List Operation) (n : ℕ) (sources : List (Option ℕ)) → length operations ≤ n
+    → HasFound wanted operations n sources → HoldsSources operations sources
+found_all wanted operations n sources all known = record {
   one_each = known.one_each;
   each = λ i o at. known.found i o (let below = slice_get_within operations i o at in omega (arith, below)) at;
 }
 
 -- a call among the others
-pub other_call : (operations : List Operation) (names : Names) (calls : List Call) (v place : ℕ) → HoldsOthers operations names calls
+pub other_call : (wanted : BTreeSet ℕ) (operations : List Operation) (calls : List Call) (v place : ℕ) → HoldsOthers wanted operations calls
     → Contains calls (record { value = v; place = place }) → IsCallPlace operations v (Some place)
-other_call operations names calls v place others among = All-contains (IsCall operations) calls (record { value = v; place = place }) others.are_calls among
+other_call wanted operations calls v place others among = All-contains (IsCall operations) calls (record { value = v; place = place }) others.are_calls among

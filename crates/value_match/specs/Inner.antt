@@ -1,6 +1,5 @@
 -- Relations that serve the contracts of private functions: no public promise names one.
 pub mod MaybePlaces
-pub mod Named
 pub mod Others
 pub mod Sources
 pub mod Matchable

@@ -6,7 +6,6 @@ mod fresh;
 mod life;
 mod matching;
 mod maybe_place;
-mod names;
 mod others;
 mod places;
 mod presorting;

@@ -1,12 +1,11 @@
-ghost use Rattle.std.specs.Prelude.{◌≡◌, ◌↔◌, Contains, IfOk, IsTrue, MatchOption, Some};
+ghost use Rattle.std.specs.Prelude.{◌↔◌, Contains, IfOk, IsTrue, MatchOption, Some};
 ghost use Rattle.std.specs.List.Sorted.{IsNonDecreasingBy};
-ghost use Rattle.value_match.specs.Inner.Named.{IsNamed, place_of};
 ghost use Rattle.value_match.specs.Inner.Others.{HoldsOthers, NoneOf};
 ghost use Rattle.value_match.specs.Inner.Sources.{IsCallPlace};
 
-use crate::names::Names;
 use history_merge::PackedOperation;
 use std::alloc::{AllocError, Global};
+use std::collections::BTreeSet;
 
 /// A value that was called to be enqueued, with the place of the call.
 #[derive(Clone, Copy, Debug)]
@@ -26,41 +25,22 @@ pub(crate) fn is_called_at(operations: &[PackedOperation], value: u64, place: us
     }
 }
 
-/// Returns the place that the value's name gives, if the value was called there.
-#[inline(always)]
-pub(crate) fn named_place(
-    operations: &[PackedOperation],
-    names: &Names,
-    value: u64,
-) -> Option<usize>
-    ensures { MatchOption result (¬ (IsNamed operations.now names.now value))
-        (λ place. (place ≡ place_of names.now value) × IsNamed operations.now names.now value) }
-{
-    let place = names.place_of(value);
-    if is_called_at(operations, value, place) {
-        Some(place)
-    } else {
-        None
-    }
-}
-
-/// The calls to enqueue that aren't where their values' names tell, by value.
+/// The calls to enqueue the values that are wanted, by value.
 pub(crate) fn others_of(
     alloc: Global,
     operations: &[PackedOperation],
-    names: &Names,
+    wanted: &BTreeSet<u64>,
 ) -> Result<Vec<Call>, AllocError>
-    ensures { IfOk result (λ others. HoldsOthers operations.now names.now others.items) }
+    ensures { IfOk result (λ others. HoldsOthers wanted.now operations.now others.items) }
 {
     let mut others = Vec::new(alloc);
     for (place, operation) in operations.iter().enumerate() {
         let Some(value) = operation.unpack().kind.enqueued_value() else {
             continue;
         };
-        if named_place(operations, names, value).is_some() {
-            continue;
+        if wanted.contains(&value) {
+            others.push(Call { value, place })?;
         }
-        others.push(Call { value, place })?;
     }
     others.sort_unstable_by_key(|call| call.value);
     Ok(others)

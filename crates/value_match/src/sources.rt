@@ -1,16 +1,17 @@
-ghost use Rattle.std.specs.Prelude.{◌≤◌, IfOk, IfSome, IsTrue, MatchOption, Some, length, ⊤};
+ghost use Rattle.std.specs.Prelude.{◌≤◌, IfOk, IfSome, IsTrue, Some, length};
 ghost use Rattle.history_merge.specs.Complete.{AreComplete};
-ghost use Rattle.value_match.specs.Inner.Others.{HoldsNear, HoldsOthers};
-ghost use Rattle.value_match.specs.Inner.Sources.{AreSources, HoldsSources, IsCallPlace, IsSourceOf};
+ghost use Rattle.value_match.specs.Inner.Others.{AreNearWith, HoldsNear};
+ghost use Rattle.value_match.specs.Inner.Sources.{AreSources, HoldsSources, IsCallPlace};
+ghost use Rattle.value_match.specs.Violations.{NoFreshViolation};
 
 use crate::fresh::comes_too_soon;
 use crate::matching::MAX_MATCHED;
 use crate::maybe_place::MaybePlace;
-use crate::names::Names;
-use crate::others::{Call, is_called_at, named_place, others_of, place_among};
+use crate::others::{Call, is_called_at, others_of, place_among};
 use crate::thread_calls::ThreadCalls;
 use history_merge::{OpKind, PackedOperation};
 use std::alloc::{AllocError, Global};
+use std::collections::BTreeSet;
 
 /// How far from the call for the value dequeued last the call for the next is looked for.
 const REACH: usize = 64;
@@ -27,13 +28,17 @@ pub(crate) struct Sources {
 #[derive(Drop)]
 struct NearSources {
     sources: Vec<MaybePlace>,
+    /// The values of the dequeues whose sources aren't found yet.
+    wanted: BTreeSet<u64>,
     all_found: bool,
+    all_in_time: bool,
 }
 
 /// The sources of all dequeues.
 ///
-/// Time O(n) for n operations where the values have a recorder's names, or leave nearly in the order of their calls. Else
-/// the calls of the other values are sorted by value, and each of their dequeues costs a look-up, O(n log n).
+/// Time O(n) for n operations where the values leave nearly in the order of their calls, or by recorder's names nearly in that
+/// of their threads' calls. Else the calls of the other values are sorted by value, and each of their dequeues costs a look-up,
+/// O(n log n).
 pub(crate) fn sources_of(
     alloc: Global,
     operations: &[PackedOperation],
@@ -42,45 +47,59 @@ pub(crate) fn sources_of(
     requires few { length operations.now ≤ MAX_MATCHED }
     ensures { IfOk result (AreSources operations.now) }
 {
-    match close_sources(alloc, operations)? {
-        Some(sources) => Ok(sources),
-        None => Ok(Sources {
-            places: far_sources(alloc, operations)?,
-            all_in_time: false,
-        }),
+    let near = near_sources(alloc, operations)?;
+    let mut places = near.sources;
+    if near.all_found {
+        let all_in_time = near.all_in_time;
+        return Ok(Sources {
+            places,
+            all_in_time,
+        });
     }
+    let others = others_of(alloc, operations, &near.wanted)?;
+    find_others(operations, &others, places.as_mut_slice());
+    Ok(Sources {
+        places,
+        all_in_time: false,
+    })
 }
 
-/// The sources, if each is close to that of the dequeue before, or to that of the value before of its thread.
-fn close_sources(
-    alloc: Global,
-    operations: &[PackedOperation],
-) -> Result<Option<Sources>, AllocError>
+/// The sources that are each close to that of the dequeue before, or to that of the value before of its thread.
+fn near_sources(alloc: Global, operations: &[PackedOperation]) -> Result<NearSources, AllocError>
     requires complete { AreComplete operations.now }
     requires few { length operations.now ≤ MAX_MATCHED }
-    ensures { IfOk result (λ found. MatchOption found ⊤ (AreSources operations.now)) }
+    ensures near { IfOk result (λ near. HoldsNear near.wanted operations.now near.sources.items) }
+    ensures all { IfOk result (λ near. IsTrue near.all_found → HoldsSources operations.now near.sources.items) }
+    ensures in_time { IfOk result (λ near. IsTrue near.all_found → IsTrue near.all_in_time → NoFreshViolation operations.now) }
 {
-    let mut places = Vec::with_capacity(alloc, operations.len())?;
+    let mut sources = Vec::with_capacity(alloc, operations.len())?;
     let mut calls = ThreadCalls::new(alloc, operations)?;
+    let mut wanted = BTreeSet::new(alloc);
+    let mut all_found = true;
     let mut all_in_time = true;
     let mut next = 0;
     for operation in operations {
         let operation = operation.unpack();
         let OpKind::Deq(value) = operation.kind else {
-            places.push(MaybePlace::none())?;
+            sources.push(MaybePlace::none())?;
             continue;
         };
         let Some(place) = close_place(&mut calls, operations, value, next) else {
-            return Ok(None);
+            wanted.insert(value)?;
+            all_found = false;
+            sources.push(MaybePlace::none())?;
+            continue;
         };
         all_in_time = all_in_time && !comes_too_soon(operations, operation, place);
         next = place + 1;
-        places.push(MaybePlace::some(place))?;
+        sources.push(MaybePlace::some(place))?;
     }
-    Ok(Some(Sources {
-        places,
+    Ok(NearSources {
+        sources,
+        wanted,
+        all_found,
         all_in_time,
-    }))
+    })
 }
 
 /// Returns the place of the call for this value, if it is near among those of its thread or near this place.
@@ -94,66 +113,6 @@ fn close_place(
     ensures { IfSome result (λ place. IsCallPlace operations.now value (Some place)) }
 {
     match calls.find(operations, value) {
-        Some(place) => Some(place),
-        None => near_place(operations, value, from),
-    }
-}
-
-/// The sources, by the names of the values, near by or among the calls sorted by value.
-fn far_sources(alloc: Global, operations: &[PackedOperation]) -> Result<Vec<MaybePlace>, AllocError>
-    requires { length operations.now ≤ MAX_MATCHED }
-    ensures { IfOk result (λ sources. HoldsSources operations.now sources.items) }
-{
-    let names = Names::new(alloc, operations)?;
-    let near = near_sources(alloc, operations, &names)?;
-    let mut sources = near.sources;
-    if !near.all_found {
-        let others = others_of(alloc, operations, &names)?;
-        find_others(operations, &names, &others, sources.as_mut_slice());
-    }
-    Ok(sources)
-}
-
-/// The sources that the names of the values tell, or that are found near that of the dequeue before.
-fn near_sources(
-    alloc: Global,
-    operations: &[PackedOperation],
-    names: &Names,
-) -> Result<NearSources, AllocError>
-    requires { length operations.now ≤ MAX_MATCHED }
-    ensures near { IfOk result (λ near. HoldsNear operations.now near.sources.items) }
-    ensures all { IfOk result (λ near. IsTrue near.all_found → HoldsSources operations.now near.sources.items) }
-{
-    let mut sources = Vec::with_capacity(alloc, operations.len())?;
-    let mut all_found = true;
-    let mut next = 0;
-    for operation in operations {
-        let OpKind::Deq(value) = operation.unpack().kind else {
-            sources.push(MaybePlace::none())?;
-            continue;
-        };
-        let Some(place) = guessed_place(operations, names, value, next) else {
-            all_found = false;
-            sources.push(MaybePlace::none())?;
-            continue;
-        };
-        next = place + 1;
-        sources.push(MaybePlace::some(place))?;
-    }
-    Ok(NearSources { sources, all_found })
-}
-
-/// Returns the place of the call for this value, if its name gives it or it is near this place.
-#[inline(always)]
-fn guessed_place(
-    operations: &[PackedOperation],
-    names: &Names,
-    value: u64,
-    from: usize,
-) -> Option<usize>
-    ensures { IfSome result (λ place. IsCallPlace operations.now value (Some place)) }
-{
-    match named_place(operations, names, value) {
         Some(place) => Some(place),
         None => near_place(operations, value, from),
     }
@@ -177,44 +136,21 @@ fn near_place(operations: &[PackedOperation], value: u64, from: usize) -> Option
     None
 }
 
-/// Finds the sources that weren't near, by the names of the values and the calls of the others.
-fn find_others(
-    operations: &[PackedOperation],
-    names: &Names,
-    others: &[Call],
-    sources: &mut [MaybePlace],
-)
+/// Finds the sources that weren't near among the calls of their values.
+fn find_others(operations: &[PackedOperation], others: &[Call], sources: &mut [MaybePlace])
     requires few { length operations.now ≤ MAX_MATCHED }
-    requires others { HoldsOthers operations.now names.now others.now }
-    requires near { HoldsNear operations.now sources.old }
+    requires near { AreNearWith operations.now sources.old others.now }
     ensures { HoldsSources operations.now sources.new }
 {
     for (place, operation) in operations.iter().enumerate() {
-        if sources[place].get().is_none() {
-            sources[place] = source_of(operations, names, others, operation.unpack().kind);
+        if sources[place].get().is_some() {
+            continue;
         }
-    }
-}
-
-/// The place of the call for the value that a dequeue gave, by the value's name or among the calls of the others.
-fn source_of(
-    operations: &[PackedOperation],
-    names: &Names,
-    others: &[Call],
-    kind: OpKind,
-) -> MaybePlace
-    requires few { length operations.now ≤ MAX_MATCHED }
-    requires others { HoldsOthers operations.now names.now others.now }
-    ensures { IsSourceOf operations.now kind result }
-{
-    let OpKind::Deq(value) = kind else {
-        return MaybePlace::none();
-    };
-    if let Some(place) = named_place(operations, names, value) {
-        return MaybePlace::some(place);
-    }
-    match place_among(others, value) {
-        Some(place) => MaybePlace::some(place),
-        None => MaybePlace::none(),
+        let OpKind::Deq(value) = operation.unpack().kind else {
+            continue;
+        };
+        if let Some(call) = place_among(others, value) {
+            sources[place] = MaybePlace::some(call);
+        }
     }
 }

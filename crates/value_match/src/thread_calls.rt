@@ -106,7 +106,7 @@ fn calls_of(operation: Operation) -> u32 {
 }
 
 /// For each number the sum of those before it, and the sum of all.
-pub(crate) fn sums_before(counts: [u32; MAX_THREADS]) -> ([u32; MAX_THREADS], u32) {
+fn sums_before(counts: [u32; MAX_THREADS]) -> ([u32; MAX_THREADS], u32) {
     let mut sums = [0; MAX_THREADS];
     let mut sum = 0u32;
     for thread in 0..MAX_THREADS {

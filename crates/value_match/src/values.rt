@@ -36,11 +36,11 @@ pub(crate) enum MatchOutcome {
 /// Initial values count as enqueued before all else: what is matched are the operations of the filled history, as `fill` of
 /// `history_merge` gives them. A violation names the history's own operations and initial values.
 ///
-/// Time O(n) for n operations of values that have a recorder's names, or leave nearly in the order of their calls; else the
-/// calls of the others are sorted by value, O(n log n). Where a value is dequeued twice, O(n log n) for a sort by return.
-/// The answer borrows the operations and takes a word for each accepted value; beside it the work takes some two words for
-/// each operation, and two more for each call or dequeue that is sorted. Where there are initial values the answer holds the
-/// filled history's operations.
+/// Time O(n) for n operations of values that leave nearly in the order of their calls, or by recorder's names nearly in that of
+/// their threads' calls; else the calls of the others are sorted by value, O(n log n). Where a value is dequeued twice,
+/// O(n log n) for a sort by return. The answer borrows the operations and takes a word for each accepted value; beside it the
+/// work takes some two words for each operation, and a few more for each call or dequeue that is sorted. Where there are
+/// initial values the answer holds the filled history's operations.
 pub fn match_values(alloc: Global, history: &History) -> Result<Matched<'_>, AllocError>
     ensures matched { IfOk result (IsMatched history.now.initial (operations_of history.now.events)) }
     ensures complete { AreComplete (filled history.now.initial (operations_of history.now.events)) }

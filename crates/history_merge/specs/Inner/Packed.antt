@@ -1,6 +1,6 @@
 -- An operation in few numbers.
 use Rattle.std.specs.Prelude.{◌≡◌, ℕ, ◌+◌, ◌*◌, ◌/◌, ◌%◌, ◌<◌}
-use Rattle.std.proofs.Common.{refl}
+use Rattle.std.proofs.Common.{refl, ap, ◌∙◌}
 use Rattle.std.proofs.lemmas.Nat.{div-mul-add, mod-mul-add}
 use Rattle.history_merge.specs.declared.operation.OpKind.{OpKind}
 use Rattle.history_merge.specs.declared.operation.OpKind.TheVariants.{Enq, Deq, Empty, Not}
@@ -29,13 +29,14 @@ value_of (Deq v) = v
 value_of Empty = 0
 value_of (Not v) = v
 
--- the ticket of two halves
+-- the number of two halves
 abbrev pub joined : ℕ → ℕ → ℕ
 joined upper lower = upper * LOWER + lower
 
 -- where there is no value the number is 0, and the lower halves are in their range
-pub record IsPacked (t : Tag) (v lower_call lower_ret : ℕ) : Type 0 where
-  pub value : value_of (kind_by t v) ≡ v
+pub record IsPacked (t : Tag) (upper_value lower_value lower_call lower_ret : ℕ) : Type 0 where
+  pub no_value : value_of (kind_by t (joined upper_value lower_value)) ≡ joined upper_value lower_value
+  pub value : lower_value < LOWER
   pub call : lower_call < LOWER
   pub ret : lower_ret < LOWER
 
@@ -46,6 +47,14 @@ back_upper upper lower below = div-mul-add upper LOWER lower below
 
 pub back_lower : (upper lower : ℕ) → lower < LOWER → joined upper lower % LOWER ≡ lower
 back_lower upper lower below = mod-mul-add upper LOWER lower below
+
+pub back_upper_value : (t : Tag) (upper lower : ℕ) → value_of (kind_by t (joined upper lower)) ≡ joined upper lower → lower < LOWER
+    → value_of (kind_by t (joined upper lower)) / LOWER ≡ upper
+back_upper_value t upper lower same below = ap (λ v. v / LOWER) same ∙ back_upper upper lower below
+
+pub back_lower_value : (t : Tag) (upper lower : ℕ) → value_of (kind_by t (joined upper lower)) ≡ joined upper lower → lower < LOWER
+    → value_of (kind_by t (joined upper lower)) % LOWER ≡ lower
+back_lower_value t upper lower same below = ap (λ v. v % LOWER) same ∙ back_lower upper lower below
 
 pub back_tag : (t : Tag) (v : ℕ) → tag_of (kind_by t v) ≡ t
 back_tag tag.Enq v = refl

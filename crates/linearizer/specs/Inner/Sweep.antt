@@ -4,23 +4,16 @@ use Rattle.std.specs.List.Sorted.{IsNonDecreasingBy}
 use Rattle.std.proofs.Math.Nat.{div-add-mod}
 use Rattle.value_match.specs.declared.life.Life.{Life}
 use Rattle.value_match.specs.declared.life.MatchedValue.{MatchedValue}
-use Rattle.value_match.specs.Lives.{dequeue_return, enqueue_call, entered_by, leaves_from}
+use Rattle.value_match.specs.Lives.{enqueue_call, entered_by, leaves_from}
 use Rattle.linearizer.specs.Values.{EachIsChoice, IsChoice}
 use Rattle.linearizer.specs.Inner.Placement.{AreCalledInTime, AreEnqueueGaps, elements_at, lives_in}
 use Rattle.linearizer.specs.declared.choice.InOrder.{InOrder}
-use Rattle.linearizer.specs.declared.timed.Moment.{Moment}
-use Rattle.linearizer.specs.declared.timed.Moment.TheVariants.{Entry, Dequeue}
 use Rattle.linearizer.specs.declared.timed.Timed.{Timed}
 use Rattle.linearizer.specs.declared.timed.TheConstants.{PLACES}
 
 -- the time is this number of the value at the place
 abbrev pub IsTimeOf : (Life → ℕ) → List MatchedValue → Timed → Type 0
 IsTimeOf number values timed = IsSomeAnd (slice_get values timed.place) (λ m. timed.time ≡ number m.life)
-
--- a time of a value: when it has entered, or when its dequeue returned
-abbrev pub time_at : Moment → Life → ℕ
-time_at Entry = entered_by
-time_at Dequeue = dequeue_return
 
 -- each value by its time and its place, by times that never fall
 pub record AreByTime (number : Life → ℕ) (values : List MatchedValue) (entries : List Timed) : Type 0 where

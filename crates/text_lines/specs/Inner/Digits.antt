@@ -1,5 +1,5 @@
 -- Digits at the front of bytes.
-use Rattle.std.specs.Prelude.{◌≡◌, ℕ, ◌<◌, ◌≤◌, ◌^◌, ◌%◌, List, length, take, get_or, Bool, not, true, false}
+use Rattle.std.specs.Prelude.{◌≡◌, ℕ, ◌<◌, ◌≤◌, ◌^◌, ◌%◌, List, length, take, get_or, true, false}
 use Rattle.std.specs.List.{list_all}
 use Rattle.std.specs.Char.{is_ascii_digit}
 use Rattle.std.specs.Str.Parse.{digits_value}
@@ -9,14 +9,6 @@ pub record IsDigitsSoFar (bytes : List ℕ) (count value : ℕ) : Type 0 where
   pub within : count ≤ length bytes
   pub digits : list_all is_ascii_digit (take count bytes) ≡ true
   pub value_is : value ≡ digits_value 10 (take count bytes)
-
-abbrev pub is_no_digit : ℕ → Bool
-is_no_digit byte = not (is_ascii_digit byte)
-
--- as many bytes at the front are digits
-pub record HaveDigits (bytes : List ℕ) (count : ℕ) : Type 0 where
-  pub within : count ≤ length bytes
-  pub digits : list_all is_ascii_digit (take count bytes) ≡ true
 
 -- the digits at the front go no further than this
 abbrev pub StopsAt : List ℕ → ℕ → Type 0

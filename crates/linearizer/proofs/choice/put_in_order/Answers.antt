@@ -13,59 +13,51 @@ use Rattle.linearizer.proofs.choice.put_in_order.Goals.{After-first_left-first_i
 pub loop-entries-init : goal.loop-entries-init
 loop-entries-init c =
     let flags : c.in_ok-taken.taken.items ≡ replicate (length c.args.values.now) false = search rules in
-    rw (flags, c.in_ok-places.ensures.items, c.in_ok-gaps.ensures.items) (nothing_swept c.args.values.now c.in_ok-entries.entries.items c.in_ok-dequeues.dequeues.items)
+    rw (flags, c.in_ok-places.ensures.items, c.in_ok-gaps.ensures.items) (nothing_swept c.args.values.now c.as_slice-entries.result.now c.as_slice-dequeues.result.now)
 
 pub first_left-first_in-requires-clause-flagged : goal.first_left-first_in-requires-clause-flagged
 first_left-first_in-requires-clause-flagged c =
-    rw (c.deref.ensures.value, c.deref-in-loop-entries.ensures.value)
-    (flags_within entered_by c.args.values.now c.in_ok-entries.entries.items c.loop-entries.taken.items c.in_ok-entries.ensures
+    rw c.deref.ensures.value
+    (flags_within entered_by c.args.values.now c.as_slice-entries.result.now c.loop-entries.taken.items (rw c.as_slice-entries.ensures.value c.in_ok-by_time.ensures.entries)
     c.loop-entries.invariant.one_flag_each)
 
 pub first_left-first_in-requires-clause-some_left : goal.first_left-first_in-requires-clause-some_left
 first_left-first_in-requires-clause-some_left c =
-    rw (c.deref.ensures.value, c.deref-in-loop-entries.ensures.value)
-    (some_left entered_by c.args.values.now c.in_ok-entries.entries.items c.loop-entries.taken.items c.loop-entries.places.items c.loop-entries.gaps.items
-    c.in_ok-entries.ensures c.loop-entries.invariant.within c.loop-entries.invariant.so_far (search rules))
+    rw c.deref.ensures.value
+    (some_left entered_by c.args.values.now c.as_slice-entries.result.now c.loop-entries.taken.items c.loop-entries.places.items c.loop-entries.gaps.items
+    (rw c.as_slice-entries.ensures.value c.in_ok-by_time.ensures.entries) c.loop-entries.invariant.within c.loop-entries.invariant.so_far (search rules))
 
 pub first_left-first_out-requires-clause-flagged : goal.first_left-first_out-requires-clause-flagged
 first_left-first_out-requires-clause-flagged c =
-    rw (c.deref-in-loop-entries-2.ensures.value, c.deref-in-loop-entries-3.ensures.value)
-    (flags_within dequeue_return c.args.values.now c.in_ok-dequeues.dequeues.items c.loop-entries.taken.items c.in_ok-dequeues.ensures
+    rw c.deref-in-loop-entries.ensures.value
+    (flags_within dequeue_return c.args.values.now c.as_slice-dequeues.result.now c.loop-entries.taken.items (rw c.as_slice-dequeues.ensures.value c.in_ok-by_time.ensures.dequeues)
     c.loop-entries.invariant.one_flag_each)
 
 pub first_left-first_out-requires-clause-some_left : goal.first_left-first_out-requires-clause-some_left
 first_left-first_out-requires-clause-some_left c =
-    rw (c.deref-in-loop-entries-2.ensures.value, c.deref-in-loop-entries-3.ensures.value)
-    (some_left dequeue_return c.args.values.now c.in_ok-dequeues.dequeues.items c.loop-entries.taken.items c.loop-entries.places.items c.loop-entries.gaps.items
-    c.in_ok-dequeues.ensures c.loop-entries.invariant.within c.loop-entries.invariant.so_far (search rules))
+    rw c.deref-in-loop-entries.ensures.value
+    (some_left dequeue_return c.args.values.now c.as_slice-dequeues.result.now c.loop-entries.taken.items c.loop-entries.places.items c.loop-entries.gaps.items
+    (rw c.as_slice-dequeues.ensures.value c.in_ok-by_time.ensures.dequeues) c.loop-entries.invariant.within c.loop-entries.invariant.so_far (search rules))
 
 -- the cursors stand at the first that is left of each list
-entered : (c : After-first_left-first_in) → IsFirstLeft c.in_ok-entries.entries.items c.loop-entries.taken.items c.first_left-first_in.result
-entered c = rw (c.deref.ensures.value, c.deref-in-loop-entries.ensures.value) at c.first_left-first_in.ensures
+entered : (c : After-first_left-first_in) → IsFirstLeft c.as_slice-entries.result.now c.loop-entries.taken.items c.first_left-first_in.result
+entered c = rw c.deref.ensures.value at c.first_left-first_in.ensures
 
-dequeued : (c : After-first_left-first_out) → IsFirstLeft c.in_ok-dequeues.dequeues.items c.loop-entries.taken.items c.first_left-first_out.result
-dequeued c = rw (c.deref-in-loop-entries-2.ensures.value, c.deref-in-loop-entries-3.ensures.value) at c.first_left-first_out.ensures
-
-pub index-requires : goal.index-requires
-index-requires c = let first = entered ((goal.at.index-requires c).After-first_left-first_in) in
-    let inside : c.first_left-first_in.result < length c.in_ok-entries.entries.items = slice_get_within _ _ _ first.is_at in search rules
-
-pub index-requires-in-loop-entries : goal.index-requires-in-loop-entries
-index-requires-in-loop-entries c = let first = dequeued ((goal.at.index-requires-in-loop-entries c).After-first_left-first_out) in
-    let inside : c.first_left-first_out.result < length c.in_ok-dequeues.dequeues.items = slice_get_within _ _ _ first.is_at in search rules
+dequeued : (c : After-first_left-first_out) → IsFirstLeft c.as_slice-dequeues.result.now c.loop-entries.taken.items c.first_left-first_out.result
+dequeued c = rw c.deref-in-loop-entries.ensures.value at c.first_left-first_out.ensures
 
 pub choice-next-requires : goal.choice-next-requires
-choice-next-requires c = place_within entered_by c.args.values.now c.in_ok-entries.entries.items c.loop-entries.taken.items
-    c.first_left-first_in.result c.unpack-entry.result c.in_ok-entries.ensures (entered ((goal.at.choice-next-requires c).After-first_left-first_in))
+choice-next-requires c = place_within entered_by c.args.values.now c.as_slice-entries.result.now c.loop-entries.taken.items
+    c.first_left-first_in.result c.unpack-entry.result (rw c.as_slice-entries.ensures.value c.in_ok-by_time.ensures.entries) (entered ((goal.at.choice-next-requires c).After-first_left-first_in))
     (search rules)
 
 -- the choice of this turn
 next : (c : After-choice-next) → IsNext c.args.values.now c.loop-entries.taken.items c.choice-next.result
 next c =
-    next_at c.args.values.now c.in_ok-entries.entries.items c.in_ok-dequeues.dequeues.items c.loop-entries.taken.items c.first_left-first_in.result
+    next_at c.args.values.now c.as_slice-entries.result.now c.as_slice-dequeues.result.now c.loop-entries.taken.items c.first_left-first_in.result
     c.first_left-first_out.result c.unpack-entry.result c.unpack.result c.choice-next.result
-    c.in_ok-entries.ensures c.in_ok-dequeues.ensures (rw (c.deref.ensures.value, c.deref-in-loop-entries.ensures.value) at c.first_left-first_in.ensures)
-    (rw (c.deref-in-loop-entries-2.ensures.value, c.deref-in-loop-entries-3.ensures.value) at c.first_left-first_out.ensures) (search rules)
+    (rw c.as_slice-entries.ensures.value c.in_ok-by_time.ensures.entries) (rw c.as_slice-dequeues.ensures.value c.in_ok-by_time.ensures.dequeues) (rw c.deref.ensures.value at c.first_left-first_in.ensures)
+    (rw c.deref-in-loop-entries.ensures.value at c.first_left-first_out.ensures) (search rules)
     (search rules) c.choice-next.ensures
 
 within : (c : After-choice-next) → c.choice-next.result < length c.args.values.now
@@ -86,8 +78,8 @@ overflow_cast-next c =
 
 -- the entry at the cursor is the least of those that are left, and is in range
 least : (c : After-choice-next) → IsLeastLeft entered_by c.args.values.now c.loop-entries.taken.items c.unpack-entry.result
-least c = least_read entered_by c.args.values.now c.in_ok-entries.entries.items c.loop-entries.taken.items c.first_left-first_in.result
-    c.unpack-entry.result c.in_ok-entries.ensures (rw (c.deref.ensures.value, c.deref-in-loop-entries.ensures.value) at c.first_left-first_in.ensures)
+least c = least_read entered_by c.args.values.now c.as_slice-entries.result.now c.loop-entries.taken.items c.first_left-first_in.result
+    c.unpack-entry.result (rw c.as_slice-entries.ensures.value c.in_ok-by_time.ensures.entries) (rw c.deref.ensures.value at c.first_left-first_in.ensures)
     (search rules)
 
 bounded : (c : After-choice-next) → entered_by (least c).value.life ≤ NEVER
@@ -108,7 +100,7 @@ loop-entries-preserved c =
     let read = c.get.ensures ∙ get_or_from_slice_get c.args.values.now c.choice-next.result (next turn).value c.get.result (next turn).is_at in
     let called = c.enqueue_call.ensures ∙ ap (λ m. enqueue_call m.life) read in
     rw (c.in_ok-push.ensures.items, c.in_ok-push-2.ensures.items)
-    (swept_more c.args.values.now c.in_ok-entries.entries.items c.in_ok-dequeues.dequeues.items c.loop-entries.taken.items _ _ _ _
+    (swept_more c.args.values.now c.as_slice-entries.result.now c.as_slice-dequeues.result.now c.loop-entries.taken.items _ _ _ _
     c.loop-entries.places.items c.loop-entries.gaps.items c.choice-next.result c.unpack-entry.result (next turn) c.loop-entries.invariant
     (entered ((goal.at.loop-entries-preserved c).After-first_left-first_in)) (dequeued ((goal.at.loop-entries-preserved c).After-first_left-first_out))
     (least turn) (bounded turn) (omega (arith, called, c.if-entry-enqueue_call.false)))

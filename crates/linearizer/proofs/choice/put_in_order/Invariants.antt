@@ -4,7 +4,7 @@ use Rattle.linearizer.proofs.Choosing.{IsSwept}
 use Rattle.linearizer.proofs.choice.put_in_order.Given as goal
 
 abbrev pub invariant-loop-entries : goal.invariant-loop-entries
-invariant-loop-entries l = IsSwept l.values l.entries.items l.dequeues.items l.taken.items l.first_in l.first_out l.places.items l.gaps.items
+invariant-loop-entries l = IsSwept l.values l.entries l.dequeues l.taken.items l.first_in l.first_out l.places.items l.gaps.items
 
 abbrev pub decreases-loop-entries : goal.decreases-loop-entries
 decreases-loop-entries l = length l.values - vec_len l.places

@@ -1,28 +1,62 @@
-use Rattle.std.proofs.Common.{arith, ap, not, sym, ◌∙◌, None, Some, refl}
+use Rattle.std.proofs.Common.{◌≡◌, ℕ, arith, ap, sym, subst, ◌∙◌, false, Option, None, Some, refl}
 use Rattle.std.specs.Prelude.{is_some}
 use Rattle.std.proofs.lemmas.Bool.{false≢true}
 use Rattle.std.proofs.lemmas.List.{get_or_read}
 use Rattle.std.proofs.lemmas.Option.{slice_get-get_or, slice_get_read}
 use Rattle.history_merge.specs.declared.operation.OpKind.TheVariants.{Enq}
-use Rattle.value_match.proofs.CallPlaces.{none_found, found_near, found_more, found_all}
+use Rattle.value_match.specs.Inner.Sources.{IsSourceOf}
+use Rattle.value_match.proofs.CallPlaces.{call_within, found_all, found_here, found_more, found_nowhere, near_source, no_source, other_call}
 use Rattle.value_match.proofs.sources.find_others.Goals as goal
-use Rattle.value_match.proofs.sources.find_others.Goals.{then-is_none, else-is_none}
+use Rattle.value_match.proofs.sources.find_others.Goals.{in-Some, in_default-place_among}
 
-pub loop-place-init : goal.loop-place-init
-loop-place-init c = none_found _ _ c.requires.near
+none_if : (x : Option ℕ) → is_some x ≡ false → x ≡ None
+none_if None is = refl
+none_if (Some n) is = cc
+
+pub loop-place-preserved-then-is_some : goal.loop-place-preserved-then-is_some
+loop-place-preserved-then-is_some c =
+    let known = c.loop-place.invariant in
+    let here = slice_get-get_or c.args.operations.now c.loop-place.place (record { call = 0; ret = 0; thread = 0; kind = Enq 0 }) c.loop-place-test.true in
+    let read = get_or_read c.loop-place.sources c.loop-place.place _ (omega (arith, known.1.one_each)) c.index-sources-place.is None in (
+      known.0,
+      found_here _ _ _ _ _ here (near_source _ _ _ _ (known.1.near _ _ (omega arith) here)
+          (λ none. false≢true (sym (ap is_some (c.get.ensures ∙ read ∙ none)) ∙ sym c.is_some.ensures ∙ c.if-is_some.true))) known.1,
+      known.2,
+    )
+
+pub loop-place-preserved-in_default : goal.loop-place-preserved-in_default
+loop-place-preserved-in_default c =
+    let known = c.loop-place.invariant in
+    let here = slice_get_read _ _ _ _ refl c.loop-place-test.true c.index-operations-place.is ∙ ap Some (sym c.unpack.ensures.operation) in
+    let read = get_or_read c.loop-place.sources c.loop-place.place _ (omega (arith, known.1.one_each)) c.index-sources-place.is None in
+    let none = sym (c.get.ensures ∙ read) ∙ none_if _ (sym c.is_some.ensures ∙ c.if-is_some.false) in (
+      known.0,
+      found_here _ _ _ _ _ here (subst (IsSourceOf c.args.operations.now c.unpack.result.kind) (sym none) (no_source _ _ c.in_default.not-Deq)) known.1,
+      known.2,
+    )
+
+pub some-requires : goal.some-requires
+some-requires c =
+    omega (arith, call_within c.args.operations.now _ _ (other_call _ _ _ _ _ c.loop-place.invariant.2 c.in-Some.ensures), c.requires.few)
 
 pub loop-place-preserved : goal.loop-place-preserved
 loop-place-preserved c =
-    let here = slice_get-get_or c.args.operations.now c.loop-place.place (record { call = 0; ret = 0; thread = 0; kind = Enq 0 }) c.loop-place-test.true in
-    let read = get_or_read c.loop-place.sources c.loop-place.place _ (omega (arith, c.loop-place.invariant.one_each)) c.index-sources-place.is None in
-    elim c.if-is_none.branch [
-      | then-is_none w ↦
-          let there = slice_get_read _ _ _ _ refl c.loop-place-test.true c.index-operations-place.is in
-          rw w.sources-is
-          (found_more _ _ _ _ _ (there ∙ ap Some (sym w.unpack.ensures.operation)) w.source_of.ensures c.loop-place.invariant)
-      | else-is_none w ↦ rw w.sources-is (found_near _ _ _ _ here
-          (λ none. false≢true (sym (ap is_some (c.get.ensures ∙ read ∙ none)) ∙ c.is_none.ensures ∙ ap not w.if-is_none.false)) c.loop-place.invariant)
+    let known = c.loop-place.invariant in
+    let here = slice_get_read _ _ _ _ refl c.loop-place-test.true c.index-operations-place.is ∙ ap Some (sym c.unpack.ensures.operation) in
+    let read = get_or_read c.loop-place.sources c.loop-place.place _ (omega (arith, known.1.one_each)) c.index-sources-place.is None in
+    let none = sym (c.get.ensures ∙ read) ∙ none_if _ (sym c.is_some.ensures ∙ c.if-is_some.false) in
+    elim c.match-place_among.branch [
+      | in-Some w ↦
+          let call = subst (λ kind. IsSourceOf c.args.operations.now kind (Some w.in-Some.call)) (sym c.in-Deq.is)
+          (other_call _ _ _ _ _ known.2 w.in-Some.ensures) in
+          rw w.sources-is (known.0, found_more _ _ _ _ _ _ here (rw w.some.ensures call) known.1, known.2)
+      | in_default-place_among w ↦ rw w.sources-is (
+        known.0,
+        found_here _ _ _ _ _ here
+            (found_nowhere _ _ c.unpack.result _ _ _ c.in-Deq.is none known.2 w.in_default-place_among.ensures (known.1.near _ _ (omega arith) here)) known.1,
+        known.2,
+      )
     ]
 
 pub returns : goal.returns
-returns c = found_all _ _ _ c.loop-place-test.false c.loop-place.invariant
+returns c = found_all _ _ _ _ c.loop-place-test.false c.loop-place.invariant.1

@@ -1,47 +1,67 @@
 use Rattle.std.proofs.Common.{arith, subst, sym, Some, None, ◌∙◌, ap, refl}
 use Rattle.std.proofs.lemmas.Bool.{false≢true}
-use Rattle.std.proofs.lemmas.Option.{slice_get-get_or, slice_get_read}
-use Rattle.history_merge.specs.declared.operation.OpKind.TheVariants.{Enq}
+use Rattle.std.proofs.lemmas.Option.{slice_get_read}
 use Rattle.value_match.specs.Inner.Others.{IsNearSource}
 use Rattle.value_match.specs.Inner.Sources.{IsSourceOf}
-use Rattle.value_match.proofs.CallPlaces.{call_within, sources_none, no_source, no_near_source, sources_push, sources_all, near_all}
+use Rattle.value_match.proofs.CallPlaces.{call_within, is_wanted, near_all, no_near_source, no_source, sources_all, sources_none, sources_push, wants_more}
+use Rattle.value_match.proofs.FreshDequeues.{none_fresh_yet, no_dequeue, in_time_more, none_fresh}
 use Rattle.value_match.proofs.sources.near_sources.Goals as goal
+use Rattle.value_match.proofs.sources.near_sources.Goals.{then-all_in_time, else-all_in_time}
 
 pub some-requires : goal.some-requires
-some-requires c = omega (arith, call_within c.args.operations.now c.in-Deq.value c.in-Some.place c.in-Some.ensures, c.requires)
+some-requires c = omega (arith, call_within c.args.operations.now c.in-Deq.value c.in-Some.place c.in-Some.ensures, c.requires.few)
 
 pub loop-operation-init : goal.loop-operation-init
-loop-operation-init c = rw c.in_ok-sources.ensures.items (sources_none IsNearSource c.args.operations.now, λ all. sources_none IsSourceOf c.args.operations.now)
+loop-operation-init c = rw c.in_ok-sources.ensures.items (record {
+  near = sources_none (IsNearSource _) c.args.operations.now;
+  all = λ all. sources_none IsSourceOf c.args.operations.now;
+  in_time = λ all in_time. none_fresh_yet c.args.operations.now;
+})
 
 pub loop-operation-preserved-in_default : goal.loop-operation-preserved-in_default
 loop-operation-preserved-in_default c =
-    let here = slice_get_read _ _ _ _ refl c.loop-operation-test.true c.operation-item.is ∙ ap Some (sym c.unpack.ensures.operation) in
-    rw (c.in_ok-push.ensures.items, c.none.ensures) (
-      sources_push IsNearSource _ _ _ _ _ here (no_near_source _ _ c.in_default.not-Deq) c.loop-operation.invariant.0,
-      λ all. sources_push IsSourceOf _ _ _ _ _ here (no_source _ _ c.in_default.not-Deq) (c.loop-operation.invariant.1 all),
-    )
+    let known = c.loop-operation.invariant in
+    let here = slice_get_read _ _ _ _ refl c.loop-operation-test.true c.operation-item.is ∙ ap Some (sym c.unpack-operation.ensures.operation) in
+    rw (c.in_ok-push.ensures.items, c.none.ensures) (record {
+      near = sources_push (IsNearSource _) _ _ _ _ _ here (no_near_source _ _ _ c.in_default.not-Deq) known.near;
+      all = λ all. sources_push IsSourceOf _ _ _ _ _ here (no_source _ _ c.in_default.not-Deq) (known.all all);
+      in_time = λ all in_time. no_dequeue _ _ _ here c.in_default.not-Deq (known.in_time all in_time);
+    })
 
-pub loop-operation-preserved-in_default-guessed_place : goal.loop-operation-preserved-in_default-guessed_place
-loop-operation-preserved-in_default-guessed_place c =
-    let here = slice_get_read _ _ _ _ refl c.loop-operation-test.true c.operation-item.is ∙ ap Some (sym c.unpack.ensures.operation) in
-    let near = subst (λ kind. IsNearSource c.args.operations.now kind None) (sym c.in-Deq.is) tt in
-    rw (c.in_ok-push-2.ensures.items, c.none-in_default-guessed_place.ensures) (
-      sources_push IsNearSource _ _ _ _ _ here near c.loop-operation.invariant.0,
-      λ all. absurd (false≢true all),
-    )
+pub loop-operation-preserved-in_default-close_place : goal.loop-operation-preserved-in_default-close_place
+loop-operation-preserved-in_default-close_place c =
+    let known = c.loop-operation.invariant in
+    let here = slice_get_read _ _ _ _ refl c.loop-operation-test.true c.operation-item.is ∙ ap Some (sym c.unpack-operation.ensures.operation) in
+    let adds = c.in_ok-insert.ensures.updates.0 in
+    let near = subst (λ kind. IsNearSource c.insert.new.self c.args.operations.now kind None) (sym c.in-Deq.is) (is_wanted _ _ c.in-Deq.value adds) in
+    rw (c.in_ok-push-2.ensures.items, c.none-in_default-close_place.ensures) (record {
+      near = sources_push (IsNearSource _) _ _ _ _ _ here near (wants_more _ _ _ _ _ _ adds known.near);
+      all = λ all. absurd (false≢true all);
+      in_time = λ all in_time. absurd (false≢true all);
+    })
 
 pub loop-operation-preserved : goal.loop-operation-preserved
 loop-operation-preserved c =
-    let here = slice_get_read _ _ _ _ refl c.loop-operation-test.true c.operation-item.is ∙ ap Some (sym c.unpack.ensures.operation) in
+    let known = c.loop-operation.invariant in
+    let here = slice_get_read _ _ _ _ refl c.loop-operation-test.true c.operation-item.is ∙ ap Some (sym c.unpack-operation.ensures.operation) in
     let source = subst (λ kind. IsSourceOf c.args.operations.now kind (Some c.in-Some.place)) (sym c.in-Deq.is) c.in-Some.ensures in
-    let near = subst (λ kind. IsNearSource c.args.operations.now kind (Some c.in-Some.place)) (sym c.in-Deq.is) c.in-Some.ensures in
-    rw (c.in_ok-push-3.ensures.items, c.some.ensures) (
-      sources_push IsNearSource _ _ _ _ _ here near c.loop-operation.invariant.0,
-      λ all. sources_push IsSourceOf _ _ _ _ _ here source (c.loop-operation.invariant.1 all),
-    )
+    let near = subst (λ kind. IsNearSource c.loop-operation.wanted c.args.operations.now kind (Some c.in-Some.place)) (sym c.in-Deq.is) c.in-Some.ensures in
+    rw (c.in_ok-push-3.ensures.items, c.some.ensures) (record {
+      near = sources_push (IsNearSource _) _ _ _ _ _ here near known.near;
+      all = λ all. sources_push IsSourceOf _ _ _ _ _ here source (known.all all);
+      in_time = λ all in_time. elim c.if-all_in_time.branch [
+        | then-all_in_time w ↦
+            in_time_more _ _ _ _ _ _ c.requires.complete here c.in-Deq.is c.in-Some.ensures w.comes_too_soon.ensures (sym w.all_in_time-is ∙ in_time)
+            (known.in_time all w.if-all_in_time.true)
+        | else-all_in_time w ↦ absurd (false≢true (sym w.if-all_in_time.false ∙ sym w.all_in_time-is ∙ in_time))
+      ];
+    })
 
 pub returns-clause-near : goal.returns-clause-near
-returns-clause-near c = near_all _ _ _ c.loop-operation-test.false c.loop-operation.auto.operation-index-end c.loop-operation.invariant.0
+returns-clause-near c = near_all _ _ _ _ c.loop-operation-test.false c.loop-operation.auto.operation-index-end c.loop-operation.invariant.near
 
 pub returns-clause-all : goal.returns-clause-all
-returns-clause-all c = λ all. sources_all _ _ _ c.loop-operation-test.false c.loop-operation.auto.operation-index-end (c.loop-operation.invariant.1 all)
+returns-clause-all c = λ all. sources_all _ _ _ c.loop-operation-test.false c.loop-operation.auto.operation-index-end (c.loop-operation.invariant.all all)
+
+pub returns-clause-in_time : goal.returns-clause-in_time
+returns-clause-in_time c = λ all in_time. none_fresh _ _ c.loop-operation-test.false (c.loop-operation.invariant.in_time all in_time)

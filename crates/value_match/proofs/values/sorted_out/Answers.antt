@@ -1,6 +1,6 @@
 use Rattle.std.proofs.Common.{arith, sym, subst, None, [], ◌∷◌, ◌∙◌, Some, ap, refl}
 use Rattle.std.proofs.lemmas.List.{get_or_read, map-append}
-use Rattle.std.proofs.lemmas.Option.{slice_get-get_or, slice_get_read}
+use Rattle.std.proofs.lemmas.Option.{slice_get_read}
 use Rattle.value_match.specs.Accepted.{value_at}
 use Rattle.value_match.specs.Inner.Sources.{IsDequeuePlace}
 use Rattle.history_merge.specs.declared.operation.Operation.{Operation}

@@ -39,4 +39,4 @@ returns-clause-clash c = λ initial events known few kept. kept-append initial e
 
 pub returns-in-Some-clause-clash : goal.returns-in-Some-clause-clash
 returns-in-Some-clause-clash c = λ initial events known few kept.
-    c.clash_of-self.ensures initial events known.tracked known.formed (rise_without_fault events known.no_fault) (omega (arith, few)) known.count
+    c.keep_clash.ensures.clash initial events known.tracked known.formed (rise_without_fault events known.no_fault) few known.count

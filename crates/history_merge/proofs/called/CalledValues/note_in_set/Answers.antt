@@ -2,7 +2,7 @@ use Rattle.std.proofs.Common.{◌≡◌, ℕ, sym, subst, refl, ◌∙◌}
 use Rattle.history_merge.proofs.Gathered.{called_in_operations}
 use Rattle.history_merge.proofs.KnownValues.{knows_set, repeats_by_set}
 use Rattle.history_merge.specs.Inner.Forming.{is_called_in}
-use Rattle.history_merge.proofs.called.CalledValues.note_rising.Goals as goal
+use Rattle.history_merge.proofs.called.CalledValues.note_in_set.Goals as goal
 
 pub returns : goal.returns
 returns c = λ events e calls known same.

@@ -1,0 +1,10 @@
+use Rattle.std.proofs.Common.{rules}
+use Rattle.std.proofs.lemmas.List.Sorted.{IsNonDecreasingBy-from_sort_by_key, IsPermutation-trans}
+use Rattle.linearizer.proofs.timed.sort_by_time.Goals as goal
+
+pub returns-clause-permutation : goal.returns-clause-permutation
+returns-clause-permutation c = IsPermutation-trans _ _ _ c.presort.ensures c.sort_unstable_by_key.ensures.permutation
+
+pub returns-clause-never_falls : goal.returns-clause-never_falls
+returns-clause-never_falls c =
+    IsNonDecreasingBy-from_sort_by_key (λ timed. timed.time) _ c.sort_unstable_by_key.ensures.sorted (λ a r q k. search rules)
