@@ -6,7 +6,7 @@ const MOST_MOVES: usize = 32;
 /// Moves each element towards the front, past the elements before it whose numbers are greater, by a few places at most.
 ///
 /// A list in which each element stands near its place comes out sorted, and a sort that finds it so is one pass. Of any other
-/// list the answer is another order. Time O(n).
+/// list the answer is another order: it stops at the first element that moves as far as it may. Time O(n).
 pub fn presort<T: Copy, F: Fn(&T) -> u64>(elements: &mut Vec<T>, number: &F)
     requires { F.IsAlwaysCallable number.now }
     ensures { IsPermutation elements.old.items elements.new.items }
@@ -20,13 +20,15 @@ fn presort_slice<T: Copy, F: Fn(&T) -> u64>(elements: &mut [T], number: &F)
     ensures { IsPermutation elements.old elements.new }
 {
     for place in 0..elements.len() {
-        presort_one(elements, number, place);
+        if !presort_one(elements, number, place) {
+            return;
+        }
     }
 }
 
-/// Moves the element at this place towards the front.
+/// Moves the element at this place towards the front. Returns false if it moved as far as it may.
 #[inline(always)]
-fn presort_one<T: Copy, F: Fn(&T) -> u64>(elements: &mut [T], number: &F, place: usize)
+fn presort_one<T: Copy, F: Fn(&T) -> u64>(elements: &mut [T], number: &F, place: usize) -> bool
     requires place { place < length elements.old }
     requires number { F.IsAlwaysCallable number.now }
     ensures { IsPermutation elements.old elements.new }
@@ -37,4 +39,5 @@ fn presort_one<T: Copy, F: Fn(&T) -> u64>(elements: &mut [T], number: &F, place:
         elements.swap(at - 1, at);
         at -= 1;
     }
+    at > least || at == 0
 }
