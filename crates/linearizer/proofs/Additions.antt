@@ -18,25 +18,25 @@ use Rattle.value_match.specs.declared.life.Life.{Life}
 use Rattle.value_match.specs.Lives.{IsLeastFreeGap, is_empty_answer, is_empty_kind, is_refused, is_refused_kind}
 use Rattle.value_match.specs.declared.matching.TheConstants.{MAX_MATCHED}
 use Rattle.value_match.specs.Violations.{IsClear}
-use Rattle.linearizer.specs.declared.position.Placed.{Placed}
+use Rattle.linearizer.specs.declared.timed.Timed.{Timed}
 use Rattle.linearizer.specs.declared.timed.TheConstants.{PLACES}
-use Rattle.linearizer.specs.Order.{IsPositionFor, noop_answers, noop_position}
-use Rattle.linearizer.specs.Inner.Placement.{Adds, IsPlaced, position_of}
+use Rattle.linearizer.specs.Order.{IsPositionFor, noop_position}
+use Rattle.linearizer.specs.Inner.Placement.{Adds, IsNoopAt}
 use Rattle.linearizer.proofs.Positions.{beside}
 
 -- nothing is added at first
-pub adds_none : (operations : List Operation) (old : List Placed) → Adds operations [] old old
-adds_none operations old = record { added = []; after = sym (append-nil old); each_placed = λ lives. tt }
+pub adds_none : (operations : List Operation) (old : List Timed) → Adds operations [] old old
+adds_none operations old = record { added = []; after = sym (append-nil old); each_stands = tt }
 
--- one operation more is added at its position
-pub adds_more : (operations listed : List Operation) (k : ℕ) (o : Operation) (old new : List Placed) (placed : Placed)
-    → Adds operations (take k listed) old new → slice_get listed k ≡ Some o
-    → ((lives : List Life) → IsPlaced operations lives o placed) → Adds operations (take (k + 1) listed) old (new ++ placed ∷ [])
-adds_more operations listed k o old new placed adds at is = record {
-  added = adds.added ++ placed ∷ [];
-  after = ap (λ items. items ++ placed ∷ []) adds.after ∙ append_assoc old adds.added (placed ∷ []);
-  each_placed = λ lives. subst (λ xs. AllZip (IsPlaced operations lives) xs (adds.added ++ placed ∷ [])) (sym longer)
-      (all_zipped_more (IsPlaced operations lives) (take k listed) adds.added o placed (adds.each_placed lives) (is lives));
+-- one operation more is added with its gap
+adds_more : (operations listed : List Operation) (k : ℕ) (o : Operation) (old new : List Timed) (timed : Timed)
+    → Adds operations (take k listed) old new → slice_get listed k ≡ Some o → IsNoopAt operations o timed
+    → Adds operations (take (k + 1) listed) old (new ++ timed ∷ [])
+adds_more operations listed k o old new timed adds at is = record {
+  added = adds.added ++ timed ∷ [];
+  after = ap (λ items. items ++ timed ∷ []) adds.after ∙ append_assoc old adds.added (timed ∷ []);
+  each_stands = subst (λ xs. AllZip (IsNoopAt operations) xs (adds.added ++ timed ∷ [])) (sym longer)
+      (all_zipped_more (IsNoopAt operations) (take k listed) adds.added o timed adds.each_stands is);
 }
   where
     longer : take (k + 1) listed ≡ take k listed ++ o ∷ []
@@ -103,39 +103,26 @@ stands_refused operations lives o (Enq v) is = cc
 stands_refused operations lives o (Deq v) is = cc
 stands_refused operations lives o Empty is = cc
 
--- an empty dequeue at its least free gap, and a failed enqueue at its call
-pub adds_empty : (operations : List Operation) (k p gap call : ℕ) (old new : List Placed) (placed : Placed)
-    (is : IsNamed operations (filter is_empty_answer operations) k p)
-    → Adds operations (take k (filter is_empty_answer operations)) old new → IsLeastFreeGap operations is.o gap → placed.operation ≡ p → call ≡ is.o.call
-    → position_of placed.position ≡ record { gap = gap; class = noop_answers; rank = call }
-    → Adds operations (take (k + 1) (filter is_empty_answer operations)) old (new ++ placed ∷ [])
-adds_empty operations k p gap call old new placed is adds free names calls stands =
-    adds_more operations (filter is_empty_answer operations) k is.o old new placed adds is.is_listed
-    (λ lives. (
-      subst (λ q. IsAt operations q is.o) (sym names) is.at,
-      subst (IsPositionFor operations lives is.o is.o.kind) (sym here)
-          (stands_empty operations lives is.o gap is.o.kind (passes_at is_empty_answer operations k is.o is.is_listed) free),
-    ))
-  where
-    here : position_of placed.position ≡ noop_position is.o gap
-    here = stands ∙ ap (λ c. record { gap = gap; class = noop_answers; rank = c }) calls
+-- an empty dequeue at its least free gap
+pub adds_empty : (operations : List Operation) (k p gap : ℕ) (old new : List Timed) (is : IsNamed operations (filter is_empty_answer operations) k p)
+    → Adds operations (take k (filter is_empty_answer operations)) old new → IsLeastFreeGap operations is.o gap
+    → Adds operations (take (k + 1) (filter is_empty_answer operations)) old (new ++ record { time = gap; place = p } ∷ [])
+adds_empty operations k p gap old new is adds free =
+    adds_more operations (filter is_empty_answer operations) k is.o old new _ adds is.is_listed (record {
+      at = is.at;
+      stands = λ lives. stands_empty operations lives is.o gap is.o.kind (passes_at is_empty_answer operations k is.o is.is_listed) free;
+    })
 
--- one failed enqueue more
-pub adds_refused : (operations : List Operation) (k p call : ℕ) (old new : List Placed) (placed : Placed)
-    (is : IsNamed operations (filter is_refused operations) k p)
-    → Adds operations (take k (filter is_refused operations)) old new → placed.operation ≡ p → call ≡ is.o.call
-    → position_of placed.position ≡ record { gap = call; class = noop_answers; rank = call }
-    → Adds operations (take (k + 1) (filter is_refused operations)) old (new ++ placed ∷ [])
-adds_refused operations k p call old new placed is adds names calls stands =
-    adds_more operations (filter is_refused operations) k is.o old new placed adds is.is_listed
-    (λ lives. (
-      subst (λ q. IsAt operations q is.o) (sym names) is.at,
-      subst (IsPositionFor operations lives is.o is.o.kind) (sym here)
-          (stands_refused operations lives is.o is.o.kind (passes_at is_refused operations k is.o is.is_listed)),
-    ))
-  where
-    here : position_of placed.position ≡ noop_position is.o is.o.call
-    here = stands ∙ ap (λ c. record { gap = c; class = noop_answers; rank = c }) calls
+-- a failed enqueue at its call
+pub adds_refused : (operations : List Operation) (k p call : ℕ) (old new : List Timed) (is : IsNamed operations (filter is_refused operations) k p)
+    → Adds operations (take k (filter is_refused operations)) old new → call ≡ is.o.call
+    → Adds operations (take (k + 1) (filter is_refused operations)) old (new ++ record { time = call; place = p } ∷ [])
+adds_refused operations k p call old new is adds calls =
+    adds_more operations (filter is_refused operations) k is.o old new _ adds is.is_listed (record {
+      at = is.at;
+      stands = λ lives. subst (λ gap. IsPositionFor operations lives is.o is.o.kind (noop_position is.o gap)) (sym calls)
+          (stands_refused operations lives is.o is.o.kind (passes_at is_refused operations k is.o is.is_listed));
+    })
 
 -- the gap beside an answer, and how many there are of both
 pub gap_beside : (operations listed : List Operation) (gaps : List ℕ) (k gap d : ℕ) (o : Operation)
@@ -145,7 +132,7 @@ gap_beside operations listed gaps k gap d o free at is =
     subst (IsLeastFreeGap operations o) (sym (get_or_from_slice_get gaps k found.0 d found.1) ∙ sym is) found.2
 
 -- all empty answers are added
-pub adds_all : (operations listed : List Operation) (places gaps : List ℕ) (n : ℕ) (old new : List Placed) → ArePlacesOf operations places listed
+pub adds_all : (operations listed : List Operation) (places gaps : List ℕ) (n : ℕ) (old new : List Timed) → ArePlacesOf operations places listed
     → AllZip (λ o c. IsLeastFreeGap operations o c) listed gaps → n ≡ min (length places) (length gaps)
     → Adds operations (take n listed) old new → Adds operations listed old new
 adds_all operations listed places gaps n old new are free long adds =

@@ -13,10 +13,9 @@ use Rattle.value_match.specs.declared.life.MatchedValue.{MatchedValue}
 use Rattle.value_match.specs.declared.life.TheConstants.{NEVER}
 use Rattle.value_match.specs.Lives.{HoldsLives, enqueue_call, entered_by, lives_of}
 use Rattle.value_match.proofs.Lists.{mapped_to}
-use Rattle.linearizer.specs.declared.choice.InOrder.{InOrder}
 use Rattle.linearizer.specs.declared.timed.Timed.{Timed}
 use Rattle.linearizer.specs.Values.{EachIsChoice, IsChoice, IsLeastBy}
-use Rattle.linearizer.specs.Inner.Placement.{AreCalledInTime, AreEnqueueGaps, IsOrderOfPlaces, elements_at, lives_in}
+use Rattle.linearizer.specs.Inner.Placement.{AreCalledInTime, AreEnqueueGaps, IsOrderOfPlaces, elements_at, gaps_in, lives_in, places_in}
 use Rattle.linearizer.specs.Inner.Sweep.{AreByTime, IsFirstLeft, IsInOrder, IsLeft, IsPassedOver, IsTaken, IsTimeOf}
 use Rattle.linearizer.proofs.LeastEntries.{HaveGaps, all_gaps, least_is, no_gaps, one_gap_more}
 use Rattle.linearizer.proofs.OrderedPlaces.{elements_long, elements_push, lives_are}
@@ -135,9 +134,23 @@ swept_more values entries dequeues taken i j first_in first_out ordered gaps pla
       gaps swept.so_far (one_taken values taken place next.value next.is_at next.is_left) next.is_choice least.is_least bound least.time_is called);
 }
 
+-- the same of places and gaps that stand together
+pub swept_next : (values : List MatchedValue) (entries dequeues : List Timed) (taken : List Bool) (i j first_in first_out : ℕ) (order : List Timed)
+    (place : ℕ) (entry : Timed) (next : IsNext values taken place) → IsSwept values entries dequeues taken i j (places_in order) (gaps_in order)
+    → IsFirstLeft entries taken first_in → IsFirstLeft dequeues taken first_out → (least : IsLeastLeft entered_by values taken entry)
+    → entered_by least.value.life ≤ NEVER → enqueue_call next.value.life < entry.time
+    → IsSwept values entries dequeues (set taken place true) first_in first_out (places_in (order ++ record { time = entry.time - 1; place = place } ∷ []))
+    (gaps_in (order ++ record { time = entry.time - 1; place = place } ∷ []))
+swept_next values entries dequeues taken i j first_in first_out order place entry next swept a b least bound called =
+    rw (
+      map-append (λ (timed : Timed). timed.place) order (record { time = entry.time - 1; place = place } ∷ []),
+      map-append (λ (timed : Timed). timed.time) order (record { time = entry.time - 1; place = place } ∷ []),
+    )
+    (swept_more values entries dequeues taken i j first_in first_out (places_in order) (gaps_in order) place entry next swept a b least bound called)
+
 -- all values are swept
-pub all_swept : (values : List MatchedValue) (entries dequeues : List Timed) (taken : List Bool) (i j : ℕ) (order : InOrder)
-    → IsSwept values entries dequeues taken i j order.places.items order.gaps.items → length values ≤ length order.places.items → IsInOrder values order
+pub all_swept : (values : List MatchedValue) (entries dequeues : List Timed) (taken : List Bool) (i j : ℕ) (order : List Timed)
+    → IsSwept values entries dequeues taken i j (places_in order) (gaps_in order) → length values ≤ length order → IsInOrder values order
 all_swept values entries dequeues taken i j order swept all = record {
   within = swept.within;
   holds_each_once = subst (IsPermutation values) (append-nil done) so_far.holds_each_once;
@@ -147,20 +160,20 @@ all_swept values entries dequeues taken i j order swept all = record {
 }
   where
     done : List MatchedValue
-    done = elements_at values order.places.items
+    done = elements_at values (places_in order)
 
     none : left_of values taken ≡ []
     none =
         let count = length_permutation values (done ++ left_of values taken) swept.so_far.holds_each_once in
-        let long = elements_long values order.places.items swept.within in
+        let long = elements_long values (places_in order) swept.within ∙ length-map order (λ timed. timed.place) in
         nil_from_length (left_of values taken) (omega (arith, count, length-append done (left_of values taken)))
 
-    so_far : IsOrderedSoFar values done [] order.gaps.items
-    so_far = subst (λ left. IsOrderedSoFar values done left order.gaps.items) none swept.so_far
+    so_far : IsOrderedSoFar values done [] (gaps_in order)
+    so_far = subst (λ left. IsOrderedSoFar values done left (gaps_in order)) none swept.so_far
 
-    gaps : AreEnqueueGaps (lives_in done) order.gaps.items × AreCalledInTime (lives_in done)
-    gaps = all_gaps (lives_in done) order.gaps.items so_far.one_gap_each
-        (subst (λ lives. HaveGaps lives order.gaps.items) (append-nil (lives_in done)) (so_far.have_gaps [] (IsPermutation-refl [])))
+    gaps : AreEnqueueGaps (lives_in done) (gaps_in order) × AreCalledInTime (lives_in done)
+    gaps = all_gaps (lives_in done) (gaps_in order) so_far.one_gap_each
+        (subst (λ lives. HaveGaps lives (gaps_in order)) (append-nil (lives_in done)) (so_far.have_gaps [] (IsPermutation-refl [])))
 
 -- the choice among those left is called after one of these has entered
 pub passed_over : (values : List MatchedValue) (taken : List Bool) (done : List MatchedValue) (gaps : List ℕ) (place : ℕ) (entry : Timed)
@@ -184,14 +197,14 @@ passed_over values taken done gaps place entry next so_far least late = record {
         (IsPermutation-map (λ m. m.life) values (done ++ left_of values taken) so_far.holds_each_once)
 
 -- put in order, the places of the accepted values are in the chosen order
-pub places_in_order : (operations : List Operation) (values : List MatchedValue) (order : InOrder) → HoldsLives operations values → IsInOrder values order
-    → IsOrderOfPlaces operations order.places.items
+pub places_in_order : (operations : List Operation) (values : List MatchedValue) (order : List Timed) → HoldsLives operations values → IsInOrder values order
+    → IsOrderOfPlaces operations (places_in order)
 places_in_order operations values order holds is = record {
-  within = subst (λ n. All (λ place. place < n) order.places.items) (sym (length-map values (λ m. m.life)) ∙ ap length holds.0) is.within;
+  within = subst (λ n. All (λ place. place < n) (places_in order)) (sym (length-map values (λ m. m.life)) ∙ ap length holds.0) is.within;
   in_order = record {
-    holds_each_once = subst (IsPermutation (lives_of operations)) (lives_are operations values order.places.items holds)
-        (subst (λ lives. IsPermutation lives (lives_in (elements_at values order.places.items))) holds.0
-        (IsPermutation-map (λ m. m.life) values (elements_at values order.places.items) is.holds_each_once));
-    each_is_choice = subst EachIsChoice (lives_are operations values order.places.items holds) is.each_is_choice;
+    holds_each_once = subst (IsPermutation (lives_of operations)) (lives_are operations values (places_in order) holds)
+        (subst (λ lives. IsPermutation lives (lives_in (elements_at values (places_in order)))) holds.0
+        (IsPermutation-map (λ m. m.life) values (elements_at values (places_in order)) is.holds_each_once));
+    each_is_choice = subst EachIsChoice (lives_are operations values (places_in order) holds) is.each_is_choice;
   };
 }

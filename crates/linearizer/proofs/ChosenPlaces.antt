@@ -1,5 +1,5 @@
 -- What was placed and sorted gives the places of the chosen order, which is legal.
-use Rattle.std.proofs.Common.{◌≡◌, ℕ, ◌<◌, List, [], ◌∷◌, ◌++◌, length, get_or, map, refl, sym, ◌∙◌, ap, subst, arith}
+use Rattle.std.proofs.Common.{◌≡◌, ℕ, ◌<◌, List, [], ◌∷◌, ◌++◌, length, get_or, map, refl, sym, subst, arith}
 use Rattle.std.specs.Prelude.{All, AllPairs, IsPermutation, filter}
 use Rattle.std.specs.List.{AllZip}
 use Rattle.std.proofs.lemmas.List.{append_assoc, get_or-map, length-map}
@@ -15,7 +15,7 @@ use Rattle.value_match.specs.Violations.{IsClear, NoOrderViolation}
 use Rattle.linearizer.specs.declared.position.Class.TheVariants.{Noop}
 use Rattle.linearizer.specs.declared.position.Placed.{Placed}
 use Rattle.linearizer.specs.Order.{StandsBefore, IsPositionOf}
-use Rattle.linearizer.specs.Inner.Placement.{Adds, AreByPosition, HoldsNoops, HoldsValues, IsPlaced, NeverFall, dequeues_of, enqueues_of, position_of}
+use Rattle.linearizer.specs.Inner.Placement.{AreByPosition, HoldsNoops, HoldsValues, IsPlaced, dequeues_of, enqueues_of, position_of}
 use Rattle.linearizer.specs.Inner.Merging.{IsMerge, IsWholeOrder}
 use Rattle.linearizer.proofs.LegalOrder.{chosen_order_is_legal}
 use Rattle.linearizer.proofs.OneOrder.{operations_rise, sorted_is_chosen}
@@ -83,20 +83,6 @@ positions_never_fall placed never i j d below within =
     let inside : j < length placed = omega arith in
     rw (get_or-map (λ p. position_of p.position) placed i nowhere d (omega arith), get_or-map (λ p. position_of p.position) placed j nowhere d inside)
     (never i j nowhere below inside)
-
--- what is added to no operations, and sorted
-pub noops_held : (operations : List Operation) (empties all noops : List Placed) → Adds operations (filter is_empty_answer operations) [] empties
-    → Adds operations (filter is_refused operations) empties all → IsPermutation all noops → NeverFall noops
-    → HoldsNoops operations noops
-noops_held operations empties all noops first second moved never = record {
-  added = all;
-  each_placed = λ lives. subst (AllZip (IsPlaced operations lives) (filter is_empty_answer operations ++ filter is_refused operations))
-      (sym (second.after ∙ ap (λ xs. xs ++ second.added) first.after))
-      (zip_joined (IsPlaced operations lives) (filter is_empty_answer operations) (filter is_refused operations) first.added second.added
-      (first.each_placed lives) (second.each_placed lives));
-  each_once = moved;
-  never_fall = never;
-}
 
 -- all operations stand at their positions, and are merged by them
 pub chosen_and_legal : (operations : List Operation) (noops : List Placed) (places : List ℕ) → IsClear operations → NoOrderViolation operations

@@ -2,11 +2,12 @@
 use Rattle.std.proofs.Common.{◌≡◌, ℕ, ◌+◌, ◌<◌, ◌≤◌, max, List, [], ◌∷◌, ◌++◌, length, get_or, map, take, Option, Some, None, refl, sym, ◌∙◌, ap, subst, arith}
 use Rattle.std.specs.Prelude.{IsPermutation, MatchOption, fold, if◌then◌else◌, nat_lt, option_to_list, slice_get}
 use Rattle.std.specs.List.{AllZip, cons_option}
-use Rattle.std.proofs.lemmas.List.{append-nil, append_assoc, get_or_default, map-append, take_all, take_more}
+use Rattle.std.proofs.lemmas.List.{append-nil, append_assoc, map-append, take_all, take_more}
 use Rattle.std.proofs.lemmas.List.Elements.{filter_map-append}
 use Rattle.std.proofs.lemmas.List.Sorted.{IsPermutation-append_left, IsPermutation-cons, IsPermutation-middle, IsPermutation-refl, IsPermutation-sym}
 use Rattle.std.proofs.lemmas.List.Sorted.{IsPermutation-to_front, IsPermutation-trans}
-use Rattle.std.proofs.lemmas.Option.{get_or_from_slice_get, slice_get_within}
+use Rattle.std.proofs.lemmas.Option.{get_or_from_slice_get, slice_get-map, slice_get_within}
+use Rattle.std.specs.Option.{option_map}
 use Rattle.history_merge.specs.declared.operation.Operation.{Operation}
 use Rattle.history_merge.specs.declared.operation.OpKind.{OpKind}
 use Rattle.history_merge.specs.declared.operation.OpKind.TheVariants.{Enq, Deq}
@@ -16,9 +17,11 @@ use Rattle.value_match.specs.declared.life.Life.{Life}
 use Rattle.value_match.specs.declared.life.MatchedValue.{MatchedValue}
 use Rattle.value_match.specs.Lives.{HoldsLives, IsLife, IsMaybeAt, leaves_from, dequeue_of, enqueue_of, HasPlaces}
 use Rattle.linearizer.specs.declared.position.Placed.{Placed}
+use Rattle.linearizer.specs.declared.timed.Timed.{Timed}
 use Rattle.linearizer.specs.Values.{IsValueOrder, dequeue_gap, enqueue_gap, greatest_leaves_from}
 use Rattle.linearizer.specs.Order.{IsPositionFor, dequeue_position, earlier_dequeues, enqueues, other_dequeues}
-use Rattle.linearizer.specs.Inner.Placement.{AreEnqueueGaps, HoldsUpTo, HoldsValues, IsOrderOfPlaces, IsPlaced, dequeues_of, enqueues_of, lives_at, position_of}
+use Rattle.linearizer.specs.Inner.Placement.{AreEnqueueGaps, HoldsUpTo, HoldsValues, IsOrderOfPlaces, IsPlaced, dequeues_of, enqueues_of, gaps_in, lives_at, places_in}
+use Rattle.linearizer.specs.Inner.Placement.{position_of}
 use Rattle.linearizer.proofs.OrderedPlaces.{IsValueAt, lives_long, value_at}
 use Rattle.linearizer.proofs.Opposites.{is_life}
 
@@ -108,29 +111,42 @@ pub record IsTurn (operations : List Operation) (lives : List Life) (i : ℕ) (m
   pub at : slice_get lives i ≡ Some m.life
   pub gap_is : gap ≡ enqueue_gap lives i
 
--- each place has its gap
-pub gap_within : (operations : List Operation) (places gaps : List ℕ) (i place : ℕ) → IsOrderOfPlaces operations places
-    → AreEnqueueGaps (lives_at operations places) gaps → slice_get places i ≡ Some place → i < length gaps
-gap_within operations places gaps i place order are_gaps at =
-    omega (arith, are_gaps.one_each, lives_long operations places order, slice_get_within places i place at)
+-- the value that is read in a turn
+value_read : (operations : List Operation) (values : List MatchedValue) (timed : List Timed) (i : ℕ) (t : Timed) → HoldsLives operations values
+    → IsOrderOfPlaces operations (places_in timed) → slice_get timed i ≡ Some t → IsValueAt operations values (places_in timed) i t.place
+value_read operations values timed i t holds order at = value_at operations values (places_in timed) i t.place holds order
+    (slice_get-map (λ (x : Timed). x.place) timed i ∙ ap (option_map (λ (x : Timed). x.place)) at)
+
+-- it is one of the values
+pub turn_within : (operations : List Operation) (values : List MatchedValue) (timed : List Timed) (i : ℕ) (t : Timed) → HoldsLives operations values
+    → IsOrderOfPlaces operations (places_in timed) → slice_get timed i ≡ Some t → t.place < length values
+turn_within operations values timed i t holds order at =
+    let here = value_read operations values timed i t holds order at in slice_get_within values t.place here.value here.is_at
 
 -- the turn, by what is read in it
-pub turn_is : (operations : List Operation) (values : List MatchedValue) (places gaps : List ℕ) (i place : ℕ) (m : MatchedValue) (gap d : ℕ)
-    → HoldsLives operations values → IsOrderOfPlaces operations places → AreEnqueueGaps (lives_at operations places) gaps
-    → slice_get places i ≡ Some place → m ≡ get_or values place m → gap ≡ get_or gaps i d → IsTurn operations (lives_at operations places) i m gap
-turn_is operations values places gaps i place m gap d holds order are_gaps at reads gap_here = record {
+pub turn_is : (operations : List Operation) (values : List MatchedValue) (timed : List Timed) (i : ℕ) (t : Timed) (m : MatchedValue)
+    → HoldsLives operations values → IsOrderOfPlaces operations (places_in timed)
+    → AreEnqueueGaps (lives_at operations (places_in timed)) (gaps_in timed) → slice_get timed i ≡ Some t → m ≡ get_or values t.place m
+    → IsTurn operations (lives_at operations (places_in timed)) i m t.time
+turn_is operations values timed i t m holds order are_gaps here_is reads = record {
   order = order.in_order;
   places = subst (HasPlaces operations) (sym same) here.has_places;
   at = here.has_rank ∙ ap (λ m. Some m.life) (sym same);
-  gap_is = gap_here ∙ get_or_default gaps i d 0 (gap_within operations places gaps i place order are_gaps at)
+  gap_is = sym (get_or_from_slice_get gaps i t.time 0 (slice_get-map (λ (x : Timed). x.time) timed i ∙ ap (option_map (λ (x : Timed). x.time)) here_is))
       ∙ are_gaps.at_each i (slice_get_within (lives_at operations places) i here.value.life here.has_rank);
 }
   where
-    here : IsValueAt operations values places i place
-    here = value_at operations values places i place holds order at
+    places : List ℕ
+    places = places_in timed
+
+    gaps : List ℕ
+    gaps = gaps_in timed
+
+    here : IsValueAt operations values places i t.place
+    here = value_read operations values timed i t holds order here_is
 
     same : m ≡ here.value
-    same = reads ∙ get_or_from_slice_get values place here.value m here.is_at
+    same = reads ∙ get_or_from_slice_get values t.place here.value m here.is_at
 
 -- nothing is placed at first
 pub nothing_placed : (operations : List Operation) (lives : List Life) → HoldsUpTo operations lives 0 0 0 []

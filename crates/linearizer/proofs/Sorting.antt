@@ -1,46 +1,106 @@
--- Sorted by position, operations never fall.
-use Rattle.std.proofs.Common.{◌≡◌, true, false, List, get_or, refl, sym, ◌∙◌, ap, arith}
-use Rattle.std.specs.Prelude.{AllPairs, IsSortedByKey}
-use Rattle.std.specs.Ordering.{is_lt, nat_cmp, ordering_then}
-use Rattle.std.proofs.lemmas.Bool.Decides.{nat_tests}
-use Rattle.std.proofs.lemmas.List.Sorted.{ranks_by, sorted_far}
-use Rattle.linearizer.specs.declared.position.Class.{Class}
-use Rattle.linearizer.specs.declared.position.Class.TheVariants.{EarlierDequeue, Noop, Enqueue, OtherDequeue}
-use Rattle.linearizer.specs.declared.position.Position.{Position as Stored}
-use Rattle.linearizer.specs.declared.position.Placed.{Placed}
-use Rattle.linearizer.specs.contracts.position.ClassOrd.TheImpl as classes
-use Rattle.linearizer.specs.contracts.position.PositionOrd.TheImpl as positions
-use Rattle.linearizer.specs.contracts.position.PositionOrd.TheImpl.Laws.{total-law}
-use Rattle.linearizer.specs.Order.{Position, StandsBefore}
-use Rattle.linearizer.specs.Inner.Placement.{class_number, position_of}
+-- Sorted by gap and place, the operations that change nothing never fall.
+use Rattle.std.proofs.Common.{◌≡◌, ℕ, ◌+◌, ◌*◌, ◌<◌, ◌≤◌, ◌⊎◌, List, [], ◌∷◌, length, map, get_or, arith, ap, inl, inr, sym, subst, ◌∙◌}
+use Rattle.std.specs.Prelude.{All, filter, ◌++◌, IsPermutation}
+use Rattle.std.specs.List.{AllZip}
+use Rattle.std.specs.List.Sorted.{IsNonDecreasingBy}
+use Rattle.std.proofs.lemmas.List.{get_or-map, length-map}
+use Rattle.std.proofs.lemmas.List.Elements.{All-cons, All-nil}
+use Rattle.std.proofs.lemmas.List.Sorted.{All-permutation, IsPermutation-map}
+use Rattle.std.proofs.lemmas.Option.{get_or_from_slice_get, slice_get_within}
+use Rattle.history_merge.specs.declared.operation.Operation.{Operation}
+use Rattle.history_merge.specs.declared.operation.OpKind.TheVariants.{Enq}
+use Rattle.history_merge.specs.Complete.{AreComplete}
+use Rattle.history_merge.proofs.Distinct.{calls_rise}
+use Rattle.value_match.specs.Accepted.{operation_at}
+use Rattle.value_match.specs.Lives.{is_empty_answer, is_refused}
+use Rattle.value_match.specs.declared.matching.TheConstants.{MAX_MATCHED}
+use Rattle.linearizer.specs.declared.timed.Timed.{Timed}
+use Rattle.linearizer.specs.declared.timed.TheConstants.{PLACES}
+use Rattle.linearizer.specs.Order.{IsPositionOf, noop_answers}
+use Rattle.value_match.specs.declared.life.Life.{Life}
+use Rattle.linearizer.specs.Inner.Placement.{Adds, HoldsNoops, IsNoopAt, IsPlaced, NeverFall, noop_at}
+use Rattle.linearizer.proofs.PlacedValues.{zip_joined}
 
--- the code compares classes as their numbers, and positions by gap, class and rank
-class_order : (c d : Class) → classes.cmp-value.it c d ≡ nat_cmp (class_number c) (class_number d)
-class_order c d = elim c as (λ c. classes.cmp-value.it c d ≡ nat_cmp (class_number c) (class_number d)) [
-  | EarlierDequeue ↦ elim d as (λ d. classes.cmp-value.it EarlierDequeue d ≡ nat_cmp 0 (class_number d))
-      [ EarlierDequeue ↦ refl | Noop ↦ refl | Enqueue ↦ refl | OtherDequeue ↦ refl ]
-  | Noop ↦ elim d as (λ d. classes.cmp-value.it Noop d ≡ nat_cmp 1 (class_number d))
-      [ EarlierDequeue ↦ refl | Noop ↦ refl | Enqueue ↦ refl | OtherDequeue ↦ refl ]
-  | Enqueue ↦ elim d as (λ d. classes.cmp-value.it Enqueue d ≡ nat_cmp 2 (class_number d))
-      [ EarlierDequeue ↦ refl | Noop ↦ refl | Enqueue ↦ refl | OtherDequeue ↦ refl ]
-  | OtherDequeue ↦ elim d as (λ d. classes.cmp-value.it OtherDequeue d ≡ nat_cmp 3 (class_number d))
-      [ EarlierDequeue ↦ refl | Noop ↦ refl | Enqueue ↦ refl | OtherDequeue ↦ refl ]
-]
+-- operations come in the order of their calls
+calls_by_place : (operations : List Operation) (p q : ℕ) → AreComplete operations → p ≤ q → q < length operations
+    → (operation_at operations p).call ≤ (operation_at operations q).call
+calls_by_place operations p q complete at_most within =
+    let rise = subst (λ os. (i j : ℕ) (d : Operation) → i < j → j < length os → (get_or os i d).call < (get_or os j d).call) (sym complete.2)
+    (calls_rise complete.0 complete.1.tickets_rise) in
+    let cases : (p < q) ⊎ (p ≡ q) = grind (arith, at_most) in
+    elim cases [
+      | inl before ↦ let less = rise p q (record { call = 0; ret = 0; thread = 0; kind = Enq 0 }) before within in omega (arith, less)
+      | inr same ↦ let one = ap (λ r. (operation_at operations r).call) same in omega (arith, one)
+    ]
 
-before_is_less : (p q : Position) → StandsBefore p q → is_lt (ordering_then (nat_cmp p.gap q.gap)
-    (ordering_then (nat_cmp p.class q.class) (nat_cmp p.rank q.rank))) ≡ true
-before_is_less p q before = grind (arith, nat_tests)
+-- sorted by gap and place, none stands before an earlier one
+pub noops_never_fall : (operations : List Operation) (sorted : List Timed) → AreComplete operations → length operations ≤ MAX_MATCHED
+    → All (λ timed. timed.place < length operations) sorted → IsNonDecreasingBy (λ timed. PLACES * timed.time + timed.place) sorted
+    → NeverFall (map (noop_at operations) sorted)
+noops_never_fall operations sorted complete few within rises i j d below inside before =
+    let long = length-map sorted (noop_at operations) in
+    let nowhere : Timed = record { time = 0; place = 0 } in
+    let x = get_or sorted i nowhere in
+    let y = get_or sorted j nowhere in
+    let at_x = get_or-map (noop_at operations) sorted i nowhere d (omega arith) in
+    let at_y = get_or-map (noop_at operations) sorted j nowhere d (omega arith) in
+    let words = rises i j nowhere (omega arith) (omega arith) in
+    let in_x = within i nowhere (omega arith) in
+    let in_y = within j nowhere (omega arith) in
+    clash x y words in_x in_y (rw (at_x, at_y) at before)
+  where
+    clash : (x y : Timed) → PLACES * x.time + x.place ≤ PLACES * y.time + y.place → x.place < length operations → y.place < length operations
+        → (y.time < x.time) ⊎ ((y.time ≡ x.time) × ((noop_answers < noop_answers) ⊎ ((noop_answers ≡ noop_answers)
+        × ((operation_at operations y.place).call < (operation_at operations x.place).call)))) → ⊥
+    clash x y words in_x in_y (inl less) = omega (arith, words, less, in_x, in_y, few)
+    clash x y words in_x in_y (inr (same, inl less)) = omega (arith, less)
+    clash x y words in_x in_y (inr (same, inr (class, less))) =
+        let calls = calls_by_place operations x.place y.place complete (omega (arith, words, same)) in_y in omega (arith, calls, less)
 
-less_where_before : (p q : Stored) → StandsBefore (position_of p) (position_of q) → is_lt (positions.cmp-value.it p q) ≡ true
-less_where_before p q before =
-    ap (λ o. is_lt (ordering_then (nat_cmp p.gap q.gap) (ordering_then o (nat_cmp p.rank q.rank)))) (class_order p.class q.class)
-    ∙ before_is_less (position_of p) (position_of q) before
+-- each of them is an operation
+stands_within : (operations listed : List Operation) (timed : List Timed) → AllZip (IsNoopAt operations) listed timed
+    → All (λ t. t.place < length operations) timed
+stands_within operations [] [] each = All-nil (λ t. t.place < length operations)
+stands_within operations [] (t ∷ timed) each = absurd each
+stands_within operations (o ∷ listed) [] each = absurd each
+stands_within operations (o ∷ listed) (t ∷ timed) each =
+    All-cons (λ t. t.place < length operations) t timed (slice_get_within operations t.place o each.0.at) (stands_within operations listed timed each.1)
 
--- what is sorted by position never falls
-pub sorted_never_falls : (placed : List Placed) → IsSortedByKey (λ p. p.position) positions.cmp-value.it placed
-    → AllPairs (λ p q. ¬ (StandsBefore (position_of q.position) (position_of p.position))) placed
-sorted_never_falls placed sorted i j d below within before =
-    let later = sorted_far (λ x y. is_lt (positions.cmp-value.it x.position y.position)) (ranks_by total-law (λ p. p.position)) placed sorted i j d
-    (omega arith) within in
-    let clash : true ≡ false = sym (less_where_before (get_or placed j d).position (get_or placed i d).position before) ∙ later in
-    cc
+-- and stands at its position
+stand_placed : (operations listed : List Operation) (timed : List Timed) (lives : List Life) → AllZip (IsNoopAt operations) listed timed
+    → AllZip (IsPlaced operations lives) listed (map (noop_at operations) timed)
+stand_placed operations [] [] lives each = tt
+stand_placed operations [] (t ∷ timed) lives each = absurd each
+stand_placed operations (o ∷ listed) [] lives each = absurd each
+stand_placed operations (o ∷ listed) (t ∷ timed) lives each =
+    let same = get_or_from_slice_get operations t.place o _ each.0.at in (
+      (
+        each.0.at,
+        subst (λ (x : Operation). IsPositionOf operations lives o (record { gap = t.time; class = noop_answers; rank = x.call })) (sym same)
+            (each.0.stands lives),
+      ),
+      stand_placed operations listed timed lives each.1,
+    )
+
+-- the empty answers and the refused enqueues
+module _ (operations : List Operation) (first all : List Timed) (empties : Adds operations (filter is_empty_answer operations) [] first)
+    (refused : Adds operations (filter is_refused operations) first all) where
+  both : AllZip (IsNoopAt operations) (filter is_empty_answer operations ++ filter is_refused operations) all
+  both = subst (AllZip (IsNoopAt operations) (filter is_empty_answer operations ++ filter is_refused operations))
+      (sym (refused.after ∙ ap (λ xs. xs ++ refused.added) empties.after))
+      (zip_joined (IsNoopAt operations) (filter is_empty_answer operations) (filter is_refused operations) empties.added refused.added
+      empties.each_stands refused.each_stands)
+
+  -- in any order they are operations
+  pub noops_within : (sorted : List Timed) → IsPermutation all sorted → All (λ timed. timed.place < length operations) sorted
+  noops_within sorted moved = All-permutation (λ timed. timed.place < length operations) all sorted moved (stands_within operations _ all both)
+
+  -- sorted by gap and place, they are those that are merged
+  pub noops_held : (sorted : List Timed) → IsPermutation all sorted → NeverFall (map (noop_at operations) sorted)
+      → HoldsNoops operations (map (noop_at operations) sorted)
+  noops_held sorted moved never = record {
+    added = map (noop_at operations) all;
+    each_placed = λ lives. stand_placed operations _ all lives both;
+    each_once = IsPermutation-map (noop_at operations) all sorted moved;
+    never_fall = never;
+  }

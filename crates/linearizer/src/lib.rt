@@ -2,6 +2,7 @@
 #![tactic(auto)]
 
 mod choice;
+mod noops;
 mod order;
 mod ordered_values;
 mod placing;

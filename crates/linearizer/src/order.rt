@@ -7,8 +7,9 @@ ghost use Rattle.value_match.specs.Violations.{NoOrderViolation};
 ghost use Rattle.linearizer.specs.Order.{AreChosenAndLegal};
 ghost use Rattle.linearizer.specs.Inner.Merging.{IsWholeOrder};
 
+use crate::noops::noops_of;
 use crate::ordered_values::OrderedValues;
-use crate::placing::{merge, noops_of};
+use crate::placing::merge;
 use history_merge::OpId;
 use std::alloc::{AllocError, Global};
 use value_match::{FilledMatching, Matching, told_place};
@@ -19,9 +20,9 @@ use value_match::{FilledMatching, Matching, told_place};
 /// Of two operations the one at the lower gap stands first, where gap `c` is the time between tickets `c` and `c + 1`.
 /// `gaps` has the least free gap of each empty dequeue, in the order of their calls.
 ///
-/// The call takes a few words for each empty dequeue and failed enqueue, and half a word for each operation; if there are
-/// initial values, half a word more for each operation and a word for each empty dequeue. Its time grows as that of a sort of
-/// the empty dequeues and failed enqueues. The only error is out of memory.
+/// The call takes a word for each empty dequeue and failed enqueue, and half a word for each operation; if there are initial
+/// values, half a word more for each operation and a word for each empty dequeue. Its time grows as that of a sort of the empty
+/// dequeues and failed enqueues. The only error is out of memory.
 pub fn linearize(
     alloc: Global,
     matching: &Matching,

@@ -1,9 +1,10 @@
 ghost use Rattle.std.specs.Prelude.{◌≡◌, IfOk, MatchOption};
 ghost use Rattle.value_match.specs.Filling.{filled_operations};
 ghost use Rattle.value_match.specs.Violations.{NoOrderViolation};
-ghost use Rattle.linearizer.specs.Inner.Placement.{AreEnqueueGaps, IsOrderOfPlaces, lives_at};
+ghost use Rattle.linearizer.specs.Inner.Placement.{AreEnqueueGaps, IsOrderOfPlaces, gaps_in, lives_at, places_in};
 
 use crate::choice::put_in_order;
+use crate::timed::PackedTimed;
 use history_merge::PackedOperation;
 use std::alloc::{AllocError, Global};
 use std::marker::Model;
@@ -11,25 +12,25 @@ use value_match::{FilledMatching, Matching};
 
 /// The accepted values of a matching in their chosen order, with the gap of each enqueue; seen as the operations that they are of.
 ///
-/// It borrows the operations, and holds a word and a half for each value.
+/// It borrows the operations, and holds a word for each value.
 #[derive(Debug, Drop)]
 pub struct OrderedValues<'a> {
     operations: &'a [PackedOperation],
-    places: Vec<u32>,
-    gaps: Vec<u64>,
+    // The place and the gap of each.
+    order: Vec<PackedTimed>,
 }
 
 impl<'a> Model for OrderedValues<'a> {
     ghost use Rattle.std.specs.Prelude.{List};
     ghost use Rattle.history_merge.specs.declared.operation.Operation.{Operation};
-    ghost use Rattle.linearizer.specs.Inner.Placement.{AreEnqueueGaps, IsOrderOfPlaces, lives_at};
+    ghost use Rattle.linearizer.specs.Inner.Placement.{AreEnqueueGaps, IsOrderOfPlaces, gaps_in, lives_at, places_in};
 
     ghost Value = { List Operation };
 
     ghost view = { λ a. a.operations.now };
 
-    ghost invariant = { λ a. IsOrderOfPlaces a.operations.now a.places.items
-        × AreEnqueueGaps (lives_at a.operations.now a.places.items) a.gaps.items };
+    ghost invariant = { λ a. IsOrderOfPlaces a.operations.now (places_in a.order.items)
+        × AreEnqueueGaps (lives_at a.operations.now (places_in a.order.items)) (gaps_in a.order.items) };
 }
 
 /// The accepted values of a matching in their chosen order, or none if two of them are dequeued against the order of their
@@ -56,22 +57,18 @@ fn order_of<'a>(
         (λ order. (order ≡ matching.now) × NoOrderViolation matching.now)) }
 {
     let operations = matching.operations();
-    let Some(ordered) = put_in_order(alloc, &matching.values())? else {
+    let Some(order) = put_in_order(alloc, &matching.values())? else {
         return Ok(None);
     };
-    Ok(Some(OrderedValues {
-        operations,
-        places: ordered.places,
-        gaps: ordered.gaps,
-    }))
+    Ok(Some(OrderedValues { operations, order }))
 }
 
 impl<'a> OrderedValues<'a> {
-    /// The places of the values in their order, and the gaps of their enqueues.
-    pub(crate) fn parts(&self) -> (&[u32], &[u64])
-        ensures order { IsOrderOfPlaces self.now result.0.now }
-        ensures gaps { AreEnqueueGaps (lives_at self.now result.0.now) result.1.now }
+    /// The places of the values in their order, each with the gap of its enqueue.
+    pub(crate) fn order(&self) -> &[PackedTimed]
+        ensures order { IsOrderOfPlaces self.now (places_in result.now) }
+        ensures gaps { AreEnqueueGaps (lives_at self.now (places_in result.now)) (gaps_in result.now) }
     {
-        (self.places.as_slice(), self.gaps.as_slice())
+        self.order.as_slice()
     }
 }

@@ -1,17 +1,16 @@
-ghost use Rattle.std.specs.Prelude.{◌≡◌, ◌↔◌, ◌<◌, ℕ, [], IfOk, IsTrue, List, MatchOption, OnOk, false, filter, length};
+ghost use Rattle.std.specs.Prelude.{◌≡◌, ◌↔◌, ℕ, [], IfOk, IsTrue, List, MatchOption, OnOk, false, length};
 ghost use Rattle.history_merge.specs.declared.operation.Operation.{Operation};
-ghost use Rattle.history_merge.specs.declared.packed.TheConstants.{PACKED_LIMIT};
-ghost use Rattle.history_merge.specs.Operations.{IsAt};
 ghost use Rattle.value_match.specs.declared.life.Life.{Life};
-ghost use Rattle.value_match.specs.Lives.{AreLeastFreeGaps, is_empty_answer, is_refused};
 ghost use Rattle.value_match.specs.Violations.{IsClear};
 ghost use Rattle.linearizer.specs.Order.{StandsBefore};
-ghost use Rattle.linearizer.specs.Inner.Placement.{Adds, AreEnqueueGaps, HoldsNoops, IsOrderOfPlaces, NeverFall, lives_at, position_of};
+ghost use Rattle.linearizer.specs.Inner.Placement.{AreEnqueueGaps, IsOrderOfPlaces, NeverFall, gaps_in, lives_at, places_in, position_of};
 ghost use Rattle.linearizer.specs.Inner.Merging.{IsDequeueFrom, IsEnqueueFrom, IsNoopFrom, IsMerge, IsMergedUpTo, IsValueFrom, NoneBelow};
 
+use crate::noops::Noops;
 use crate::ordered_values::OrderedValues;
-use crate::position::{Noop, Placed, Position};
-use history_merge::{OpId, PackedOperation};
+use crate::position::{Placed, Position};
+use crate::timed::PackedTimed;
+use history_merge::OpId;
 use std::alloc::{AllocError, Global};
 use value_match::FilledMatching;
 
@@ -22,17 +21,17 @@ pub(crate) fn merge(
     alloc: Global,
     matching: &FilledMatching,
     values: &OrderedValues,
-    noops: &[Noop],
+    noops: &Noops,
 ) -> Result<Vec<OpId>, AllocError>
     requires values { values.now ≡ matching.now }
     requires noops { NeverFall noops.now }
     ensures clear { IsClear matching.now }
     ensures merged { IfOk result (λ places. IsMerge matching.now noops.now places.items) }
 {
-    let (order, gaps) = values.parts();
+    let order = values.order();
     let mut places = Vec::with_capacity(alloc, matching.operations().len())?;
-    let mut so_far = place_enqueues(&mut places, matching, order, gaps, noops)?;
-    place_dequeues(&mut places, &mut so_far, matching, order, gaps, noops, None)?;
+    let mut so_far = place_enqueues(&mut places, matching, order, noops)?;
+    place_dequeues(&mut places, &mut so_far, matching, order, noops, None)?;
     place_noops(&mut places, &mut so_far.noops, noops, None)?;
     Ok(places)
 }
@@ -50,15 +49,14 @@ pub(crate) struct Merged {
 fn place_enqueues(
     places: &mut Vec<OpId>,
     matching: &FilledMatching,
-    order: &[u32],
-    gaps: &[u64],
-    noops: &[Noop],
+    order: &[PackedTimed],
+    noops: &Noops,
 ) -> Result<Merged, AllocError>
     requires none { places.old.items ≡ [] }
-    requires order { IsOrderOfPlaces matching.now order.now }
-    requires gaps { AreEnqueueGaps (lives_at matching.now order.now) gaps.now }
+    requires order { IsOrderOfPlaces matching.now (places_in order.now) }
+    requires gaps { AreEnqueueGaps (lives_at matching.now (places_in order.now)) (gaps_in order.now) }
     requires noops { NeverFall noops.now }
-    ensures { IfOk result (λ so_far. IsMergedUpTo matching.now (lives_at matching.now order.now) noops.now (length order.now)
+    ensures { IfOk result (λ so_far. IsMergedUpTo matching.now (lives_at matching.now (places_in order.now)) noops.now (length order.now)
         so_far.dequeues so_far.left so_far.noops places.new.items) }
 {
     let values = matching.values();
@@ -67,10 +65,11 @@ fn place_enqueues(
         left: 0,
         noops: 0,
     };
-    for (rank, place) in order.iter().enumerate() {
-        let enqueue = Placed::enqueue(values.get(*place as usize).enqueue, gaps[rank], rank);
+    for (rank, entered) in order.iter().enumerate() {
+        let entered = entered.unpack();
+        let enqueue = Placed::enqueue(values.get(entered.place).enqueue, entered.time, rank);
         let before = Some(enqueue.position);
-        place_dequeues(places, &mut so_far, matching, order, gaps, noops, before)?;
+        place_dequeues(places, &mut so_far, matching, order, noops, before)?;
         place_noops(places, &mut so_far.noops, noops, before)?;
         places.push(enqueue.operation)?;
     }
@@ -83,26 +82,26 @@ fn place_dequeues(
     places: &mut Vec<OpId>,
     so_far: &mut Merged,
     matching: &FilledMatching,
-    order: &[u32],
-    gaps: &[u64],
-    noops: &[Noop],
+    order: &[PackedTimed],
+    noops: &Noops,
     before: Option<Position>,
 ) -> Result<(), AllocError>
-    requires order { IsOrderOfPlaces matching.now order.now }
-    requires gaps { AreEnqueueGaps (lives_at matching.now order.now) gaps.now }
+    requires order { IsOrderOfPlaces matching.now (places_in order.now) }
+    requires gaps { AreEnqueueGaps (lives_at matching.now (places_in order.now)) (gaps_in order.now) }
     requires noops { NeverFall noops.now }
-    ensures adds { OnOk result ((i : ℕ) → NoneBelow (IsEnqueueFrom (lives_at matching.now order.now) i) before
-        → IsMergedUpTo matching.now (lives_at matching.now order.now) noops.now i so_far.old.dequeues so_far.old.left so_far.old.noops places.old.items
-        → IsMergedUpTo matching.now (lives_at matching.now order.now) noops.now i so_far.new.dequeues so_far.new.left so_far.new.noops places.new.items) }
-    ensures up_to { OnOk result ((i : ℕ) → NoneBelow (IsEnqueueFrom (lives_at matching.now order.now) i) before
-        → IsMergedUpTo matching.now (lives_at matching.now order.now) noops.now i so_far.old.dequeues so_far.old.left so_far.old.noops places.old.items
-        → NoneBelow (IsDequeueFrom (lives_at matching.now order.now) so_far.new.dequeues) before) }
+    ensures adds { OnOk result ((i : ℕ) → NoneBelow (IsEnqueueFrom (lives_at matching.now (places_in order.now)) i) before
+        → IsMergedUpTo matching.now (lives_at matching.now (places_in order.now)) noops.now i so_far.old.dequeues so_far.old.left so_far.old.noops places.old.items
+        → IsMergedUpTo matching.now (lives_at matching.now (places_in order.now)) noops.now i so_far.new.dequeues so_far.new.left so_far.new.noops places.new.items) }
+    ensures up_to { OnOk result ((i : ℕ) → NoneBelow (IsEnqueueFrom (lives_at matching.now (places_in order.now)) i) before
+        → IsMergedUpTo matching.now (lives_at matching.now (places_in order.now)) noops.now i so_far.old.dequeues so_far.old.left so_far.old.noops places.old.items
+        → NoneBelow (IsDequeueFrom (lives_at matching.now (places_in order.now)) so_far.new.dequeues) before) }
 {
     let values = matching.values();
     while so_far.dequeues < order.len() {
         let rank = so_far.dequeues;
-        let value = values.get(order[rank] as usize);
-        let enqueue_gap = gaps[rank];
+        let entered = order[rank].unpack();
+        let value = values.get(entered.place);
+        let enqueue_gap = entered.time;
         let left = value.life.leaves_from().max(so_far.left);
         if let Some(dequeue) = value.dequeue {
             let dequeue = Placed::dequeue(dequeue, enqueue_gap, left.max(enqueue_gap), rank);
@@ -125,7 +124,7 @@ fn place_dequeues(
 fn place_noops(
     places: &mut Vec<OpId>,
     count: &mut usize,
-    noops: &[Noop],
+    noops: &Noops,
     before: Option<Position>,
 ) -> Result<(), AllocError>
     requires { NeverFall noops.now }
@@ -135,7 +134,7 @@ fn place_noops(
     ensures up_to { OnOk result (NoneBelow (IsNoopFrom noops.now count.new) before) }
 {
     while *count < noops.len() {
-        let noop = noops[*count].placed();
+        let noop = noops.get(*count);
         if stands_after(&noop, before) {
             return Ok(());
         }
@@ -153,61 +152,4 @@ fn stands_after(placed: &Placed, position: Option<Position>) -> bool
         Some(position) => position < placed.position,
         None => false,
     }
-}
-
-/// The empty answers and the refused enqueues, by rising position.
-pub(crate) fn noops_of(
-    alloc: Global,
-    matching: &FilledMatching,
-    gaps: &[u64],
-) -> Result<Vec<Noop>, AllocError>
-    requires { AreLeastFreeGaps matching.now gaps.now }
-    ensures { IfOk result (λ noops. HoldsNoops matching.now noops.items) }
-{
-    let count = gaps.len().saturating_add(matching.refused().len());
-    let mut noops = Vec::with_capacity(alloc, count)?;
-    place_empties(&mut noops, matching, gaps)?;
-    place_refused(&mut noops, matching)?;
-    noops.sort_unstable_by_key(|noop| noop.placed().position);
-    Ok(noops)
-}
-
-/// Adds the empty answers.
-#[tactic(auto, using(crate::proofs::Additions::adds_none))]
-fn place_empties(
-    placed: &mut Vec<Noop>,
-    matching: &FilledMatching,
-    gaps: &[u64],
-) -> Result<(), AllocError>
-    requires { AreLeastFreeGaps matching.now gaps.now }
-    ensures { OnOk result (Adds matching.now (filter is_empty_answer matching.now) placed.old.items placed.new.items) }
-{
-    let operations = matching.operations();
-    for (id, gap) in matching.empties().iter().zip(gaps) {
-        let call = call_at(operations, id.place());
-        placed.push(Noop::new(*id, *gap, call))?;
-    }
-    Ok(())
-}
-
-/// Adds the refused enqueues.
-#[tactic(auto, using(crate::proofs::Additions::adds_none))]
-fn place_refused(placed: &mut Vec<Noop>, matching: &FilledMatching) -> Result<(), AllocError>
-    ensures { OnOk result (Adds matching.now (filter is_refused matching.now) placed.old.items placed.new.items) }
-{
-    let operations = matching.operations();
-    for id in matching.refused() {
-        let call = call_at(operations, id.place());
-        placed.push(Noop::new(*id, call, call))?;
-    }
-    Ok(())
-}
-
-/// The ticket of the call of the operation at this place.
-fn call_at(operations: &[PackedOperation], place: usize) -> u64
-    requires { place < length operations.now }
-    ensures call { (o : Operation) → IsAt operations.now place o → result ≡ o.call }
-    ensures in_range { result < PACKED_LIMIT }
-{
-    operations[place].unpack().call
 }

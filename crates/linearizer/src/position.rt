@@ -1,11 +1,7 @@
-ghost use Rattle.std.specs.Prelude.{◌≡◌, ◌<◌, if◌then◌else◌, nat_lt};
-ghost use Rattle.history_merge.specs.declared.packed.TheConstants.{PACKED_LIMIT};
-ghost use Rattle.linearizer.specs.declared.timed.TheConstants.{PLACES};
-ghost use Rattle.linearizer.specs.Order.{earlier_dequeues, enqueues, noop_answers, other_dequeues};
+ghost use Rattle.std.specs.Prelude.{◌≡◌, if◌then◌else◌, nat_lt};
+ghost use Rattle.linearizer.specs.Order.{earlier_dequeues, enqueues, other_dequeues};
 
-use crate::timed::{PackedTimed, Timed};
 use history_merge::OpId;
-use std::marker::Model;
 
 /// The order of operations within one gap.
 #[derive(Clone, Copy, PartialEq, Eq, PartialOrd, Ord)]
@@ -38,7 +34,7 @@ pub(crate) struct Placed {
 impl Placed {
     ghost use Rattle.linearizer.specs.Inner.Placement.{position_of};
 
-    fn at(operation: OpId, gap: u64, class: Class, rank: u64) -> Placed
+    pub(crate) fn at(operation: OpId, gap: u64, class: Class, rank: u64) -> Placed
         ensures operation { result.operation ≡ operation }
         ensures position { result.position ≡ record { gap = gap; class = class; rank = rank } }
     {
@@ -72,52 +68,5 @@ impl Placed {
             Class::OtherDequeue
         };
         Placed::at(operation, gap, class, place as u64)
-    }
-}
-
-/// An operation that changes nothing, seen as the operation and where it stands.
-#[derive(Clone, Copy)]
-pub(crate) struct Noop {
-    // The operation and its gap.
-    at: PackedTimed,
-    call: u64,
-}
-
-impl Model for Noop {
-    ghost use Rattle.linearizer.specs.declared.position.Class.TheVariants as class;
-    ghost use Rattle.linearizer.specs.declared.position.Placed.{Placed};
-
-    ghost Value = { Placed };
-
-    ghost view = { λ a. record { operation = a.at.place; position = record { gap = a.at.time; class = class.Noop; rank = a.call } } };
-
-    ghost inverse = { λ p. record { at = record { time = p.position.gap; place = p.operation }; call = p.position.rank } };
-}
-
-impl Noop {
-    ghost use Rattle.linearizer.specs.Inner.Placement.{position_of};
-
-    pub(crate) fn new(operation: OpId, gap: u64, call: u64) -> Noop
-        requires few { operation < PLACES }
-        requires gap { gap < PACKED_LIMIT }
-        ensures operation { result.operation ≡ operation }
-        ensures position { position_of result.position ≡ record { gap = gap; class = noop_answers; rank = call } }
-    {
-        let at = Timed {
-            time: gap,
-            place: operation.place(),
-        };
-        Noop {
-            at: PackedTimed::new(at),
-            call,
-        }
-    }
-
-    /// The operation, and where it stands.
-    pub(crate) fn placed(self) -> Placed
-        ensures { result ≡ self }
-    {
-        let operation = OpId::new(self.at.place());
-        Placed::at(operation, self.at.unpack().time, Class::Noop, self.call)
     }
 }

@@ -1,4 +1,4 @@
-ghost use Rattle.std.specs.Prelude.{◌≡◌, ◌<◌, ◌≤◌, All, Contains, IfOk, IsPermutation, length, take};
+ghost use Rattle.std.specs.Prelude.{◌≡◌, ◌+◌, ◌*◌, ◌<◌, ◌≤◌, All, Contains, IfOk, IsPermutation, length, take};
 ghost use Rattle.std.specs.List.Sorted.{IsNonDecreasingBy};
 ghost use Rattle.history_merge.specs.declared.packed.TheConstants.{PACKED_LIMIT};
 ghost use Rattle.value_match.specs.declared.life.TheConstants.{NEVER};
@@ -21,7 +21,7 @@ pub(crate) struct Timed {
 }
 
 /// The same in one word, seen as the time and the place.
-#[derive(Clone, Copy)]
+#[derive(Clone, Copy, Debug)]
 pub(crate) struct PackedTimed {
     // The time in the upper bits, and the place.
     word: u64,
@@ -52,6 +52,14 @@ impl PackedTimed {
         PackedTimed {
             word: PLACES * timed.time + timed.place as u64,
         }
+    }
+
+    /// Both in one number, by which lesser times come first, and at one time lesser places.
+    #[inline(always)]
+    pub(crate) fn word(self) -> u64
+        ensures { result ≡ PLACES * self.time + self.place }
+    {
+        self.word
     }
 
     /// The place alone.

@@ -6,13 +6,15 @@ use Rattle.history_merge.specs.declared.operation.Operation.{Operation}
 use Rattle.history_merge.specs.Operations.{IsAt}
 use Rattle.value_match.specs.declared.life.Life.{Life}
 use Rattle.value_match.specs.declared.life.MatchedValue.{MatchedValue}
+use Rattle.value_match.specs.Accepted.{operation_at}
 use Rattle.value_match.specs.Lives.{is_empty_answer, is_refused, lives_of, dequeue_of, enqueue_call, enqueue_of}
 use Rattle.linearizer.specs.declared.position.Class.{Class}
 use Rattle.linearizer.specs.declared.position.Class.TheVariants.{EarlierDequeue, Noop, Enqueue, OtherDequeue}
 use Rattle.linearizer.specs.declared.position.Position.{Position as Stored}
 use Rattle.linearizer.specs.declared.position.Placed.{Placed}
+use Rattle.linearizer.specs.declared.timed.Timed.{Timed}
 use Rattle.linearizer.specs.Values.{IsValueOrder, enqueue_gap, greatest_leaves_from}
-use Rattle.linearizer.specs.Order.{Position, StandsBefore, IsPositionOf, earlier_dequeues, noop_answers, enqueues, other_dequeues}
+use Rattle.linearizer.specs.Order.{Position, StandsBefore, IsPositionOf, earlier_dequeues, noop_answers, noop_position, enqueues, other_dequeues}
 
 -- the values without their places
 abbrev pub lives_in : List MatchedValue → List Life
@@ -25,6 +27,14 @@ elements_at xs places = filter_map (slice_get xs) places
 -- the lives of the accepted values at these places
 abbrev pub lives_at : List Operation → List ℕ → List Life
 lives_at operations places = elements_at (lives_of operations) places
+
+-- the places of values that stand in an order with their gaps
+abbrev pub places_in : List Timed → List ℕ
+places_in order = map (λ timed. timed.place) order
+
+-- and the gaps
+abbrev pub gaps_in : List Timed → List ℕ
+gaps_in order = map (λ timed. timed.time) order
 
 -- the places of the accepted values, in their chosen order
 pub record IsOrderOfPlaces (operations : List Operation) (places : List ℕ) : Type 0 where
@@ -79,11 +89,23 @@ pub record HoldsValues (operations : List Operation) (placed : List Placed) : Ty
   pub each_once : IsPermutation (enqueues_of lives ++ dequeues_of lives) listed
   pub each_placed : AllZip (IsPlaced operations lives) listed placed
 
--- the listed operations are added, each at its position, whatever the order of the values
-pub record Adds (operations listed : List Operation) (old new : List Placed) : Type 0 where
-  pub added : List Placed
+-- an operation that changes nothing stands at this gap, whatever the order of the values
+pub record IsNoopAt (operations : List Operation) (o : Operation) (timed : Timed) : Type 0 where
+  pub at : IsAt operations timed.place o
+  pub stands : (lives : List Life) → IsPositionOf operations lives o (noop_position o timed.time)
+
+-- the listed operations are added, each with its gap
+pub record Adds (operations listed : List Operation) (old new : List Timed) : Type 0 where
+  pub added : List Timed
   pub after : new ≡ old ++ added
-  pub each_placed : (lives : List Life) → AllZip (IsPlaced operations lives) listed added
+  pub each_stands : AllZip (IsNoopAt operations) listed added
+
+-- the operation at the place, as one that changes nothing, at its position
+abbrev pub noop_at : List Operation → Timed → Placed
+noop_at operations timed = record {
+  operation = timed.place;
+  position = record { gap = timed.time; class = Noop; rank = (operation_at operations timed.place).call };
+}
 
 -- no operation stands before an earlier one
 abbrev pub NeverFall : List Placed → Type 0

@@ -6,8 +6,7 @@ use Rattle.value_match.specs.declared.life.Life.{Life}
 use Rattle.value_match.specs.declared.life.MatchedValue.{MatchedValue}
 use Rattle.value_match.specs.Lives.{enqueue_call, entered_by, leaves_from}
 use Rattle.linearizer.specs.Values.{EachIsChoice, IsChoice}
-use Rattle.linearizer.specs.Inner.Placement.{AreCalledInTime, AreEnqueueGaps, elements_at, lives_in}
-use Rattle.linearizer.specs.declared.choice.InOrder.{InOrder}
+use Rattle.linearizer.specs.Inner.Placement.{AreCalledInTime, AreEnqueueGaps, elements_at, gaps_in, lives_in, places_in}
 use Rattle.linearizer.specs.declared.timed.Timed.{Timed}
 use Rattle.linearizer.specs.declared.timed.TheConstants.{PLACES}
 
@@ -43,12 +42,12 @@ TakesOneOf values first_in first_out place =
     → ((first_out.time < leaves_from m.life) × (place ≡ first_out.place)) ⊎ ((leaves_from m.life ≤ first_out.time) × (place ≡ first_in.place))
 
 -- the values in their chosen order, each once and by its place, with the gap of each enqueue, which comes after its call
-pub record IsInOrder (values : List MatchedValue) (order : InOrder) : Type 0 where
-  pub within : All (λ place. place < length values) order.places.items
-  pub holds_each_once : IsPermutation values (elements_at values order.places.items)
-  pub each_is_choice : EachIsChoice (lives_in (elements_at values order.places.items))
-  pub gaps : AreEnqueueGaps (lives_in (elements_at values order.places.items)) order.gaps.items
-  pub in_time : AreCalledInTime (lives_in (elements_at values order.places.items))
+pub record IsInOrder (values : List MatchedValue) (order : List Timed) : Type 0 where
+  pub within : All (λ place. place < length values) (places_in order)
+  pub holds_each_once : IsPermutation values (elements_at values (places_in order))
+  pub each_is_choice : EachIsChoice (lives_in (elements_at values (places_in order)))
+  pub gaps : AreEnqueueGaps (lives_in (elements_at values (places_in order))) (gaps_in order)
+  pub in_time : AreCalledInTime (lives_in (elements_at values (places_in order)))
 
 -- the next of some of the values is called when another of them has entered
 pub record IsPassedOver (values : List MatchedValue) : Type 0 where

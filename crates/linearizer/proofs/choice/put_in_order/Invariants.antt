@@ -1,10 +1,11 @@
 use Rattle.std.proofs.Common.{◌-◌, length}
 use Rattle.std.proofs.Common.{vec_len}
+use Rattle.linearizer.specs.Inner.Placement.{gaps_in, places_in}
 use Rattle.linearizer.proofs.Choosing.{IsSwept}
 use Rattle.linearizer.proofs.choice.put_in_order.Given as goal
 
 abbrev pub invariant-loop-entries : goal.invariant-loop-entries
-invariant-loop-entries l = IsSwept l.values l.entries l.dequeues l.taken.items l.first_in l.first_out l.places.items l.gaps.items
+invariant-loop-entries l = IsSwept l.values l.entries l.dequeues l.taken.items l.first_in l.first_out (places_in l.order.items) (gaps_in l.order.items)
 
 abbrev pub decreases-loop-entries : goal.decreases-loop-entries
-decreases-loop-entries l = length l.values - vec_len l.places
+decreases-loop-entries l = length l.values - vec_len l.order

@@ -1,13 +1,10 @@
-use Rattle.std.proofs.Common.{subst, sym}
 use Rattle.std.proofs.lemmas.Result.{IfOk-weaker}
-use Rattle.linearizer.specs.Inner.Placement.{HoldsNoops}
 use Rattle.linearizer.specs.Inner.Merging.{IsMerge, IsWholeOrder}
 use Rattle.linearizer.proofs.ChosenPlaces.{chosen_and_legal}
 use Rattle.linearizer.proofs.order.order_in_filled.Goals as goal
 
 pub returns : goal.returns
 returns c =
-    IfOk-weaker c.merge.result (λ places. IsMerge c.args.matching.now c.deref.result.now places.items)
+    IfOk-weaker c.merge.result (λ places. IsMerge c.args.matching.now c.in_ok-noops.noops places.items)
     (λ places. IsWholeOrder c.args.matching.now places.items)
-    (λ places merged. chosen_and_legal _ _ _ c.merge.ensures.clear c.requires.no_order_violation
-    (subst (HoldsNoops c.args.matching.now) (sym c.deref.ensures.value) c.in_ok-noops.ensures) merged) c.merge.ensures.merged
+    (λ places merged. chosen_and_legal _ _ _ c.merge.ensures.clear c.requires.no_order_violation c.in_ok-noops.ensures merged) c.merge.ensures.merged

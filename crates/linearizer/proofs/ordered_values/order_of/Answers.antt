@@ -1,5 +1,5 @@
 use Rattle.std.proofs.Common.{subst}
-use Rattle.linearizer.specs.Inner.Placement.{AreCalledInTime, AreEnqueueGaps, lives_at}
+use Rattle.linearizer.specs.Inner.Placement.{AreCalledInTime, AreEnqueueGaps, gaps_in, lives_at, places_in}
 use Rattle.linearizer.specs.Inner.Sweep.{IsInOrder}
 use Rattle.linearizer.proofs.Choosing.{places_in_order}
 use Rattle.linearizer.proofs.Fitting.{dequeued_in_time, entered_in_time, few_values, no_order_violation, passed_over}
@@ -14,25 +14,25 @@ put_in_order-requires-clause-dequeues c = dequeued_in_time c.args.matching.now c
 
 pub returns-in_default : goal.returns-in_default
 returns-in_default c = passed_over c.args.matching.now c.values.result c.values.ensures.clear c.values.ensures.values
-    (rw c.in_default.is at c.in_ok-ordered.ensures)
+    (rw c.in_default.is at c.in_ok-order.ensures)
 
 pub put_in_order-requires-clause-few : goal.put_in_order-requires-clause-few
 put_in_order-requires-clause-few c = few_values c.args.matching.now c.values.result c.values.ensures.values c.operations-operations.ensures.few
 
 pub invariant_of-result : goal.invariant_of-result
 invariant_of-result c =
-    let in_order : IsInOrder c.values.result c.in-Some.ordered = rw c.in-Some.is at c.in_ok-ordered.ensures in
+    let in_order : IsInOrder c.values.result c.in-Some.order.items = rw c.in-Some.is at c.in_ok-order.ensures in
     rw c.operations-operations.ensures.operations (
-      places_in_order c.args.matching.now c.values.result c.in-Some.ordered c.values.ensures.values in_order,
-      subst (λ lives. AreEnqueueGaps lives c.in-Some.ordered.gaps.items)
-          (lives_are c.args.matching.now c.values.result c.in-Some.ordered.places.items c.values.ensures.values) in_order.gaps,
+      places_in_order c.args.matching.now c.values.result c.in-Some.order.items c.values.ensures.values in_order,
+      subst (λ lives. AreEnqueueGaps lives (gaps_in c.in-Some.order.items))
+          (lives_are c.args.matching.now c.values.result (places_in c.in-Some.order.items) c.values.ensures.values) in_order.gaps,
     )
 
 pub returns : goal.returns
 returns c =
-    let in_order : IsInOrder c.values.result c.in-Some.ordered = rw c.in-Some.is at c.in_ok-ordered.ensures in
-    let order = places_in_order c.args.matching.now c.values.result c.in-Some.ordered c.values.ensures.values in_order in (
+    let in_order : IsInOrder c.values.result c.in-Some.order.items = rw c.in-Some.is at c.in_ok-order.ensures in
+    let order = places_in_order c.args.matching.now c.values.result c.in-Some.order.items c.values.ensures.values in_order in (
       c.operations-operations.ensures.operations,
-      no_order_violation c.args.matching.now (lives_at c.args.matching.now c.in-Some.ordered.places.items) c.values.ensures.clear order.in_order
-          (subst AreCalledInTime (lives_are c.args.matching.now c.values.result c.in-Some.ordered.places.items c.values.ensures.values) in_order.in_time),
+      no_order_violation c.args.matching.now (lives_at c.args.matching.now (places_in c.in-Some.order.items)) c.values.ensures.clear order.in_order
+          (subst AreCalledInTime (lives_are c.args.matching.now c.values.result (places_in c.in-Some.order.items) c.values.ensures.values) in_order.in_time),
     )

@@ -1,6 +1,6 @@
 use Rattle.linearizer.specs.Inner.Merging.{IsMergedUpTo}
-use Rattle.linearizer.specs.Inner.Placement.{lives_at}
+use Rattle.linearizer.specs.Inner.Placement.{lives_at, places_in}
 use Rattle.linearizer.proofs.placing.place_enqueues.Given as goal
 
 abbrev pub invariant-loop-rank : goal.invariant-loop-rank
-invariant-loop-rank l = IsMergedUpTo l.matching (lives_at l.matching l.order) l.noops l.rank l.so_far.dequeues l.so_far.left l.so_far.noops l.places.items
+invariant-loop-rank l = IsMergedUpTo l.matching (lives_at l.matching (places_in l.order)) l.noops l.rank l.so_far.dequeues l.so_far.left l.so_far.noops l.places.items

@@ -2,7 +2,7 @@ use Rattle.std.proofs.Common.{take}
 use Rattle.std.specs.Prelude.{filter}
 use Rattle.value_match.specs.Lives.{is_refused}
 use Rattle.linearizer.specs.Inner.Placement.{Adds}
-use Rattle.linearizer.proofs.placing.place_refused.Given as goal
+use Rattle.linearizer.proofs.noops.add_refused.Given as goal
 
 abbrev pub invariant-loop-id : goal.invariant-loop-id
-invariant-loop-id l = Adds l.matching (take l.id-index (filter is_refused l.matching)) l.initial.placed.items l.placed.items
+invariant-loop-id l = Adds l.matching (take l.id-index (filter is_refused l.matching)) l.initial.noops.items l.noops.items

@@ -1,0 +1,42 @@
+use Rattle.std.proofs.Common.{◌≡◌, ℕ, ◌<◌, ◌∙◌, length, get_or, Some, refl, sym, ap, rules}
+use Rattle.std.specs.Prelude.{filter}
+use Rattle.std.proofs.lemmas.List.{length_push}
+use Rattle.std.proofs.lemmas.Option.{slice_get_read}
+use Rattle.std.proofs.lemmas.Slice.Zip.{zip_end, zip_turn}
+use Rattle.value_match.specs.Lives.{is_empty_answer}
+use Rattle.linearizer.proofs.Additions.{IsNamed, adds_all, adds_empty, gap_beside, named, named_early, named_few}
+use Rattle.linearizer.proofs.noops.add_empties.Goals as goal
+use Rattle.linearizer.proofs.noops.add_empties.Goals.{After-place}
+
+-- the place and the gap of this turn
+pair : (c : After-place) → (length c.loop-id.yielded < length c.empties.result.now) × (length c.loop-id.yielded < length c.args.gaps.now)
+    × ((d : ℕ) → c.in-Some.id.now ≡ get_or c.empties.result.now (length c.loop-id.yielded) d)
+    × ((d : ℕ) → c.in-Some.gap.now ≡ get_or c.args.gaps.now (length c.loop-id.yielded) d)
+pair c = zip_turn c.empties.result.now c.args.gaps.now c.loop-id.yielded c.into_iter-id-iterator.result c.loop-id.id-iterator c.next.new.self
+    c.next.result (search rules) (search rules) c.loop-id.yielded_by (c.in-Some.id, c.in-Some.gap) c.in-Some.is c.next.ensures.steps
+
+turn : (c : After-place) → IsNamed c.args.matching.now (filter is_empty_answer c.args.matching.now) (length c.loop-id.yielded) c.place.result
+turn c = named _ _ c.empties.result.now _ _ c.empties.ensures
+    (slice_get_read _ _ _ _ refl (pair c).0 ((pair c).2 c.in-Some.id.now) ∙ ap Some (sym c.place.ensures))
+
+pub new-requires-clause-place : goal.new-requires-clause-place
+new-requires-clause-place c = named_few _ _ _ _ (turn (goal.at.new-requires-clause-place c).After-place) c.requires.few
+
+pub new-requires-clause-time : goal.new-requires-clause-time
+new-requires-clause-time c =
+    let of_place = (goal.at.new-requires-clause-time c).After-place in
+    let free = gap_beside _ _ c.args.gaps.now _ c.in-Some.gap.now 0 _ c.requires.gaps (turn of_place).is_listed ((pair of_place).3 0) in
+    named_early _ _ _ _ _ (turn of_place) c.requires.clear free
+
+pub loop-id-preserved : goal.loop-id-preserved
+loop-id-preserved c =
+    let of_place = (goal.at.loop-id-preserved c).After-place in
+    let free = gap_beside _ _ c.args.gaps.now _ c.in-Some.gap.now 0 _ c.requires.gaps (turn of_place).is_listed ((pair of_place).3 0) in
+    rw (length_push c.loop-id.yielded (c.in-Some.id, c.in-Some.gap), c.in_ok-push.ensures.items, c.new.ensures)
+    (adds_empty _ _ _ _ _ _ (turn of_place) c.loop-id.invariant free)
+
+pub returns : goal.returns
+returns c =
+    let long = zip_end c.empties.result.now c.args.gaps.now c.loop-id.yielded c.into_iter-id-iterator.result c.loop-id.id-iterator c.next.new.self
+    c.next.result (search rules) (search rules) c.loop-id.yielded_by c.in-None.is c.next.ensures.steps in
+    adds_all _ _ _ _ _ _ _ c.empties.ensures c.requires.gaps long c.loop-id.invariant

@@ -1,0 +1,134 @@
+//! The operations that change nothing, by their positions.
+ghost use Rattle.std.specs.Prelude.{◌≡◌, ◌<◌, ◌≤◌, All, IfOk, OnOk, Some, filter, length, map, slice_get};
+ghost use Rattle.history_merge.specs.declared.packed.TheConstants.{PACKED_LIMIT};
+ghost use Rattle.history_merge.specs.declared.operation.Operation.{Operation};
+ghost use Rattle.history_merge.specs.Operations.{IsAt};
+ghost use Rattle.value_match.specs.Lives.{AreLeastFreeGaps, is_empty_answer, is_refused};
+ghost use Rattle.value_match.specs.Violations.{IsClear};
+ghost use Rattle.value_match.specs.declared.matching.TheConstants.{MAX_MATCHED};
+ghost use Rattle.linearizer.specs.Inner.Placement.{Adds, HoldsNoops, noop_at};
+
+use crate::position::{Class, Placed};
+use crate::timed::{PackedTimed, Timed};
+use history_merge::{OpId, PackedOperation};
+use std::alloc::{AllocError, Global};
+use std::marker::Model;
+use value_match::FilledMatching;
+
+/// The empty answers and the refused enqueues by rising position, seen as the list of them with their positions.
+///
+/// It borrows the operations, and holds a word for each no-op.
+#[derive(Drop)]
+pub(crate) struct Noops<'a> {
+    operations: &'a [PackedOperation],
+    // The place and the gap of each.
+    at: Vec<PackedTimed>,
+}
+
+impl<'a> Model for Noops<'a> {
+    ghost use Rattle.std.specs.Prelude.{◌<◌, All, List, length, map};
+    ghost use Rattle.linearizer.specs.declared.position.Placed.{Placed};
+    ghost use Rattle.linearizer.specs.Inner.Placement.{noop_at};
+
+    ghost Value = { List Placed };
+
+    ghost view = { λ n. map (noop_at n.operations.now) n.at.items };
+
+    ghost invariant = { λ n. All (λ timed. timed.place < length n.operations.now) n.at.items };
+}
+
+impl<'a> Noops<'a> {
+    fn new(operations: &'a [PackedOperation], at: Vec<PackedTimed>) -> Noops<'a>
+        requires { All (λ timed. timed.place < length operations.now) at.items }
+        ensures { result ≡ map (noop_at operations.now) at.items }
+    {
+        Noops { operations, at }
+    }
+
+    /// How many there are.
+    pub(crate) fn len(&self) -> usize
+        ensures { result ≡ length self.now }
+    {
+        self.at.len()
+    }
+
+    /// The one at this place of the list.
+    #[inline(always)]
+    pub(crate) fn get(&self, at: usize) -> Placed
+        requires { at < length self.now }
+        ensures { slice_get self.now at ≡ Some result }
+    {
+        let noop = self.at[at];
+        let call = self.operations[noop.place() as usize].unpack().call;
+        Placed::at(
+            OpId::new(noop.place()),
+            noop.unpack().time,
+            Class::Noop,
+            call,
+        )
+    }
+}
+
+/// The empty answers, at these gaps, and the refused enqueues, by rising position. Those of one gap stand in the order of their
+/// calls, which is that of their places.
+pub(crate) fn noops_of<'a>(
+    alloc: Global,
+    matching: &'a FilledMatching,
+    gaps: &[u64],
+) -> Result<Noops<'a>, AllocError>
+    requires { AreLeastFreeGaps matching.now gaps.now }
+    ensures { IfOk result (λ noops. HoldsNoops matching.now noops) }
+{
+    let operations = matching.operations();
+    let count = gaps.len().saturating_add(matching.refused().len());
+    let mut noops = Vec::with_capacity(alloc, count)?;
+    add_empties(&mut noops, matching, gaps)?;
+    add_refused(&mut noops, matching)?;
+    noops.sort_unstable_by_key(|noop| noop.word());
+    Ok(Noops::new(operations, noops))
+}
+
+/// Adds the empty answers.
+#[tactic(auto, using(crate::proofs::Additions::adds_none))]
+fn add_empties(
+    noops: &mut Vec<PackedTimed>,
+    matching: &FilledMatching,
+    gaps: &[u64],
+) -> Result<(), AllocError>
+    requires few { length matching.now ≤ MAX_MATCHED }
+    requires clear { IsClear matching.now }
+    requires gaps { AreLeastFreeGaps matching.now gaps.now }
+    ensures { OnOk result (Adds matching.now (filter is_empty_answer matching.now) noops.old.items noops.new.items) }
+{
+    for (id, gap) in matching.empties().iter().zip(gaps) {
+        noops.push(PackedTimed::new(Timed {
+            time: *gap,
+            place: id.place(),
+        }))?;
+    }
+    Ok(())
+}
+
+/// Adds the refused enqueues, each at its call.
+#[tactic(auto, using(crate::proofs::Additions::adds_none))]
+fn add_refused(noops: &mut Vec<PackedTimed>, matching: &FilledMatching) -> Result<(), AllocError>
+    ensures { OnOk result (Adds matching.now (filter is_refused matching.now) noops.old.items noops.new.items) }
+{
+    let operations = matching.operations();
+    for id in matching.refused() {
+        noops.push(PackedTimed::new(Timed {
+            time: call_at(operations, *id),
+            place: id.place(),
+        }))?;
+    }
+    Ok(())
+}
+
+/// The ticket of the call of this operation.
+fn call_at(operations: &[PackedOperation], id: OpId) -> u64
+    requires { id < length operations.now }
+    ensures call { (o : Operation) → IsAt operations.now id o → result ≡ o.call }
+    ensures in_range { result < PACKED_LIMIT }
+{
+    operations[id.place()].unpack().call
+}
