@@ -3,11 +3,12 @@ use Rattle.std.proofs.Common.{◌≡◌, ℕ, ◌+◌, ◌-◌, ◌<◌, ◌≤�
 use Rattle.std.proofs.Common.{refl, sym, ◌∙◌, ap, subst, arith}
 use Rattle.std.specs.Prelude.{All, Contains, IsPermutation, IsSomeAnd, slice_get}
 use Rattle.std.proofs.lemmas.List.{append_assoc, append-nil, length-append, length-map, length-replicate, length-set, length_push, map-append, nil_from_length}
-use Rattle.std.proofs.lemmas.List.Elements.{All-nil, All-push, All-weaker, Contains-append_right}
+use Rattle.std.proofs.lemmas.List.Elements.{All-contains, All-nil, All-push, All-weaker, Contains-append_right}
 use Rattle.std.proofs.lemmas.List.Sorted.{IsPermutation-cons, IsPermutation-map, IsPermutation-pop_more, IsPermutation-refl, IsPermutation-trans}
 use Rattle.std.proofs.lemmas.List.Sorted.{Contains-permutation, IsPermutation-sym, length_permutation}
 use Rattle.std.proofs.lemmas.Option.{slice_get_within}
 use Rattle.history_merge.specs.declared.operation.Operation.{Operation}
+use Rattle.history_merge.proofs.Distinct.{contains_at}
 use Rattle.value_match.specs.declared.life.Life.{Life}
 use Rattle.value_match.specs.declared.life.MatchedValue.{MatchedValue}
 use Rattle.value_match.specs.declared.life.TheConstants.{NEVER}
@@ -86,10 +87,10 @@ nothing_swept values entries dequeues = record {
 
 -- while not all are in order, some value is left
 pub some_left : (number : Life → ℕ) (values : List MatchedValue) (entries : List Timed) (taken : List Bool) (ordered gaps : List ℕ)
-    → AreByTime number values entries → All (λ place. place < length values) ordered
+    → AreByTime number values entries → All (λ m. number m.life < NEVER) values → All (λ place. place < length values) ordered
     → IsOrderedSoFar values (elements_at values ordered) (left_of values taken) gaps → length ordered < length values
     → (timed : Timed) × Contains entries timed × IsLeft taken timed
-some_left number values entries taken ordered gaps are within so_far fewer = from_rest (left_of values taken) refl
+some_left number values entries taken ordered gaps are past within so_far fewer = from_rest (left_of values taken) refl
   where
     count : length (elements_at values ordered ++ left_of values taken) ≡ length values
     count = length_permutation values (elements_at values ordered ++ left_of values taken) so_far.holds_each_once
@@ -99,7 +100,8 @@ some_left number values entries taken ordered gaps are within so_far fewer = fro
         omega (arith, count, length-append (elements_at values ordered) (left_of values taken), same))
     from_rest (y ∷ rest) is =
         let place = place_left values taken 0 y (ap (λ ys. slice_get ys 0) is) in
-        let entry = are.has_each place.0 (slice_get_within values place.0 y place.1) in
+        let less = All-contains (λ m. number m.life < NEVER) values y past (contains_at values place.0 y place.1) in
+        let entry = are.has_each place.0 y place.1 less in
         (entry.0, entry.1, ap (slice_get taken) entry.2 ∙ place.2)
 
 -- each entry has its flag

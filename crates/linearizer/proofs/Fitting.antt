@@ -128,9 +128,9 @@ are_lives operations values holds =
 
 -- each value has entered before the last ticket is over
 pub entered_in_time : (operations : List Operation) (values : List MatchedValue) → IsClear operations → HoldsLives operations values
-    → All (λ value. entered_by value.life ≤ NEVER) values
+    → All (λ value. entered_by value.life < NEVER) values
 entered_in_time operations values clear holds =
-    All-weaker (λ value. IsLife operations value.life) (λ value. entered_by value.life ≤ NEVER)
+    All-weaker (λ value. IsLife operations value.life) (λ value. entered_by value.life < NEVER)
     (λ value is. let times = times_of_life operations value.life clear is in omega (arith, times.enqueue_is_past)) values
     (are_lives operations values holds)
 

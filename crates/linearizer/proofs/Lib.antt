@@ -5,7 +5,7 @@
 -- LeastEntries, Gaps, FreeGaps, Windows: each enqueue and dequeue has a gap in its window, and gaps rise along the order.
 -- Rising, Positions, EachPosition: each operation has one position, and no two have the same.
 -- Runs, LegalOrder, OneOrder: by their positions the operations are a run that the queue accepts, the one chosen order.
--- PlacedValues, Additions, Merging, Keys, Sorting, ChosenPlaces: the lists of placed operations, merged, are that order.
+-- PlacedValues, Additions, Sorting, Merging, Keys, ChosenPlaces: the lists of placed operations, merged, are that order.
 -- NoneTwice, Partition: each operation stands in one of these lists, once.
 -- Told: the order of a filled history, by the places of the history, and from gaps by tickets.
 pub mod Choices

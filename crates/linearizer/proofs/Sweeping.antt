@@ -3,20 +3,23 @@ use Rattle.std.proofs.Common.{◌≡◌, ℕ, zero, suc, ◌+◌, ◌<◌, ◌�
 use Rattle.std.proofs.Common.{Option, None, Some, refl, sym, ◌∙◌, ap, subst, inl, inr, arith}
 use Rattle.std.specs.Prelude.{All, Contains, IsPermutation, IsSomeAnd, slice_get}
 use Rattle.std.specs.List.Sorted.{IsNonDecreasingBy}
-use Rattle.std.proofs.lemmas.List.{get_or-take, length-take, length_push, get_or_append_left, get_or_push}
-use Rattle.std.proofs.lemmas.List.Elements.{All-contains, All-contains_itself, All-get_or, All-map, All-more, All-weaker}
+use Rattle.std.proofs.lemmas.Bool.{cases_lt}
+use Rattle.std.proofs.lemmas.List.{get_or-take, length-take}
+use Rattle.std.proofs.lemmas.List.Elements.{All-contains, All-contains_itself, All-get_or, All-map, All-more, All-nil, All-push, All-weaker}
+use Rattle.std.proofs.lemmas.List.Elements.{Contains-append_left, Contains-push}
 use Rattle.std.proofs.lemmas.List.Sorted.{All-permutation, Contains-permutation, IsPermutation-cons, IsPermutation-middle, IsPermutation-refl}
 use Rattle.std.proofs.lemmas.List.Sorted.{IsPermutation-trans}
 use Rattle.std.proofs.lemmas.Option.{get_or_from_slice_get, slice_get-get_or, slice_get_read, slice_get_within}
 use Rattle.history_merge.proofs.Distinct.{contains_at, one_at, place_of}
 use Rattle.value_match.specs.declared.life.Life.{Life}
 use Rattle.value_match.specs.declared.life.MatchedValue.{MatchedValue}
+use Rattle.value_match.specs.declared.life.TheConstants.{NEVER}
 use Rattle.value_match.specs.Lives.{dequeue_return, entered_by, leaves_from}
 use Rattle.value_match.proofs.Lists.{mapped_to, one_deeper}
 use Rattle.linearizer.specs.declared.timed.Timed.{Timed}
 use Rattle.linearizer.specs.Values.{IsChoice, IsLeastBy}
 use Rattle.linearizer.specs.Inner.Placement.{lives_in}
-use Rattle.linearizer.specs.Inner.Sweep.{AreByTime, IsFirstLeft, IsLeft, IsTaken, IsTimeOf, TakesOneOf}
+use Rattle.linearizer.specs.Inner.Sweep.{AreByTime, IsDequeuedAt, IsFirstLeft, IsLeft, IsTaken, IsTimeOf, TakesOneOf}
 
 -- the elements whose flag is not set
 abbrev pub left_of : {X : Type 0} → List X → List Bool → List X
@@ -71,62 +74,73 @@ flag_stays (b ∷ taken) zero (suc k) is = is
 flag_stays (b ∷ taken) (suc p) zero is = is
 flag_stays (b ∷ taken) (suc p) (suc k) is = flag_stays taken p k is
 
--- entries for the values before place i, in the order of the values
+-- entries for the values before place i that have such a time
 pub record AreTimedSoFar (number : Life → ℕ) (values : List MatchedValue) (i : ℕ) (entries : List Timed) : Type 0 where
-  pub one_each : length entries ≡ i
-  pub at_each : (place : ℕ) (timed : Timed) → slice_get entries place ≡ Some timed → (timed.place ≡ place) × IsTimeOf number values timed
+  pub are_timed : All (IsTimeOf number values) entries
+  pub are_past : All (λ timed. timed.time < NEVER) entries
+  pub has_each : (place : ℕ) (m : MatchedValue) → place < i → slice_get values place ≡ Some m → number m.life < NEVER
+      → (timed : Timed) × Contains entries timed × (timed.place ≡ place)
 
--- one value more with its time
-pub one_more_timed : (number : Life → ℕ) (values : List MatchedValue) (i time : ℕ) (entries : List Timed) (m : MatchedValue)
-    → AreTimedSoFar number values i entries → slice_get values i ≡ Some m → time ≡ number m.life
-    → AreTimedSoFar number values (i + 1) (entries ++ record { time = time; place = i } ∷ [])
-one_more_timed number values i time entries m so_far at is = record { one_each = length_push entries last ∙ ap (λ n. n + 1) so_far.one_each; at_each = each }
-  where
-    last : Timed
-    last = record { time = time; place = i }
+-- no values have none
+pub none_timed : (number : Life → ℕ) (values : List MatchedValue) → AreTimedSoFar number values 0 []
+none_timed number values = record {
+  are_timed = All-nil (IsTimeOf number values);
+  are_past = All-nil (λ timed. timed.time < NEVER);
+  has_each = λ place m below at less. absurd (omega (arith, below));
+}
 
-    is_last : IsTimeOf number values last
-    is_last = rw at is
+module _ (number : Life → ℕ) (values : List MatchedValue) (i : ℕ) (entries : List Timed) (m : MatchedValue)
+    (so_far : AreTimedSoFar number values i entries) (at : slice_get values i ≡ Some m) where
+  -- one value more with its time
+  pub one_more_timed : (time : ℕ) → time ≡ number m.life → number m.life < NEVER
+      → AreTimedSoFar number values (i + 1) (entries ++ record { time = time; place = i } ∷ [])
+  one_more_timed time is past = record {
+    are_timed = All-push (IsTimeOf number values) entries last so_far.are_timed (rw at is);
+    are_past = All-push (λ timed. timed.time < NEVER) entries last so_far.are_past (omega (arith, is, past));
+    has_each = each;
+  }
+    where
+      last : Timed
+      last = record { time = time; place = i }
 
-    each : (place : ℕ) (timed : Timed) → slice_get (entries ++ last ∷ []) place ≡ Some timed → (timed.place ≡ place) × IsTimeOf number values timed
-    each place timed at_place =
-        let within = slice_get_within (entries ++ last ∷ []) place timed at_place in
-        let long = length_push entries last in
-        let read = get_or_from_slice_get (entries ++ last ∷ []) place timed timed at_place in
-        let bound : place < i + 1 = omega (arith, so_far.one_each) in
-        let cases : (place < i) ⊎ (place ≡ i) = grind (arith, bound) in
+      each : (place : ℕ) (x : MatchedValue) → place < i + 1 → slice_get values place ≡ Some x → number x.life < NEVER
+          → (timed : Timed) × Contains (entries ++ last ∷ []) timed × (timed.place ≡ place)
+      each place x below here less =
+          let cases : (place < i) ⊎ (place ≡ i) = grind (arith, below) in
+          elim cases [
+            | inl before ↦
+                let found = so_far.has_each place x before here less in
+                (found.0, Contains-append_left entries (last ∷ []) found.0 found.1, found.2)
+            | inr same ↦ (last, Contains-push entries last, sym same)
+          ]
+
+  -- one value more that has no such time
+  pub none_more_timed : NEVER ≤ number m.life → AreTimedSoFar number values (i + 1) entries
+  none_more_timed never = record {
+    are_timed = so_far.are_timed;
+    are_past = so_far.are_past;
+    has_each = λ place x below here less.
+        let cases : (place < i) ⊎ (place ≡ i) = grind (arith, below) in
         elim cases [
-          | inl before ↦
-              let inside : place < length entries = omega (arith, so_far.one_each) in
-              so_far.at_each place timed (slice_get_read entries (length entries) place timed refl inside
-              (sym read ∙ get_or_append_left entries (last ∷ []) timed place inside))
-          | inr here ↦
-              let same : timed ≡ last = sym read ∙ get_or_push entries last timed place (so_far.one_each ∙ sym here) in
-              (ap (λ e. e.place) same ∙ sym here, subst (IsTimeOf number values) (sym same) is_last)
-        ]
+          | inl before ↦ so_far.has_each place x before here less
+          | inr same ↦
+              let one : x ≡ m = one_at values i x m (ap (slice_get values) (sym same) ∙ here) at in
+              let times = ap (λ y. number y.life) one in
+              absurd (omega (arith, never, less, times))
+        ];
+  }
 
 -- all values with their times, sorted
 pub sorted_by_time : (number : Life → ℕ) (values : List MatchedValue) (n : ℕ) (entries sorted : List Timed) → AreTimedSoFar number values n entries
     → length values ≤ n → IsPermutation entries sorted → IsNonDecreasingBy (λ timed. timed.time) sorted → AreByTime number values sorted
 sorted_by_time number values n entries sorted are all moved rises = record {
   never_falls = rises;
-  are_timed = All-permutation (IsTimeOf number values) entries sorted moved
-      (All-weaker (Contains entries) (IsTimeOf number values) (λ timed among. let place = place_of entries timed among in
-      (are.at_each place.0 timed place.1).1) entries (All-contains_itself entries));
-  has_each = each;
+  are_timed = All-permutation (IsTimeOf number values) entries sorted moved are.are_timed;
+  are_past = All-permutation (λ timed. timed.time < NEVER) entries sorted moved are.are_past;
+  has_each = λ place m at less.
+      let found = are.has_each place m (let within = slice_get_within values place m at in omega (arith, within, all)) at less in
+      (found.0, Contains-permutation entries sorted found.0 moved found.1, found.2);
 }
-  where
-    nowhere : Timed
-    nowhere = record { time = 0; place = 0 }
-
-    each : (place : ℕ) → place < length values → (timed : Timed) × Contains sorted timed × (timed.place ≡ place)
-    each place below =
-        let at = slice_get-get_or entries place nowhere (omega (arith, are.one_each)) in (
-          get_or entries place nowhere,
-          Contains-permutation entries sorted (get_or entries place nowhere) moved
-              (contains_at entries place (get_or entries place nowhere) at),
-          (are.at_each place (get_or entries place nowhere) at).0,
-        )
 
 -- an entry before the cursor is taken, so one that is left stands at or after it
 stands_after : (taken : List Bool) (entries : List Timed) (i k : ℕ) (timed : Timed) → All (IsTaken taken) (take i entries)
@@ -161,25 +175,27 @@ flag_at taken entries i d e b flagged within is =
 
 -- the walk goes on past an entry that is taken
 pub walked : (taken : List Bool) (entries : List Timed) (i : ℕ) (d : Timed) (e : Bool) → All (λ timed. timed.place < length taken) entries
-    → All (IsTaken taken) (take i entries) → (timed : Timed) × Contains entries timed × IsLeft taken timed
+    → All (IsTaken taken) (take i entries) → i < length entries
     → get_or taken (get_or entries i d).place e ≡ true → All (IsTaken taken) (take (i + 1) entries)
-walked taken entries i d e flagged before left is =
-    let within = not_past taken entries i before left in
+walked taken entries i d e flagged before within is =
     All-more (IsTaken taken) entries i d within before (flag_at taken entries i d e true flagged within is)
 
--- and ends at one that is not
+-- it ends at one that is not
 pub stopped : (taken : List Bool) (entries : List Timed) (i : ℕ) (d : Timed) (e : Bool) → All (λ timed. timed.place < length taken) entries
-    → All (IsTaken taken) (take i entries) → (timed : Timed) × Contains entries timed × IsLeft taken timed
+    → All (IsTaken taken) (take i entries) → i < length entries
     → get_or taken (get_or entries i d).place e ≡ false → IsFirstLeft entries taken i
-stopped taken entries i d e flagged before left is =
-    let within = not_past taken entries i before left in
-    record {
-      entry = get_or entries i d;
-      is_at = slice_get-get_or entries i d within;
-      is_left =
-          flag_at taken entries i d e false flagged within is;
-      before = before;
-    }
+stopped taken entries i d e flagged before within is = record {
+  before = before;
+  is_left = λ timed at.
+      subst (IsLeft taken) (get_or_from_slice_get entries i timed d at) (flag_at taken entries i d e false flagged within is);
+}
+
+-- or behind the last
+pub ended : (taken : List Bool) (entries : List Timed) (i : ℕ) → All (IsTaken taken) (take i entries) → length entries ≤ i → IsFirstLeft entries taken i
+ended taken entries i before past = record {
+  before = before;
+  is_left = λ timed at. absurd (let within = slice_get_within entries i timed at in omega (arith, within, past));
+}
 
 -- at the first entry whose value is left stands the least of the values that are left
 pub record IsLeastLeft (number : Life → ℕ) (values : List MatchedValue) (taken : List Bool) (timed : Timed) : Type 0 where
@@ -200,38 +216,83 @@ module _ (number : Life → ℕ) (values : List MatchedValue) (entries : List Ti
       from_some_and (slice_get values timed.place) (λ m. timed.time ≡ number m.life)
       (All-contains (IsTimeOf number values) entries timed are.are_timed (contains_at entries k timed at))
 
-  none_less : (i : ℕ) (first : IsFirstLeft entries taken i) (y : MatchedValue) → Contains (left_of values taken) y → first.entry.time ≤ number y.life
-  none_less i first y among =
-      let at = place_of (left_of values taken) y among in
-      let place = place_left values taken at.0 y at.1 in
-      let entry = are.has_each place.0 (slice_get_within values place.0 y place.1) in
-      let stands = place_of entries entry.0 entry.1 in
-      let flag : IsLeft taken entry.0 = ap (slice_get taken) entry.2 ∙ place.2 in
-      let after = stands_after taken entries i stands.0 entry.0 first.before stands.1 flag in
-      let rises = are.never_falls i stands.0 entry.0 after (slice_get_within entries stands.0 entry.0 stands.1) in
-      let here = get_or_from_slice_get entries i first.entry entry.0 first.is_at in
-      let there = get_or_from_slice_get entries stands.0 entry.0 entry.0 stands.1 in
-      let same = one_at values place.0 (value_of stands.0 entry.0 stands.1).0 y
-      (sym (ap (slice_get values) entry.2) ∙ (value_of stands.0 entry.0 stands.1).1) place.1 in
-      let time : entry.0.time ≡ number y.life = (value_of stands.0 entry.0 stands.1).2 ∙ ap (λ m. number m.life) same in
-      let times : first.entry.time ≤ entry.0.time = subst (λ e. first.entry.time ≤ e.time) there
-      (subst (λ e. e.time ≤ (get_or entries stands.0 entry.0).time) here rises) in
-      subst (λ n. first.entry.time ≤ n) time times
+  none_less : (i : ℕ) (first : IsFirstLeft entries taken i) (x : Timed) → slice_get entries i ≡ Some x → (y : MatchedValue)
+      → Contains (left_of values taken) y → x.time ≤ number y.life
+  none_less i first x at_x y among = elim (cases_lt (number y.life) NEVER) [
+    | inl past ↦
+        let at = place_of (left_of values taken) y among in
+        let place = place_left values taken at.0 y at.1 in
+        let entry = are.has_each place.0 y place.1 past in
+        let stands = place_of entries entry.0 entry.1 in
+        let flag : IsLeft taken entry.0 = ap (slice_get taken) entry.2 ∙ place.2 in
+        let after = stands_after taken entries i stands.0 entry.0 first.before stands.1 flag in
+        let rises = are.never_falls i stands.0 entry.0 after (slice_get_within entries stands.0 entry.0 stands.1) in
+        let here = get_or_from_slice_get entries i x entry.0 at_x in
+        let there = get_or_from_slice_get entries stands.0 entry.0 entry.0 stands.1 in
+        let same = one_at values place.0 (value_of stands.0 entry.0 stands.1).0 y
+        (sym (ap (slice_get values) entry.2) ∙ (value_of stands.0 entry.0 stands.1).1) place.1 in
+        let time : entry.0.time ≡ number y.life = (value_of stands.0 entry.0 stands.1).2 ∙ ap (λ m. number m.life) same in
+        let times : x.time ≤ entry.0.time = subst (λ e. x.time ≤ e.time) there
+        (subst (λ e. e.time ≤ (get_or entries stands.0 entry.0).time) here rises) in
+        subst (λ n. x.time ≤ n) time times
+    | inr never ↦
+        let less = All-contains (λ timed. timed.time < NEVER) entries x are.are_past (contains_at entries i x at_x) in
+        omega (arith, less, never)
+  ]
 
   -- the value of the first entry that is left is the least of those left
-  pub least_left : (i : ℕ) (first : IsFirstLeft entries taken i) → IsLeastLeft number values taken first.entry
-  least_left i first =
-      let found = value_of i first.entry first.is_at in
+  pub least_left : (i : ℕ) (first : IsFirstLeft entries taken i) (x : Timed) → slice_get entries i ≡ Some x → IsLeastLeft number values taken x
+  least_left i first x at =
+      let found = value_of i x at in
+      let left = first.is_left x at in
       record {
         value = found.0;
         is_at = found.1;
         time_is = found.2;
-        is_left = first.is_left;
+        is_left = left;
         is_least = (
-          mapped_to (λ m. m.life) (left_of values taken) found.0 (left_where values taken first.entry.place found.0 found.1 first.is_left),
+          mapped_to (λ m. m.life) (left_of values taken) found.0 (left_where values taken x.place found.0 found.1 left),
           All-map (λ other. number found.0.life ≤ number other) (λ m. m.life) (left_of values taken)
               (All-weaker (Contains (left_of values taken)) (λ y. number found.0.life ≤ number y.life)
-              (λ y among. subst (λ n. n ≤ number y.life) found.2 (none_less i first y among)) (left_of values taken)
+              (λ y among. subst (λ n. n ≤ number y.life) found.2 (none_less i first x at y among)) (left_of values taken)
+              (All-contains_itself (left_of values taken))),
+        );
+      }
+
+  -- behind the last entry all that are left have no such time
+  none_timed_left : (i : ℕ) (first : IsFirstLeft entries taken i) → length entries ≤ i → (y : MatchedValue) → Contains (left_of values taken) y
+      → NEVER ≤ number y.life
+  none_timed_left i first past y among = elim (cases_lt (number y.life) NEVER) [
+    | inl less ↦
+        let at = place_of (left_of values taken) y among in
+        let place = place_left values taken at.0 y at.1 in
+        let entry = are.has_each place.0 y place.1 less in
+        let stands = place_of entries entry.0 entry.1 in
+        let after = stands_after taken entries i stands.0 entry.0 first.before stands.1 (ap (slice_get taken) entry.2 ∙ place.2) in
+        let within = slice_get_within entries stands.0 entry.0 stands.1 in
+        absurd (omega (arith, after, within, past))
+    | inr never ↦ never
+  ]
+
+  -- so each of them is the least
+  pub none_sooner : (i : ℕ) (first : IsFirstLeft entries taken i) → length entries ≤ i → All (λ m. number m.life ≤ NEVER) values
+      → (place : ℕ) (m : MatchedValue) → slice_get values place ≡ Some m → slice_get taken place ≡ Some false
+      → IsLeastLeft number values taken (record { time = NEVER; place = place })
+  none_sooner i first past bounded place m at left =
+      let among = left_where values taken place m at left in
+      let most = All-contains (λ x. number x.life ≤ NEVER) values m bounded (contains_at values place m at) in
+      let least = none_timed_left i first past m among in
+      let is : NEVER ≡ number m.life = omega (arith, most, least) in
+      record {
+        value = m;
+        is_at = at;
+        time_is = is;
+        is_left = left;
+        is_least = (
+          mapped_to (λ x. x.life) (left_of values taken) m among,
+          All-map (λ other. number m.life ≤ number other) (λ x. x.life) (left_of values taken)
+              (All-weaker (Contains (left_of values taken)) (λ y. number m.life ≤ number y.life)
+              (λ y others. subst (λ n. n ≤ number y.life) is (none_timed_left i first past y others)) (left_of values taken)
               (All-contains_itself (left_of values taken))),
         );
       }
@@ -276,23 +337,20 @@ chosen values taken first_in first_out place a b takes = elim (takes a.value a.i
     apart' : (r t n : ℕ) → t ≡ r → n ≤ t → r < n → ⊥
     apart' r t n same more less = omega arith
 
--- the entry that was read at the cursor
-pub least_read : (number : Life → ℕ) (values : List MatchedValue) (entries : List Timed) (taken : List Bool) (i : ℕ) (read : Timed)
-    → AreByTime number values entries → IsFirstLeft entries taken i → read ≡ get_or entries i read → IsLeastLeft number values taken read
-least_read number values entries taken i read are first is =
-    subst (IsLeastLeft number values taken) (sym (is ∙ get_or_from_slice_get entries i first.entry read first.is_at))
-    (least_left number values entries taken are i first)
-
 -- the values at the two cursors give the choice
 pub next_at : (values : List MatchedValue) (entries dequeues : List Timed) (taken : List Bool) (i j : ℕ) (first_in first_out : Timed) (place : ℕ)
-    → AreByTime entered_by values entries → AreByTime dequeue_return values dequeues → IsFirstLeft entries taken i → IsFirstLeft dequeues taken j
-    → first_in ≡ get_or entries i first_in → first_out ≡ get_or dequeues j first_out → TakesOneOf values first_in first_out place → IsNext values taken place
-next_at values entries dequeues taken i j first_in first_out place are_in are_out a b is_in is_out takes =
-    chosen values taken first_in first_out place (least_read entered_by values entries taken i first_in are_in a is_in)
-    (least_read dequeue_return values dequeues taken j first_out are_out b is_out) takes
+    → AreByTime entered_by values entries → AreByTime dequeue_return values dequeues → All (λ m. dequeue_return m.life ≤ NEVER) values
+    → IsFirstLeft entries taken i → IsFirstLeft dequeues taken j → slice_get entries i ≡ Some first_in
+    → IsDequeuedAt dequeues j first_in.place first_out → TakesOneOf values first_in first_out place → IsNext values taken place
+next_at values entries dequeues taken i j first_in first_out place are_in are_out bounded a b is_in is_out takes =
+    chosen values taken first_in first_out place least out takes
+  where
+    least : IsLeastLeft entered_by values taken first_in
+    least = least_left entered_by values entries taken are_in i a first_in is_in
 
--- the place in an entry is that of a value
-pub place_within : (number : Life → ℕ) (values : List MatchedValue) (entries : List Timed) (taken : List Bool) (i : ℕ) (read : Timed)
-    → AreByTime number values entries → IsFirstLeft entries taken i → read ≡ get_or entries i read → read.place < length values
-place_within number values entries taken i read are first is =
-    let least = least_read number values entries taken i read are first is in slice_get_within values read.place least.value least.is_at
+    out : IsLeastLeft dequeue_return values taken first_out
+    out = elim is_out [
+      | inl at ↦ least_left dequeue_return values dequeues taken are_out j b first_out at
+      | inr none ↦ subst (IsLeastLeft dequeue_return values taken) (sym none.1)
+          (none_sooner dequeue_return values dequeues taken are_out j b none.0 bounded first_in.place least.value least.is_at least.is_left)
+    ]

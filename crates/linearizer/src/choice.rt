@@ -2,24 +2,24 @@ ghost use Rattle.std.specs.Prelude.{◌<◌, ◌≤◌, All, IfOk, MatchOption, 
 ghost use Rattle.value_match.specs.declared.life.TheConstants.{NEVER};
 ghost use Rattle.value_match.specs.Lives.{dequeue_return, entered_by};
 ghost use Rattle.linearizer.specs.declared.timed.TheConstants.{PLACES};
-ghost use Rattle.linearizer.specs.Inner.Sweep.{IsInOrder, IsPassedOver, TakesOneOf};
+ghost use Rattle.linearizer.specs.Inner.Sweep.{IsDequeuedAt, IsInOrder, IsPassedOver, TakesOneOf};
 
 use crate::timed::{PackedTimed, Timed, by_time, first_left};
 use std::alloc::{AllocError, Global};
-use value_match::Values;
+use value_match::{NEVER, Values};
 
 /// The places of the values in their chosen order, each with the gap of its enqueue: a value is the choice among itself and those
 /// after it. Or none, if an enqueue is called only after
 /// a later value has entered.
 ///
 /// The values stand in two lists, one by when each has entered, the other by when each was dequeued. In each list
-/// those before a cursor are taken, so the one at the cursor is the first of the values that remain.
+/// those before a cursor are taken, so the one at the cursor is the first of its values that remain.
 pub(crate) fn put_in_order(
     alloc: Global,
     values: &Values,
 ) -> Result<Option<Vec<PackedTimed>>, AllocError>
     requires few { length values.now ≤ PLACES }
-    requires entries { All (λ value. entered_by value.life ≤ NEVER) values.now }
+    requires entries { All (λ value. entered_by value.life < NEVER) values.now }
     requires dequeues { All (λ value. dequeue_return value.life ≤ NEVER) values.now }
     ensures { IfOk result (λ found. MatchOption found (IsPassedOver values.now) (λ order. IsInOrder values.now order.items)) }
 {
@@ -34,7 +34,7 @@ pub(crate) fn put_in_order(
         first_in = first_left(entries, &taken, first_in);
         first_out = first_left(dequeues, &taken, first_out);
         let entry = entries[first_in].unpack();
-        let next = choice(values, entry, dequeues[first_out].unpack());
+        let next = choice(values, entry, dequeued_at(dequeues, first_out, entry.place));
         if entry.time <= values.get(next).life.enqueue_call() {
             return Ok(None);
         }
@@ -45,6 +45,16 @@ pub(crate) fn put_in_order(
         }))?;
     }
     Ok(Some(order))
+}
+
+/// The dequeue at this place of the list. Behind the last, this value is as good as any: none of those that are left is dequeued.
+fn dequeued_at(dequeues: &[PackedTimed], at: usize, place: usize) -> Timed
+    ensures { IsDequeuedAt dequeues.now at place result }
+{
+    match dequeues.get(at) {
+        Some(dequeue) => dequeue.unpack(),
+        None => Timed { time: NEVER, place },
+    }
 }
 
 /// The place of the choice among values of which the one entered first, and the other was dequeued first.

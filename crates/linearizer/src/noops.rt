@@ -58,14 +58,10 @@ impl<'a> Noops<'a> {
         requires { at < length self.now }
         ensures { slice_get self.now at ≡ Some result }
     {
-        let noop = self.at[at];
-        let call = self.operations[noop.place() as usize].unpack().call;
-        Placed::at(
-            OpId::new(noop.place()),
-            noop.unpack().time,
-            Class::Noop,
-            call,
-        )
+        let place = self.at[at].place();
+        let gap = self.at[at].unpack().time;
+        let call = self.operations[place as usize].unpack().call;
+        Placed::at(OpId::new(place), gap, Class::Noop, call)
     }
 }
 

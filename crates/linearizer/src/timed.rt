@@ -1,14 +1,14 @@
-ghost use Rattle.std.specs.Prelude.{◌≡◌, ◌+◌, ◌*◌, ◌<◌, ◌≤◌, All, Contains, IfOk, IsPermutation, length, take};
+ghost use Rattle.std.specs.Prelude.{◌≡◌, ◌+◌, ◌*◌, ◌<◌, ◌≤◌, All, IfOk, IsPermutation, length, take};
 ghost use Rattle.std.specs.List.Sorted.{IsNonDecreasingBy};
 ghost use Rattle.history_merge.specs.declared.packed.TheConstants.{PACKED_LIMIT};
 ghost use Rattle.value_match.specs.declared.life.TheConstants.{NEVER};
 ghost use Rattle.linearizer.specs.declared.timed.TheConstants.{PLACES};
 ghost use Rattle.value_match.specs.Lives.{dequeue_return, entered_by};
-ghost use Rattle.linearizer.specs.Inner.Sweep.{AreByTime, IsFirstLeft, IsLeft, IsTaken};
+ghost use Rattle.linearizer.specs.Inner.Sweep.{AreByTime, IsFirstLeft, IsTaken};
 
 use std::alloc::{AllocError, Global};
 use std::marker::Model;
-use value_match::{Values, presort};
+use value_match::{NEVER, Values, presort};
 
 /// One above the greatest place that is packed.
 pub(crate) const PLACES: u64 = 1 << 24;
@@ -81,7 +81,7 @@ impl PackedTimed {
     }
 }
 
-/// The values by the time by which each has entered, and by that at which its dequeue returned.
+/// The values by the time by which each has entered, and those that are dequeued by that at which their dequeues returned.
 #[derive(Drop)]
 pub(crate) struct ByTime {
     pub(crate) entries: Vec<PackedTimed>,
@@ -91,7 +91,7 @@ pub(crate) struct ByTime {
 /// The values by these two times.
 pub(crate) fn by_time(alloc: Global, values: &Values) -> Result<ByTime, AllocError>
     requires few { length values.now ≤ PLACES }
-    requires entries { All (λ value. entered_by value.life ≤ NEVER) values.now }
+    requires entries { All (λ value. entered_by value.life < NEVER) values.now }
     requires dequeues { All (λ value. dequeue_return value.life ≤ NEVER) values.now }
     ensures entries { IfOk result (λ by_time. AreByTime entered_by values.now by_time.entries.items) }
     ensures dequeues { IfOk result (λ by_time. AreByTime dequeue_return values.now by_time.dequeues.items) }
@@ -103,7 +103,9 @@ pub(crate) fn by_time(alloc: Global, values: &Values) -> Result<ByTime, AllocErr
         let time = life.entered_by();
         entries.push(PackedTimed::new(Timed { time, place }))?;
         let time = life.dequeue_return();
-        dequeues.push(PackedTimed::new(Timed { time, place }))?;
+        if time < NEVER {
+            dequeues.push(PackedTimed::new(Timed { time, place }))?;
+        }
     }
     sort_by_time(&mut entries);
     sort_by_time(&mut dequeues);
@@ -118,15 +120,14 @@ fn sort_by_time(timed: &mut Vec<PackedTimed>)
     timed.sort_unstable_by_key(|timed| timed.unpack().time);
 }
 
-/// The place of the first entry whose value is left, where all before the place `from` are taken.
+/// The place of the first entry whose value is left, where all before the place `from` are taken; or that behind the last.
 pub(crate) fn first_left(entries: &[PackedTimed], taken: &[bool], from: usize) -> usize
     requires flagged { All (λ entry. entry.place < length taken.now) entries.now }
     requires before { All (IsTaken taken.now) (take from entries.now) }
-    requires some_left { (entry : Timed) × Contains entries.now entry × IsLeft taken.now entry }
     ensures { IsFirstLeft entries.now taken.now result }
 {
     let mut first = from;
-    while taken[entries[first].unpack().place] {
+    while first < entries.len() && taken[entries[first].unpack().place] {
         first += 1;
     }
     first

@@ -4,6 +4,7 @@ use Rattle.std.specs.List.Sorted.{IsNonDecreasingBy}
 use Rattle.std.proofs.Math.Nat.{div-add-mod}
 use Rattle.value_match.specs.declared.life.Life.{Life}
 use Rattle.value_match.specs.declared.life.MatchedValue.{MatchedValue}
+use Rattle.value_match.specs.declared.life.TheConstants.{NEVER}
 use Rattle.value_match.specs.Lives.{enqueue_call, entered_by, leaves_from}
 use Rattle.linearizer.specs.Values.{EachIsChoice, IsChoice}
 use Rattle.linearizer.specs.Inner.Placement.{AreCalledInTime, AreEnqueueGaps, elements_at, gaps_in, lives_in, places_in}
@@ -14,11 +15,13 @@ use Rattle.linearizer.specs.declared.timed.TheConstants.{PLACES}
 abbrev pub IsTimeOf : (Life → ℕ) → List MatchedValue → Timed → Type 0
 IsTimeOf number values timed = IsSomeAnd (slice_get values timed.place) (λ m. timed.time ≡ number m.life)
 
--- each value by its time and its place, by times that never fall
+-- each value that has such a time by it and its place, by times that never fall
 pub record AreByTime (number : Life → ℕ) (values : List MatchedValue) (entries : List Timed) : Type 0 where
   pub never_falls : IsNonDecreasingBy (λ timed. timed.time) entries
   pub are_timed : All (IsTimeOf number values) entries
-  pub has_each : (place : ℕ) → place < length values → (timed : Timed) × Contains entries timed × (timed.place ≡ place)
+  pub are_past : All (λ timed. timed.time < NEVER) entries
+  pub has_each : (place : ℕ) (m : MatchedValue) → slice_get values place ≡ Some m → number m.life < NEVER
+      → (timed : Timed) × Contains entries timed × (timed.place ≡ place)
 
 -- the value is taken already
 abbrev pub IsTaken : List Bool → Timed → Type 0
@@ -28,12 +31,15 @@ IsTaken taken timed = slice_get taken timed.place ≡ Some true
 abbrev pub IsLeft : List Bool → Timed → Type 0
 IsLeft taken timed = slice_get taken timed.place ≡ Some false
 
--- the first entry whose value is left
+-- the place of the first entry whose value is left, or that behind the last
 pub record IsFirstLeft (entries : List Timed) (taken : List Bool) (i : ℕ) : Type 0 where
-  pub entry : Timed
-  pub is_at : slice_get entries i ≡ Some entry
-  pub is_left : IsLeft taken entry
   pub before : All (IsTaken taken) (take i entries)
+  pub is_left : (timed : Timed) → slice_get entries i ≡ Some timed → IsLeft taken timed
+
+-- the dequeue at a place of the list, or, behind the last, this value as never dequeued
+abbrev pub IsDequeuedAt : List Timed → ℕ → ℕ → Timed → Type 0
+IsDequeuedAt dequeues i place timed =
+    (slice_get dequeues i ≡ Some timed) ⊎ ((length dequeues ≤ i) × (timed ≡ record { time = NEVER; place = place }))
 
 -- the place of the second value, where that was dequeued before the first can have left, else that of the first
 abbrev pub TakesOneOf : List MatchedValue → Timed → Timed → ℕ → Type 0
