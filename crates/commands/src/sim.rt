@@ -7,7 +7,7 @@ ghost use Rattle.commands.specs.Outcomes.{answer_of, NamesPlaces};
 
 use crate::input::schedule_of;
 use crate::outcome::{Outcome, Report};
-use history_merge::merged_history;
+use history_merge::merged_from;
 use history_text::{Schedule, TextSource};
 use simulation::{Ending, Simulation, simulate};
 use std::alloc::Global;
@@ -38,7 +38,7 @@ fn play(alloc: Global, schedule: &Schedule) -> Outcome
         Ending::Open => return Ok(Report::LeftOpen(rejections)),
         Ending::Done(lists) => lists,
     };
-    let history = merged_history(alloc, &lists)?;
+    let history = merged_from(alloc, &[], &lists)?;
     let verdict = decide(alloc, &history)?;
     Ok(Report::Played(rejections, history, verdict))
 }

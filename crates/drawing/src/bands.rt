@@ -188,7 +188,7 @@ pub(crate) fn push_named(text: &mut Vec<u8>, value: u64, words: &[u8]) -> Added
 }
 
 /// Adds the words above a band.
-pub fn push_head(text: &mut Vec<u8>, head: Head) -> Added
+pub(crate) fn push_head(text: &mut Vec<u8>, head: Head) -> Added
     ensures { OnOk result (text.new.items ≡ text.old.items ++ head_text head) }
 {
     match head {

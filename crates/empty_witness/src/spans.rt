@@ -15,7 +15,7 @@ pub struct Span {
 /// Returns the spans of the gaps at which some value is definitely in the queue, by rising start; no two touch.
 ///
 /// Time O(n log n) for n values.
-pub fn spans_of(alloc: Global, matching: &FilledMatching) -> Result<Vec<Span>, AllocError>
+pub(crate) fn spans_of(alloc: Global, matching: &FilledMatching) -> Result<Vec<Span>, AllocError>
     ensures { IfOk result (λ spans. AreSpansOf matching.now spans.items) }
 {
     let mut stays = stays_of(alloc, &matching.values())?;

@@ -1,5 +1,6 @@
 -- A list of events is a complete history if and only if it has no fault.
-use Rattle.std.proofs.Common.{◌≡◌, ℕ, zero, suc, ◌+◌, ◌<◌, ◌≤◌, List, [], ◌∷◌, ◌++◌, length, get_or, take, drop, Option, Some, None, refl, sym, ◌∙◌}
+use Rattle.std.proofs.Common.{◌≡◌, ℕ, zero, suc, ◌+◌, ◌<◌, ◌≤◌, List, [], ◌∷◌, ◌++◌, length, get_or, take, drop}
+use Rattle.std.proofs.Common.{Option, Some, None, refl, sym, ◌∙◌}
 use Rattle.std.proofs.Common.{subst, inl, inr, arith, nat_eq, length-append}
 use Rattle.std.specs.Prelude.{All, Contains, MatchOption, ⊤}
 use Rattle.std.specs.List.{last_or}
@@ -20,10 +21,13 @@ use Rattle.history_merge.specs.declared.fault.HistoryFault.TheVariants.{Memory}
 use Rattle.history_merge.specs.Complete.{AreDistinct, IsCompleteHistory, called_values}
 use Rattle.history_merge.specs.Faults.{NoFaultBefore, IsFirstFault, IsFirstFaultAt}
 use Rattle.history_merge.specs.Initial.{IsCompleteFrom}
+use Rattle.history_merge.specs.Forming.{operations_so_far}
 use Rattle.history_merge.specs.Inner.Faults.{NothingPending}
+use Rattle.history_merge.specs.Inner.History.{IsRunOf}
 use Rattle.history_merge.proofs.Tracking.{projection-push_own, projection-push_other}
 use Rattle.history_merge.proofs.DistinctValues.{cut_at, distinct_push, new_from_distinct}
-use Rattle.history_merge.proofs.Turns.{TurnsSoFar, turns_push, fits_in_turns, nothing_after_turns}
+use Rattle.history_merge.proofs.TheirEvents.{run_of}
+use Rattle.history_merge.proofs.Turns.{TurnsSoFar, finished, turns_push, fits_in_turns, nothing_after_turns}
 use Rattle.history_merge.proofs.FaultKinds.{by_kind}
 use Rattle.history_merge.proofs.FirstFaults.{MayFollow, may_follow, no_fault}
 use Rattle.history_merge.proofs.InitialValues.{initial_distinct, none_distinct, twice_not_distinct}
@@ -94,9 +98,11 @@ sound_without_fault : (initial : List ℕ) (events : List Event) → AreDistinct
 sound_without_fault initial events distinct none =
     subst (IsSound initial) (take_all (length events) events (omega arith)) (sound_before initial events (length events) (omega arith) distinct none)
 
--- the tickets of events without a fault rise
-pub rise_without_fault : (events : List Event) → NoFaultBefore [] events (length events) → TicketsRise events
-rise_without_fault events none = let sound = sound_without_fault [] events none_distinct none in sound.tickets_rise
+-- events without a fault are a run, some calls of which may be pending
+pub run_without_fault : (events : List Event) → NoFaultBefore [] events (length events) → IsRunOf events (operations_so_far events)
+run_without_fault events none =
+    let sound = sound_without_fault [] events none_distinct none in
+    run_of events sound.tickets_rise sound.threads_in_range (λ thread. finished (projection thread events) (sound.turns thread))
 
 -- events without a fault and with nothing pending are a complete history
 pub complete_without_fault : (initial : List ℕ) (events : List Event) → AreDistinct initial → NoFaultBefore initial events (length events)

@@ -1,12 +1,13 @@
 -- What a history builder keeps, after one more event and at the end.
-use Rattle.std.proofs.Common.{◌≡◌, ◌≢◌, ℕ, ◌<◌, ◌≤◌, Bool, true, false, List, [], ◌∷◌, ◌++◌, length, get_or, set, Option, Some, None, refl, sym, ◌∙◌}
+use Rattle.std.proofs.Common.{◌≡◌, ◌≢◌, ℕ, ◌<◌, ◌≤◌, Bool, true, false, List, [], ◌∷◌, ◌++◌, length, get_or, set}
+use Rattle.std.proofs.Common.{Option, Some, None, refl, sym, ◌∙◌}
 use Rattle.std.proofs.Common.{ap, subst, inl, inr, arith, nat_eq, append_assoc, length-set, get_or-set_same, get_or-set_other}
-use Rattle.std.specs.Prelude.{All, slice_get, option_and_then, option_map, MatchOption, ⊤}
-use Rattle.std.specs.List.{last_or}
+use Rattle.std.specs.Prelude.{slice_get, option_map, MatchOption, ⊤}
 use Rattle.std.specs.Bool.{then_some}
 use Rattle.std.proofs.lemmas.Bool.Decides.{eqb_tells}
 use Rattle.std.proofs.lemmas.Bool.{eq-eqb, false≢true}
-use Rattle.std.proofs.lemmas.List.Elements.{All-cons, All-head, All-nil, All-tail, filter-append}
+use Rattle.std.proofs.lemmas.List.{append-nil}
+use Rattle.std.proofs.lemmas.List.Elements.{filter-append}
 use Rattle.std.proofs.lemmas.Option.{slice_get_within, get_or_from_slice_get}
 use Rattle.event_records.specs.declared.event.Event.{Event}
 use Rattle.event_records.specs.declared.event.What.{What}
@@ -20,12 +21,14 @@ use Rattle.history_merge.specs.Complete.{IsCompleteHistory}
 use Rattle.history_merge.specs.Faults.{pending_call}
 use Rattle.history_merge.specs.Operations.{operations_of, operation_of, kind_of}
 use Rattle.history_merge.specs.Forming.{begun, answered, operation_so_far, operations_so_far, waiting}
-use Rattle.history_merge.specs.Inner.Forming.{FitsTurn, Follows}
+use Rattle.history_merge.specs.Events.{events_of}
+use Rattle.history_merge.specs.Inner.Forming.{FitsTurn, IsFormedOf}
+use Rattle.history_merge.specs.Inner.History.{IsRunOf, next_of}
 use Rattle.history_merge.specs.Gathering.{HasFormed}
-use Rattle.history_merge.proofs.TheirEvents.{returned_after_answer, returned_after_call}
+use Rattle.history_merge.proofs.TheirEvents.{run_of, told_of_run}
 use Rattle.history_merge.proofs.Tracking.{pending_call-push_own, pending_call-push_other}
 use Rattle.history_merge.proofs.Turns.{answer_is_return}
-use Rattle.history_merge.proofs.Gathered.{next_of, formed_call, waits_call, waits_answer, waits_other, formed_answer}
+use Rattle.history_merge.proofs.Gathered.{formed_call, waits_call, waits_answer, waits_other, formed_answer}
 
 waits_for : (o : Option (ℕ × Event)) (call : Event) → option_map (λ found. found.1) o ≡ Some call → (place : ℕ) × (o ≡ Some (place, call))
 waits_for None call h = cc
@@ -46,15 +49,13 @@ waits_more events e own waits thread = elim (eqb_tells e.thread thread) [
 ]
 
 -- one more call
-pub formed_after_call : (events : List Event) (e : Event) (old new : Forming) (place : ℕ) → place ≡ length old.formed.operations.items
+pub formed_after_call : (events : List Event) (e : Event) (old new : Forming) (place : ℕ) → place ≡ length old.operations.items
     → e.thread ≤ MAX_THREAD → is_call e.what ≡ true → pending_call e.thread events ≡ None → HasFormed events old
-    → new.formed.operations.items ≡ old.formed.operations.items ++ operation_so_far e None ∷ []
-    → new.formed.by_return.items ≡ old.formed.by_return.items → new.places ≡ set old.places e.thread place
-    → HasFormed (events ++ e ∷ []) new
-formed_after_call events e old new place last below call none known added kept placed = record {
+    → new.operations.items ≡ old.operations.items ++ operation_so_far e None ∷ []
+    → new.places ≡ set old.places e.thread place → HasFormed (events ++ e ∷ []) new
+formed_after_call events e old new place last below call none known added placed = record {
   operations = added ∙ ap (λ os. os ++ operation_so_far e None ∷ []) known.operations
       ∙ sym (formed_call events e (none_waits _ (known.waits e.thread ∙ none)) call);
-  returned = rw (added, kept) (returned_after_call events e old.formed.operations.items old.formed.by_return.items (operation_so_far e None) call known.returned);
   one_per_thread = rw (placed, length-set) known.one_per_thread;
   waits = waits_more events e (ap (option_map (λ found. found.1)) (waits_call events e call) ∙ rw call refl) known.waits;
   places = places;
@@ -74,11 +75,11 @@ formed_after_call events e old new place last below call none known added kept p
 -- one more return: the operation stands there, and is completed
 pub record IsCompletedBy (events : List Event) (e call : Event) (old : Forming) : Type 0 where
   pub place : ℕ
-  pub pending : slice_get old.formed.operations.items place ≡ Some (operation_so_far call None)
+  pub pending : slice_get old.operations.items place ≡ Some (operation_so_far call None)
   pub is : get_or old.places e.thread 0 ≡ place
-  pub inside : place < length old.formed.operations.items
-  pub was : (d : Operation) → get_or old.formed.operations.items place d ≡ operation_so_far call None
-  pub now : operations_so_far (events ++ e ∷ []) ≡ set old.formed.operations.items place (operation_so_far call (Some e))
+  pub inside : place < length old.operations.items
+  pub was : (d : Operation) → get_or old.operations.items place d ≡ operation_so_far call None
+  pub now : operations_so_far (events ++ e ∷ []) ≡ set old.operations.items place (operation_so_far call (Some e))
 
 -- a return completes the operation of its thread
 pub completed_by : (events : List Event) (e call : Event) (old : Forming) → e.thread ≤ MAX_THREAD → is_call e.what ≡ false
@@ -86,70 +87,23 @@ pub completed_by : (events : List Event) (e call : Event) (old : Forming) → e.
 completed_by events e call old below returns pending known =
     let waits = waits_for (waiting e.thread events) call (known.waits e.thread ∙ pending) in
     let done = formed_answer events e waits.0 call waits.1 returns in
-    let was : slice_get old.formed.operations.items waits.0 ≡ Some (operation_so_far call None) = rw known.operations done.was in
+    let was : slice_get old.operations.items waits.0 ≡ Some (operation_so_far call None) = rw known.operations done.was in
     record {
       place = waits.0;
       pending = was;
       is = subst (λ o. MatchOption o ⊤ (λ found. get_or old.places e.thread 0 ≡ found.0)) waits.1 (known.places e.thread below);
-      inside = slice_get_within old.formed.operations.items waits.0 (operation_so_far call None) was;
-      was = λ d. get_or_from_slice_get old.formed.operations.items waits.0 (operation_so_far call None) d was;
+      inside = slice_get_within old.operations.items waits.0 (operation_so_far call None) was;
+      was = λ d. get_or_from_slice_get old.operations.items waits.0 (operation_so_far call None) d was;
       now = rw known.operations done.operations;
     }
 
--- of the last element holds what holds of all
-last_holds : {X : Type 0} (P : X → Type 0) (o : Option X) (xs : List X) (x : X) → ((y : X) → o ≡ Some y → P y) → All P xs → last_or o xs ≡ Some x → P x
-last_holds P o [] x first all is = first x is
-last_holds P o (y ∷ xs) x first all is =
-    last_holds P (Some y) xs x (λ z same. subst P (let one : y ≡ z = cc in one) (All-head P y xs all)) (All-tail P y xs all) is
-
--- the events of a thread are its own
-own_thread : (thread : ℕ) (events : List Event) → All (λ x. x.thread ≡ thread) (projection thread events)
-own_thread thread [] = All-nil (λ x. x.thread ≡ thread)
-own_thread thread (e ∷ events) = elim (eqb_tells e.thread thread) [
-  | inl same ↦ rw same.0 (All-cons (λ x. x.thread ≡ thread) e (projection thread events) same.1 (own_thread thread events))
-  | inr other ↦ rw other.0 (own_thread thread events)
-]
-
--- what is pending in a thread is a call of it
-pending_thread : (thread : ℕ) (events : List Event) (call : Event) → pending_call thread events ≡ Some call → call.thread ≡ thread
-pending_thread thread events call is = join (last_or None (projection thread events)) refl is
-  where
-    join : (last : Option Event) → last_or None (projection thread events) ≡ last → option_and_then (λ e. then_some (is_call e.what) e) last ≡ Some call
-        → call.thread ≡ thread
-    join None last_is h = cc
-    join (Some e) last_is h = pick (is_call e.what) h
-      where
-        pick : (called : Bool) → then_some called e ≡ Some call → call.thread ≡ thread
-        pick true same = last_holds (λ x. x.thread ≡ thread) None (projection thread events) call (λ y none. cc) (own_thread thread events)
-            (last_is ∙ same)
-        pick false none = cc
-
--- a return comes after a call, so its ticket is above one
-later_than_one : (events : List Event) (e call : Event) → pending_call e.thread events ≡ Some call
-    → MatchOption (last_or None events) ⊤ (λ last. last.ticket < e.ticket) → 0 < e.ticket
-later_than_one [] e call pending rises = cc
-later_than_one (x ∷ events) e call pending rises = join (Some x) events (λ none. cc) rises
-  where
-    join : (o : Option Event) (xs : List Event) → ¬ (o ≡ None) → MatchOption (last_or o xs) ⊤ (λ last. last.ticket < e.ticket) → 0 < e.ticket
-    join None [] some above = absurd (some refl)
-    join (Some last) [] some above = omega (arith, above)
-    join o (y ∷ xs) some above = join (Some y) xs (λ none. cc) above
-
--- the pending call is of the kind that the return answers
-fits_call : (pending : Option Event) (e call : Event) → pending ≡ Some call → FitsTurn pending e → answers call.what e.what ≡ true
-fits_call None e call is fits = cc
-fits_call (Some c) e call is fits = let same : c ≡ call = cc in subst (λ x. answers x.what e.what ≡ true) same fits
-
 -- what is held after a return
 pub formed_after_answer : (events : List Event) (e call : Event) (old new : Forming) → e.thread ≤ MAX_THREAD → is_call e.what ≡ false
-    → pending_call e.thread events ≡ Some call → Follows events e → HasFormed events old → (done : IsCompletedBy events e call old)
-    → new.formed.operations.items ≡ set old.formed.operations.items done.place (operation_so_far call (Some e))
-    → new.formed.by_return.items ≡ old.formed.by_return.items ++ done.place ∷ [] → new.places ≡ old.places → HasFormed (events ++ e ∷ []) new
-formed_after_answer events e call old new below returns pending follows known done completed added kept = record {
+    → HasFormed events old → (done : IsCompletedBy events e call old)
+    → new.operations.items ≡ set old.operations.items done.place (operation_so_far call (Some e)) → new.places ≡ old.places
+    → HasFormed (events ++ e ∷ []) new
+formed_after_answer events e call old new below returns known done completed kept = record {
   operations = completed ∙ sym done.now;
-  returned = rw (completed, added) (returned_after_answer events e call old.formed.operations.items old.formed.by_return.items done.place returns done.pending
-      (fits_call (pending_call e.thread events) e call pending follows.fits) (pending_thread e.thread events call pending)
-      (later_than_one events e call pending follows.rises) known.returned);
   one_per_thread = rw kept known.one_per_thread;
   waits = waits_more events e (ap (option_map (λ found. found.1)) (waits_answer events e returns) ∙ rw returns refl) known.waits;
   places = places;
@@ -228,3 +182,16 @@ formed_from before (e ∷ later) turns = join (formed_from (before ++ e ∷ []) 
 -- the operations of a complete history are all there
 pub all_formed : (events : List Event) → IsCompleteHistory events → operations_so_far events ≡ operations_of events
 all_formed events complete = formed_from [] events complete.threads_take_turns
+
+-- the events of a complete history are a run
+pub run_of_complete : (events : List Event) → IsCompleteHistory events → IsRunOf events (operations_so_far events)
+run_of_complete events complete = run_of events complete.tickets_rise complete.threads_in_range
+    (λ thread. ([], rw append-nil (complete.threads_take_turns thread)))
+
+-- so its operations tell them
+pub formed_of_complete : (events : List Event) (operations : List Operation) → IsCompleteHistory events → operations ≡ operations_so_far events
+    → IsFormedOf events operations
+formed_of_complete events operations complete so_far = record {
+  formed = so_far ∙ all_formed events complete;
+  told = ap events_of so_far ∙ told_of_run events (operations_so_far events) (run_of_complete events complete);
+}

@@ -1,7 +1,8 @@
 -- How one more event changes the operations of the events so far.
-use Rattle.std.proofs.Common.{◌≡◌, ℕ, suc, ◌||◌, ◌⊎◌, ◌≢◌, Bool, true, false, cond, List, [], ◌∷◌, ◌++◌, length, set, Option, Some, None, refl, sym}
+use Rattle.std.proofs.Common.{◌≡◌, ℕ, suc, ◌||◌, ◌⊎◌, ◌≢◌, Bool, true, false, cond, List, [], ◌∷◌, ◌++◌, length}
+use Rattle.std.proofs.Common.{set, Option, Some, None, refl, sym}
 use Rattle.std.proofs.Common.{◌∙◌, ap, subst, inl, inr, nat_eq}
-use Rattle.std.specs.Prelude.{find, slice_get}
+use Rattle.std.specs.Prelude.{slice_get}
 use Rattle.std.specs.Option.{option_map_or, option_or}
 use Rattle.std.proofs.lemmas.Bool.Decides.{eqb_tells}
 use Rattle.std.proofs.lemmas.Bool.{eq-eqb, ne_eqb, false≢true}
@@ -15,10 +16,7 @@ use Rattle.history_merge.specs.Faults.{was_called}
 use Rattle.history_merge.specs.Operations.{enqueued_value}
 use Rattle.history_merge.specs.Forming.{begun, answered, operation_so_far, operations_so_far, waiting}
 use Rattle.history_merge.specs.Inner.Forming.{is_called_in}
-
--- the next event of the thread
-abbrev pub next_of : ℕ → List Event → Option Event
-next_of thread events = find (λ r. nat_eq r.thread thread) events
+use Rattle.history_merge.specs.Inner.History.{next_of}
 
 or_none : (o : Option Event) → option_or o None ≡ o
 or_none None = refl

@@ -1,7 +1,7 @@
 -- The way of the argument, from one thread's events to complete histories and their operations:
 -- Turns: calls and returns of one thread, event by event.
 -- Tracking, KnownValues, Gathered: what a walk over events keeps (pending calls, called values, operations), and one more event.
--- TheirEvents: the operations, and the places of those that returned, determine the events.
+-- TheirEvents: the operations determine the events.
 -- NextEvents: the same walk from the last event to the first.
 -- Completeness, Distinct: what the operations of a complete history have in common, and what distinguishes them.
 -- InitialValues: distinct initial values, and histories that are complete from them.

@@ -1,5 +1,6 @@
 -- The faults of events to which more are added.
-use Rattle.std.proofs.Common.{◌≡◌, ◌++◌, ◌∷◌, [], ℕ, zero, suc, ◌<◌, ◌≤◌, List, length, take, Option, Some, None, refl, sym, ◌∙◌, subst, inl, inr}
+use Rattle.std.proofs.Common.{◌≡◌, ◌++◌, ◌∷◌, [], ℕ, zero, suc, ◌<◌, ◌≤◌, List, length, take, Option, Some, None, refl}
+use Rattle.std.proofs.Common.{sym, ◌∙◌, subst, inl, inr}
 use Rattle.std.proofs.Common.{arith, length-append}
 use Rattle.std.specs.Prelude.{slice_get, MatchOption, is_some, true, false}
 use Rattle.std.proofs.Math.Seq.{take-append_seam}
@@ -11,6 +12,8 @@ use Rattle.history_merge.specs.declared.fault.HistoryFault.{HistoryFault}
 use Rattle.history_merge.specs.declared.gathering.OperationsBuilder.{OperationsBuilder}
 use Rattle.history_merge.specs.Faults.{fault_at, NoFaultBefore, IsFirstFault}
 use Rattle.history_merge.specs.Gathering.{HasGatheredEvents, HasMetFault, IsForming}
+use Rattle.history_merge.specs.Inner.History.{AreOfRun}
+use Rattle.history_merge.proofs.ExactFaults.{run_without_fault}
 use Rattle.history_merge.proofs.FirstFaults.{first_fault_at}
 use Rattle.history_merge.proofs.InitialValues.{none_distinct}
 
@@ -104,3 +107,7 @@ gathered_without_fault events builder none known =
 pub kept_is_met : (events : List Event) (builder : OperationsBuilder) (fault : HistoryFault) → builder.fault ≡ Some fault → HasGatheredEvents events builder
     → HasMetFault events fault
 kept_is_met events builder fault kept gathered = subst (λ kept. MatchOption kept (IsForming events builder) (HasMetFault events)) kept gathered
+
+-- without a fault, the operations are those of a run
+pub run_of_forming : (events : List Event) (builder : OperationsBuilder) → IsForming events builder → AreOfRun builder.forming.operations.items
+run_of_forming events builder known = (events, rw known.formed.operations (run_without_fault events known.no_fault))

@@ -1,30 +1,105 @@
--- The events of the operations in a history builder, by the places of those that returned.
-use Rattle.std.proofs.Common.{◌≡◌, ◌≢◌, ℕ, zero, suc, ◌+◌, ◌<◌, Bool, true, false, not, List, [], ◌∷◌, ◌++◌, length, set, Option, Some, None}
-use Rattle.std.proofs.Common.{refl, sym, ◌∙◌, ap, subst, arith, nat_lt}
-use Rattle.std.specs.Prelude.{All, filter, map, slice_get}
-use Rattle.std.specs.List.{AllZip}
-use Rattle.std.proofs.lemmas.Bool.{lt-ltb, le-ltb}
-use Rattle.std.proofs.lemmas.List.{append-nil, length-map}
-use Rattle.std.proofs.lemmas.List.Elements.{All-cons, All-nil, filter-append}
-use Rattle.std.proofs.lemmas.Option.{slice_get_within, get_or_from_slice_get}
-use Rattle.std.proofs.lemmas.Slice.Zip.{all_zipped_more}
+-- The operations of events determine them: each call, with its return by ticket among the events of the later operations.
+use Rattle.std.proofs.Common.{◌≡◌, ◌≢◌, ℕ, zero, suc, ◌+◌, ◌<◌, ◌≤◌, Bool, true, false, not, List, [], ◌∷◌}
+use Rattle.std.proofs.Common.{◌++◌, length, get_or, set, Option, Some, None}
+use Rattle.std.proofs.Common.{refl, sym, ◌∙◌, ap, subst, inl, inr, cond, arith, append_assoc, length-set, get_or-set_same, get_or-set_other}
+use Rattle.std.proofs.Common.{nat_eq, take, replicate, le-leb, leb-true}
+use Rattle.std.specs.Prelude.{All, IfSome, count_by, option_and_then}
+use Rattle.std.specs.Bool.{then_some}
+use Rattle.std.proofs.lemmas.Bool.Decides.{eqb_tells}
+use Rattle.std.proofs.lemmas.Bool.{cases_lt, eq-eqb, false≢true, le-ltb, lt-ltb, ne_eqb}
+use Rattle.std.proofs.lemmas.List.Sums.{sum_by-cons}
+use Rattle.std.proofs.lemmas.List.{get_or-take, length-replicate, length-take-le}
+use Rattle.std.proofs.lemmas.List.Elements.{All-head, All-tail, filter-append}
 use Rattle.event_records.specs.declared.event.Event.{Event}
 use Rattle.event_records.specs.declared.event.What.{What}
 use Rattle.event_records.specs.declared.event.What.TheVariants.{CallEnq, RetEnq, RetNot, CallDeq, RetDeq, RetEmpty}
-use Rattle.event_records.specs.Turns.{is_call, answers, TicketsRise}
-use Rattle.history_merge.specs.declared.forming.Formed.{Formed}
+use Rattle.event_records.specs.declared.limits.TheConstants.{MAX_THREAD}
+use Rattle.event_records.specs.Projection.{projection}
+use Rattle.event_records.specs.Turns.{is_call, answers, TakesTurns, TicketsRise}
 use Rattle.history_merge.specs.declared.operation.Operation.{Operation}
-use Rattle.history_merge.specs.Events.{among_returns, by_ticket, call_event, called_by, answered_by, events_by, return_at, return_event}
+use Rattle.history_merge.specs.Events.{answered_by, call_event, called_by, events_of, maybe_return, put_by_ticket, put_each, put_maybe, return_event}
 use Rattle.history_merge.specs.Forming.{answered, begun, operation_so_far, operations_so_far}
-use Rattle.history_merge.specs.Inner.Forming.{AreReturned, IsFormedOf, IsReturnedBy, returns_of}
-use Rattle.history_merge.specs.Operations.{operations_of}
-use Rattle.history_merge.proofs.Gathered.{next_of}
+use Rattle.history_merge.specs.Inner.History.{AreInTurn, AreLeft, FollowsInTurn, IsFirstDue, IsRun, IsRunOf, comes_by_ticket, due_in, next_of}
+use Rattle.history_merge.proofs.NextEvents.{nothing_at}
+use Rattle.history_merge.proofs.Turns.{answer_is_return, answered_is_call}
 
--- ---- calls
+-- ---- the next event of a thread
 
--- the calls among the events
-abbrev pub calls_of : List Event → List Event
-calls_of events = filter (λ e. is_call e.what) events
+-- of the next event holds what holds of all
+next_holds : (P : Event → Type 0) (thread : ℕ) (xs : List Event) (r : Event) → All P xs → next_of thread xs ≡ Some r → P r
+next_holds P thread [] r all is = cc
+next_holds P thread (x ∷ xs) r all is = pick (nat_eq x.thread thread) (next_holds P thread xs r (All-tail P x xs all)) is
+  where
+    pick : (own : Bool) → (next_of thread xs ≡ Some r → P r) → cond own (Some x) (next_of thread xs) ≡ Some r → P r
+    pick true more here = let same : x ≡ r = cc in subst P same (All-head P x xs all)
+    pick false more here = more here
+
+next_thread : (thread : ℕ) (xs : List Event) (r : Event) → next_of thread xs ≡ Some r → r.thread ≡ thread
+next_thread thread [] r is = cc
+next_thread thread (x ∷ xs) r is = elim (eqb_tells x.thread thread) [
+  | inl own ↦
+      let here : ◌≡◌ {A = Option Event} (Some x) (Some r) = rw own.0 at is in
+      let same : x ≡ r = cc in subst (λ y. y.thread ≡ thread) same own.1
+  | inr other ↦ next_thread thread xs r (rw other.0 at is)
+]
+
+-- the thread's events begin with the next one
+projection_from_next : (thread : ℕ) (events : List Event) (r : Event) → next_of thread events ≡ Some r
+    → (rest : List Event) × (projection thread events ≡ r ∷ rest)
+projection_from_next thread [] r is = cc
+projection_from_next thread (e ∷ later) r is = elim (eqb_tells e.thread thread) [
+  | inl own ↦
+      let here : ◌≡◌ {A = Option Event} (Some e) (Some r) = rw own.0 at is in
+      let same : e ≡ r = cc in (projection thread later, rw own.0 (ap (λ x. x ∷ projection thread later) same))
+  | inr other ↦ let more = projection_from_next thread later r (rw other.0 at is) in (more.0, rw other.0 more.1)
+]
+
+above_first : (e : Event) (later : List Event) → TicketsRise (e ∷ later) → All (λ x. e.ticket < x.ticket) later
+above_first e later rise k d below = rise zero (suc k) d (omega arith) (omega arith)
+
+rise_later : (e : Event) (later : List Event) → TicketsRise (e ∷ later) → TicketsRise later
+rise_later e later rise i j d below inside = rise (suc i) (suc j) d (omega arith) (omega arith)
+
+-- the next events of two threads have different tickets
+next_apart : (xs : List Event) (k t : ℕ) (f r : Event) → TicketsRise xs → next_of k xs ≡ Some f → next_of t xs ≡ Some r → k ≢ t → f.ticket ≢ r.ticket
+next_apart [] k t f r rise is_f is_r apart = cc
+next_apart (x ∷ xs) k t f r rise is_f is_r apart = elim (eqb_tells x.thread k) [
+  | inl own ↦ elim (eqb_tells x.thread t) [
+    | inl both ↦ absurd (apart (sym own.1 ∙ both.1))
+    | inr other ↦
+        let here : ◌≡◌ {A = Option Event} (Some x) (Some f) = rw own.0 at is_f in
+        let same : x ≡ f = cc in
+        let above = next_holds (λ y. x.ticket < y.ticket) t xs r (above_first x xs rise) (rw other.0 at is_r) in
+        λ one. absurd (omega (arith, above, one, ap (λ y. y.ticket) same))
+  ]
+  | inr other ↦ elim (eqb_tells x.thread t) [
+    | inl own ↦
+        let here : ◌≡◌ {A = Option Event} (Some x) (Some r) = rw own.0 at is_r in
+        let same : x ≡ r = cc in
+        let above = next_holds (λ y. x.ticket < y.ticket) k xs f (above_first x xs rise) (rw other.0 at is_f) in
+        λ one. absurd (omega (arith, above, one, ap (λ y. y.ticket) same))
+    | inr neither ↦ next_apart xs k t f r (rise_later x xs rise) (rw other.0 at is_f) (rw neither.0 at is_r) apart
+  ]
+]
+
+-- what is due is the next event of its thread, and a return
+due_is : (k : ℕ) (events : List Event) (f : Event) → due_in k events ≡ Some f → (next_of k events ≡ Some f) × (is_call f.what ≡ false)
+due_is k events f due = join (next_of k events) refl due
+  where
+    join : (next : Option Event) → next_of k events ≡ next → option_and_then (λ r. then_some (not (is_call r.what)) r) next ≡ Some f
+        → (next_of k events ≡ Some f) × (is_call f.what ≡ false)
+    join None is none = cc
+    join (Some r) is some = pick (is_call r.what) refl some
+      where
+        pick : (called : Bool) → is_call r.what ≡ called → then_some (not called) r ≡ Some f → (next_of k events ≡ Some f) × (is_call f.what ≡ false)
+        pick true call none = cc
+        pick false returns here = let same : r ≡ f = cc in (is ∙ ap (λ x. Some x) same, subst (λ x. is_call x.what ≡ false) same returns)
+
+-- nothing is due of a thread whose next event is a call
+due_of_call : (k : ℕ) (events : List Event) (e : Event) → next_of k events ≡ Some e → is_call e.what ≡ true → due_in k events ≡ None
+due_of_call k events e is call = rw (is, call) refl
+
+-- ---- the events of an operation
 
 called_answered : (what answer : What) → is_call what ≡ true → called_by (answered (begun what) answer) ≡ what
 called_answered (CallEnq v) RetNot h = refl
@@ -43,18 +118,6 @@ call_so_far : (e : Event) (next : Option Event) → is_call e.what ≡ true → 
 call_so_far e None h = rw (called_begun e.what h, call_event, operation_so_far) refl
 call_so_far e (Some answer) h = rw (called_answered e.what answer.what h, call_event, operation_so_far) refl
 
--- the operations tell the calls
-pub calls_so_far : (events : List Event) → map call_event (operations_so_far events) ≡ calls_of events
-calls_so_far [] = refl
-calls_so_far (e ∷ later) = join (is_call e.what) refl (calls_so_far later)
-  where
-    join : (called : Bool) → is_call e.what ≡ called → map call_event (operations_so_far later) ≡ calls_of later
-        → map call_event (operations_so_far (e ∷ later)) ≡ calls_of (e ∷ later)
-    join true is more = rw (is, call_so_far e (next_of e.thread later) is, more) refl
-    join false is more = rw is more
-
--- ---- returns
-
 answered_again : (call answer : What) → answers call answer ≡ true → answered_by (answered (begun call) answer) ≡ answer
 answered_again (CallEnq v) RetEnq h = refl
 answered_again (CallEnq v) RetNot h = refl
@@ -62,191 +125,518 @@ answered_again CallDeq (RetDeq v) h = refl
 answered_again CallDeq RetEmpty h = refl
 answered_again _ _ h = cc
 
--- an operation that returned determines its return
-return_told : (operations : List Operation) (place : ℕ) (answer : Event) → IsReturnedBy operations place answer → return_at operations place ≡ answer
-return_told operations place answer is =
-    let here = get_or_from_slice_get operations place (operation_so_far is.call (Some answer)) _ is.at in
-    ap return_event here ∙ rw (answered_again is.call.what answer.what is.answers_call, is.same_thread, return_event, operation_so_far) refl
-
--- the places tell the returns
-pub returns_so_far : (operations : List Operation) (places : List ℕ) (returns : List Event) → AllZip (IsReturnedBy operations) places returns
-    → map (return_at operations) places ≡ returns
-returns_so_far operations [] [] are = refl
-returns_so_far operations [] (r ∷ returns) are = absurd are
-returns_so_far operations (p ∷ places) [] are = absurd are
-returns_so_far operations (p ∷ places) (r ∷ returns) are =
-    rw (return_told operations p r are.0, returns_so_far operations places returns are.1) refl
-
--- they are those of operations
-pub returned_within : (operations : List Operation) (places : List ℕ) (returns : List Event) → AllZip (IsReturnedBy operations) places returns
-    → All (λ place. place < length operations) places
-returned_within operations [] [] are = All-nil (λ place. place < length operations)
-returned_within operations [] (r ∷ returns) are = absurd are
-returned_within operations (p ∷ places) [] are = absurd are
-returned_within operations (p ∷ places) (r ∷ returns) are = All-cons (λ place. place < length operations) p places
-    (slice_get_within operations p (operation_so_far are.0.call (Some r)) are.0.at) (returned_within operations places returns are.1)
-
--- ---- one more event
-
--- what is known of each pair is known after a change that keeps it
-all_zip_kept : {A B : Type 0} (R S : A → B → Type 0) (xs : List A) (ys : List B) → ((x : A) (y : B) → R x y → S x y) → AllZip R xs ys → AllZip S xs ys
-all_zip_kept R S [] [] keeps are = tt
-all_zip_kept R S [] (y ∷ ys) keeps are = absurd are
-all_zip_kept R S (x ∷ xs) [] keeps are = absurd are
-all_zip_kept R S (x ∷ xs) (y ∷ ys) keeps are = (keeps x y are.0, all_zip_kept R S xs ys keeps are.1)
-
-slice_get-front : (xs ys : List Operation) (i : ℕ) (x : Operation) → slice_get xs i ≡ Some x → slice_get (xs ++ ys) i ≡ Some x
-slice_get-front [] ys i x here = cc
-slice_get-front (y ∷ xs) ys zero x here = here
-slice_get-front (y ∷ xs) ys (suc i) x here = slice_get-front xs ys i x here
-
-slice_get-set_other : (xs : List Operation) (i j : ℕ) (x : Operation) → i ≢ j → slice_get (set xs i x) j ≡ slice_get xs j
-slice_get-set_other [] i j x apart = refl
-slice_get-set_other (y ∷ xs) zero zero x apart = absurd (apart refl)
-slice_get-set_other (y ∷ xs) zero (suc j) x apart = refl
-slice_get-set_other (y ∷ xs) (suc i) zero x apart = refl
-slice_get-set_other (y ∷ xs) (suc i) (suc j) x apart = slice_get-set_other xs i j x (λ same. apart (ap suc same))
-
-slice_get-set_same : (xs : List Operation) (i : ℕ) (x : Operation) → i < length xs → slice_get (set xs i x) i ≡ Some x
-slice_get-set_same [] i x below = absurd (omega arith)
-slice_get-set_same (y ∷ xs) zero x below = refl
-slice_get-set_same (y ∷ xs) (suc i) x below = slice_get-set_same xs i x (omega arith)
-
--- a call adds an operation, and no return
-pub returned_after_call : (events : List Event) (e : Event) (operations : List Operation) (places : List ℕ) (o : Operation) → is_call e.what ≡ true
-    → AreReturned events operations places → AreReturned (events ++ e ∷ []) (operations ++ o ∷ []) places
-returned_after_call events e operations places o call are =
-    let same : returns_of (events ++ e ∷ []) ≡ returns_of events =
-    filter-append (λ x. not (is_call x.what)) events (e ∷ []) ∙ rw call (append-nil (returns_of events)) in
-    subst (λ rs. AllZip (IsReturnedBy (operations ++ o ∷ [])) places rs) (sym same)
-    (all_zip_kept (IsReturnedBy operations) (IsReturnedBy (operations ++ o ∷ [])) places (returns_of events) (λ p r is. record {
-      call = is.call;
-      at = slice_get-front operations (o ∷ []) p (operation_so_far is.call (Some r)) is.at;
-      answers_call = is.answers_call;
-      same_thread = is.same_thread;
-      is_later = is.is_later;
-    }) are)
-
--- the operations after the one at this place is completed
-abbrev pub completed : List Operation → ℕ → Event → Event → List Operation
-completed operations place call answer = set operations place (operation_so_far call (Some answer))
-
--- a return completes the operation at a place at which none returned
-pub returned_after_answer : (events : List Event) (e call : Event) (operations : List Operation) (places : List ℕ) (place : ℕ)
-    → is_call e.what ≡ false → slice_get operations place ≡ Some (operation_so_far call None) → answers call.what e.what ≡ true
-    → call.thread ≡ e.thread → 0 < e.ticket → AreReturned events operations places
-    → AreReturned (events ++ e ∷ []) (completed operations place call e) (places ++ place ∷ [])
-returned_after_answer events e call operations places place returns pending fits same_thread later are =
-    subst (λ rs. AllZip (IsReturnedBy (completed operations place call e)) (places ++ place ∷ []) rs) (sym one_more)
-    (all_zipped_more (IsReturnedBy (completed operations place call e)) places (returns_of events) place e
-    (all_zip_kept (IsReturnedBy operations) (IsReturnedBy (completed operations place call e)) places (returns_of events) kept are) (record {
-      call = call;
-      at = slice_get-set_same operations place (operation_so_far call (Some e)) (slice_get_within operations place (operation_so_far call None) pending);
-      answers_call = fits;
-      same_thread = same_thread;
-      is_later = later;
-    }))
+-- its return is the next event of its thread
+return_so_far : (e : Event) (later : List Event) → is_call e.what ≡ true → TicketsRise (e ∷ later)
+    → IfSome (next_of e.thread later) (FollowsInTurn e) → maybe_return (operation_so_far e (next_of e.thread later)) ≡ due_in e.thread later
+return_so_far e later call rise turn = join (next_of e.thread later) refl turn
   where
-    one_more : returns_of (events ++ e ∷ []) ≡ returns_of events ++ e ∷ []
-    one_more = filter-append (λ x. not (is_call x.what)) events (e ∷ []) ∙ rw returns refl
+    join : (next : Option Event) → next_of e.thread later ≡ next → IfSome next (FollowsInTurn e)
+        → maybe_return (operation_so_far e next) ≡ option_and_then (λ r. then_some (not (is_call r.what)) r) next
+    join None is follows = refl
+    join (Some r) is follows =
+        let fits = follows.0 call in
+        let returns = answer_is_return e.what r.what fits in
+        let above = next_holds (λ x. e.ticket < x.ticket) e.thread later r (above_first e later rise) is in
+        let some = ne_eqb r.ticket 0 (λ same. absurd (omega (arith, same, above))) in
+        let own = sym (next_thread e.thread later r is) in
+        rw (some, returns, answered_again e.what r.what fits, own, return_event) refl
 
-    -- what is pending has no ticket of a return yet
-    apart : (p : ℕ) (r : Event) → IsReturnedBy operations p r → place ≢ p
-    apart p r is same =
-        let both : ◌≡◌ {A = Option Operation} (Some (operation_so_far call None)) (Some (operation_so_far is.call (Some r))) =
-        sym pending ∙ ap (slice_get operations) same ∙ is.at in
-        let one : operation_so_far call None ≡ operation_so_far is.call (Some r) = cc in
-        let none : ◌≡◌ {A = ℕ} 0 r.ticket = ap (λ o. o.ret) one in
-        absurd (omega (arith, none, is.is_later))
+-- ---- returns that are put by ticket
 
-    kept : (p : ℕ) (r : Event) → IsReturnedBy operations p r → IsReturnedBy (completed operations place call e) p r
-    kept p r is = record {
-      call = is.call;
-      at = slice_get-set_other operations place p (operation_so_far call (Some e)) (apart p r is) ∙ is.at;
-      answers_call = is.answers_call;
-      same_thread = is.same_thread;
-      is_later = is.is_later;
-    }
+put_before : (e x : Event) (xs : List Event) → e.ticket < x.ticket → put_by_ticket e (x ∷ xs) ≡ e ∷ x ∷ xs
+put_before e x xs below = let is = lt-ltb e.ticket x.ticket below in rw is refl
 
--- ---- calls and returns by ticket
+put_behind : (x e : Event) (xs : List Event) → x.ticket ≤ e.ticket → put_by_ticket e (x ∷ xs) ≡ x ∷ put_by_ticket e xs
+put_behind x e xs past = let is = le-ltb e.ticket x.ticket past in rw is refl
 
-above_first : (e : Event) (later : List Event) → TicketsRise (e ∷ later) → All (λ x. e.ticket < x.ticket) later
-above_first e later rise k d below = rise zero (suc k) d (omega arith) (omega arith)
+put_first : (e : Event) (xs : List Event) → All (λ x. e.ticket < x.ticket) xs → put_by_ticket e xs ≡ e ∷ xs
+put_first e [] above = refl
+put_first e (x ∷ xs) above = put_before e x xs (above zero x (omega arith))
 
-rise_later : (e : Event) (later : List Event) → TicketsRise (e ∷ later) → TicketsRise later
-rise_later e later rise i j d below inside = rise (suc i) (suc j) d (omega arith) (omega arith)
+-- two events of different tickets may be put in any order
+put_both : (a b : Event) (xs : List Event) → a.ticket < b.ticket → put_by_ticket a (put_by_ticket b xs) ≡ put_by_ticket b (put_by_ticket a xs)
+put_both a b [] below = put_before a b [] below ∙ sym (put_behind a b [] (omega (arith, below)))
+put_both a b (x ∷ xs) below = elim (cases_lt a.ticket x.ticket) [
+  | inl before ↦ elim (cases_lt b.ticket x.ticket) [
+    | inl both ↦ ap (put_by_ticket a) (put_before b x xs both) ∙ put_before a b (x ∷ xs) below
+        ∙ sym (ap (put_by_ticket b) (put_before a x xs before) ∙ put_behind a b (x ∷ xs) (omega (arith, below))
+        ∙ ap (λ ys. a ∷ ys) (put_before b x xs both))
+    | inr past ↦ ap (put_by_ticket a) (put_behind x b xs past) ∙ put_before a x (put_by_ticket b xs) before
+        ∙ sym (ap (put_by_ticket b) (put_before a x xs before) ∙ put_behind a b (x ∷ xs) (omega (arith, below))
+        ∙ ap (λ ys. a ∷ ys) (put_behind x b xs past))
+  ]
+  | inr past ↦
+      let late : x.ticket ≤ b.ticket = omega (arith, past, below) in
+      ap (put_by_ticket a) (put_behind x b xs late) ∙ put_behind x a (put_by_ticket b xs) past ∙ ap (λ ys. x ∷ ys) (put_both a b xs below)
+      ∙ sym (ap (put_by_ticket b) (put_behind x a xs past) ∙ put_behind x b (put_by_ticket a xs) late)
+]
 
--- what holds of all holds of those that pass
-all_passing : (P : Event → Type 0) (p : Event → Bool) (xs : List Event) → All P xs → All P (filter p xs)
-all_passing P p [] all = All-nil P
-all_passing P p (x ∷ xs) all = join (p x) refl (all_passing P p xs (λ k d below. all (suc k) d (omega arith)))
+put_commutes : (a b : Event) (xs : List Event) → a.ticket ≢ b.ticket → put_by_ticket a (put_by_ticket b xs) ≡ put_by_ticket b (put_by_ticket a xs)
+put_commutes a b xs apart = elim (cases_lt a.ticket b.ticket) [
+  | inl below ↦ put_both a b xs below
+  | inr past ↦ elim (cases_lt b.ticket a.ticket) [
+    | inl above ↦ sym (put_both b a xs above)
+    | inr same ↦ absurd (apart (omega (arith, past, same)))
+  ]
+]
+
+-- none of these has the ticket of this event
+abbrev AreApart : Event → List (Option Event) → Type 0
+AreApart r due = (k : ℕ) (f : Event) → get_or due k None ≡ Some f → f.ticket ≢ r.ticket
+
+maybe_past : (r : Event) (p : Option Event) (xs : List Event) → ((f : Event) → p ≡ Some f → f.ticket ≢ r.ticket)
+    → put_maybe p (put_by_ticket r xs) ≡ put_by_ticket r (put_maybe p xs)
+maybe_past r None xs apart = refl
+maybe_past r (Some f) xs apart = put_commutes f r xs (apart f refl)
+
+put_past : (r : Event) (due : List (Option Event)) (xs : List Event) → AreApart r due
+    → put_each due (put_by_ticket r xs) ≡ put_by_ticket r (put_each due xs)
+put_past r [] xs apart = refl
+put_past r (p ∷ due) xs apart =
+    ap (put_maybe p) (put_past r due xs (λ k f at. apart (suc k) f at)) ∙ maybe_past r p (put_each due xs) (apart zero)
+
+-- one more is due, of a thread of which none was
+put_new : (r : Event) (due : List (Option Event)) (t : ℕ) (xs : List Event) → t < length due → get_or due t None ≡ None → AreApart r due
+    → put_each (set due t (Some r)) xs ≡ put_each due (put_by_ticket r xs)
+put_new r [] t xs below none apart = absurd (omega (arith, below))
+put_new r (p ∷ due) zero xs below none apart = sym (ap (λ q. put_maybe q (put_each due (put_by_ticket r xs))) none
+    ∙ put_past r due xs (λ k f at. apart (suc k) f at))
+put_new r (p ∷ due) (suc t) xs below none apart =
+    ap (put_maybe p) (put_new r due t xs (omega (arith, below)) none (λ k f at. apart (suc k) f at))
+
+-- one that is due comes
+put_gone : (r : Event) (due : List (Option Event)) (t : ℕ) (xs : List Event) → get_or due t None ≡ Some r → AreApart r (set due t None)
+    → put_each due xs ≡ put_by_ticket r (put_each (set due t None) xs)
+put_gone r [] t xs at apart = cc
+put_gone r (p ∷ due) zero xs at apart = ap (λ q. put_maybe q (put_each due xs)) at
+put_gone r (p ∷ due) (suc t) xs at apart =
+    ap (put_maybe p) (put_gone r due t xs at (λ k f here. apart (suc k) f here)) ∙ maybe_past r p (put_each (set due t None) xs) (apart zero)
+
+set_none : (due : List (Option Event)) (t : ℕ) → get_or due t None ≡ None → set due t None ≡ due
+set_none [] t none = refl
+set_none (p ∷ due) zero none = ap (λ q. q ∷ due) (sym none)
+set_none (p ∷ due) (suc t) none = ap (λ rest. p ∷ rest) (set_none due t none)
+
+-- where none is due, the events are those of the operations
+pub put_none : (due : List (Option Event)) (xs : List Event) → ((k : ℕ) → get_or due k None ≡ None) → put_each due xs ≡ xs
+put_none [] xs none = refl
+put_none (p ∷ due) xs none = ap (λ q. put_maybe q (put_each due xs)) (none zero) ∙ put_none due xs (λ k. none (suc k))
+
+each_behind : (e : Event) (due : List (Option Event)) (xs : List Event) → ((k : ℕ) (f : Event) → get_or due k None ≡ Some f → e.ticket < f.ticket)
+    → put_each due (e ∷ xs) ≡ e ∷ put_each due xs
+each_behind e [] xs above = refl
+each_behind e (p ∷ due) xs above = ap (put_maybe p) (each_behind e due xs (λ k f at. above (suc k) f at)) ∙ one p (above zero)
   where
-    join : (b : Bool) → p x ≡ b → All P (filter p xs) → All P (filter p (x ∷ xs))
-    join true is more = rw is (All-cons P x (filter p xs) (all zero x (omega arith)) more)
-    join false is more = rw is more
+    one : (q : Option Event) → ((f : Event) → q ≡ Some f → e.ticket < f.ticket) → put_maybe q (e ∷ put_each due xs) ≡ e ∷ put_maybe q (put_each due xs)
+    one None later = refl
+    one (Some f) later = let above = later f refl in put_behind e f (put_each due xs) (omega (arith, above))
 
--- a call before all returns comes first
-call_first : (c : Event) (later : List Event → List Event) (returns : List Event) → All (λ r. c.ticket < r.ticket) returns
-    → among_returns c later returns ≡ c ∷ later returns
-call_first c later [] above = refl
-call_first c later (r ∷ returns) above = let below = lt-ltb c.ticket r.ticket (above zero r (omega arith)) in rw below refl
+-- ---- the events that are left
 
--- a return before all calls comes first
-return_first : (r : Event) (calls returns : List Event) → All (λ c. r.ticket < c.ticket) calls → by_ticket calls (r ∷ returns) ≡ r ∷ by_ticket calls returns
-return_first r [] returns above = refl
-return_first r (c ∷ calls) returns above =
-    let first = above zero c (omega arith) in
-    let not_below = le-ltb c.ticket r.ticket (omega (arith, first)) in rw not_below refl
+some_within : (due : List (Option Event)) (k : ℕ) (f : Event) → get_or due k None ≡ Some f → k < length due
+some_within [] k f at = cc
+some_within (p ∷ due) zero f at = omega arith
+some_within (p ∷ due) (suc k) f at = let within = some_within due k f at in omega (arith, within)
 
--- the calls and the returns of events whose tickets rise are the events
-pub put_together : (events : List Event) → TicketsRise events → by_ticket (calls_of events) (returns_of events) ≡ events
-put_together [] rise = refl
-put_together (e ∷ later) rise = join (is_call e.what) refl (put_together later (rise_later e later rise))
-  where
-    above : All (λ x. e.ticket < x.ticket) later
-    above = above_first e later rise
+-- what is due is so of its thread
+due_at : (events : List Event) (by_call : List Operation) (due : List (Option Event)) (k : ℕ) (f : Event) → AreLeft events by_call due
+    → get_or due k None ≡ Some f → due_in k events ≡ Some f
+due_at events by_call due k f left at =
+    let within = some_within due k f at in sym (left.due k (omega (arith, within, left.one_per_thread))) ∙ at
 
-    join : (called : Bool) → is_call e.what ≡ called → by_ticket (calls_of later) (returns_of later) ≡ later
-        → by_ticket (calls_of (e ∷ later)) (returns_of (e ∷ later)) ≡ e ∷ later
-    join true is more = rw is (call_first e (by_ticket (calls_of later)) (returns_of later)
-        (all_passing (λ x. e.ticket < x.ticket) (λ x. not (is_call x.what)) later above) ∙ ap (λ xs. e ∷ xs) more)
-    join false is more = rw is (return_first e (calls_of later) (returns_of later)
-        (all_passing (λ x. e.ticket < x.ticket) (λ x. is_call x.what) later above) ∙ ap (λ xs. e ∷ xs) more)
-
--- no event is lost
-among : (c : Event) (later : List Event → List Event) (n : ℕ) → ((rs : List Event) → length (later rs) ≡ n + length rs) → (rs : List Event)
-    → length (among_returns c later rs) ≡ suc (n + length rs)
-among c later n more [] = let rest = more [] in omega (arith, rest)
-among c later n more (r ∷ rs) = join (nat_lt c.ticket r.ticket) refl (among c later n more rs)
-  where
-    join : (before : Bool) → nat_lt c.ticket r.ticket ≡ before → length (among_returns c later rs) ≡ suc (n + length rs)
-        → length (among_returns c later (r ∷ rs)) ≡ suc (n + suc (length rs))
-    join true is rest = let first = more (r ∷ rs) in rw is (omega (arith, first))
-    join false is rest = rw is (omega (arith, rest))
-
-pub length-by_ticket : (calls returns : List Event) → length (by_ticket calls returns) ≡ length calls + length returns
-length-by_ticket [] returns = omega arith
-length-by_ticket (c ∷ calls) returns = let all = among c (by_ticket calls) (length calls) (length-by_ticket calls) returns in omega (arith, all)
-
--- the events of operations are the calls and the returns that are named
-pub length-events_by : (operations by_call : List Operation) (by_return : List ℕ) → length (events_by operations by_call by_return) ≡ length by_call + length by_return
-length-events_by operations by_call by_return =
-    length-by_ticket (map call_event by_call) (map (return_at operations) by_return)
-    ∙ rw (length-map by_call call_event, length-map by_return (return_at operations)) refl
-
--- ---- so far, and at the end
-
--- what is formed of events whose tickets rise determines them, also while calls are pending
-pub tells_so_far : (events : List Event) (operations : List Operation) (places : List ℕ) → TicketsRise events → operations ≡ operations_so_far events
-    → AreReturned events operations places → events_by operations operations places ≡ events
-tells_so_far events operations places rise so_far returned =
-    rw (returns_so_far operations places (returns_of events) returned) (rw (so_far, calls_so_far events) (put_together events rise))
-
--- what is formed of events whose tickets rise determines them
-pub events_of_formed : (events : List Event) (formed : Formed) → TicketsRise events → operations_so_far events ≡ operations_of events
-    → formed.operations.items ≡ operations_so_far events → AreReturned events formed.operations.items formed.by_return.items → IsFormedOf events formed
-events_of_formed events formed rise all so_far returned = record {
-  operations = so_far ∙ all;
-  events_are = tells_so_far events formed.operations.items formed.by_return.items rise so_far returned;
-  within = returned_within formed.operations.items formed.by_return.items (returns_of events) returned;
+-- after its first event
+step : (e : Event) (later : List Event) (by_call : List Operation) (due : List (Option Event)) → AreLeft (e ∷ later) by_call due
+    → AreLeft later (operations_so_far later) (set due e.thread (due_in e.thread later))
+step e later by_call due left = record {
+  run = record {
+    rise = rise_later e later left.run.rise;
+    turns = left.run.turns.1;
+    threads = All-tail (λ x. x.thread ≤ MAX_THREAD) e later left.run.threads;
+  };
+  calls = refl;
+  one_per_thread = rw length-set left.one_per_thread;
+  due = λ thread within. elim (eqb_tells e.thread thread) [
+    | inl own ↦
+        let inside : thread < length due = omega (arith, within, left.one_per_thread) in
+        rw (own.1, get_or-set_same due thread (due_in thread later) None inside) refl
+    | inr other ↦
+        rw (get_or-set_other due e.thread thread (due_in e.thread later) None (λ same. other.1 (sym same))) (left.due thread within ∙ rw other.0 refl)
+  ];
 }
+
+-- the thread of its first event is one of all
+thread_within : (e : Event) (later : List Event) (by_call : List Operation) (due : List (Option Event)) → AreLeft (e ∷ later) by_call due
+    → e.thread ≤ MAX_THREAD
+thread_within e later by_call due left = All-head (λ x. x.thread ≤ MAX_THREAD) e later left.run.threads
+
+next_own : (e : Event) (later : List Event) → next_of e.thread (e ∷ later) ≡ Some e
+next_own e later = let own = eq-eqb e.thread e.thread refl in rw own refl
+
+-- of a thread that returns now, none is due before its next call
+none_due_after : (e : Event) (later : List Event) → AreInTurn (e ∷ later) → is_call e.what ≡ false → due_in e.thread later ≡ None
+none_due_after e later turns returns = join (next_of e.thread later) refl turns.0
+  where
+    join : (next : Option Event) → next_of e.thread later ≡ next → IfSome next (FollowsInTurn e) → due_in e.thread later ≡ None
+    join None is follows = rw is refl
+    join (Some r) is follows = due_of_call e.thread later r is (follows.1 returns)
+
+-- if a return comes first it is due
+due_first : (e : Event) (later : List Event) (by_call : List Operation) (due : List (Option Event)) → AreLeft (e ∷ later) by_call due
+    → is_call e.what ≡ false → get_or due e.thread None ≡ Some e
+due_first e later by_call due left returns =
+    left.due e.thread (thread_within e later by_call due left) ∙ rw (next_own e later, returns) refl
+
+-- if a call comes first, what is due comes later
+due_later : (e : Event) (later : List Event) (by_call : List Operation) (due : List (Option Event)) (k : ℕ) (f : Event)
+    → AreLeft (e ∷ later) by_call due → is_call e.what ≡ true → get_or due k None ≡ Some f → (next_of k later ≡ Some f) × (k ≢ e.thread)
+due_later e later by_call due k f left call at =
+    let is = due_is k (e ∷ later) f (due_at (e ∷ later) by_call due k f left at) in
+    elim (eqb_tells e.thread k) [
+      | inl own ↦
+          let here : ◌≡◌ {A = Option Event} (Some e) (Some f) = rw own.0 at is.0 in
+          let same : e ≡ f = cc in absurd (false≢true (sym is.1 ∙ ap (λ x. is_call x.what) (sym same) ∙ call))
+      | inr other ↦ (rw other.0 at is.0, λ same. other.1 (sym same))
+    ]
+
+-- the first event is a return: by what is known of those after it
+told_return : (e : Event) (later : List Event) (by_call : List Operation) (due : List (Option Event)) → AreLeft (e ∷ later) by_call due
+    → is_call e.what ≡ false → put_each (set due e.thread (due_in e.thread later)) (events_of (operations_so_far later)) ≡ later
+    → put_each due (events_of by_call) ≡ e ∷ later
+told_return e later by_call due left returns more =
+    let none = none_due_after e later left.run.turns returns in
+    ap (λ os. put_each due (events_of os)) (left.calls ∙ rw returns refl)
+    ∙ put_gone e due e.thread (events_of (operations_so_far later)) (due_first e later by_call due left returns) apart
+    ∙ ap (put_by_ticket e) (rw none at more) ∙ put_first e later (above_first e later left.run.rise)
+  where
+    apart : AreApart e (set due e.thread None)
+    apart k f here = elim (eqb_tells e.thread k) [
+      | inl own ↦
+          let inside : k < length due = (let within = some_within (set due e.thread None) k f here in rw length-set at within) in
+          let gone : ◌≡◌ {A = Option Event} None (Some f) = rw (own.1, get_or-set_same due k None None inside) at here in cc
+      | inr other ↦
+          let at = rw (get_or-set_other due e.thread k None None (λ same. other.1 (sym same))) at here in
+          let is = due_is k (e ∷ later) f (due_at (e ∷ later) by_call due k f left at) in
+          next_apart (e ∷ later) k e.thread f e left.run.rise is.0 (next_own e later) (λ same. other.1 (sym same))
+    ]
+
+-- the first event is a call: by what is known of those after it
+told_call : (e : Event) (later : List Event) (by_call : List Operation) (due : List (Option Event)) → AreLeft (e ∷ later) by_call due
+    → is_call e.what ≡ true → put_each (set due e.thread (due_in e.thread later)) (events_of (operations_so_far later)) ≡ later
+    → put_each due (events_of by_call) ≡ e ∷ later
+told_call e later by_call due left call more =
+    let first = call_so_far e (next_of e.thread later) call in
+    let returned = return_so_far e later call left.run.rise left.run.turns.0 in
+    let ops : by_call ≡ operation_so_far e (next_of e.thread later) ∷ operations_so_far later = left.calls ∙ rw call refl in
+    ap (λ os. put_each due (events_of os)) ops
+    ∙ ap (λ x. put_each due (x ∷ put_maybe (maybe_return (operation_so_far e (next_of e.thread later))) (events_of (operations_so_far later)))) first
+    ∙ ap (λ r. put_each due (e ∷ put_maybe r (events_of (operations_so_far later)))) returned
+    ∙ each_behind e due (put_maybe (due_in e.thread later) (events_of (operations_so_far later))) above
+    ∙ ap (λ xs. e ∷ xs) (sym (new (due_in e.thread later) refl) ∙ more)
+  where
+    above : (k : ℕ) (f : Event) → get_or due k None ≡ Some f → e.ticket < f.ticket
+    above k f at =
+        let is = due_later e later by_call due k f left call at in
+        next_holds (λ x. e.ticket < x.ticket) k later f (above_first e later left.run.rise) is.0
+
+    empty : get_or due e.thread None ≡ None
+    empty = left.due e.thread (thread_within e later by_call due left) ∙ due_of_call e.thread (e ∷ later) e (next_own e later) call
+
+    new : (d : Option Event) → due_in e.thread later ≡ d
+        → put_each (set due e.thread d) (events_of (operations_so_far later)) ≡ put_each due (put_maybe d (events_of (operations_so_far later)))
+    new None is = ap (λ xs. put_each xs (events_of (operations_so_far later))) (set_none due e.thread empty)
+    new (Some r) is =
+        let within = thread_within e later by_call due left in
+        put_new r due e.thread (events_of (operations_so_far later)) (omega (arith, within, left.one_per_thread)) empty apart
+      where
+        apart : AreApart r due
+        apart k f at =
+            let other = due_later e later by_call due k f left call at in
+            next_apart later k e.thread f r (rise_later e later left.run.rise) other.0 (due_is e.thread later r is).0 other.1
+
+-- the operations and the returns that are due tell what is left
+pub told : (events : List Event) (by_call : List Operation) (due : List (Option Event)) → AreLeft events by_call due
+    → put_each due (events_of by_call) ≡ events
+told [] by_call due left = ap (λ os. put_each due (events_of os)) left.calls ∙ put_none due [] (λ k. none k (get_or due k None) refl)
+  where
+    none : (k : ℕ) (at : Option Event) → get_or due k None ≡ at → get_or due k None ≡ None
+    none k None is = is
+    none k (Some f) is = let some = due_at [] by_call due k f left is in cc
+told (e ∷ later) by_call due left =
+    pick (is_call e.what) refl (told later (operations_so_far later) (set due e.thread (due_in e.thread later)) (step e later by_call due left))
+  where
+    pick : (called : Bool) → is_call e.what ≡ called → put_each (set due e.thread (due_in e.thread later)) (events_of (operations_so_far later)) ≡ later
+        → put_each due (events_of by_call) ≡ e ∷ later
+    pick false returns more = told_return e later by_call due left returns more
+    pick true call more = told_call e later by_call due left call more
+
+-- ---- which event comes first
+
+-- the first by ticket of the returns that are due, if there is one
+abbrev pub IsFirstOfAll : List (Option Event) → Option Event → Type 0
+IsFirstOfAll due None = (k : ℕ) → get_or due k None ≡ None
+IsFirstOfAll due (Some e) =
+    ((k : ℕ) × (get_or due k None ≡ Some e)) × ((k : ℕ) (r : Event) → get_or due k None ≡ Some r → e.ticket ≤ r.ticket)
+
+-- what is first of some is first of all, if none of the others is due
+pub first_of_all : (due : List (Option Event)) (n : ℕ) (first : Option Event) → n ≤ length due
+    → IsFirstDue (take n due) (length (take n due)) first → ((k : ℕ) → n ≤ k → get_or due k None ≡ None) → IsFirstOfAll due first
+first_of_all due n None within first none = λ k. elim (cases_lt k n) [
+  | inl below ↦ sym (get_or-take n due k None below) ∙ first k (rw (length-take-le n due within) below)
+  | inr above ↦ none k above
+]
+first_of_all due n (Some e) within first none = (
+  (let k = first.0 in
+      let below : k.0 < n = rw (length-take-le n due within) at k.1 in (k.0, sym (get_or-take n due k.0 None below) ∙ k.2)),
+  least,
+)
+  where
+    least : (k : ℕ) (r : Event) → get_or due k None ≡ Some r → e.ticket ≤ r.ticket
+    least k r at = elim (cases_lt k n) [
+      | inl below ↦ first.1 k r (rw (length-take-le n due within) below) (get_or-take n due k None below ∙ at)
+      | inr above ↦ let nothing = none k above in cc
+    ]
+
+-- the calls of the operations are among the events
+first_call_above : (later : List Event) (t : ℕ) (o : Operation) (rest : List Operation) → All (λ x. t < x.ticket) later
+    → operations_so_far later ≡ o ∷ rest → t < o.call
+first_call_above [] t o rest above is = cc
+first_call_above (e ∷ later) t o rest above is =
+    pick (is_call e.what) refl (first_call_above later t o rest (All-tail (λ x. t < x.ticket) e later above))
+  where
+    called_at : (next : Option Event) → (operation_so_far e next).call ≡ e.ticket
+    called_at None = refl
+    called_at (Some r) = refl
+
+    pick : (called : Bool) → is_call e.what ≡ called → (operations_so_far later ≡ o ∷ rest → t < o.call) → t < o.call
+    pick false returns more = more (rw returns at is)
+    pick true call more =
+        let here : operation_so_far e (next_of e.thread later) ∷ operations_so_far later ≡ o ∷ rest = rw call at is in
+        let same : operation_so_far e (next_of e.thread later) ≡ o = cc in
+        let first = All-head (λ x. t < x.ticket) e later above in
+        let at = sym (called_at (next_of e.thread later)) ∙ ap (λ x. x.call) same in omega (arith, first, at)
+
+-- the first call comes before all returns that are due: it is the first event
+pub record GivesCall (events : List Event) (o : Operation) (rest : List Operation) (due : List (Option Event)) : Type 0 where
+  pub later : List Event
+  pub is : events ≡ call_event o ∷ later
+  pub thread : o.thread ≤ MAX_THREAD
+  pub left : AreLeft later rest (set due o.thread (maybe_return o))
+
+pub gives_call : (events : List Event) (o : Operation) (rest : List Operation) (due : List (Option Event)) (first : Option Event)
+    → AreLeft events (o ∷ rest) due → IsFirstOfAll due first → comes_by_ticket first o.call ≡ false → GivesCall events o rest due
+gives_call [] o rest due first left is_first not_by = let none = left.calls in cc
+gives_call (e ∷ later) o rest due first left is_first not_by = pick (is_call e.what) refl
+  where
+    own_thread : (next : Option Event) → (operation_so_far e next).thread ≡ e.thread
+    own_thread None = refl
+    own_thread (Some r) = refl
+
+    late : (f : Option Event) → IsFirstOfAll due f → comes_by_ticket f o.call ≡ false → get_or due e.thread None ≡ Some e → e.ticket < o.call → ⊥
+    late None is' not_by' at above = let none = is' e.thread in cc
+    late (Some r) is' not_by' at above =
+        let sooner = is'.1 e.thread e at in
+        let by = le-leb r.ticket o.call (omega (arith, sooner, above)) in false≢true (sym not_by' ∙ by)
+
+    pick : (called : Bool) → is_call e.what ≡ called → GivesCall (e ∷ later) o rest due
+    pick false returns =
+        let ops : operations_so_far later ≡ o ∷ rest = sym (left.calls ∙ rw returns refl) in
+        let above = first_call_above later e.ticket o rest (above_first e later left.run.rise) ops in
+        absurd (late first is_first not_by (due_first e later (o ∷ rest) due left returns) above)
+    pick true call =
+        let ops : o ∷ rest ≡ operation_so_far e (next_of e.thread later) ∷ operations_so_far later = left.calls ∙ rw call refl in
+        let same : o ≡ operation_so_far e (next_of e.thread later) = cc in
+        let others : rest ≡ operations_so_far later = cc in
+        record {
+          later = later;
+          is = ap (λ x. x ∷ later) (sym (ap call_event same ∙ call_so_far e (next_of e.thread later) call));
+          thread = rw (same, own_thread (next_of e.thread later)) (thread_within e later (o ∷ rest) due left);
+          left = subst (λ t. AreLeft later rest (set due t (maybe_return o))) (sym (ap (λ x. x.thread) same ∙ own_thread (next_of e.thread later)))
+              (subst (λ d. AreLeft later rest (set due e.thread d))
+              (sym (ap maybe_return same ∙ return_so_far e later call left.run.rise left.run.turns.0))
+              (rw others (step e later (o ∷ rest) due left)));
+        }
+
+-- a return that is due comes before the first call: it is the first event
+pub record GivesReturn (events : List Event) (r : Event) (by_call : List Operation) (due : List (Option Event)) : Type 0 where
+  pub later : List Event
+  pub is : events ≡ r ∷ later
+  pub thread : r.thread ≤ MAX_THREAD
+  pub left : AreLeft later by_call (set due r.thread None)
+
+pub gives_return : (events : List Event) (by_call : List Operation) (due : List (Option Event)) (r : Event) → AreLeft events by_call due
+    → IsFirstOfAll due (Some r) → ((o : Operation) (rest : List Operation) → by_call ≡ o ∷ rest → comes_by_ticket (Some r) o.call ≡ true)
+    → GivesReturn events r by_call due
+gives_return [] by_call due r left first by =
+    let k = first.0 in let some = due_at [] by_call due k.0 r left k.1 in cc
+gives_return (e ∷ later) by_call due r left first by = pick (is_call e.what) refl
+  where
+    k : (n : ℕ) × (get_or due n None ≡ Some r)
+    k = first.0
+
+    called_at : (next : Option Event) → (operation_so_far e next).call ≡ e.ticket
+    called_at None = refl
+    called_at (Some x) = refl
+
+    pick : (called : Bool) → is_call e.what ≡ called → GivesReturn (e ∷ later) r by_call due
+    pick true call =
+        let ops : by_call ≡ operation_so_far e (next_of e.thread later) ∷ operations_so_far later = left.calls ∙ rw call refl in
+        let soon = leb-true r.ticket _ (by (operation_so_far e (next_of e.thread later)) (operations_so_far later) ops) in
+        let above = next_holds (λ x. e.ticket < x.ticket) k.0 later r (above_first e later left.run.rise) (due_later e later by_call due k.0 r left call k.1).0 in
+        absurd (omega (arith, soon, above, called_at (next_of e.thread later)))
+    pick false returns =
+        let sooner = first.1 e.thread e (due_first e later by_call due left returns) in
+        let is = due_is k.0 (e ∷ later) r (due_at (e ∷ later) by_call due k.0 r left k.1) in
+        let same : e ≡ r = elim (eqb_tells e.thread k.0) [
+          | inl own ↦ let here : ◌≡◌ {A = Option Event} (Some e) (Some r) = rw own.0 at is.0 in cc
+          | inr other ↦
+              let above = next_holds (λ x. e.ticket < x.ticket) k.0 later r (above_first e later left.run.rise) (rw other.0 at is.0) in
+              absurd (omega (arith, above, sooner))
+        ] in
+        let none = none_due_after e later left.run.turns returns in
+        let ops : by_call ≡ operations_so_far later = left.calls ∙ rw returns refl in
+        record {
+          later = later;
+          is = ap (λ x. x ∷ later) same;
+          thread = subst (λ x. x.thread ≤ MAX_THREAD) same (thread_within e later by_call due left);
+          left = rw (ops, ap (λ x. x.thread) (sym same)) (rw none at (step e later by_call due left));
+        }
+
+-- where no call comes before what is due, and none is due, nothing is left
+pub gives_nothing : (events : List Event) (by_call : List Operation) (due : List (Option Event)) → AreLeft events by_call due → IsFirstOfAll due None
+    → ((o : Operation) (rest : List Operation) → by_call ≡ o ∷ rest → comes_by_ticket None o.call ≡ true) → events ≡ []
+gives_nothing [] by_call due left none by = refl
+gives_nothing (e ∷ later) by_call due left none by = pick (is_call e.what) refl
+  where
+    pick : (called : Bool) → is_call e.what ≡ called → ◌≡◌ {A = List Event} (e ∷ later) []
+    pick true call = absurd (false≢true (by (operation_so_far e (next_of e.thread later)) (operations_so_far later) (left.calls ∙ rw call refl)))
+    pick false returns = let some = due_first e later by_call due left returns in let nothing = none e.thread in cc
+
+-- what is left after a call, by the number of its thread and its return
+pub left_after_call : (events : List Event) (o : Operation) (rest : List Operation) (due : List (Option Event)) (given : GivesCall events o rest due)
+    (t : ℕ) (p : Option Event) → t ≡ o.thread → p ≡ maybe_return o → AreLeft given.later rest (set due t p)
+left_after_call events o rest due given t p own returned =
+    subst (λ q. AreLeft given.later rest (set due t q)) (sym returned) (subst (λ n. AreLeft given.later rest (set due n (maybe_return o))) (sym own) given.left)
+
+-- the same after a return
+pub left_after_return : (events : List Event) (r : Event) (by_call : List Operation) (due : List (Option Event)) (given : GivesReturn events r by_call due)
+    (t : ℕ) → t ≡ r.thread → AreLeft given.later by_call (set due t None)
+left_after_return events r by_call due given t own = subst (λ n. AreLeft given.later by_call (set due n None)) (sym own) given.left
+
+-- what is left is what the operations and the returns that are due tell
+pub left_as_told : (events : List Event) (by_call : List Operation) (due : List (Option Event)) → AreLeft events by_call due
+    → AreLeft (put_each due (events_of by_call)) by_call due
+left_as_told events by_call due left = subst (λ xs. AreLeft xs by_call due) (sym (told events by_call due left)) left
+
+-- a thread that has none now has none later, if none is set for it
+pub still_none : (due : List (Option Event)) (n t k : ℕ) (p : Option Event) → ((thread : ℕ) → n ≤ thread → get_or due thread None ≡ None) → n ≤ k → k ≢ t
+    → get_or (set due t p) k None ≡ None
+still_none due n t k p none past apart = rw (get_or-set_other due t k p None apart) (none k past)
+
+pub stays_none : (due : List (Option Event)) (t k : ℕ) → get_or due k None ≡ None → get_or (set due t None) k None ≡ None
+stays_none [] t k none = refl
+stays_none (p ∷ due) zero zero none = refl
+stays_none (p ∷ due) zero (suc k) none = none
+stays_none (p ∷ due) (suc t) zero none = none
+stays_none (p ∷ due) (suc t) (suc k) none = stays_none due t k none
+
+-- ---- how many there are
+
+length-put : (e : Event) (xs : List Event) → length (put_by_ticket e xs) ≡ suc (length xs)
+length-put e [] = refl
+length-put e (x ∷ xs) = elim (cases_lt e.ticket x.ticket) [
+  | inl before ↦ ap length (put_before e x xs before)
+  | inr past ↦ ap length (put_behind x e xs past) ∙ ap suc (length-put e xs)
+]
+
+-- the operation isn't pending
+abbrev pub has_returned : Operation → Bool
+has_returned o = not (nat_eq o.ret 0)
+
+-- a call for each operation, and a return for each that isn't pending
+pub length-events_of : (operations : List Operation) → length (events_of operations) ≡ length operations + count_by has_returned operations
+length-events_of [] = refl
+length-events_of (o ∷ later) =
+    let cons : count_by has_returned (o ∷ later) ≡ cond (has_returned o) 1 0 + count_by has_returned later =
+    sum_by-cons (λ x. cond (has_returned x) 1 0) o later in
+    let all = ap (λ n. length later + n) (sym cons) in
+    let rest = one (nat_eq o.ret 0) refl (length-events_of later) in omega (arith, all, rest)
+  where
+    one : (pending : Bool) → nat_eq o.ret 0 ≡ pending → length (events_of later) ≡ length later + count_by has_returned later
+        → length (put_maybe (maybe_return o) (events_of later)) ≡ length later + (cond (has_returned o) 1 0 + count_by has_returned later)
+    one true is more = rw is (omega (arith, more))
+    one false is more = rw is (length-put (return_event o) (events_of later) ∙ omega (arith, more))
+
+-- ---- which events threads make
+
+first_is_call : (e : Event) (rest : List Event) → TakesTurns (e ∷ rest) → is_call e.what ≡ true
+first_is_call e [] turns = elim turns [ ]
+first_is_call e (a ∷ rest) turns = answered_is_call e.what a.what turns.0
+
+-- what follows in a list that takes turns
+follows_in_turns : (before : List Event) (e next : Event) (rest : List Event) → TakesTurns (before ++ e ∷ next ∷ rest) → FollowsInTurn e next
+follows_in_turns [] e next rest turns = (
+  λ call. turns.0,
+  λ returns. absurd (false≢true (sym returns ∙ answered_is_call e.what next.what turns.0)),
+)
+follows_in_turns (c ∷ []) e next rest turns = (
+  λ call. absurd (false≢true (sym (answer_is_return c.what e.what turns.0) ∙ call)),
+  λ returns. first_is_call next rest turns.1,
+)
+follows_in_turns (c ∷ a ∷ before) e next rest turns = follows_in_turns before e next rest turns.1
+
+-- each thread takes turns, but for a call that may be pending
+abbrev pub AllTakeTurns : List Event → Type 0
+AllTakeTurns events = (thread : ℕ) → (more : List Event) × TakesTurns (projection thread events ++ more)
+
+in_turn : (before later : List Event) → AllTakeTurns (before ++ later) → AreInTurn later
+in_turn before [] turns = tt
+in_turn before (e ∷ later) turns = (
+  join (next_of e.thread later) refl,
+  in_turn (before ++ e ∷ []) later (λ thread. rw append_assoc (turns thread)),
+)
+  where
+    own : (more : List Event) × TakesTurns (projection e.thread (before ++ e ∷ later) ++ more)
+    own = turns e.thread
+
+    join : (next : Option Event) → next_of e.thread later ≡ next → IfSome next (FollowsInTurn e)
+    join None is = tt
+    join (Some r) is =
+        let rest = projection_from_next e.thread later r is in
+        let same = eq-eqb e.thread e.thread refl in
+        let split : projection e.thread (before ++ e ∷ later) ≡ projection e.thread before ++ e ∷ r ∷ rest.0 =
+        filter-append (λ x. nat_eq x.thread e.thread) before (e ∷ later) ∙ rw (same, rest.1) refl in
+        follows_in_turns (projection e.thread before) e r (rest.0 ++ own.0)
+        (subst TakesTurns (ap (λ xs. xs ++ own.0) split ∙ append_assoc (projection e.thread before) (e ∷ r ∷ rest.0) own.0) own.1)
+
+none_due : (events : List Event) → AllTakeTurns events → (thread : ℕ) → due_in thread events ≡ None
+none_due events turns thread = join (next_of thread events) refl
+  where
+    join : (next : Option Event) → next_of thread events ≡ next → due_in thread events ≡ None
+    join None is = rw is refl
+    join (Some r) is =
+        let rest = projection_from_next thread events r is in
+        let own = turns thread in
+        due_of_call thread events r is (first_is_call r (rest.0 ++ own.0) (rw rest.1 at own.1))
+
+-- events whose threads take turns are a run that begins with no return
+pub run_of : (events : List Event) → TicketsRise events → All (λ e. e.thread ≤ MAX_THREAD) events → AllTakeTurns events
+    → IsRunOf events (operations_so_far events)
+run_of events rise threads turns = record {
+  run = record { rise = rise; turns = in_turn [] events turns; threads = threads };
+  begins = none_due events turns;
+  calls = refl;
+}
+
+-- at the beginning all of them are left, and none is due
+pub all_left : (events : List Event) (operations : List Operation) (due : List (Option Event)) → IsRunOf events operations
+    → length due ≡ MAX_THREAD + 1 → ((k : ℕ) → get_or due k None ≡ None) → AreLeft events operations due
+all_left events operations due is long none =
+    record { run = is.run; calls = is.calls; one_per_thread = long; due = λ thread within. none thread ∙ sym (is.begins thread) }
+
+-- the operations of a run tell its events
+pub told_of_run : (events : List Event) (operations : List Operation) → IsRunOf events operations → events_of operations ≡ events
+told_of_run events operations is =
+    let none : List (Option Event) = replicate (MAX_THREAD + 1) None in
+    let nothing = nothing_at (MAX_THREAD + 1) in
+    let long = length-replicate {A = Option Event} (MAX_THREAD + 1) None in
+    sym (put_none none (events_of operations) nothing) ∙ told events operations none (all_left events operations none is long nothing)

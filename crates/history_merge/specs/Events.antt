@@ -1,5 +1,5 @@
 -- The events of operations: their calls and their returns, by rising ticket.
-use Rattle.std.specs.Prelude.{ℕ, nat_lt, List, [], ◌∷◌, map, slice_index_or, if◌then◌else◌}
+use Rattle.std.specs.Prelude.{nat_eq, nat_lt, List, [], ◌∷◌, Option, None, Some, if◌then◌else◌}
 use Rattle.event_records.specs.declared.event.Event.{Event}
 use Rattle.event_records.specs.declared.event.What.{What}
 use Rattle.event_records.specs.declared.event.What.TheVariants.{CallEnq, RetEnq, RetNot, CallDeq, RetDeq, RetEmpty}
@@ -29,20 +29,26 @@ call_event o = record { ticket = o.call; thread = o.thread; what = called_by o.k
 abbrev pub return_event : Operation → Event
 return_event o = record { ticket = o.ret; thread = o.thread; what = answered_by o.kind }
 
--- a call and the events after it, among returns: the returns that come before the call come first
-abbrev pub among_returns : Event → (List Event → List Event) → List Event → List Event
-among_returns call later [] = call ∷ later []
-among_returns call later (r ∷ returns) = (if nat_lt call.ticket r.ticket then call ∷ later (r ∷ returns) else r ∷ among_returns call later returns)
+-- the event, before the first of a later ticket
+abbrev pub put_by_ticket : Event → List Event → List Event
+put_by_ticket e [] = e ∷ []
+put_by_ticket e (f ∷ later) = (if nat_lt e.ticket f.ticket then e ∷ f ∷ later else f ∷ put_by_ticket e later)
 
--- calls and returns, each by rising ticket, as one list by rising ticket
-abbrev pub by_ticket : List Event → List Event → List Event
-by_ticket [] returns = returns
-by_ticket (call ∷ calls) returns = among_returns call (by_ticket calls) returns
+-- the same, if there is an event
+abbrev pub put_maybe : Option Event → List Event → List Event
+put_maybe None events = events
+put_maybe (Some e) events = put_by_ticket e events
 
--- the event of the return of the operation at a place; out of range any
-abbrev pub return_at : List Operation → ℕ → Event
-return_at operations place = return_event (slice_index_or operations place (record { call = 0; ret = 0; thread = 0; kind = Enq 0 }))
+-- the same for each of these
+abbrev pub put_each : List (Option Event) → List Event → List Event
+put_each [] events = events
+put_each (e ∷ others) events = put_maybe e (put_each others events)
 
--- the events of operations, of which the first list comes by call, and the places name the same by return
-abbrev pub events_by : List Operation → List Operation → List ℕ → List Event
-events_by operations by_call by_return = by_ticket (map call_event by_call) (map (return_at operations) by_return)
+-- the event of an operation's return; while it is pending its return is 0, and there is none
+abbrev pub maybe_return : Operation → Option Event
+maybe_return o = (if nat_eq o.ret 0 then None else Some (return_event o))
+
+-- the events of operations that come by call: each call, and its return by ticket among the events of the operations after it
+abbrev pub events_of : List Operation → List Event
+events_of [] = []
+events_of (o ∷ later) = call_event o ∷ put_maybe (maybe_return o) (events_of later)

@@ -16,7 +16,6 @@ use Rattle.history_merge.specs.Clashes.{IsClash, Stands}
 use Rattle.history_merge.specs.Complete.{AreDistinct}
 use Rattle.history_merge.specs.Faults.{was_called, pending_call, NoFaultBefore, IsFirstFaultAt, calls_initial, is_initial, IsFirstTwice}
 use Rattle.history_merge.specs.Forming.{operations_so_far, waiting}
-use Rattle.history_merge.specs.Inner.Forming.{AreReturned}
 use Rattle.history_merge.specs.Progress.{HasTracked}
 
 -- the thread, of all that there may be, in the upper half of a value's bits
@@ -29,10 +28,9 @@ pub record KnowsCalled (events : List Event) (values : CalledValues) : Type 0 wh
   pub known : MatchOption values.others ((v : ℕ) → was_called events v ≡ true → v < slice_index_or values.least (name_in v) 0)
       (λ others. (v : ℕ) → contains nat_cmp others v ≡ was_called events v)
 
--- the operations of the events are there, the places of those that returned, and that of each call that waits for its return
+-- the operations of the events are there, and the place of each call that waits for its return
 pub record HasFormed (events : List Event) (forming : Forming) : Type 0 where
-  pub operations : forming.formed.operations.items ≡ operations_so_far events
-  pub returned : AreReturned events forming.formed.operations.items forming.formed.by_return.items
+  pub operations : forming.operations.items ≡ operations_so_far events
   pub one_per_thread : length forming.places ≡ MAX_THREAD + 1
   pub waits : (thread : ℕ) → option_map (λ found. found.1) (waiting thread events) ≡ pending_call thread events
   pub places : (thread : ℕ) → thread ≤ MAX_THREAD → MatchOption (waiting thread events) ⊤ (λ found. slice_index_or forming.places thread 0 ≡ found.0)

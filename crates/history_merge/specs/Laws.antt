@@ -3,7 +3,7 @@ use Rattle.std.specs.Prelude.{◌≡◌, ℕ, ◌≤◌, ◌↔◌, List, [], le
 use Rattle.event_records.specs.declared.event.Event.{Event}
 use Rattle.event_records.specs.declared.limits.TheConstants.{MAX_CLOCK, MAX_INITIAL}
 use Rattle.history_merge.specs.declared.operation.Operation.{Operation}
-use Rattle.history_merge.specs.Complete.{AreComplete, IsCompleteHistory, IsCompleteUpTo}
+use Rattle.history_merge.specs.Complete.{AreComplete, IsCompleteUpTo}
 use Rattle.history_merge.specs.Initial.{IsCompleteFrom, filled, filled_events}
 use Rattle.history_merge.specs.Legal.{IsLegalOrder, IsLinearizable}
 use Rattle.history_merge.specs.Operations.{operations_of}
@@ -36,11 +36,3 @@ FilledOrdersAreAll = (initial : List ℕ) (operations found : List Operation) �
 abbrev pub LinearizableFromExactly : Type 0
 LinearizableFromExactly = (initial : List ℕ) (operations : List Operation)
     → IsLinearizable initial operations ↔ IsLinearizable [] (filled initial operations)
-
--- with no initial values the filled history is the history
-abbrev pub FilledWithNone : Type 0
-FilledWithNone = (operations : List Operation) → filled [] operations ≡ operations
-
--- a history is complete from no initial values if and only if it is complete
-abbrev pub CompleteFromNone : Type 0
-CompleteFromNone = (events : List Event) → IsCompleteFrom [] events ↔ IsCompleteHistory events

@@ -17,7 +17,7 @@ use std::alloc::Global;
 /// lists first. If no event has a fault, `Pending` names the least call ticket without a return. `Memory` comes if
 /// memory runs out, and then says nothing of the events.
 ///
-/// The history takes some three words for each operation. Time O(n) for n events whose values have a recorder's names,
+/// The history takes 20 bytes for each operation. Time O(n) for n events whose values have a recorder's names,
 /// otherwise O(n log n) and memory for a set of the values.
 ///
 /// An enqueue of 7 is a history of one operation:

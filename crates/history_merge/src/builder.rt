@@ -15,9 +15,9 @@ ghost use Rattle.history_merge.specs.Inner.Initial.{HasInitialCalls};
 use crate::clash::{Clash, clash_among_initial, clash_with_initial};
 use crate::complete::History;
 use crate::fault::HistoryFault;
-use crate::forming::Formed;
 use crate::gathering::OperationsBuilder;
 use crate::initial_values::{InitialCalls, InitialValues};
+use crate::packed::PackedOperation;
 use event_records::{Event, MAX_EVENTS, MAX_INITIAL};
 use std::alloc::Global;
 use std::marker::Model;
@@ -185,11 +185,11 @@ fn first_call(
 /// the first call with an initial value, otherwise that call's.
 fn decided(
     first_call: Result<Option<usize>, HistoryFault>,
-    judged: Result<Formed, HistoryFault>,
-) -> Result<Formed, HistoryFault>
+    judged: Result<Vec<PackedOperation>, HistoryFault>,
+) -> Result<Vec<PackedOperation>, HistoryFault>
     ensures told { (initial : List ℕ) (events : List Event) → HasInitialCalls initial events first_call
-        → MatchResult judged (λ formed. IsFormedOf events formed × IsCompleteHistory events) (IsFirstFault [] events)
-        → MatchResult result (λ formed. IsFormedOf events formed × IsCompleteFrom initial events) (IsFirstFault initial events) }
+        → MatchResult judged (λ formed. IsFormedOf events formed.items × IsCompleteHistory events) (IsFirstFault [] events)
+        → MatchResult result (λ formed. IsFormedOf events formed.items × IsCompleteFrom initial events) (IsFirstFault initial events) }
     ensures kept { IsErr judged → IsErr result }
 {
     match first_call? {
@@ -200,7 +200,7 @@ fn decided(
 
 /// Returns the first fault of events of which the one at this place is the first that calls with an initial value;
 /// `judged` is the rest of the events' faults.
-fn fault_by(judged: Result<Formed, HistoryFault>, place: usize) -> HistoryFault
+fn fault_by(judged: Result<Vec<PackedOperation>, HistoryFault>, place: usize) -> HistoryFault
     ensures kept { IfErr judged (λ fault. comes_by place fault ≡ true → result ≡ fault) }
     ensures later { IfErr judged (λ fault. comes_by place fault ≡ false → result ≡ DuplicateValue place) }
     ensures none { IfOk judged (λ _. result ≡ DuplicateValue place) }

@@ -1,11 +1,12 @@
 //! What in a history contradicts what: the events and values that a message about a fault names.
 ghost use Rattle.std.specs.Prelude.{◌≡◌, ◌≤◌, ◌∷◌, ◌++◌, [], ℕ, List, IfSome, IsTrue, ◌↔◌, length, slice_get};
 ghost use Rattle.event_records.specs.declared.event.Event.{Event};
-ghost use Rattle.event_records.specs.Turns.{TicketsRise};
 ghost use Rattle.event_records.specs.declared.limits.TheConstants.{MAX_EVENTS};
 ghost use Rattle.history_merge.specs.Clashes.{IsClash, Stands, fault_of};
+ghost use Rattle.history_merge.specs.Faults.{NoFaultBefore};
 ghost use Rattle.history_merge.specs.Gathering.{HasFormed};
 ghost use Rattle.history_merge.specs.Inner.Clashes.{IsFirstSought, IsSought};
+ghost use Rattle.history_merge.specs.Inner.History.{AreOfRun};
 ghost use Rattle.history_merge.specs.Progress.{HasTracked};
 
 use crate::called::called_value;
@@ -95,10 +96,11 @@ fn first_of(events: Events<'_>, sought: Sought) -> Option<Placed>
 
 /// The first of the events of these operations that is looked for. Time O(n).
 pub fn first_event(forming: &Forming, sought: Sought) -> Option<Placed>
-    ensures { (events : List Event) → HasFormed events forming.now → TicketsRise events → length events ≤ MAX_EVENTS
+    requires { AreOfRun forming.now.operations.items }
+    ensures { (events : List Event) → HasFormed events forming.now → NoFaultBefore [] events (length events) → length events ≤ MAX_EVENTS
         → IfSome result (IsFirstSought events sought) }
 {
-    first_of(forming.events()?, sought)
+    first_of(forming.events(), sought)
 }
 
 /// What an event that has this fault contradicts, of the events before it. Time O(n).
@@ -109,8 +111,10 @@ pub fn clash_of(
     progress: &Progress,
     forming: &Forming,
 ) -> Option<Clash>
-    ensures { (initial : List ℕ) (events : List Event) → HasTracked events progress.now → HasFormed events forming.now → TicketsRise events
-        → length events ≤ MAX_EVENTS → later.place ≡ length events → IfSome result (IsClash initial (events ++ later.event ∷ [])) }
+    requires { AreOfRun forming.now.operations.items }
+    ensures { (initial : List ℕ) (events : List Event) → HasTracked events progress.now → HasFormed events forming.now
+        → NoFaultBefore [] events (length events) → length events ≤ MAX_EVENTS → later.place ≡ length events
+        → IfSome result (IsClash initial (events ++ later.event ∷ [])) }
 {
     match fault {
         HistoryFault::TicketOrder(_) => {

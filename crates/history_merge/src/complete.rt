@@ -7,7 +7,6 @@ ghost use Rattle.history_merge.specs.Inner.Forming.{IsFormedOf};
 ghost use Rattle.history_merge.specs.Operations.{operations_of};
 
 use crate::events::Events;
-use crate::forming::Formed;
 use crate::packed::PackedOperation;
 use event_records::{MAX_EVENTS, MAX_INITIAL};
 use std::marker::Model;
@@ -18,34 +17,38 @@ use std::marker::Model;
 /// Each value of this type is one: tickets rise, each thread's calls and returns alternate, each call has a return,
 /// no two calls enqueue one value, and the initial values are distinct and enqueued by no call.
 ///
-/// It keeps the initial values and the operations, from which it restores the events: some three words for each
-/// operation.
+/// It keeps the initial values and the operations, from which it restores the events: 20 bytes for each operation.
 #[derive(Debug, Drop)]
 pub struct History {
     initial: Vec<u64>,
-    formed: Formed,
+    operations: Vec<PackedOperation>,
 }
 
 impl Model for History {
     ghost use Rattle.history_merge.specs.Initial.{HistoryView};
-    ghost use Rattle.history_merge.specs.Inner.History.{IsKept, events_in};
+    ghost use Rattle.history_merge.specs.Events.{events_of};
+    ghost use Rattle.history_merge.specs.Inner.History.{IsKept};
 
     ghost Value = { HistoryView };
 
-    ghost view = { λ a. record { initial = a.initial.items; events = events_in a.formed } };
+    ghost view = { λ a. record { initial = a.initial.items; events = events_of a.operations.items } };
 
-    ghost invariant = { λ a. IsKept a.initial.items a.formed };
+    ghost invariant = { λ a. IsKept a.initial.items a.operations.items };
 }
 
 impl History {
-    /// Makes the history of these initial values and the events whose operations were formed.
-    pub(crate) fn new(initial: Vec<u64>, formed: Formed) -> History
-        requires formed { (events : List Event) × IsFormedOf events formed × IsCompleteFrom initial.items events × (length events ≤ MAX_EVENTS) }
+    /// Makes the history of these initial values and these operations of its events.
+    pub(crate) fn new(initial: Vec<u64>, operations: Vec<PackedOperation>) -> History
+        requires formed { (events : List Event) × IsFormedOf events operations.items × IsCompleteFrom initial.items events
+            × (length events ≤ MAX_EVENTS) }
         requires few_initial { length initial.items ≤ MAX_INITIAL }
         ensures initial { result.initial ≡ initial.items }
-        ensures events { (events : List Event) → IsFormedOf events formed → result.events ≡ events }
+        ensures events { (events : List Event) → IsFormedOf events operations.items → result.events ≡ events }
     {
-        History { initial, formed }
+        History {
+            initial,
+            operations,
+        }
     }
 
     /// Returns the values that the queue holds before the first event, front first.
@@ -57,17 +60,15 @@ impl History {
         self.initial.as_slice()
     }
 
-    /// Returns the events, by rising ticket. It restores them from the operations, and takes no memory.
+    /// Returns the events, by rising ticket. It counts them, in time O(n), restores them from the operations one by one,
+    /// and takes no memory.
     pub fn events(&self) -> Events<'_>
         ensures events { result ≡ self.now.events }
         ensures complete { IsCompleteHistory self.now.events }
         ensures from { IsCompleteFrom self.now.initial self.now.events }
         ensures few { length self.now.events ≤ MAX_EVENTS }
     {
-        Events::new(
-            self.formed.operations.as_slice(),
-            self.formed.by_return.as_slice(),
-        )
+        Events::new(self.operations.as_slice())
     }
 
     /// Returns the operations, in the order of their calls. The place of one in this list is its [`crate::OpId`].
@@ -78,6 +79,6 @@ impl History {
         ensures few { length result.now ≤ MAX_EVENTS }
         ensures few_events { length self.now.events ≤ MAX_EVENTS }
     {
-        self.formed.operations.as_slice()
+        self.operations.as_slice()
     }
 }

@@ -1,47 +1,59 @@
-ghost use Rattle.std.specs.Prelude.{◌≡◌, ◌<◌, All, length, map};
+ghost use Rattle.std.specs.Prelude.{◌≡◌, ◌∷◌, List, MatchOption, false, length, true};
 ghost use Rattle.std.specs.Iterator.{YieldsFirst, item_count};
-ghost use Rattle.history_merge.specs.Events.{events_by, return_at};
-ghost use Rattle.history_merge.specs.Inner.History.{returns_by};
+ghost use Rattle.history_merge.specs.Events.{events_of, maybe_return};
+ghost use Rattle.history_merge.specs.Inner.History.{AreOfRun, IsFirstDue, comes_by_ticket};
 
+use crate::matching::no_events;
+use crate::operation::Operation;
 use crate::packed::PackedOperation;
-use event_records::Event;
+use event_records::{Event, MAX_THREADS};
 use std::iter::{ExactSizeIterator, FusedIterator};
 use std::marker::Model;
 
 /// The events of a history by rising ticket, seen as the list of those that are left.
 ///
-/// It restores them from the operations one by one. It takes no memory, and each step takes time O(1).
+/// It restores them from the operations one by one. It takes no memory, and each step takes a look at the return that each
+/// thread's pending call waits for.
 #[derive(Debug, Drop)]
 pub struct Events<'a> {
-    operations: &'a [PackedOperation],
     // The operations whose calls are left.
     by_call: &'a [PackedOperation],
-    // The places of those whose returns are left.
-    by_return: &'a [u32],
+    // For each thread the return that comes before its next call.
+    due: [Option<Event>; MAX_THREADS],
+    // No thread from this one on has one.
+    threads: usize,
+    // How many events are left.
+    left: usize,
 }
 
 impl<'a> Model for Events<'a> {
-    ghost use Rattle.std.specs.Prelude.{◌<◌, All, List, length};
+    ghost use Rattle.std.specs.Prelude.{◌≡◌, ◌≤◌, ℕ, List, None, length, slice_index_or};
     ghost use Rattle.event_records.specs.declared.event.Event.{Event};
-    ghost use Rattle.history_merge.specs.Events.{events_by};
+    ghost use Rattle.event_records.specs.declared.limits.TheConstants.{MAX_THREADS};
+    ghost use Rattle.history_merge.specs.Events.{events_of, put_each};
+    ghost use Rattle.history_merge.specs.Inner.History.{AreLeft};
 
     ghost Value = { List Event };
 
-    ghost view = { λ it. events_by it.operations.now it.by_call.now it.by_return.now };
+    ghost view = { λ it. put_each it.due (events_of it.by_call.now) };
 
-    ghost invariant = { λ it. All (λ place. place < length it.operations.now) it.by_return.now };
+    ghost invariant = { λ it. (AreLeft (put_each it.due (events_of it.by_call.now)) it.by_call.now it.due)
+        × (it.threads ≤ MAX_THREADS)
+        × ((thread : ℕ) → it.threads ≤ thread → slice_index_or it.due thread None ≡ None)
+        × (it.left ≡ length (put_each it.due (events_of it.by_call.now))) };
 }
 
 impl<'a> Events<'a> {
-    /// Makes the events of operations in the order of their calls, with their places in the order of their returns.
-    pub(crate) fn new(operations: &'a [PackedOperation], by_return: &'a [u32]) -> Events<'a>
-        requires { All (λ place. place < length operations.now) by_return.now }
-        ensures { result ≡ events_by operations.now operations.now by_return.now }
+    /// Makes the events of operations in the order of their calls, of which some may be pending. Time O(n).
+    pub(crate) fn new(operations: &'a [PackedOperation]) -> Events<'a>
+        requires { AreOfRun operations.now }
+        ensures { result ≡ events_of operations.now }
     {
         Events {
-            operations,
             by_call: operations,
-            by_return,
+            due: no_events(),
+            threads: 0,
+            left: event_count(operations),
         }
     }
 }
@@ -54,48 +66,88 @@ impl<'a> Iterator for Events<'a> {
     ghost remaining = { item_count (λ rest. rest) };
 
     fn next(&mut self) -> Option<Event> {
-        if let Some((call, by_call)) = self.by_call.split_first()
-            && !returns_by(self.operations, self.by_return, call.unpack().call)
-        {
+        let due = first_due(&self.due[..self.threads]);
+        if let Some((operation, by_call)) = call_before(self.by_call, due) {
+            let thread = usize::from(operation.thread);
             self.by_call = by_call;
-            return Some(call.unpack().call_event());
+            self.due[thread] = maybe_return(operation);
+            self.threads = self.threads.max(thread + 1);
+            self.left -= 1;
+            return Some(operation.call_event());
         }
-        let (place, by_return) = self.by_return.split_first()?;
-        self.by_return = by_return;
-        Some(return_event_at(self.operations, *place as usize))
+        let event = due?;
+        self.due[usize::from(event.thread)] = None;
+        self.left -= 1;
+        Some(event)
     }
 
     fn size_hint(&self) -> (usize, Option<usize>) {
-        let len = self.len();
-        (len, Some(len))
+        (self.left, Some(self.left))
     }
 }
 
 impl<'a> ExactSizeIterator for Events<'a> {
     fn len(&self) -> usize {
-        self.by_call.len() + self.by_return.len()
+        self.left
     }
 }
 
 impl<'a> FusedIterator for Events<'a> {}
 
-/// The event of the return of the operation at a place.
-#[inline(always)]
-fn return_event_at(operations: &[PackedOperation], place: usize) -> Event
-    requires { place < length operations.now }
-    ensures { result ≡ return_at operations.now place }
+/// How many events these operations have.
+fn event_count(operations: &[PackedOperation]) -> usize
+    ensures { result ≡ length (events_of operations.now) }
 {
-    operations[place].unpack().return_event()
+    let mut count = operations.len();
+    for operation in operations {
+        if operation.unpack().ret != 0 {
+            count += 1;
+        }
+    }
+    count
 }
 
-/// Whether the first of the operations at these places returned by this ticket.
+/// The return of the operation, if it isn't pending.
 #[inline(always)]
-fn returns_by(operations: &[PackedOperation], by_return: &[u32], ticket: u64) -> bool
-    requires { All (λ place. place < length operations.now) by_return.now }
-    ensures { result ≡ returns_by ticket (map (return_at operations.now) by_return.now) }
+fn maybe_return(operation: Operation) -> Option<Event>
+    ensures { result ≡ maybe_return operation }
 {
-    match by_return.first() {
-        Some(place) => operations[*place as usize].unpack().ret <= ticket,
-        None => false,
+    if operation.ret == 0 {
+        None
+    } else {
+        Some(operation.return_event())
     }
+}
+
+/// The first by ticket of these returns.
+#[inline(always)]
+fn first_due(due: &[Option<Event>]) -> Option<Event>
+    ensures { IsFirstDue due.now (length due.now) result }
+{
+    let mut first: Option<Event> = None;
+    for event in due {
+        if let Some(event) = event
+            && first.is_none_or(|first| event.ticket < first.ticket)
+        {
+            first = Some(*event);
+        }
+    }
+    first
+}
+
+/// The first operation and those after it, unless the return that is due comes before its call.
+#[inline(always)]
+fn call_before(
+    by_call: &[PackedOperation],
+    due: Option<Event>,
+) -> Option<(Operation, &[PackedOperation])>
+    ensures { MatchOption result ((o : Operation) (rest : List Operation) → by_call.now ≡ o ∷ rest → comes_by_ticket due o.call ≡ true)
+        (λ found. (by_call.now ≡ found.0 ∷ found.1.now) × (comes_by_ticket due found.0.call ≡ false)) }
+{
+    let (first, others) = by_call.split_first()?;
+    let operation = first.unpack();
+    if due.is_some_and(|due| due.ticket <= operation.call) {
+        return None;
+    }
+    Some((operation, others))
 }

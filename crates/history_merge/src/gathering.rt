@@ -4,16 +4,17 @@ ghost use Rattle.event_records.specs.declared.event.Event.{Event};
 ghost use Rattle.event_records.specs.declared.limits.TheConstants.{MAX_EVENTS};
 ghost use Rattle.history_merge.specs.Clashes.{IsClash};
 ghost use Rattle.history_merge.specs.Complete.{IsCompleteHistory};
-ghost use Rattle.history_merge.specs.Faults.{IsFirstFault};
-ghost use Rattle.event_records.specs.Turns.{TicketsRise};
+ghost use Rattle.history_merge.specs.Faults.{IsFirstFault, NoFaultBefore};
 ghost use Rattle.history_merge.specs.Gathering.{HasClash, HasFormed, HasGatheredEvents, HasMetFault, IsForming};
 ghost use Rattle.history_merge.specs.Inner.Forming.{IsFormedOf};
+ghost use Rattle.history_merge.specs.Inner.History.{AreOfRun};
 ghost use Rattle.history_merge.specs.Progress.{HasTracked};
 
 use crate::called::CalledValues;
 use crate::clash::{Clash, Placed, Sought, clash_of, first_event};
 use crate::fault::HistoryFault;
-use crate::forming::{Formed, Forming};
+use crate::forming::Forming;
+use crate::packed::PackedOperation;
 use crate::progress::Progress;
 use event_records::Event;
 use std::alloc::Global;
@@ -54,6 +55,7 @@ impl OperationsBuilder {
     /// Time O(1) if the values rise, otherwise O(log n) after n events; sometimes it grows its memory.
     #[inline(always)]
     pub fn add(&mut self, event: Event)
+        requires { (events : List Event) × HasGatheredEvents events self.old }
         ensures gathered { (events : List Event) → HasGatheredEvents events self.old → length events < MAX_EVENTS
             → HasGatheredEvents (events ++ event ∷ []) self.new }
         ensures clash { (initial : List ℕ) (events : List Event) → HasGatheredEvents events self.old → length events < MAX_EVENTS
@@ -81,6 +83,7 @@ impl OperationsBuilder {
     /// Judges an event after events without a fault, and adds it.
     #[inline(always)]
     fn follow(&mut self, event: Event) -> Result<(), HistoryFault>
+        requires { (events : List Event) × IsForming events self.old }
         ensures judged { (events : List Event) → IsForming events self.old → length events < MAX_EVENTS
             → MatchResult result (λ _. IsForming (events ++ event ∷ []) self.new) (λ fault. HasMetFault (events ++ event ∷ []) fault) }
         ensures clash { (initial : List ℕ) (events : List Event) → IsForming events self.old → length events < MAX_EVENTS
@@ -89,20 +92,24 @@ impl OperationsBuilder {
     {
         let repeats = self.called.note(event.what, self.forming.operations())?;
         if let Some(fault) = self.progress.fault_of(event, self.count, repeats) {
-            self.keep_clash(fault, event);
+            // A copy, so that the event itself needn't lie in memory.
+            let refused = event;
+            self.keep_clash(fault, refused);
             return Err(fault);
         }
         self.forming.add(event)?;
         self.progress.add(event);
-        self.count = self.count.saturating_add(1);
+        self.count = self.count.wrapping_add(1);
         Ok(())
     }
 
     /// Keeps what an event that has this fault contradicts. Time O(n).
     #[inline(never)]
     fn keep_clash(&mut self, fault: HistoryFault, event: Event)
+        requires { AreOfRun self.old.forming.operations.items }
         ensures clash { (initial : List ℕ) (events : List Event) → HasTracked events self.old.progress → HasFormed events self.old.forming
-            → TicketsRise events → length events < MAX_EVENTS → self.old.count ≡ length events → HasClash initial (events ++ event ∷ []) self.new }
+            → NoFaultBefore [] events (length events) → length events < MAX_EVENTS → self.old.count ≡ length events
+            → HasClash initial (events ++ event ∷ []) self.new }
         ensures fault { self.new.fault ≡ self.old.fault }
     {
         let placed = Placed {
@@ -119,6 +126,7 @@ impl OperationsBuilder {
 
     /// Returns what the first event with a fault contradicts, or the first call without a return. Time O(n) if there is one.
     pub fn clash(&self) -> Option<Clash>
+        requires { (events : List Event) × HasGatheredEvents events self.now }
         ensures { (initial : List ℕ) (events : List Event) → HasGatheredEvents events self.now → HasClash initial events self.now
             → length events ≤ MAX_EVENTS → IfSome result (IsClash initial events) }
     {
@@ -136,9 +144,9 @@ impl OperationsBuilder {
     /// The first faulty event decides, and of its faults the one that [`HistoryFault`] lists first. If no event has a
     /// fault, `Pending` names the least call ticket without a return. `Memory` comes if memory ran out, and then says
     /// nothing of the events.
-    pub fn finish(self) -> Result<Formed, HistoryFault>
+    pub fn finish(self) -> Result<Vec<PackedOperation>, HistoryFault>
         ensures outcome { (events : List Event) → HasGatheredEvents events self
-            → MatchResult result (λ formed. IsFormedOf events formed × IsCompleteHistory events) (IsFirstFault [] events) }
+            → MatchResult result (λ formed. IsFormedOf events formed.items × IsCompleteHistory events) (IsFirstFault [] events) }
         ensures kept { IsSome self.fault → IsErr result }
     {
         let OperationsBuilder {
@@ -154,7 +162,7 @@ impl OperationsBuilder {
         }
         match progress.least_pending() {
             Some(ticket) => Err(HistoryFault::Pending(ticket)),
-            None => Ok(forming.into_formed()),
+            None => Ok(forming.into_operations()),
         }
     }
 }

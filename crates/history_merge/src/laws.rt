@@ -1,5 +1,5 @@
-ghost use Rattle.history_merge.specs.Laws.{CompleteFromNone, FilledAreComplete, FilledIsComplete, FilledOperations, FilledWithNone};
-ghost use Rattle.history_merge.specs.Laws.{FilledOrders, FilledOrdersAreAll, LinearizableFromExactly};
+ghost use Rattle.history_merge.specs.Laws.{FilledAreComplete, FilledIsComplete, FilledOperations, FilledOrders, FilledOrdersAreAll};
+ghost use Rattle.history_merge.specs.Laws.{LinearizableFromExactly};
 
 /// Proves that a history whose queue starts with some values is a complete history itself if these are enqueued
 /// alone, one after another, before all events. The laws are the contract; the body is empty.
@@ -15,11 +15,4 @@ pub fn filled_has_the_same_orders()
     ensures orders { FilledOrders }
     ensures all { FilledOrdersAreAll }
     ensures linearizable { LinearizableFromExactly }
-{}
-
-/// Proves that a history that starts with no values is that of its events. The laws are the contract; the body is
-/// empty.
-pub fn no_initial_values()
-    ensures filled { FilledWithNone }
-    ensures complete { CompleteFromNone }
 {}

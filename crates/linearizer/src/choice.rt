@@ -8,9 +8,8 @@ use crate::timed::{PackedTimed, Timed, by_time, first_left};
 use std::alloc::{AllocError, Global};
 use value_match::{NEVER, Values};
 
-/// The places of the values in their chosen order, each with the gap of its enqueue: a value is the choice among itself and those
-/// after it. Or none, if an enqueue is called only after
-/// a later value has entered.
+/// The places of the values in their chosen order, each with the gap of its enqueue: a value is the choice among itself
+/// and those after it. Or none, if an enqueue is called only after a later value has entered.
 ///
 /// The values stand in two lists, one by when each has entered, the other by when each was dequeued. In each list
 /// those before a cursor are taken, so the one at the cursor is the first of its values that remain.

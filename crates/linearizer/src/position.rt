@@ -4,7 +4,7 @@ ghost use Rattle.linearizer.specs.Order.{earlier_dequeues, enqueues, other_deque
 use history_merge::OpId;
 
 /// The order of operations within one gap.
-#[derive(Clone, Copy, PartialEq, Eq, PartialOrd, Ord)]
+#[derive(Clone, Copy, PartialEq, PartialOrd)]
 pub(crate) enum Class {
     /// Dequeues of values that were enqueued at an earlier gap.
     EarlierDequeue,
@@ -17,7 +17,7 @@ pub(crate) enum Class {
 }
 
 /// Where an operation stands: its gap, its class within the gap, and its rank within the class.
-#[derive(Clone, Copy, PartialEq, Eq, PartialOrd, Ord)]
+#[derive(Clone, Copy, PartialEq, PartialOrd)]
 pub(crate) struct Position {
     pub(crate) gap: u64,
     pub(crate) class: Class,

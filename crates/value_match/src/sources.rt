@@ -13,7 +13,7 @@ use history_merge::{OpKind, PackedOperation};
 use std::alloc::{AllocError, Global};
 use std::collections::BTreeSet;
 
-/// How far from the call for the value dequeued last the call for the next is looked for.
+/// How far from the call that was found last the call for the next value is looked for at most.
 const REACH: usize = 64;
 
 /// For each dequeue the place of the call that enqueued its value, accepted or refused, if there is one.
@@ -77,21 +77,23 @@ fn near_sources(alloc: Global, operations: &[PackedOperation]) -> Result<NearSou
     let mut wanted = BTreeSet::new(alloc);
     let mut all_found = true;
     let mut all_in_time = true;
-    let mut next = 0;
+    let mut guess = Guess {
+        from: 0,
+        reach: REACH,
+    };
     for operation in operations {
         let operation = operation.unpack();
         let OpKind::Deq(value) = operation.kind else {
             sources.push(MaybePlace::none())?;
             continue;
         };
-        let Some(place) = close_place(&mut calls, operations, value, next) else {
+        let Some(place) = guess.find(&mut calls, operations, value) else {
             wanted.insert(value)?;
             all_found = false;
             sources.push(MaybePlace::none())?;
             continue;
         };
         all_in_time = all_in_time && !comes_too_soon(operations, operation, place);
-        next = place + 1;
         sources.push(MaybePlace::some(place))?;
     }
     Ok(NearSources {
@@ -102,28 +104,50 @@ fn near_sources(alloc: Global, operations: &[PackedOperation]) -> Result<NearSou
     })
 }
 
-/// Returns the place of the call for this value, if it is near among those of its thread or near this place.
-#[inline(always)]
-fn close_place(
-    calls: &mut ThreadCalls,
-    operations: &[PackedOperation],
-    value: u64,
+/// Where the call for the next value is looked for, and how far from there: half as far after each miss.
+#[derive(Drop)]
+struct Guess {
     from: usize,
-) -> Option<usize>
-    ensures { IfSome result (λ place. IsCallPlace operations.now value (Some place)) }
-{
-    match calls.find(operations, value) {
-        Some(place) => Some(place),
-        None => near_place(operations, value, from),
+    reach: usize,
+}
+
+impl Guess {
+    /// Returns the place of the call for this value, if it is near among those of its thread or near the one found last.
+    #[inline(always)]
+    fn find(
+        &mut self,
+        calls: &mut ThreadCalls,
+        operations: &[PackedOperation],
+        value: u64,
+    ) -> Option<usize>
+        ensures { IfSome result (λ place. IsCallPlace operations.now value (Some place)) }
+    {
+        let found = match calls.find(operations, value) {
+            Some(place) => Some(place),
+            None => near_place(operations, value, self.from, self.reach),
+        };
+        match found {
+            Some(place) => {
+                self.from = place.saturating_add(1);
+                self.reach = REACH;
+            }
+            None => self.reach = (self.reach / 2).max(1),
+        }
+        found
     }
 }
 
 /// The place of the call for this value, where it is so near this place.
 #[inline(always)]
-fn near_place(operations: &[PackedOperation], value: u64, from: usize) -> Option<usize>
+fn near_place(
+    operations: &[PackedOperation],
+    value: u64,
+    from: usize,
+    reach: usize,
+) -> Option<usize>
     ensures { IfSome result (λ place. IsCallPlace operations.now value (Some place)) }
 {
-    for distance in 0..REACH {
+    for distance in 0..reach {
         let after = from.saturating_add(distance);
         if is_called_at(operations, value, after) {
             return Some(after);

@@ -1,25 +1,73 @@
--- What a history keeps of its events: their operations.
-use Rattle.std.specs.Prelude.{◌≡◌, ℕ, ◌<◌, ◌≤◌, Bool, false, nat_le, All, List, [], ◌∷◌, length}
+-- What a history keeps of its events: their operations, which tell them.
+use Rattle.std.specs.Prelude.{◌≡◌, ℕ, ◌+◌, ◌<◌, ◌≤◌, Bool, true, false, not, nat_eq, nat_le, All, IfSome, List, [], ◌∷◌, Option, None, Some, ⊤}
+use Rattle.std.specs.Prelude.{find, length, option_and_then, slice_index_or}
+use Rattle.std.specs.Bool.{then_some}
+use Rattle.std.specs.Option.{option_map_or}
 use Rattle.event_records.specs.declared.event.Event.{Event}
-use Rattle.event_records.specs.declared.limits.TheConstants.{MAX_EVENTS, MAX_INITIAL}
-use Rattle.history_merge.specs.declared.forming.Formed.{Formed}
-use Rattle.history_merge.specs.Events.{events_by}
+use Rattle.event_records.specs.declared.limits.TheConstants.{MAX_EVENTS, MAX_INITIAL, MAX_THREAD}
+use Rattle.event_records.specs.Turns.{TicketsRise, answers, is_call}
+use Rattle.history_merge.specs.declared.operation.Operation.{Operation}
+use Rattle.history_merge.specs.Events.{events_of}
+use Rattle.history_merge.specs.Forming.{operations_so_far}
 use Rattle.history_merge.specs.Initial.{IsCompleteFrom}
 use Rattle.history_merge.specs.Operations.{operations_of}
 
--- the events of the operations
-abbrev pub events_in : Formed → List Event
-events_in formed = events_by formed.operations.items formed.operations.items formed.by_return.items
-
 -- the operations are those of a complete history with these initial values, within its limits
-pub record IsKept (initial : List ℕ) (formed : Formed) : Type 0 where
-  pub complete : IsCompleteFrom initial (events_in formed)
-  pub operations : formed.operations.items ≡ operations_of (events_in formed)
-  pub within : All (λ place. place < length formed.operations.items) formed.by_return.items
-  pub few_events : length (events_in formed) ≤ MAX_EVENTS
+pub record IsKept (initial : List ℕ) (operations : List Operation) : Type 0 where
+  pub complete : IsCompleteFrom initial (events_of operations)
+  pub formed : operations ≡ operations_of (events_of operations)
+  pub few_events : length (events_of operations) ≤ MAX_EVENTS
   pub few_initial : length initial ≤ MAX_INITIAL
 
--- whether the first of the returns comes by this ticket
-abbrev pub returns_by : ℕ → List Event → Bool
-returns_by ticket [] = false
-returns_by ticket (r ∷ returns) = nat_le r.ticket ticket
+-- ---- the events from some place on
+
+-- the next event of the thread
+abbrev pub next_of : ℕ → List Event → Option Event
+next_of thread events = find (λ r. nat_eq r.thread thread) events
+
+-- the return of the thread that comes before its next call, if there is one
+abbrev pub due_in : ℕ → List Event → Option Event
+due_in thread events = option_and_then (λ r. then_some (not (is_call r.what)) r) (next_of thread events)
+
+-- the second follows the first in its thread: a call is followed by its answer, and a return by a call
+abbrev pub FollowsInTurn : Event → Event → Type 0
+FollowsInTurn e next = (is_call e.what ≡ true → answers e.what next.what ≡ true) × (is_call e.what ≡ false → is_call next.what ≡ true)
+
+-- each event is followed in turn by the next one of its thread
+abbrev pub AreInTurn : List Event → Type 0
+AreInTurn [] = ⊤
+AreInTurn (e ∷ later) = IfSome (next_of e.thread later) (FollowsInTurn e) × AreInTurn later
+
+-- tickets rise, and threads take turns
+pub record IsRun (events : List Event) : Type 0 where
+  pub rise : TicketsRise events
+  pub turns : AreInTurn events
+  pub threads : All (λ e. e.thread ≤ MAX_THREAD) events
+
+-- these events are left: the calls are those of the operations, and of each thread the return is known that comes before its next call
+pub record AreLeft (events : List Event) (by_call : List Operation) (returns : List (Option Event)) : Type 0 where
+  pub run : IsRun events
+  pub calls : by_call ≡ operations_so_far events
+  pub one_per_thread : length returns ≡ MAX_THREAD + 1
+  pub due : (thread : ℕ) → thread ≤ MAX_THREAD → slice_index_or returns thread None ≡ due_in thread events
+
+-- the operations are those of these events, which begin with no return
+pub record IsRunOf (events : List Event) (operations : List Operation) : Type 0 where
+  pub run : IsRun events
+  pub begins : (thread : ℕ) → due_in thread events ≡ None
+  pub calls : operations ≡ operations_so_far events
+
+-- the operations are those of some events
+abbrev pub AreOfRun : List Operation → Type 0
+AreOfRun operations = (events : List Event) × IsRunOf events operations
+
+-- it is the first by ticket of the first n returns, if there is one
+abbrev pub IsFirstDue : List (Option Event) → ℕ → Option Event → Type 0
+IsFirstDue due n None = (k : ℕ) → k < n → slice_index_or due k None ≡ None
+IsFirstDue due n (Some e) =
+    ((k : ℕ) × (k < n) × (slice_index_or due k None ≡ Some e))
+    × ((k : ℕ) (r : Event) → k < n → slice_index_or due k None ≡ Some r → e.ticket ≤ r.ticket)
+
+-- whether the return, if there is one, comes by this ticket
+abbrev pub comes_by_ticket : Option Event → ℕ → Bool
+comes_by_ticket due ticket = option_map_or (λ r. nat_le r.ticket ticket) due false

@@ -2,6 +2,7 @@ use Rattle.std.proofs.Common.{inl, subst}
 use Rattle.history_merge.specs.Operations.{operations_of}
 use Rattle.verdicts.specs.Claiming.{claim_of}
 use Rattle.commands.specs.Judging.{IsVerdictClaim}
+use Rattle.history_merge.proofs.InitialValues.{complete_from_nothing}
 use Rattle.commands.proofs.Findings.{decided_claim, is_from_none}
 use Rattle.commands.proofs.Played.{left_open_found, played_found, merges_to_complete, few_events}
 use Rattle.commands.proofs.sim.play.Goals as goal
@@ -12,13 +13,13 @@ returns-in-Open-clause-found c =
     let ended = rw (c.as_slice.ensures, c.in-Open.is) at c.in_ok-rejections.ensures.ending in
     inl (left_open_found _ _ _ rejected ended)
 
-pub merged_history-requires-clause-complete : goal.merged_history-requires-clause-complete
-merged_history-requires-clause-complete c =
+pub merged_from-requires-clause-complete : goal.merged_from-requires-clause-complete
+merged_from-requires-clause-complete c =
     let ended = rw (c.as_slice.ensures, c.in-Done.is) at c.in_ok-rejections.ensures.ending in
-    merges_to_complete _ _ c.requires.few_threads _ ended
+    λ merged is. (complete_from_nothing merged).1 (merges_to_complete _ _ c.requires.few_threads _ ended merged is)
 
-pub merged_history-requires-clause-few : goal.merged_history-requires-clause-few
-merged_history-requires-clause-few c =
+pub merged_from-requires-clause-few : goal.merged_from-requires-clause-few
+merged_from-requires-clause-few c =
     let ended = rw (c.as_slice.ensures, c.in-Done.is) at c.in_ok-rejections.ensures.ending in
     few_events _ _ c.requires.few_threads _ ended
 
@@ -30,4 +31,4 @@ returns-clause-found c =
     let decided = decided_claim history c.in_ok-verdict.verdict c.in_ok-verdict.ensures.chosen c.in_ok-verdict.ensures.evidence c.in_ok-verdict.ensures.exact in
     let right = subst (λ h. IsVerdictClaim h (claim_of history.initial (operations_of history.events) c.in_ok-verdict.verdict))
     (is_from_none history c.in_ok-history.ensures.initial) decided in
-    inl (played_found _ _ _ rejected c.in-Done.lists _ _ ended c.in_ok-history.ensures.merged c.in_ok-history.ensures.complete right)
+    inl (played_found _ _ _ rejected c.in-Done.lists _ _ ended c.in_ok-history.ensures.merged c.in_ok-history.ensures.complete.complete right)

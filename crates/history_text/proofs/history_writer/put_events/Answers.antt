@@ -1,4 +1,4 @@
-use Rattle.std.proofs.Common.{◌≡◌, List, ℕ, ◌∷◌, [], ◌++◌, ap, sym, subst, ◌∙◌, append_assoc, append-nil}
+use Rattle.std.proofs.Common.{◌≡◌, List, ℕ, ◌∷◌, [], ◌++◌, ap, sym, subst, ◌∙◌, append_assoc, append-nil, rules}
 use Rattle.std.specs.List.{flat_map, All}
 use Rattle.std.proofs.lemmas.Grind.{flat_map-append}
 use Rattle.std.proofs.lemmas.List.Elements.{All-push}
@@ -55,3 +55,6 @@ pub returns-clause-fits : goal.returns-clause-fits
 returns-clause-fits g c =
     let old = c.loop-event.invariant in
     subst (All (λ (x : Event). HasValueInRange x.what)) (whole old.0 c.loop-event.event-iterator c.args.events c.in-None.ensures.steps.0 old.1.all) old.1.fits
+
+pub loop-event-init : goal.loop-event-init
+loop-event-init g c = ([], record { all = c.into_iter-event-iterator.ensures.into_iter_gives; put = search rules; fits = search rules })

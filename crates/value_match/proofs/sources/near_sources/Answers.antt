@@ -28,13 +28,13 @@ loop-operation-preserved-in_default c =
       in_time = λ all in_time. no_dequeue _ _ _ here c.in_default.not-Deq (known.in_time all in_time);
     })
 
-pub loop-operation-preserved-in_default-close_place : goal.loop-operation-preserved-in_default-close_place
-loop-operation-preserved-in_default-close_place c =
+pub loop-operation-preserved-in_default-find : goal.loop-operation-preserved-in_default-find
+loop-operation-preserved-in_default-find c =
     let known = c.loop-operation.invariant in
     let here = slice_get_read _ _ _ _ refl c.loop-operation-test.true c.operation-item.is ∙ ap Some (sym c.unpack-operation.ensures.operation) in
     let adds = c.in_ok-insert.ensures.updates.0 in
     let near = subst (λ kind. IsNearSource c.insert.new.self c.args.operations.now kind None) (sym c.in-Deq.is) (is_wanted _ _ c.in-Deq.value adds) in
-    rw (c.in_ok-push-2.ensures.items, c.none-in_default-close_place.ensures) (record {
+    rw (c.in_ok-push-2.ensures.items, c.none-in_default-find.ensures) (record {
       near = sources_push (IsNearSource _) _ _ _ _ _ here near (wants_more _ _ _ _ _ _ adds known.near);
       all = λ all. absurd (false≢true all);
       in_time = λ all in_time. absurd (false≢true all);

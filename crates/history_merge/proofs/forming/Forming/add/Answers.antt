@@ -11,4 +11,4 @@ pub returns-else-is_call : goal.returns-else-is_call
 returns-else-is_call c = λ events follows known.
     let returned = sym c.is_call.ensures ∙ c.if-is_call.false in
     let pending = some_pending _ c.args.event follows.fits returned in
-    c.answer.ensures events pending.0 returned pending.1 follows known
+    c.answer.ensures events pending.0 returned pending.1 known

@@ -6,4 +6,4 @@ pub returns : goal.returns
 returns c = λ events call none known.
     formed_after_call events c.args.event c.args.self.now _ c.in-Ok.place
     (omega (arith, c.len.ensures, c.try_from.ensures)) c.requires.thread call none known
-    (rw (c.in_ok-push.ensures.items, c.new.ensures, c.begun.ensures) refl) refl (rw c.from.ensures refl)
+    (rw (c.in_ok-push.ensures.items, c.new.ensures, c.begun.ensures) refl) (rw c.from.ensures refl)

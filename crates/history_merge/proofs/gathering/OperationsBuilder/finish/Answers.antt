@@ -1,7 +1,6 @@
 use Rattle.std.proofs.Common.{[]}
-use Rattle.history_merge.proofs.TheirEvents.{events_of_formed}
 use Rattle.history_merge.proofs.ExactFaults.{complete_without_fault}
-use Rattle.history_merge.proofs.Formed.{all_formed}
+use Rattle.history_merge.proofs.Formed.{formed_of_complete}
 use Rattle.history_merge.proofs.InitialValues.{none_distinct}
 use Rattle.history_merge.proofs.MetFaults.{kept_is_met, met_fault_is_first, still_forming}
 use Rattle.history_merge.proofs.gathering.OperationsBuilder.finish.Goals as goal
@@ -14,8 +13,7 @@ pub returns-clause-outcome : goal.returns-clause-outcome
 returns-clause-outcome c = λ events gathered.
     let known = still_forming events c.args.self c.in_default.is gathered in
     let whole = complete_without_fault [] events none_distinct known.no_fault (c.in-None.ensures events known.tracked) in (
-      events_of_formed events c.into_formed.result whole.complete.tickets_rise (all_formed events whole.complete)
-          (c.into_formed.ensures.operations events known.formed) (c.into_formed.ensures.returned events known.formed),
+      formed_of_complete events c.into_operations.result.items whole.complete (c.into_operations.ensures events known.formed),
       whole.complete,
     )
 

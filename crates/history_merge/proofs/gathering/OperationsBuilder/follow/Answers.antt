@@ -1,10 +1,9 @@
 use Rattle.std.proofs.Common.{[], ◌∷◌, ◌≡◌, sym, refl, ◌∙◌, arith, subst, Some, None, length-append}
 use Rattle.history_merge.specs.Faults.{fault_at}
 use Rattle.history_merge.proofs.Clashes.{kept-append}
-use Rattle.history_merge.proofs.ExactFaults.{rise_without_fault}
 use Rattle.history_merge.proofs.FirstFaults.{may_follow}
 use Rattle.history_merge.proofs.InitialValues.{nothing_more}
-use Rattle.history_merge.proofs.MetFaults.{met_fault-push, no_fault-push}
+use Rattle.history_merge.proofs.MetFaults.{met_fault-push, no_fault-push, run_of_forming}
 use Rattle.history_merge.proofs.gathering.OperationsBuilder.follow.Goals as goal
 
 pub returns-in-Some-clause-judged : goal.returns-in-Some-clause-judged
@@ -24,7 +23,7 @@ returns-clause-judged c = λ events known few.
       tracked = c.add-2.ensures events known.tracked;
       called = note.1;
       formed = c.in_ok-add.ensures events (record { rises = may.rises; fits = may.fits }) known.formed;
-      count = simp length-append (omega (arith, known.count, few, c.saturating_add-self.ensures));
+      count = simp length-append (omega (arith, known.count, few));
       no_fault = no_fault-push events e (subst (λ n. fault_at [] events n e ≡ None) known.count none) known.no_fault;
     }
 
@@ -39,4 +38,7 @@ returns-clause-clash c = λ initial events known few kept. kept-append initial e
 
 pub returns-in-Some-clause-clash : goal.returns-in-Some-clause-clash
 returns-in-Some-clause-clash c = λ initial events known few kept.
-    c.keep_clash.ensures.clash initial events known.tracked known.formed (rise_without_fault events known.no_fault) few known.count
+    c.keep_clash.ensures.clash initial events known.tracked known.formed known.no_fault few known.count
+
+pub keep_clash-requires : goal.keep_clash-requires
+keep_clash-requires c = run_of_forming c.requires.0 c.args.self.now c.requires.1

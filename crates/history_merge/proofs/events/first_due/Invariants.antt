@@ -1,0 +1,5 @@
+use Rattle.history_merge.specs.Inner.History.{IsFirstDue}
+use Rattle.history_merge.proofs.events.first_due.Given as goal
+
+abbrev pub invariant-loop-event : goal.invariant-loop-event
+invariant-loop-event l = IsFirstDue l.due l.event-index l.first
