@@ -1,5 +1,6 @@
 -- Lists made of one block for each thread, and numbers that stand at most once in a list.
-use Rattle.std.proofs.Common.{◌≡◌, ◌≢◌, ℕ, zero, suc, ◌+◌, ◌<◌, ◌≤◌, Bool, true, cond, List, [], ◌∷◌, ◌++◌, map, refl, sym, ◌∙◌, ap, subst, inl, inr}
+use Rattle.std.proofs.Common.{◌≡◌, ◌≢◌, ℕ, zero, suc, ◌+◌, ◌<◌, ◌≤◌, Bool, true, cond, List, [], ◌∷◌, ◌++◌, map}
+use Rattle.std.proofs.Common.{refl, sym, ◌∙◌, ap, subst, inl, inr}
 use Rattle.std.proofs.Common.{arith, eqb, append_assoc, add-one}
 use Rattle.std.specs.Prelude.{AllPairs, Contains, count_by, flat_map, IsPermutation}
 use Rattle.std.specs.List.{range_with_len}
