@@ -9,9 +9,10 @@ use Rattle.std.proofs.lemmas.List.{take-append-le}
 use Rattle.std.proofs.lemmas.Option.{slice_get_within}
 use Rattle.event_records.specs.declared.event.Event.{Event}
 use Rattle.history_merge.specs.declared.fault.HistoryFault.{HistoryFault}
+use Rattle.history_merge.specs.declared.forming.Forming.{Forming}
 use Rattle.history_merge.specs.declared.gathering.OperationsBuilder.{OperationsBuilder}
 use Rattle.history_merge.specs.Faults.{fault_at, NoFaultBefore, IsFirstFault}
-use Rattle.history_merge.specs.Gathering.{HasGatheredEvents, HasMetFault, IsForming}
+use Rattle.history_merge.specs.Gathering.{HasFormed, HasGatheredEvents, HasMetFault, IsForming}
 use Rattle.history_merge.specs.Inner.History.{AreOfRun}
 use Rattle.history_merge.proofs.ExactFaults.{run_without_fault}
 use Rattle.history_merge.proofs.FirstFaults.{first_fault_at}
@@ -109,5 +110,9 @@ pub kept_is_met : (events : List Event) (builder : OperationsBuilder) (fault : H
 kept_is_met events builder fault kept gathered = subst (λ kept. MatchOption kept (IsForming events builder) (HasMetFault events)) kept gathered
 
 -- without a fault, the operations are those of a run
+pub run_of_formed : (events : List Event) (forming : Forming) → HasFormed events forming → NoFaultBefore [] events (length events)
+    → AreOfRun forming.operations.items
+run_of_formed events forming formed none = (events, rw formed.operations (run_without_fault events none))
+
 pub run_of_forming : (events : List Event) (builder : OperationsBuilder) → IsForming events builder → AreOfRun builder.forming.operations.items
-run_of_forming events builder known = (events, rw known.formed.operations (run_without_fault events known.no_fault))
+run_of_forming events builder known = run_of_formed events builder.forming known.formed known.no_fault

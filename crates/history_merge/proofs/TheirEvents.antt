@@ -19,7 +19,7 @@ use Rattle.event_records.specs.Turns.{is_call, answers, TakesTurns, TicketsRise}
 use Rattle.history_merge.specs.declared.operation.Operation.{Operation}
 use Rattle.history_merge.specs.Events.{answered_by, call_event, called_by, events_of, maybe_return, put_by_ticket, put_each, put_maybe, return_event}
 use Rattle.history_merge.specs.Forming.{answered, begun, operation_so_far, operations_so_far}
-use Rattle.history_merge.specs.Inner.History.{AreInTurn, AreLeft, FollowsInTurn, IsFirstDue, IsRun, IsRunOf, comes_by_ticket, due_in, next_of}
+use Rattle.history_merge.specs.Inner.History.{AreInTurn, AreLeft, FollowsInTurn, IsFirstDue, IsRunOf, comes_by_ticket, due_in, next_of}
 use Rattle.history_merge.proofs.NextEvents.{nothing_at}
 use Rattle.history_merge.proofs.Turns.{answer_is_return, answered_is_call}
 

@@ -1,6 +1,7 @@
 -- What a history builder keeps of its events, and of what its queue holds at first.
-use Rattle.std.specs.Prelude.{◌≡◌, ℕ, ◌+◌, ◌<◌, ◌≤◌, ◌/◌, ◌%◌, ◌⊎◌, true, false, List, [], length, IfSome, MatchOption, MatchResult, ⊤}
-use Rattle.std.specs.Prelude.{option_map, slice_get, slice_index_or, IsSome, Option, Some, Result}
+use Rattle.std.specs.Prelude.{◌≡◌, ℕ, ◌+◌, ◌<◌, ◌≤◌, ◌/◌, ◌%◌, ◌⊎◌, true, false, List, [], length, IfSome, MatchOption, MatchResult}
+use Rattle.std.specs.Prelude.{option_map, slice_get, slice_index_or, All, IsSome, None, Option, Some, Result, ◌∷◌, ◌++◌}
+use Rattle.std.specs.List.{last_or}
 use Rattle.std.specs.Ordering.{nat_cmp}
 use Rattle.std.specs.BTreeSet.{contains}
 use Rattle.event_records.specs.declared.event.Event.{Event}
@@ -14,9 +15,8 @@ use Rattle.history_merge.specs.declared.initial_values.InitialValues.{InitialVal
 use Rattle.history_merge.specs.declared.initial_values.InitialCalls.{InitialCalls}
 use Rattle.history_merge.specs.Clashes.{IsClash, Stands}
 use Rattle.history_merge.specs.Complete.{AreDistinct}
-use Rattle.history_merge.specs.Faults.{was_called, pending_call, NoFaultBefore, IsFirstFaultAt, calls_initial, is_initial, IsFirstTwice}
+use Rattle.history_merge.specs.Faults.{fault_at, was_called, pending_call, NoFaultBefore, IsFirstFaultAt, calls_initial, is_initial, IsFirstTwice}
 use Rattle.history_merge.specs.Forming.{operations_so_far, waiting}
-use Rattle.history_merge.specs.Progress.{HasTracked}
 
 -- the thread, of all that there may be, in the upper half of a value's bits
 abbrev pub name_in : ℕ → ℕ
@@ -28,16 +28,23 @@ pub record KnowsCalled (events : List Event) (values : CalledValues) : Type 0 wh
   pub known : MatchOption values.others ((v : ℕ) → was_called events v ≡ true → v < slice_index_or values.least (name_in v) 0)
       (λ others. (v : ℕ) → contains nat_cmp others v ≡ was_called events v)
 
--- the operations of the events are there, and the place of each call that waits for its return
+-- the operations of the events are there, the last ticket, and the place of each thread's pending call
 pub record HasFormed (events : List Event) (forming : Forming) : Type 0 where
   pub operations : forming.operations.items ≡ operations_so_far events
-  pub one_per_thread : length forming.places ≡ MAX_THREAD + 1
+  pub last_ticket : forming.last_ticket ≡ option_map (λ e. e.ticket) (last_or None events)
+  pub one_per_thread : length forming.pending ≡ MAX_THREAD + 1
   pub waits : (thread : ℕ) → option_map (λ found. found.1) (waiting thread events) ≡ pending_call thread events
-  pub places : (thread : ℕ) → thread ≤ MAX_THREAD → MatchOption (waiting thread events) ⊤ (λ found. slice_index_or forming.places thread 0 ≡ found.0)
+  pub places : (thread : ℕ) → thread ≤ MAX_THREAD → slice_index_or forming.pending thread None ≡ option_map (λ found. found.0) (waiting thread events)
+  pub threads_in_range : All (λ e. e.thread ≤ MAX_THREAD) events
+
+-- the event at this place was added, and has no fault; otherwise it has this one, or memory ran out, and it wasn't added
+abbrev pub IsTaken : List ℕ → List Event → Event → ℕ → Result (Unit {0}) HistoryFault → Forming → Type 0
+IsTaken initial events e place result forming =
+    MatchResult result (λ _. HasFormed (events ++ e ∷ []) forming × (fault_at initial events place e ≡ None))
+    (λ fault. HasFormed events forming × ((fault ≡ Memory) ⊎ (fault_at initial events place e ≡ Some fault)))
 
 -- the events have no fault so far, and all that a next event is judged by is there
 pub record IsForming (events : List Event) (builder : OperationsBuilder) : Type 0 where
-  pub tracked : HasTracked events builder.progress
   pub called : KnowsCalled events builder.called
   pub formed : HasFormed events builder.forming
   pub count : builder.count ≡ length events

@@ -7,13 +7,11 @@ ghost use Rattle.history_merge.specs.Faults.{NoFaultBefore};
 ghost use Rattle.history_merge.specs.Gathering.{HasFormed};
 ghost use Rattle.history_merge.specs.Inner.Clashes.{IsFirstSought, IsSought};
 ghost use Rattle.history_merge.specs.Inner.History.{AreOfRun};
-ghost use Rattle.history_merge.specs.Progress.{HasTracked};
 
 use crate::called::called_value;
 use crate::events::Events;
 use crate::fault::HistoryFault;
 use crate::forming::Forming;
-use crate::progress::Progress;
 use event_records::Event;
 
 /// An event, and its place from 0 among all.
@@ -105,14 +103,9 @@ pub fn first_event(forming: &Forming, sought: Sought) -> Option<Placed>
 
 /// What an event that has this fault contradicts, of the events before it. Time O(n).
 #[inline(never)]
-pub fn clash_of(
-    fault: HistoryFault,
-    later: Placed,
-    progress: &Progress,
-    forming: &Forming,
-) -> Option<Clash>
+pub fn clash_of(fault: HistoryFault, later: Placed, forming: &Forming) -> Option<Clash>
     requires { AreOfRun forming.now.operations.items }
-    ensures { (initial : List ℕ) (events : List Event) → HasTracked events progress.now → HasFormed events forming.now
+    ensures { (initial : List ℕ) (events : List Event) → HasFormed events forming.now
         → NoFaultBefore [] events (length events) → length events ≤ MAX_EVENTS → later.place ≡ length events
         → IfSome result (IsClash initial (events ++ later.event ∷ [])) }
 {
@@ -122,7 +115,7 @@ pub fn clash_of(
             Some(Clash::Tickets(before, later))
         }
         HistoryFault::CallWhilePending(_) => {
-            let call = progress.call_of(later.event.thread)?;
+            let call = forming.call_of(later.event.thread)?;
             let earlier = first_event(forming, Sought::Whole(call))?;
             Some(Clash::Calls(earlier, later))
         }

@@ -1,26 +1,29 @@
 //! The operations of events after which more may come.
-ghost use Rattle.std.specs.Prelude.{◌≡◌, ◌≤◌, true, false, List, [], ◌∷◌, ◌++◌, Some, None, IfOk, length};
+ghost use Rattle.std.specs.Prelude.{◌≡◌, ◌≤◌, ◌<◌, ◌||◌, true, false, ℕ, List, [], ◌∷◌, ◌++◌, MatchOption, length};
 ghost use Rattle.event_records.specs.declared.event.Event.{Event};
 ghost use Rattle.event_records.specs.Turns.{is_call};
-ghost use Rattle.history_merge.specs.Faults.{NoFaultBefore, pending_call};
+ghost use Rattle.history_merge.specs.Faults.{IsLeastPending, NoFaultBefore, breaks_ticket_order, calls_initial, pending_call, repeats_value};
 ghost use Rattle.history_merge.specs.Forming as judged;
 ghost use Rattle.history_merge.specs.Forming.{operations_so_far};
-ghost use Rattle.history_merge.specs.Inner.Forming.{Follows};
+ghost use Rattle.history_merge.specs.Inner.Faults.{NothingPending};
 ghost use Rattle.history_merge.specs.Inner.History.{AreOfRun};
-ghost use Rattle.history_merge.specs.Gathering.{HasFormed};
+ghost use Rattle.history_merge.specs.Gathering.{HasFormed, IsTaken};
 
 use crate::events::Events;
-use crate::matching::is_call;
-use crate::operation::{OpKind, Operation};
-use crate::packed::PackedOperation;
+use crate::fault::HistoryFault;
+use crate::matching::{is_call, kind_of};
+use crate::operation::{OpId, OpKind, Operation};
+use crate::packed::{PackedOperation, operation_at};
 use event_records::{Event, MAX_THREAD, MAX_THREADS, MAX_TICKET, What};
 use std::alloc::{AllocError, Global};
 
-/// The operations of the events so far, in the order of their calls, and the place of each thread's last call.
+/// The operations of the events so far, in the order of their calls, and what the next event is judged by.
 #[derive(Drop)]
 pub struct Forming {
     operations: Vec<PackedOperation>,
-    places: [u32; MAX_THREADS],
+    last_ticket: Option<u64>,
+    // The place of each thread's pending call.
+    pending: [Option<u32>; MAX_THREADS],
 }
 
 impl Forming {
@@ -29,7 +32,8 @@ impl Forming {
     {
         Forming {
             operations: Vec::new(alloc),
-            places: [0; MAX_THREADS],
+            last_ticket: None,
+            pending: [None; MAX_THREADS],
         }
     }
 
@@ -53,96 +57,141 @@ impl Forming {
     {
         let Forming {
             operations,
-            places: _places,
+            last_ticket: _last_ticket,
+            pending: _pending,
         } = self;
         operations
     }
 
-    /// Adds an event that may come next in its thread.
+    /// Adds the event at this place, unless it has a fault; `repeats` says whether it calls with a value that an event
+    /// before it called with, or with an initial value.
     #[inline(always)]
-    pub fn add(&mut self, event: Event) -> Result<(), AllocError>
-        requires thread { event.thread ≤ MAX_THREAD }
-        requires ticket { event.ticket ≤ MAX_TICKET }
-        ensures { (events : List Event) → Follows events event → HasFormed events self.old
-            → IfOk result (λ _. HasFormed (events ++ event ∷ []) self.new) }
+    pub fn take(&mut self, event: Event, place: usize, repeats: bool) -> Result<(), HistoryFault>
+        ensures { (initial : List ℕ) (events : List Event) → HasFormed events self.old
+            → repeats ≡ (repeats_value events event || calls_initial initial event)
+            → IsTaken initial events event place result self.new }
     {
+        if self.breaks_order(event.ticket) {
+            return Err(HistoryFault::TicketOrder(place));
+        }
+        if event.thread > MAX_THREAD {
+            return Err(HistoryFault::BadThread(place));
+        }
         if is_call(event.what) {
-            self.call(event)
+            self.call(event, place, repeats)
         } else {
-            self.answer(event);
-            Ok(())
+            self.answer(event, place)
         }
     }
 
-    /// Adds a call, of a thread that has none pending.
+    /// Whether the ticket is out of range, or not above the last one.
     #[inline(always)]
-    fn call(&mut self, event: Event) -> Result<(), AllocError>
+    fn breaks_order(&self, ticket: u64) -> bool
+        ensures order { (events : List Event) (e : Event) → HasFormed events self.now → e.ticket ≡ ticket → result ≡ breaks_ticket_order events e }
+        ensures in_range { result ≡ false → ticket ≤ MAX_TICKET }
+    {
+        ticket > MAX_TICKET || self.last_ticket.is_some_and(|last| ticket <= last)
+    }
+
+    /// Does so for a call that comes in order.
+    #[inline(always)]
+    fn call(&mut self, event: Event, place: usize, repeats: bool) -> Result<(), HistoryFault>
         requires thread { event.thread ≤ MAX_THREAD }
         requires ticket { event.ticket ≤ MAX_TICKET }
-        ensures { (events : List Event) → is_call event.what ≡ true → pending_call event.thread events ≡ None → HasFormed events self.old
-            → IfOk result (λ _. HasFormed (events ++ event ∷ []) self.new) }
+        ensures { (initial : List ℕ) (events : List Event) → HasFormed events self.old → breaks_ticket_order events event ≡ false
+            → is_call event.what ≡ true → repeats ≡ (repeats_value events event || calls_initial initial event)
+            → IsTaken initial events event place result self.new }
     {
+        let thread = usize::from(event.thread);
+        if self.pending[thread].is_some() {
+            return Err(HistoryFault::CallWhilePending(place));
+        }
+        if repeats {
+            return Err(HistoryFault::DuplicateValue(place));
+        }
         // More operations than a place can name have no memory.
-        let Ok(place) = u32::try_from(self.operations.len()) else {
-            return Err(AllocError);
+        let Ok(added) = u32::try_from(self.operations.len()) else {
+            return Err(HistoryFault::Memory);
         };
-        self.operations.push(PackedOperation::new(Operation {
-            call: event.ticket,
-            ret: 0,
-            thread: event.thread,
-            kind: begun(event.what),
-        }))?;
-        self.places[usize::from(event.thread)] = place;
+        if self.operations.push(begun(event)).is_err() {
+            return Err(HistoryFault::Memory);
+        }
+        self.pending[thread] = Some(added);
+        self.last_ticket = Some(event.ticket);
         Ok(())
     }
 
-    /// Adds the return of its thread's pending call.
+    /// Does so for a return that comes in order: it completes the operation of its thread's pending call.
     #[inline(always)]
-    fn answer(&mut self, event: Event)
+    fn answer(&mut self, event: Event, place: usize) -> Result<(), HistoryFault>
         requires thread { event.thread ≤ MAX_THREAD }
         requires ticket { event.ticket ≤ MAX_TICKET }
-        ensures { (events : List Event) (call : Event) → is_call event.what ≡ false → pending_call event.thread events ≡ Some call
-            → HasFormed events self.old → HasFormed (events ++ event ∷ []) self.new }
+        ensures { (initial : List ℕ) (events : List Event) → HasFormed events self.old → breaks_ticket_order events event ≡ false
+            → is_call event.what ≡ false → IsTaken initial events event place result self.new }
     {
-        let place = self.places[usize::from(event.thread)];
-        if place as usize >= self.operations.len() {
-            return;
+        let thread = usize::from(event.thread);
+        let Some(called) = self.pending[thread] else {
+            return Err(HistoryFault::ReturnWithoutCall(place));
+        };
+        let called = called as usize;
+        if called >= self.operations.len() {
+            return Err(HistoryFault::ReturnWithoutCall(place));
         }
-        let pending = self.operations[place as usize].unpack();
-        self.operations[place as usize] = PackedOperation::new(Operation {
-            call: pending.call,
+        let operation = self.operations[called].unpack();
+        let Some(kind) = kind_of(operation.kind.called(), event.what) else {
+            return Err(HistoryFault::WrongReturn(place));
+        };
+        self.operations[called] = PackedOperation::new(Operation {
             ret: event.ticket,
-            thread: pending.thread,
-            kind: answered(pending.kind, event.what),
+            kind,
+            ..operation
         });
+        self.pending[thread] = None;
+        self.last_ticket = Some(event.ticket);
+        Ok(())
+    }
+
+    /// Returns the pending call of this thread.
+    pub fn call_of(&self, thread: u8) -> Option<Event>
+        ensures { (events : List Event) → HasFormed events self.now → result ≡ pending_call thread events }
+    {
+        if thread > MAX_THREAD {
+            return None;
+        }
+        let place = OpId::new(self.pending[usize::from(thread)]?);
+        let operation = operation_at(self.operations.as_slice(), place)?;
+        Some(operation.call_event())
+    }
+
+    /// Returns the least ticket of a pending call.
+    pub fn least_pending(&self) -> Option<u64>
+        ensures { (events : List Event) → HasFormed events self.now → MatchOption result (NothingPending events) (IsLeastPending events) }
+    {
+        let mut least = None;
+        for thread in 0..=MAX_THREAD {
+            if let Some(call) = self.call_of(thread)
+                && least.is_none_or(|ticket| call.ticket < ticket)
+            {
+                least = Some(call.ticket);
+            }
+        }
+        least
     }
 }
 
-/// Returns what an operation counts as while it is pending: a successful enqueue, or an empty dequeue.
+/// Returns the operation of a call while it is pending.
 #[inline(always)]
-fn begun(call: What) -> OpKind
-    ensures { result ≡ judged.begun call }
+fn begun(call: Event) -> PackedOperation
+    requires { call.ticket ≤ MAX_TICKET }
+    ensures { result ≡ judged.operation_so_far call None }
 {
-    match call {
-        What::CallEnq(value) => OpKind::Enq(value),
-        _ => OpKind::Empty,
-    }
-}
-
-/// Returns what the operation did, now that the answer is there.
-#[inline(always)]
-fn answered(kind: OpKind, answer: What) -> OpKind
-    ensures { result ≡ judged.answered kind answer }
-{
-    match answer {
-        What::RetNot => match kind {
-            OpKind::Enq(value) => OpKind::Not(value),
-            _ => kind,
+    PackedOperation::new(Operation {
+        call: call.ticket,
+        ret: 0,
+        thread: call.thread,
+        kind: match call.what {
+            What::CallEnq(value) => OpKind::Enq(value),
+            _ => OpKind::Empty,
         },
-        What::RetDeq(value) => match kind {
-            OpKind::Empty => OpKind::Deq(value),
-            _ => kind,
-        },
-        _ => kind,
-    }
+    })
 }

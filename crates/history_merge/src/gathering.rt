@@ -8,14 +8,12 @@ ghost use Rattle.history_merge.specs.Faults.{IsFirstFault, NoFaultBefore};
 ghost use Rattle.history_merge.specs.Gathering.{HasClash, HasFormed, HasGatheredEvents, HasMetFault, IsForming};
 ghost use Rattle.history_merge.specs.Inner.Forming.{IsFormedOf};
 ghost use Rattle.history_merge.specs.Inner.History.{AreOfRun};
-ghost use Rattle.history_merge.specs.Progress.{HasTracked};
 
 use crate::called::CalledValues;
 use crate::clash::{Clash, Placed, Sought, clash_of, first_event};
 use crate::fault::HistoryFault;
 use crate::forming::Forming;
 use crate::packed::PackedOperation;
-use crate::progress::Progress;
 use event_records::Event;
 use std::alloc::Global;
 
@@ -26,7 +24,6 @@ use std::alloc::Global;
 /// of the values.
 #[derive(Drop)]
 pub struct OperationsBuilder {
-    progress: Progress,
     called: CalledValues,
     forming: Forming,
     count: usize,
@@ -41,7 +38,6 @@ impl OperationsBuilder {
         ensures clash { (initial : List ℕ) → HasClash initial [] result }
     {
         OperationsBuilder {
-            progress: Progress::new(),
             called: CalledValues::new(alloc),
             forming: Forming::new(alloc),
             count: 0,
@@ -91,14 +87,12 @@ impl OperationsBuilder {
         ensures fault { self.new.fault ≡ self.old.fault }
     {
         let repeats = self.called.note(event.what, self.forming.operations())?;
-        if let Some(fault) = self.progress.fault_of(event, self.count, repeats) {
+        if let Err(fault) = self.forming.take(event, self.count, repeats) {
             // A copy, so that the event itself needn't lie in memory.
             let refused = event;
             self.keep_clash(fault, refused);
             return Err(fault);
         }
-        self.forming.add(event)?;
-        self.progress.add(event);
         self.count = self.count.wrapping_add(1);
         Ok(())
     }
@@ -107,7 +101,7 @@ impl OperationsBuilder {
     #[inline(never)]
     fn keep_clash(&mut self, fault: HistoryFault, event: Event)
         requires { AreOfRun self.old.forming.operations.items }
-        ensures clash { (initial : List ℕ) (events : List Event) → HasTracked events self.old.progress → HasFormed events self.old.forming
+        ensures clash { (initial : List ℕ) (events : List Event) → HasFormed events self.old.forming
             → NoFaultBefore [] events (length events) → length events < MAX_EVENTS → self.old.count ≡ length events
             → HasClash initial (events ++ event ∷ []) self.new }
         ensures fault { self.new.fault ≡ self.old.fault }
@@ -116,7 +110,7 @@ impl OperationsBuilder {
             place: self.count,
             event,
         };
-        self.clash = clash_of(fault, placed, &self.progress, &self.forming);
+        self.clash = clash_of(fault, placed, &self.forming);
     }
 
     /// Returns whether it keeps a fault that decides if the event at this place is the first that calls with an initial value.
@@ -133,7 +127,7 @@ impl OperationsBuilder {
         if self.fault.is_some() {
             return self.clash;
         }
-        let ticket = self.progress.least_pending()?;
+        let ticket = self.forming.least_pending()?;
         let call = first_event(&self.forming, Sought::Ticket(ticket))?;
         Some(Clash::Pending(call))
     }
@@ -150,7 +144,6 @@ impl OperationsBuilder {
         ensures kept { IsSome self.fault → IsErr result }
     {
         let OperationsBuilder {
-            progress,
             called: _called,
             forming,
             count: _count,
@@ -160,7 +153,7 @@ impl OperationsBuilder {
         if let Some(fault) = fault {
             return Err(fault);
         }
-        match progress.least_pending() {
+        match forming.least_pending() {
             Some(ticket) => Err(HistoryFault::Pending(ticket)),
             None => Ok(forming.into_operations()),
         }

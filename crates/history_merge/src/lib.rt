@@ -17,7 +17,6 @@ mod matching;
 mod merging;
 mod operation;
 mod packed;
-mod progress;
 mod recorded;
 
 pub use build::{history, history_from};

@@ -4,18 +4,18 @@ use Rattle.history_merge.proofs.Clashes.{first_with-append, pending-push, stands
 use Rattle.history_merge.proofs.clash.clash_of.Goals as goal
 
 pub returns-in_ok-earlier-in-CallWhilePending : goal.returns-in_ok-earlier-in-CallWhilePending
-returns-in_ok-earlier-in-CallWhilePending c = λ initial events tracked formed none few here.
+returns-in_ok-earlier-in-CallWhilePending c = λ initial events formed none few here.
     let earlier = c.in_ok-earlier-in-CallWhilePending.earlier in
     let later = c.args.later in
     let first = c.in_ok-earlier-in-CallWhilePending.ensures events formed none few in (
       stands-append events (later.event ∷ []) earlier first.stands,
       stands-push events later here,
       pending-push events earlier later here
-          (c.in_ok-call-in-CallWhilePending.ensures events tracked ∙ ap (λ (e : Event). Some e) (sym first.is_sought)),
+          (sym (c.in_ok-call-in-CallWhilePending.ensures events formed) ∙ ap (λ (e : Event). Some e) (sym first.is_sought)),
     )
 
 pub returns-in_ok-earlier-in-DuplicateValue : goal.returns-in_ok-earlier-in-DuplicateValue
-returns-in_ok-earlier-in-DuplicateValue c = λ initial events tracked formed none few here.
+returns-in_ok-earlier-in-DuplicateValue c = λ initial events formed none few here.
     let earlier = c.in_ok-earlier-in-DuplicateValue.earlier in
     let later = c.args.later in
     let first = c.in_ok-earlier-in-DuplicateValue.ensures events formed none few in (

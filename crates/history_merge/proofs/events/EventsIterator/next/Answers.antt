@@ -1,7 +1,7 @@
-use Rattle.std.proofs.Common.{◌≡◌, ◌-◌, List, ◌∷◌, length, set, Some, true, sym, ◌∙◌, ap, subst, arith}
+use Rattle.std.proofs.Common.{◌≡◌, List, ◌∷◌, length, set, Some, true, sym, ◌∙◌, ap, subst, arith}
 use Rattle.std.specs.Iterator.{MakesProgress, item_count}
 use Rattle.event_records.specs.declared.event.Event.{Event}
-use Rattle.history_merge.specs.Events.{call_event, events_of, maybe_return, put_each}
+use Rattle.history_merge.specs.Events.{events_of, put_each}
 use Rattle.history_merge.specs.Inner.History.{AreLeft, comes_by_ticket}
 use Rattle.history_merge.proofs.TheirEvents.{GivesCall, GivesReturn, IsFirstOfAll, first_of_all, gives_call, gives_nothing, gives_return}
 use Rattle.history_merge.proofs.TheirEvents.{left_after_call, left_after_return, left_as_told, stays_none, still_none, told}

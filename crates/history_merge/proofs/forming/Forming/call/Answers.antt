@@ -1,9 +1,18 @@
-use Rattle.std.proofs.Common.{arith, refl}
-use Rattle.history_merge.proofs.Formed.{formed_after_call}
+use Rattle.std.proofs.Common.{◌≡◌, ◌∙◌, ℕ, arith, refl, sym, false, length, Option, Some, None}
+use Rattle.std.specs.Prelude.{is_some}
+use Rattle.history_merge.proofs.Formed.{fault_of_call, formed_after_call, none_pending_at}
 use Rattle.history_merge.proofs.forming.Forming.call.Goals as goal
 
+none_is : (o : Option ℕ) → false ≡ is_some o → o ≡ None
+none_is None h = refl
+none_is (Some place) h = cc
+
 pub returns : goal.returns
-returns c = λ events call none known.
-    formed_after_call events c.args.event c.args.self.now _ c.in-Ok.place
-    (omega (arith, c.len.ensures, c.try_from.ensures)) c.requires.thread call none known
-    (rw (c.in_ok-push.ensures.items, c.new.ensures, c.begun.ensures) refl) (rw c.from.ensures refl)
+returns c = λ initial events known order called repeats.
+    let e = c.args.event in
+    let none = none_pending_at events e.thread c.args.self.now c.requires.thread known (rw c.from-thread.ensures at (none_is _ c.if-is_some.ensures)) in
+    let place : c.in-Ok.added ≡ length c.args.self.now.operations.items = omega (arith, c.len.ensures) in (
+      formed_after_call events e c.args.self.now _ c.requires.thread called none known
+          (rw (c.push.ensures.items, c.if-is_err.ensures.negation, c.begun.ensures) refl) refl (rw (c.from-thread.ensures, place) refl),
+      fault_of_call initial events c.args.place e order c.requires.thread called ∙ rw (none, sym repeats ∙ c.if-repeats.false) refl,
+    )

@@ -12,11 +12,11 @@ returns-in-Some-clause-outcome c = λ events gathered.
 pub returns-clause-outcome : goal.returns-clause-outcome
 returns-clause-outcome c = λ events gathered.
     let known = still_forming events c.args.self c.in_default.is gathered in
-    let whole = complete_without_fault [] events none_distinct known.no_fault (c.in-None.ensures events known.tracked) in (
+    let whole = complete_without_fault [] events none_distinct known.no_fault (c.in-None.ensures events known.formed) in (
       formed_of_complete events c.into_operations.result.items whole.complete (c.into_operations.ensures events known.formed),
       whole.complete,
     )
 
 pub returns-in-Some-least_pending-clause-outcome : goal.returns-in-Some-least_pending-clause-outcome
 returns-in-Some-least_pending-clause-outcome c = λ events gathered.
-    let known = still_forming events c.args.self c.in_default.is gathered in (none_distinct, known.no_fault, c.in-Some-least_pending.ensures events known.tracked)
+    let known = still_forming events c.args.self c.in_default.is gathered in (none_distinct, known.no_fault, c.in-Some-least_pending.ensures events known.formed)

@@ -1,0 +1,14 @@
+use Rattle.std.proofs.Common.{arith, refl}
+use Rattle.event_records.specs.declared.limits.TheConstants.{MAX_THREADS}
+use Rattle.history_merge.proofs.NextEvents.{nothing_at}
+use Rattle.history_merge.proofs.forming.Forming.new.Goals as goal
+
+pub returns : goal.returns
+returns c = record {
+  operations = c.new.ensures.items;
+  last_ticket = refl;
+  one_per_thread = refl;
+  waits = λ thread. refl;
+  places = λ thread within. nothing_at MAX_THREADS thread;
+  threads_in_range = λ k d below. absurd (omega arith);
+}
