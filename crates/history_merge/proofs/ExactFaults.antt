@@ -30,7 +30,7 @@ use Rattle.history_merge.proofs.TheirEvents.{run_of}
 use Rattle.history_merge.proofs.Turns.{TurnsSoFar, finished, turns_push, fits_in_turns, nothing_after_turns}
 use Rattle.history_merge.proofs.FaultKinds.{by_kind}
 use Rattle.history_merge.proofs.FirstFaults.{MayFollow, may_follow, no_fault}
-use Rattle.history_merge.proofs.InitialValues.{initial_distinct, none_distinct, twice_not_distinct}
+use Rattle.history_merge.proofs.InitialValues.{initial_distinct, twice_not_distinct}
 
 -- ---- no fault, hence a complete history
 
@@ -99,9 +99,10 @@ sound_without_fault initial events distinct none =
     subst (IsSound initial) (take_all (length events) events (omega arith)) (sound_before initial events (length events) (omega arith) distinct none)
 
 -- events without a fault are a run, some calls of which may be pending
-pub run_without_fault : (events : List Event) → NoFaultBefore [] events (length events) → IsRunOf events (operations_so_far events)
-run_without_fault events none =
-    let sound = sound_without_fault [] events none_distinct none in
+pub run_without_fault : (initial : List ℕ) (events : List Event) → AreDistinct initial → NoFaultBefore initial events (length events)
+    → IsRunOf events (operations_so_far events)
+run_without_fault initial events distinct none =
+    let sound = sound_without_fault initial events distinct none in
     run_of events sound.tickets_rise sound.threads_in_range (λ thread. finished (projection thread events) (sound.turns thread))
 
 -- events without a fault and with nothing pending are a complete history

@@ -1,8 +1,7 @@
 -- A list of events is a complete history if and only if it has no fault.
-use Rattle.std.proofs.Common.{◌≡◌, ℕ, ◌<◌, ◌≤◌, ◌&&◌, ◌||◌, Bool, true, false, not, cond, List, [], take, Option, Some, None, refl, sym, subst, nat_lt, nat_le}
+use Rattle.std.proofs.Common.{◌≡◌, ℕ, ◌<◌, ◌≤◌, ◌&&◌, ◌||◌, Bool, true, false, not, cond, List, take, Option, Some, None, refl, sym, subst, nat_lt, nat_le}
 use Rattle.std.specs.Prelude.{MatchOption, if◌then◌else◌, is_some, is_none, ⊤}
-use Rattle.std.specs.Bool.{then_some}
-use Rattle.std.specs.Option.{option_map_or, option_or}
+use Rattle.std.specs.Option.{option_map_or}
 use Rattle.std.specs.List.{last_or}
 use Rattle.std.proofs.lemmas.Bool.{ltb-false, le-ltb, leb-false, lt-leb, or_parts, or_from}
 use Rattle.std.proofs.lemmas.Option.{none-some}
@@ -14,7 +13,6 @@ use Rattle.history_merge.specs.declared.fault.HistoryFault.TheVariants.{TicketOr
 use Rattle.history_merge.specs.declared.fault.HistoryFault.TheVariants.{DuplicateValue}
 use Rattle.history_merge.specs.Faults.{IsFirstFault, IsFirstFaultAt, fault_at, answers_pending, breaks_ticket_order, calls_initial, repeats_value, pending_call}
 use Rattle.history_merge.specs.Inner.Forming.{FitsTurn}
-use Rattle.history_merge.proofs.InitialValues.{nothing_more}
 use Rattle.history_merge.proofs.Turns.{answer_is_return}
 
 -- the event breaks no rule after the events before it
@@ -127,22 +125,3 @@ first_fault_at initial events i fault found =
     by_rules false false false false true u is = it_is (WrongReturn i) is (λ at. at)
     by_rules false false false false false true is = it_is (DuplicateValue i) is (λ at. at)
     by_rules false false false false false false is = absurd (none-some fault is)
-
--- the fault if there are initial values is that without, else that of a call with one
-pub fault_from : (initial : List ℕ) (before : List Event) (i : ℕ) (e : Event)
-    → fault_at initial before i e ≡ option_or (fault_at [] before i e) (then_some (calls_initial initial e) (DuplicateValue i))
-fault_from initial before i e =
-    let pending = pending_call e.thread before in
-    rw (sym (nothing_more before e)) (by_rules (breaks_ticket_order before e) (nat_lt MAX_THREAD e.thread) (is_call e.what && is_some pending)
-    (not (is_call e.what) && is_none pending) (not (is_call e.what) && not (answers_pending pending e)) (repeats_value before e)
-    (calls_initial initial e))
-  where
-    by_rules : (p q r s t u w : Bool) → first_of i p q r s t (u || w) ≡ option_or (first_of i p q r s t u) (then_some w (DuplicateValue i))
-    by_rules true q r s t u w = refl
-    by_rules false true r s t u w = refl
-    by_rules false false true s t u w = refl
-    by_rules false false false true t u w = refl
-    by_rules false false false false true u w = refl
-    by_rules false false false false false true w = refl
-    by_rules false false false false false false true = refl
-    by_rules false false false false false false false = refl

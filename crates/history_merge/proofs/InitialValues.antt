@@ -1,9 +1,7 @@
--- Initial values: distinct so far, or the first that stands twice; and histories without initial values.
-use Rattle.std.proofs.Common.{◌≡◌, ◌≢◌, ℕ, ◌<◌, ◌↔◌, ◌||◌, true, false, List, [], ◌∷◌, ◌++◌, length, take}
-use Rattle.std.proofs.Common.{Option, Some, None, refl, sym, ◌∙◌, subst, inr, arith, nat_eq, length-append}
+-- Initial values: distinct so far, or the first that stands twice.
+use Rattle.std.proofs.Common.{◌≡◌, ◌≢◌, ℕ, ◌<◌, true, false, List, [], ◌∷◌, ◌++◌, length, take}
+use Rattle.std.proofs.Common.{Some, refl, sym, ◌∙◌, subst, inr, arith, nat_eq, length-append}
 use Rattle.std.specs.Prelude.{slice_get}
-use Rattle.std.specs.Option.{option_map_or}
-use Rattle.std.proofs.Math.Bool.{or-false}
 use Rattle.std.proofs.lemmas.Bool.{eq-eqb, eqb-true, false≢true}
 use Rattle.std.proofs.lemmas.List.{get_or_append_left, get_or_default, get_or-take, length-take, take_all}
 use Rattle.std.proofs.lemmas.List.Folds.{Any-from_list_any, list_any_at}
@@ -11,8 +9,8 @@ use Rattle.std.proofs.lemmas.List.Quantifiers.{all_pairs_push}
 use Rattle.std.proofs.lemmas.Option.{slice_get_within, get_or_from_slice_get}
 use Rattle.event_records.specs.declared.event.Event.{Event}
 use Rattle.history_merge.specs.declared.fault.HistoryFault.TheVariants.{InitialTwice}
-use Rattle.history_merge.specs.Complete.{AreDistinct, IsCompleteHistory, called_value, called_values}
-use Rattle.history_merge.specs.Faults.{IsFirstTwice, calls_initial, is_initial, repeats_value}
+use Rattle.history_merge.specs.Complete.{AreDistinct, called_values}
+use Rattle.history_merge.specs.Faults.{IsFirstTwice, is_initial}
 use Rattle.history_merge.specs.Gathering.{HasRefusedInitial}
 use Rattle.history_merge.specs.Initial.{IsCompleteFrom}
 
@@ -52,24 +50,3 @@ initial_distinct initial events complete i j d below inside same =
     let long = length-append initial (called_values events) in
     complete.values_are_distinct i j d below (omega arith)
     (get_or_append_left initial (called_values events) d i (omega arith) ∙ same ∙ sym (get_or_append_left initial (called_values events) d j inside))
-
--- ---- no initial values
-
-calls_nothing : (e : Event) → calls_initial [] e ≡ false
-calls_nothing e = join (called_value e.what)
-  where
-    join : (called : Option ℕ) → option_map_or (is_initial []) called false ≡ false
-    join None = refl
-    join (Some v) = refl
-
-pub none_distinct : AreDistinct []
-none_distinct i j d below inside = absurd (omega arith)
-
--- a value that is new among the events is new
-pub nothing_more : (before : List Event) (e : Event) → repeats_value before e ≡ (repeats_value before e || calls_initial [] e)
-nothing_more before e = rw (calls_nothing e) (sym (or-false (repeats_value before e)))
-
--- a complete history of a queue that is empty first
-pub complete_from_nothing : (events : List Event) → IsCompleteFrom [] events ↔ IsCompleteHistory events
-complete_from_nothing events =
-    (λ whole. whole.complete, λ complete. record { complete = complete; values_are_distinct = complete.values_are_distinct })

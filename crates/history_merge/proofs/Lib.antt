@@ -8,7 +8,7 @@
 -- FirstFaults, ExactFaults: a list of events is a complete history if and only if it has no fault. FaultKinds: the kinds of faults.
 -- Formed, MetFaults: what the builder holds after each event, and at the end: the operations, or the first fault.
 -- Searching, Clashes: the first event with a property, and what contradicts what.
--- InitialFaults, OneFault: the first fault by that of the events alone and the calls with initial values; there is one first fault.
+-- OneFault: there is one first fault.
 -- Cancelling, Leading: enqueues that precede all other operations stand first in each linearization.
 -- Later, Filled, Enqueued: a history whose initial values are enqueued before all else is complete, and has the same linearizations.
 -- Runs, Places: what a run of the sequential specification enqueued and dequeued, and where.
@@ -32,7 +32,6 @@ pub mod FirstFaults
 pub mod FaultKinds
 pub mod ExactFaults
 pub mod OneFault
-pub mod InitialFaults
 pub mod InitialValues
 pub mod Cancelling
 pub mod Leading

@@ -1,22 +1,26 @@
 -- The faults of events to which more are added.
-use Rattle.std.proofs.Common.{◌≡◌, ◌++◌, ◌∷◌, [], ℕ, zero, suc, ◌<◌, ◌≤◌, List, length, take, Option, Some, None, refl}
+use Rattle.std.proofs.Common.{◌≡◌, ◌++◌, ◌∷◌, ◌⊎◌, [], ℕ, zero, suc, ◌<◌, ◌≤◌, List, length, take, Option, Some, None, refl}
 use Rattle.std.proofs.Common.{sym, ◌∙◌, subst, inl, inr}
 use Rattle.std.proofs.Common.{arith, length-append}
-use Rattle.std.specs.Prelude.{slice_get, MatchOption, is_some, true, false}
+use Rattle.std.specs.Prelude.{slice_get, Err, IfSome, MatchOption, MatchResult, Ok, Result, is_some, true, false}
+use Rattle.std.specs.Result.{IsErrAnd}
 use Rattle.std.proofs.Math.Seq.{take-append_seam}
 use Rattle.std.proofs.lemmas.Bool.{cases_lt}
 use Rattle.std.proofs.lemmas.List.{take-append-le}
 use Rattle.std.proofs.lemmas.Option.{slice_get_within}
 use Rattle.event_records.specs.declared.event.Event.{Event}
+use Rattle.event_records.specs.declared.limits.TheConstants.{MAX_EVENTS}
 use Rattle.history_merge.specs.declared.fault.HistoryFault.{HistoryFault}
+use Rattle.history_merge.specs.declared.fault.HistoryFault.TheVariants.{Memory}
 use Rattle.history_merge.specs.declared.forming.Forming.{Forming}
-use Rattle.history_merge.specs.declared.gathering.OperationsBuilder.{OperationsBuilder}
+use Rattle.history_merge.specs.declared.gathering.Gathering.{Gathering}
+use Rattle.history_merge.specs.Clashes.{IsClash}
+use Rattle.history_merge.specs.Complete.{AreDistinct}
 use Rattle.history_merge.specs.Faults.{fault_at, NoFaultBefore, IsFirstFault}
-use Rattle.history_merge.specs.Gathering.{HasFormed, HasGatheredEvents, HasMetFault, IsForming}
-use Rattle.history_merge.specs.Inner.History.{AreOfRun}
+use Rattle.history_merge.specs.Gathering.{HasFormed, HasGathered, HasMetFault, IsForming}
+use Rattle.history_merge.specs.Inner.History.{IsRunOf}
 use Rattle.history_merge.proofs.ExactFaults.{run_without_fault}
 use Rattle.history_merge.proofs.FirstFaults.{first_fault_at}
-use Rattle.history_merge.proofs.InitialValues.{none_distinct}
 
 pub slice_get-append_left : (xs ys : List Event) (i : ℕ) → i < length xs → slice_get (xs ++ ys) i ≡ slice_get xs i
 slice_get-append_left [] ys i below = absurd (omega arith)
@@ -28,91 +32,103 @@ slice_get-append_seam [] y = refl
 slice_get-append_seam (x ∷ xs) y = slice_get-append_seam xs y
 
 -- later events change nothing of those before
-pub no_fault-append : (events later : List Event) (n : ℕ) → n ≤ length events → NoFaultBefore [] events n → NoFaultBefore [] (events ++ later) n
-no_fault-append events later n within none i e below here =
+pub no_fault-append : (initial : List ℕ) (events later : List Event) (n : ℕ) → n ≤ length events → NoFaultBefore initial events n
+    → NoFaultBefore initial (events ++ later) n
+no_fault-append initial events later n within none i e below here =
     rw (take-append-le i events later (omega (arith, below, within))) (none i e below (sym (slice_get-append_left events later i (omega arith)) ∙ here))
 
 -- one more event without a fault
-pub no_fault-push : (events : List Event) (e : Event) → fault_at [] events (length events) e ≡ None → NoFaultBefore [] events (length events)
-    → NoFaultBefore [] (events ++ e ∷ []) (length (events ++ e ∷ []))
-no_fault-push events e here none i x below at = elim (cases_lt i (length events)) [
-  | inl before ↦ no_fault-append events (e ∷ []) (length events) (omega arith) none i x before at
+pub no_fault-push : (initial : List ℕ) (events : List Event) (e : Event) → fault_at initial events (length events) e ≡ None
+    → NoFaultBefore initial events (length events) → NoFaultBefore initial (events ++ e ∷ []) (length (events ++ e ∷ []))
+no_fault-push initial events e here none i x below at = elim (cases_lt i (length events)) [
+  | inl before ↦ no_fault-append initial events (e ∷ []) (length events) (omega arith) none i x before at
   | inr above ↦
       let short = simp length-append at below in
       let last : length events ≡ i = omega arith in
-      subst (λ k. slice_get (events ++ e ∷ []) k ≡ Some x → fault_at [] (take k (events ++ e ∷ [])) k x ≡ None) last
+      subst (λ k. slice_get (events ++ e ∷ []) k ≡ Some x → fault_at initial (take k (events ++ e ∷ [])) k x ≡ None) last
       (λ at_last. let same : e ≡ x = cc (slice_get-append_seam events e) in
-      subst (λ y. fault_at [] (take (length events) (events ++ e ∷ [])) (length events) y ≡ None) same (rw take-append_seam here)) at
+      subst (λ y. fault_at initial (take (length events) (events ++ e ∷ [])) (length events) y ≡ None) same (rw take-append_seam here)) at
 ]
 
 -- a fault that was met stays the first
-pub met_fault-append : (events later : List Event) (fault : HistoryFault) → HasMetFault events fault → HasMetFault (events ++ later) fault
-met_fault-append events later fault (inl memory) = inl memory
-met_fault-append events later fault (inr (i, (distinct, none, (e, here, found)))) =
+pub met_fault-append : (initial : List ℕ) (events later : List Event) (fault : HistoryFault) → HasMetFault initial events fault
+    → HasMetFault initial (events ++ later) fault
+met_fault-append initial events later fault (inl refused) = inl refused
+met_fault-append initial events later fault (inr (i, (distinct, none, (e, here, found)))) =
     let within = slice_get_within events i e here in
     inr (
       i,
       (
         distinct,
-        no_fault-append events later i (omega (arith, within)) none,
+        no_fault-append initial events later i (omega (arith, within)) none,
         (e, slice_get-append_left events later i within ∙ here, rw (take-append-le i events later (omega (arith, within))) found),
       ),
     )
 
 -- the fault of one more event is the first
-pub met_fault-push : (events : List Event) (e : Event) (fault : HistoryFault) → fault_at [] events (length events) e ≡ Some fault
-    → NoFaultBefore [] events (length events) → HasMetFault (events ++ e ∷ []) fault
-met_fault-push events e fault found none = inr (
+pub met_fault-push : (initial : List ℕ) (events : List Event) (e : Event) (fault : HistoryFault) → AreDistinct initial
+    → NoFaultBefore initial events (length events) → (fault ≡ Memory) ⊎ (fault_at initial events (length events) e ≡ Some fault)
+    → HasMetFault initial (events ++ e ∷ []) fault
+met_fault-push initial events e fault distinct none (inl memory) = inl (inl memory)
+met_fault-push initial events e fault distinct none (inr found) = inr (
   length events,
   (
-    none_distinct,
-    no_fault-append events (e ∷ []) (length events) (omega arith) none,
+    distinct,
+    no_fault-append initial events (e ∷ []) (length events) (omega arith) none,
     (e, slice_get-append_seam events e, rw take-append_seam found),
   ),
 )
 
 -- a fault that was met is the first, at the end too
-pub met_fault_is_first : (events : List Event) (fault : HistoryFault) → HasMetFault events fault → IsFirstFault [] events fault
-met_fault_is_first events fault (inl memory) = subst (IsFirstFault [] events) (sym memory) tt
-met_fault_is_first events fault (inr (i, found)) = first_fault_at [] events i fault found
+pub met_fault_is_first : (initial : List ℕ) (events : List Event) (fault : HistoryFault) → HasMetFault initial events fault → IsFirstFault initial events fault
+met_fault_is_first initial events fault (inl (inl memory)) = subst (IsFirstFault initial events) (sym memory) tt
+met_fault_is_first initial events fault (inl (inr (j, is, twice))) = subst (IsFirstFault initial events) (sym is) twice
+met_fault_is_first initial events fault (inr (i, found)) = first_fault_at initial events i fault found
 
 -- after a fault was met, events are passed over
-pub gathered_after_fault : (events : List Event) (e : Event) (builder : OperationsBuilder) → true ≡ is_some builder.fault → HasGatheredEvents events builder
-    → HasGatheredEvents (events ++ e ∷ []) builder
-gathered_after_fault events e builder some gathered = join builder.fault some gathered
+pub gathered_after_fault : (initial : List ℕ) (events : List Event) (e : Event) (g : Gathering) → true ≡ is_some g.fault
+    → length events < MAX_EVENTS → IfSome g.clash (IsClash initial (events ++ e ∷ [])) → HasGathered initial events g
+    → HasGathered initial (events ++ e ∷ []) g
+gathered_after_fault initial events e g some few clash known = record {
+  few_initial = known.few_initial;
+  few = simp length-append (omega (arith, few));
+  gathered = join g.fault some known.gathered;
+  clash = clash;
+}
   where
-    join : (fault : Option HistoryFault) → true ≡ is_some fault → MatchOption fault (IsForming events builder) (HasMetFault events)
-        → MatchOption fault (IsForming (events ++ e ∷ []) builder) (HasMetFault (events ++ e ∷ []))
-    join None h known = cc
-    join (Some fault) h known = met_fault-append events (e ∷ []) fault known
+    join : (fault : Option HistoryFault) → true ≡ is_some fault → MatchOption fault (IsForming initial events g) (HasMetFault initial events)
+        → MatchOption fault (IsForming initial (events ++ e ∷ []) g) (HasMetFault initial (events ++ e ∷ []))
+    join None h none = cc
+    join (Some fault) h met = met_fault-append initial events (e ∷ []) fault met
 
--- if no fault is kept, the events have none so far
-pub still_forming : (events : List Event) (builder : OperationsBuilder) → builder.fault ≡ None → HasGatheredEvents events builder → IsForming events builder
-still_forming events builder none gathered = subst (λ fault. MatchOption fault (IsForming events builder) (HasMetFault events)) none gathered
-
-none_kept : (kept : Option HistoryFault) → false ≡ is_some kept → kept ≡ None
+pub none_kept : (kept : Option HistoryFault) → false ≡ is_some kept → kept ≡ None
 none_kept None none = refl
 none_kept (Some fault) none = cc
 
--- while none was met, the events have none
-pub none_met : (events : List Event) (builder : OperationsBuilder) → false ≡ is_some builder.fault → HasGatheredEvents events builder → IsForming events builder
-none_met events builder none = still_forming events builder (none_kept builder.fault none)
+-- if no fault is kept, the events have none so far
+pub still_forming : (initial : List ℕ) (events : List Event) (g : Gathering) → g.fault ≡ None → HasGathered initial events g → IsForming initial events g
+still_forming initial events g none known = subst (λ fault. MatchOption fault (IsForming initial events g) (HasMetFault initial events)) none known.gathered
 
--- events without a fault so far were gathered
-pub gathered_without_fault : (events : List Event) (builder : OperationsBuilder) → false ≡ is_some builder.fault → IsForming events builder
-    → HasGatheredEvents events builder
-gathered_without_fault events builder none known =
-    subst (λ fault. MatchOption fault (IsForming events builder) (HasMetFault events)) (sym (none_kept builder.fault none)) known
+-- while none was met, the events have none
+pub none_met : (initial : List ℕ) (events : List Event) (g : Gathering) → false ≡ is_some g.fault → HasGathered initial events g → IsForming initial events g
+none_met initial events g none = still_forming initial events g (none_kept g.fault none)
 
 -- a fault that is kept was met
-pub kept_is_met : (events : List Event) (builder : OperationsBuilder) (fault : HistoryFault) → builder.fault ≡ Some fault → HasGatheredEvents events builder
-    → HasMetFault events fault
-kept_is_met events builder fault kept gathered = subst (λ kept. MatchOption kept (IsForming events builder) (HasMetFault events)) kept gathered
+pub kept_is_met : (initial : List ℕ) (events : List Event) (g : Gathering) (fault : HistoryFault) → g.fault ≡ Some fault → HasGathered initial events g
+    → HasMetFault initial events fault
+kept_is_met initial events g fault kept known =
+    subst (λ kept. MatchOption kept (IsForming initial events g) (HasMetFault initial events)) kept known.gathered
 
 -- without a fault, the operations are those of a run
-pub run_of_formed : (events : List Event) (forming : Forming) → HasFormed events forming → NoFaultBefore [] events (length events)
-    → AreOfRun forming.operations.items
-run_of_formed events forming formed none = (events, rw formed.operations (run_without_fault events none))
+pub run_of_formed : (initial : List ℕ) (events : List Event) (forming : Forming) → HasFormed events forming → AreDistinct initial
+    → NoFaultBefore initial events (length events) → IsRunOf events forming.operations.items
+run_of_formed initial events forming formed distinct none = rw formed.operations (run_without_fault initial events distinct none)
 
-pub run_of_forming : (events : List Event) (builder : OperationsBuilder) → IsForming events builder → AreOfRun builder.forming.operations.items
-run_of_forming events builder known = run_of_formed events builder.forming known.formed known.no_fault
+pub run_of_forming : (initial : List ℕ) (events : List Event) (g : Gathering) → IsForming initial events g → IsRunOf events g.forming.operations.items
+run_of_forming initial events g known = run_of_formed initial events g.forming known.formed known.distinct known.no_fault
+
+-- what holds of the fault of a result that is one
+pub of_err : {T E : Type 0} (P : T → Type 0) (Q R : E → Type 0) (result : Result T E) → IsErrAnd result R → ((fault : E) → R fault → Q fault)
+    → MatchResult result P Q
+of_err P Q R (Ok made) is told = absurd is
+of_err P Q R (Err fault) is told = told fault is

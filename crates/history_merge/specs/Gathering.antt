@@ -1,6 +1,6 @@
--- What a history builder keeps of its events, and of what its queue holds at first.
-use Rattle.std.specs.Prelude.{◌≡◌, ℕ, ◌+◌, ◌<◌, ◌≤◌, ◌/◌, ◌%◌, ◌⊎◌, true, false, List, [], length, IfSome, MatchOption, MatchResult}
-use Rattle.std.specs.Prelude.{option_map, slice_get, slice_index_or, All, IsSome, None, Option, Some, Result, ◌∷◌, ◌++◌}
+-- What a history builder keeps of what its queue holds at first, and of its events.
+use Rattle.std.specs.Prelude.{◌≡◌, ℕ, ◌+◌, ◌<◌, ◌≤◌, ◌/◌, ◌%◌, ◌⊎◌, true, List, [], length, IfSome, MatchOption, MatchResult}
+use Rattle.std.specs.Prelude.{option_map, slice_index_or, All, IsSome, None, Some, Result, ◌∷◌, ◌++◌}
 use Rattle.std.specs.List.{last_or}
 use Rattle.std.specs.Ordering.{nat_cmp}
 use Rattle.std.specs.BTreeSet.{contains}
@@ -10,12 +10,11 @@ use Rattle.history_merge.specs.declared.fault.HistoryFault.{HistoryFault}
 use Rattle.history_merge.specs.declared.fault.HistoryFault.TheVariants.{Memory, InitialTwice}
 use Rattle.history_merge.specs.declared.called.CalledValues.{CalledValues}
 use Rattle.history_merge.specs.declared.forming.Forming.{Forming}
-use Rattle.history_merge.specs.declared.gathering.OperationsBuilder.{OperationsBuilder}
+use Rattle.history_merge.specs.declared.gathering.Gathering.{Gathering}
 use Rattle.history_merge.specs.declared.initial_values.InitialValues.{InitialValues}
-use Rattle.history_merge.specs.declared.initial_values.InitialCalls.{InitialCalls}
-use Rattle.history_merge.specs.Clashes.{IsClash, Stands}
+use Rattle.history_merge.specs.Clashes.{IsClash}
 use Rattle.history_merge.specs.Complete.{AreDistinct}
-use Rattle.history_merge.specs.Faults.{fault_at, was_called, pending_call, NoFaultBefore, IsFirstFaultAt, calls_initial, is_initial, IsFirstTwice}
+use Rattle.history_merge.specs.Faults.{fault_at, was_called, pending_call, NoFaultBefore, IsFirstFaultAt, is_initial, IsFirstTwice}
 use Rattle.history_merge.specs.Forming.{operations_so_far, waiting}
 
 -- the thread, of all that there may be, in the upper half of a value's bits
@@ -43,76 +42,47 @@ IsTaken initial events e place result forming =
     MatchResult result (λ _. HasFormed (events ++ e ∷ []) forming × (fault_at initial events place e ≡ None))
     (λ fault. HasFormed events forming × ((fault ≡ Memory) ⊎ (fault_at initial events place e ≡ Some fault)))
 
--- the events have no fault so far, and all that a next event is judged by is there
-pub record IsForming (events : List Event) (builder : OperationsBuilder) : Type 0 where
-  pub called : KnowsCalled events builder.called
-  pub formed : HasFormed events builder.forming
-  pub count : builder.count ≡ length events
-  pub no_fault : NoFaultBefore [] events (length events)
-
--- the fault is the first of the events, whatever follows them; or out of memory, which says nothing of them
-abbrev pub HasMetFault : List Event → HistoryFault → Type 0
-HasMetFault events fault = (fault ≡ Memory) ⊎ ((i : ℕ) × IsFirstFaultAt [] events i fault)
-
--- these events were added, one after another
-abbrev pub HasGatheredEvents : List Event → OperationsBuilder → Type 0
-HasGatheredEvents events builder = MatchOption builder.fault (IsForming events builder) (HasMetFault events)
-
--- what it keeps for the first fault are events that contradict each other
-abbrev pub HasClash : List ℕ → List Event → OperationsBuilder → Type 0
-HasClash initial events builder = IfSome builder.clash (IsClash initial events)
-
--- ---- of a queue that holds some values first
-
 -- a set holds these values, and none is below the least of them or above the greatest
 pub record KnowsInitial (initial : List ℕ) (known : InitialValues) : Type 0 where
   pub values : (v : ℕ) → contains nat_cmp known.values v ≡ is_initial initial v
   pub range : (v : ℕ) → is_initial initial v ≡ true → (known.least ≤ v) × (v ≤ known.greatest)
 
--- the events before place n don't call with an initial value
-abbrev pub NoInitialCallBefore : List ℕ → List Event → ℕ → Type 0
-NoInitialCallBefore initial events n = (i : ℕ) (e : Event) → i < n → slice_get events i ≡ Some e → calls_initial initial e ≡ false
-
--- the event at place i calls with an initial value, and those before it don't
-abbrev pub IsFirstInitialCall : List ℕ → List Event → ℕ → Type 0
-IsFirstInitialCall initial events i = NoInitialCallBefore initial events i × ((e : Event) × (slice_get events i ≡ Some e) × (calls_initial initial e ≡ true))
-
--- it is the place of the first call with an initial value, if there is one
-abbrev pub HasFirstInitialCall : List ℕ → List Event → Option ℕ → Type 0
-HasFirstInitialCall initial events first = MatchOption first (NoInitialCallBefore initial events (length events)) (IsFirstInitialCall initial events)
-
--- the initial values are known, and which of the events was the first to call with one
-pub record HasWatched (initial : List ℕ) (events : List Event) (calls : InitialCalls) : Type 0 where
-  pub values : KnowsInitial initial calls.values
-  pub count : calls.count ≡ length events
-  pub first : HasFirstInitialCall initial events calls.first
-  pub event : IfSome calls.call (Stands events)
+-- the initial values are distinct, the events have no fault so far, and all that a next event is judged by is there
+pub record IsForming (initial : List ℕ) (events : List Event) (gathering : Gathering) : Type 0 where
+  pub initial_is : gathering.initial.items ≡ initial
+  pub distinct : AreDistinct initial
+  pub known : KnowsInitial initial gathering.known
+  pub called : KnowsCalled events gathering.called
+  pub formed : HasFormed events gathering.forming
+  pub count : gathering.count ≡ length events
+  pub no_fault : NoFaultBefore initial events (length events)
 
 -- an initial value stands twice; or out of memory, which says nothing of them
 abbrev pub HasRefusedInitial : List ℕ → HistoryFault → Type 0
 HasRefusedInitial initial fault = (fault ≡ Memory) ⊎ ((j : ℕ) × (fault ≡ InitialTwice j) × IsFirstTwice initial j)
 
--- the initial values are distinct, and the calls with them are watched if there are some; or the fault is theirs
-abbrev pub AreJudged : List ℕ → List Event → Result (Option InitialCalls) HistoryFault → Type 0
-AreJudged initial events judged =
-    MatchResult judged (λ calls. AreDistinct initial × MatchOption calls (initial ≡ []) (HasWatched initial events)) (HasRefusedInitial initial)
+-- the fault is that of the initial values, or the first of the events, whatever follows them
+abbrev pub HasMetFault : List ℕ → List Event → HistoryFault → Type 0
+HasMetFault initial events fault = HasRefusedInitial initial fault ⊎ ((i : ℕ) × IsFirstFaultAt initial events i fault)
 
--- what a history builder holds: the initial values and the calls with them, the operations of the events, and room for more events
-pub record BuilderView : Type 0 where
-  pub initial : List ℕ
-  pub calls : Result (Option InitialCalls) HistoryFault
-  pub events : OperationsBuilder
-  pub room : ℕ
+-- the event was added, and has no fault; otherwise its fault was met, and what was there of the events before stays
+abbrev pub IsFollowed : List ℕ → List Event → Event → Result (Unit {0}) HistoryFault → Gathering → Type 0
+IsFollowed initial events e result gathering =
+    MatchResult result (λ _. IsForming initial (events ++ e ∷ []) gathering)
+    (λ fault. HasMetFault initial (events ++ e ∷ []) fault
+    × ((gathering.initial.items ≡ initial) × HasFormed events gathering.forming × (gathering.count ≡ length events)))
 
--- the builder started with these initial values, and these events were added, one after another
-pub record HasGathered (initial : List ℕ) (events : List Event) (builder : BuilderView) : Type 0 where
+-- a history builder started with these initial values, and these events were added, one after another
+pub record HasGathered (initial : List ℕ) (events : List Event) (gathering : Gathering) : Type 0 where
   pub few_initial : length initial ≤ MAX_INITIAL
-  pub room : length events + builder.room ≡ MAX_EVENTS
-  pub started : builder.initial ≡ initial
-  pub judged : AreJudged initial events builder.calls
-  pub gathered : HasGatheredEvents events builder.events
-  pub clash : HasClash initial events builder.events
+  pub few : length events ≤ MAX_EVENTS
+  pub gathered : MatchOption gathering.fault (IsForming initial events gathering) (HasMetFault initial events)
+  pub clash : IfSome gathering.clash (IsClash initial events)
 
--- the builder keeps a fault of the events, or that there was no room for one
+-- what contracts see of a history builder
+abbrev pub BuilderView : Type 0
+BuilderView = Gathering
+
+-- the builder keeps a fault
 abbrev pub KeepsFault : BuilderView → Type 0
-KeepsFault builder = IsSome builder.events.fault
+KeepsFault builder = IsSome builder.fault

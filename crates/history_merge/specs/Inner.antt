@@ -3,5 +3,4 @@ pub mod Clashes
 pub mod Faults
 pub mod Forming
 pub mod History
-pub mod Initial
 pub mod Packed

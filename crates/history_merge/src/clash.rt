@@ -2,11 +2,10 @@
 ghost use Rattle.std.specs.Prelude.{◌≡◌, ◌≤◌, ◌∷◌, ◌++◌, [], ℕ, List, IfSome, IsTrue, ◌↔◌, length, slice_get};
 ghost use Rattle.event_records.specs.declared.event.Event.{Event};
 ghost use Rattle.event_records.specs.declared.limits.TheConstants.{MAX_EVENTS};
-ghost use Rattle.history_merge.specs.Clashes.{IsClash, Stands, fault_of};
-ghost use Rattle.history_merge.specs.Faults.{NoFaultBefore};
+ghost use Rattle.history_merge.specs.Clashes.{IsClash, fault_of};
 ghost use Rattle.history_merge.specs.Gathering.{HasFormed};
 ghost use Rattle.history_merge.specs.Inner.Clashes.{IsFirstSought, IsSought};
-ghost use Rattle.history_merge.specs.Inner.History.{AreOfRun};
+ghost use Rattle.history_merge.specs.Inner.History.{AreOfRun, IsRunOf};
 
 use crate::called::called_value;
 use crate::events::Events;
@@ -95,19 +94,23 @@ fn first_of(events: Events<'_>, sought: Sought) -> Option<Placed>
 /// The first of the events of these operations that is looked for. Time O(n).
 pub fn first_event(forming: &Forming, sought: Sought) -> Option<Placed>
     requires { AreOfRun forming.now.operations.items }
-    ensures { (events : List Event) → HasFormed events forming.now → NoFaultBefore [] events (length events) → length events ≤ MAX_EVENTS
+    ensures { (events : List Event) → IsRunOf events forming.now.operations.items → length events ≤ MAX_EVENTS
         → IfSome result (IsFirstSought events sought) }
 {
     first_of(forming.events(), sought)
 }
 
-/// What an event that has this fault contradicts, of the events before it. Time O(n).
+/// What an event that has this fault contradicts, of the events before it and the initial values. Time O(n).
 #[inline(never)]
-pub fn clash_of(fault: HistoryFault, later: Placed, forming: &Forming) -> Option<Clash>
+pub fn clash_of(
+    fault: HistoryFault,
+    later: Placed,
+    initial: &[u64],
+    forming: &Forming,
+) -> Option<Clash>
     requires { AreOfRun forming.now.operations.items }
-    ensures { (initial : List ℕ) (events : List Event) → HasFormed events forming.now
-        → NoFaultBefore [] events (length events) → length events ≤ MAX_EVENTS → later.place ≡ length events
-        → IfSome result (IsClash initial (events ++ later.event ∷ [])) }
+    ensures { (events : List Event) → HasFormed events forming.now → IsRunOf events forming.now.operations.items → length events ≤ MAX_EVENTS
+        → later.place ≡ length events → IfSome result (IsClash initial.now (events ++ later.event ∷ [])) }
 {
     match fault {
         HistoryFault::TicketOrder(_) => {
@@ -121,6 +124,9 @@ pub fn clash_of(fault: HistoryFault, later: Placed, forming: &Forming) -> Option
         }
         HistoryFault::DuplicateValue(_) => {
             let value = called_value(later.event.what)?;
+            if let Some(place) = first_place(initial, value) {
+                return Some(Clash::Initial(place, later));
+            }
             let earlier = first_event(forming, Sought::Value(value))?;
             Some(Clash::Values(earlier, later))
         }
@@ -140,19 +146,13 @@ fn first_place(values: &[u64], value: u64) -> Option<usize>
     None
 }
 
-/// The initial value that an event enqueues.
-pub fn clash_with_initial(initial: &[u64], call: Placed) -> Option<Clash>
-    ensures { (events : List Event) → Stands events call → IfSome result (IsClash initial.now events) }
-{
-    let value = called_value(call.event.what)?;
-    let place = first_place(initial, value)?;
-    Some(Clash::Initial(place, call))
-}
-
-/// The earlier of two equal initial values, of which the later one stands at this place.
-pub fn clash_among_initial(initial: &[u64], later: usize) -> Option<Clash>
+/// What initial values that have this fault contradict. Time O(k) for k values.
+pub fn clash_of_initial(fault: HistoryFault, initial: &[u64]) -> Option<Clash>
     ensures { (events : List Event) → IfSome result (IsClash initial.now events) }
 {
+    let HistoryFault::InitialTwice(later) = fault else {
+        return None;
+    };
     let value = *initial.get(later)?;
     let earlier = first_place(initial, value)?;
     (earlier < later).then_some(Clash::Twice(value, earlier, later))

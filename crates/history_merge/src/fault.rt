@@ -1,6 +1,5 @@
 ghost use Rattle.std.specs.Prelude.{◌≡◌, ◌≤◌, length};
 ghost use Rattle.history_merge.specs.declared.fault.HistoryFault.TheVariants.{Memory};
-ghost use Rattle.history_merge.specs.Inner.Faults.{comes_by};
 ghost use Rattle.history_merge.specs.Names.{name_of, place_in};
 
 use std::alloc::AllocError;
@@ -64,18 +63,6 @@ impl HistoryFault {
             HistoryFault::Pending(_) => "Pending",
             HistoryFault::Memory => "Memory",
             HistoryFault::InitialTwice(_) => "InitialTwice",
-        }
-    }
-
-    /// Whether it decides if the event at this place is the first that calls with an initial value: that event or an
-    /// earlier one has it, or memory ran out.
-    pub(crate) fn comes_by(self, place: usize) -> bool
-        ensures { result ≡ comes_by place self }
-    {
-        match self {
-            HistoryFault::Pending(_) => false,
-            HistoryFault::Memory | HistoryFault::InitialTwice(_) => true,
-            _ => self.place().is_none_or(|at| at <= place as u64),
         }
     }
 

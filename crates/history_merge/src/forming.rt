@@ -2,11 +2,11 @@
 ghost use Rattle.std.specs.Prelude.{◌≡◌, ◌≤◌, ◌<◌, ◌||◌, true, false, ℕ, List, [], ◌∷◌, ◌++◌, MatchOption, length};
 ghost use Rattle.event_records.specs.declared.event.Event.{Event};
 ghost use Rattle.event_records.specs.Turns.{is_call};
-ghost use Rattle.history_merge.specs.Faults.{IsLeastPending, NoFaultBefore, breaks_ticket_order, calls_initial, pending_call, repeats_value};
+ghost use Rattle.history_merge.specs.Faults.{IsLeastPending, breaks_ticket_order, calls_initial, pending_call, repeats_value};
 ghost use Rattle.history_merge.specs.Forming as judged;
 ghost use Rattle.history_merge.specs.Forming.{operations_so_far};
 ghost use Rattle.history_merge.specs.Inner.Faults.{NothingPending};
-ghost use Rattle.history_merge.specs.Inner.History.{AreOfRun};
+ghost use Rattle.history_merge.specs.Inner.History.{AreOfRun, IsRunOf};
 ghost use Rattle.history_merge.specs.Gathering.{HasFormed, IsTaken};
 
 use crate::events::Events;
@@ -47,7 +47,7 @@ impl Forming {
     /// The events so far.
     pub fn events(&self) -> Events<'_>
         requires { AreOfRun self.now.operations.items }
-        ensures { (events : List Event) → HasFormed events self.now → NoFaultBefore [] events (length events) → result ≡ events }
+        ensures { (events : List Event) → IsRunOf events self.now.operations.items → result ≡ events }
     {
         Events::new(self.operations.as_slice())
     }

@@ -1,29 +1,28 @@
-//! The builder of the operations of a history whose queue is empty at first.
-ghost use Rattle.std.specs.Prelude.{◌≡◌, ◌<◌, ◌≤◌, ℕ, List, [], ◌∷◌, ◌++◌, IfSome, IsErr, IsSome, MatchResult, length};
+//! What a history builder gathers: operations, and what the next event is judged by.
+ghost use Rattle.std.specs.Prelude.{◌≡◌, ◌||◌, ◌<◌, ◌≤◌, false, ℕ, List, [], Some, ◌∷◌, ◌++◌, IfOk, IfSome, IsErr, IsSome, MatchResult, length, vec_len};
 ghost use Rattle.event_records.specs.declared.event.Event.{Event};
-ghost use Rattle.event_records.specs.declared.limits.TheConstants.{MAX_EVENTS};
+ghost use Rattle.event_records.specs.declared.limits.TheConstants.{MAX_EVENTS, MAX_INITIAL};
 ghost use Rattle.history_merge.specs.Clashes.{IsClash};
-ghost use Rattle.history_merge.specs.Complete.{IsCompleteHistory};
-ghost use Rattle.history_merge.specs.Faults.{IsFirstFault, NoFaultBefore};
-ghost use Rattle.history_merge.specs.Gathering.{HasClash, HasFormed, HasGatheredEvents, HasMetFault, IsForming};
-ghost use Rattle.history_merge.specs.Inner.Forming.{IsFormedOf};
-ghost use Rattle.history_merge.specs.Inner.History.{AreOfRun};
+ghost use Rattle.history_merge.specs.Faults.{IsFirstFault, calls_initial, repeats_value};
+ghost use Rattle.history_merge.specs.Forming.{operations_so_far};
+ghost use Rattle.history_merge.specs.Gathering.{HasFormed, HasGathered, IsFollowed, IsForming, KnowsCalled, KnowsInitial};
+ghost use Rattle.history_merge.specs.Inner.History.{AreOfRun, IsRunOf};
 
 use crate::called::CalledValues;
-use crate::clash::{Clash, Placed, Sought, clash_of, first_event};
+use crate::clash::{Clash, Placed, Sought, clash_of, clash_of_initial, first_event};
+use crate::complete::History;
 use crate::fault::HistoryFault;
 use crate::forming::Forming;
+use crate::initial_values::InitialValues;
 use crate::packed::PackedOperation;
-use event_records::Event;
-use std::alloc::Global;
+use event_records::{Event, MAX_EVENTS, What};
+use std::alloc::{AllocError, Global};
 
-/// Builds the operations of a complete history (Herlihy and Wing 1990, section 2.1): it takes events one by one and
-/// doesn't keep them, and `finish` returns their operations or their first fault.
-///
-/// It keeps the operations alone, as long as the values of each thread have its name and rise; otherwise also a set
-/// of the values.
+/// The initial values and the operations of the events so far, or the first fault and what contradicts what there.
 #[derive(Drop)]
-pub struct OperationsBuilder {
+pub struct Gathering {
+    initial: Vec<u64>,
+    known: InitialValues,
     called: CalledValues,
     forming: Forming,
     count: usize,
@@ -31,98 +30,91 @@ pub struct OperationsBuilder {
     clash: Option<Clash>,
 }
 
-impl OperationsBuilder {
-    /// Begins with no events. It takes no memory.
-    pub fn new(alloc: Global) -> OperationsBuilder
-        ensures gathered { HasGatheredEvents [] result }
-        ensures clash { (initial : List ℕ) → HasClash initial [] result }
+impl Gathering {
+    /// Begins with these initial values and no events.
+    pub fn new(alloc: Global, initial: Vec<u64>) -> Gathering
+        requires { vec_len initial ≤ MAX_INITIAL }
+        ensures { HasGathered initial.items [] result }
     {
-        OperationsBuilder {
+        let values = initial.as_slice();
+        let (known, fault, clash) = match InitialValues::new(alloc, values) {
+            Ok(known) => (known, None, None),
+            Err(fault) => (
+                InitialValues::none(alloc),
+                Some(fault),
+                clash_of_initial(fault, values),
+            ),
+        };
+        Gathering {
+            initial,
+            known,
             called: CalledValues::new(alloc),
             forming: Forming::new(alloc),
             count: 0,
-            fault: None,
-            clash: None,
+            fault,
+            clash,
         }
     }
 
-    /// Adds an event. It keeps a fault, also out of memory, for `finish`.
-    ///
-    /// Time O(1) if the values rise, otherwise O(log n) after n events; sometimes it grows its memory.
+    /// Adds an event. It keeps a fault, also out of memory or of room.
     #[inline(always)]
     pub fn add(&mut self, event: Event)
-        requires { (events : List Event) × HasGatheredEvents events self.old }
-        ensures gathered { (events : List Event) → HasGatheredEvents events self.old → length events < MAX_EVENTS
-            → HasGatheredEvents (events ++ event ∷ []) self.new }
-        ensures clash { (initial : List ℕ) (events : List Event) → HasGatheredEvents events self.old → length events < MAX_EVENTS
-            → HasClash initial events self.old → HasClash initial (events ++ event ∷ []) self.new }
+        requires { (initial : List ℕ) × (events : List Event) × HasGathered initial events self.old }
+        ensures added { (initial : List ℕ) (events : List Event) → HasGathered initial events self.old → length events < MAX_EVENTS
+            → HasGathered initial (events ++ event ∷ []) self.new }
+        ensures full { (initial : List ℕ) (events : List Event) → HasGathered initial events self.old → length events ≡ MAX_EVENTS
+            → HasGathered initial events self.new × IsSome self.new.fault }
     {
         if self.fault.is_some() {
             return;
         }
-        if let Err(fault) = self.follow(event) {
-            self.fault = Some(fault);
-        }
-    }
-
-    /// Keeps `Memory` for an event that there is no room for, unless it keeps another fault.
-    pub fn refuse(&mut self)
-        ensures gathered { (events : List Event) → HasGatheredEvents events self.old → HasGatheredEvents events self.new }
-        ensures clash { self.new.clash ≡ self.old.clash }
-        ensures kept { IsSome self.new.fault }
-    {
-        if self.fault.is_none() {
+        if self.count == MAX_EVENTS {
             self.fault = Some(HistoryFault::Memory);
+            return;
         }
-    }
-
-    /// Judges an event after events without a fault, and adds it.
-    #[inline(always)]
-    fn follow(&mut self, event: Event) -> Result<(), HistoryFault>
-        requires { (events : List Event) × IsForming events self.old }
-        ensures judged { (events : List Event) → IsForming events self.old → length events < MAX_EVENTS
-            → MatchResult result (λ _. IsForming (events ++ event ∷ []) self.new) (λ fault. HasMetFault (events ++ event ∷ []) fault) }
-        ensures clash { (initial : List ℕ) (events : List Event) → IsForming events self.old → length events < MAX_EVENTS
-            → HasClash initial events self.old → HasClash initial (events ++ event ∷ []) self.new }
-        ensures fault { self.new.fault ≡ self.old.fault }
-    {
-        let repeats = self.called.note(event.what, self.forming.operations())?;
-        if let Err(fault) = self.forming.take(event, self.count, repeats) {
+        if let Err(fault) = self.follow(event) {
             // A copy, so that the event itself needn't lie in memory.
             let refused = event;
-            self.keep_clash(fault, refused);
-            return Err(fault);
+            self.keep(fault, refused);
         }
+    }
+
+    /// Judges an event after events without a fault, and adds it if it has none.
+    #[inline(always)]
+    fn follow(&mut self, event: Event) -> Result<(), HistoryFault>
+        ensures followed { (initial : List ℕ) (events : List Event) → IsForming initial events self.old → length events < MAX_EVENTS
+            → IsFollowed initial events event result self.new }
+        ensures kept { (self.new.fault ≡ self.old.fault) × (self.new.clash ≡ self.old.clash) }
+    {
+        let operations = self.forming.operations();
+        let repeats = repeats(&self.known, &mut self.called, event.what, operations)?;
+        self.forming.take(event, self.count, repeats)?;
         self.count = self.count.wrapping_add(1);
         Ok(())
     }
 
-    /// Keeps what an event that has this fault contradicts. Time O(n).
+    /// Keeps the fault of an event, and what it contradicts. Time O(n).
     #[inline(never)]
-    fn keep_clash(&mut self, fault: HistoryFault, event: Event)
+    fn keep(&mut self, fault: HistoryFault, event: Event)
         requires { AreOfRun self.old.forming.operations.items }
-        ensures clash { (initial : List ℕ) (events : List Event) → HasFormed events self.old.forming
-            → NoFaultBefore [] events (length events) → length events < MAX_EVENTS → self.old.count ≡ length events
-            → HasClash initial (events ++ event ∷ []) self.new }
-        ensures fault { self.new.fault ≡ self.old.fault }
+        ensures clash { (events : List Event) → HasFormed events self.old.forming → IsRunOf events self.old.forming.operations.items
+            → length events < MAX_EVENTS → self.old.count ≡ length events
+            → IfSome self.new.clash (IsClash self.old.initial.items (events ++ event ∷ [])) }
+        ensures fault { self.new.fault ≡ Some fault }
+        ensures initial { self.new.initial ≡ self.old.initial }
     {
         let placed = Placed {
             place: self.count,
             event,
         };
-        self.clash = clash_of(fault, placed, &self.forming);
+        self.clash = clash_of(fault, placed, self.initial.as_slice(), &self.forming);
+        self.fault = Some(fault);
     }
 
-    /// Returns whether it keeps a fault that decides if the event at this place is the first that calls with an initial value.
-    pub fn is_refused_by(&self, place: usize) -> bool {
-        self.fault.is_some_and(|fault| fault.comes_by(place))
-    }
-
-    /// Returns what the first event with a fault contradicts, or the first call without a return. Time O(n) if there is one.
+    /// Returns what contradicts what at the first fault. Time O(n) if there is one.
     pub fn clash(&self) -> Option<Clash>
-        requires { (events : List Event) × HasGatheredEvents events self.now }
-        ensures { (initial : List ℕ) (events : List Event) → HasGatheredEvents events self.now → HasClash initial events self.now
-            → length events ≤ MAX_EVENTS → IfSome result (IsClash initial events) }
+        requires { (initial : List ℕ) × (events : List Event) × HasGathered initial events self.now }
+        ensures { (initial : List ℕ) (events : List Event) → HasGathered initial events self.now → IfSome result (IsClash initial events) }
     {
         if self.fault.is_some() {
             return self.clash;
@@ -132,18 +124,16 @@ impl OperationsBuilder {
         Some(Clash::Pending(call))
     }
 
-    /// Returns the operations of the events in the order of their calls if the events are a complete history,
-    /// otherwise their first fault.
-    ///
-    /// The first faulty event decides, and of its faults the one that [`HistoryFault`] lists first. If no event has a
-    /// fault, `Pending` names the least call ticket without a return. `Memory` comes if memory ran out, and then says
-    /// nothing of the events.
-    pub fn finish(self) -> Result<Vec<PackedOperation>, HistoryFault>
-        ensures outcome { (events : List Event) → HasGatheredEvents events self
-            → MatchResult result (λ formed. IsFormedOf events formed.items × IsCompleteHistory events) (IsFirstFault [] events) }
+    /// Returns the history of the initial values and the events if it is complete, otherwise the first fault.
+    pub fn finish(self) -> Result<History, HistoryFault>
+        requires { (initial : List ℕ) × (events : List Event) × HasGathered initial events self }
+        ensures outcome { (initial : List ℕ) (events : List Event) → HasGathered initial events self
+            → MatchResult result (λ whole. (whole.initial ≡ initial) × (whole.events ≡ events)) (IsFirstFault initial events) }
         ensures kept { IsSome self.fault → IsErr result }
     {
-        let OperationsBuilder {
+        let Gathering {
+            initial,
+            known: _known,
             called: _called,
             forming,
             count: _count,
@@ -155,7 +145,26 @@ impl OperationsBuilder {
         }
         match forming.least_pending() {
             Some(ticket) => Err(HistoryFault::Pending(ticket)),
-            None => Ok(forming.into_operations()),
+            None => Ok(History::new(initial, forming.into_operations())),
         }
     }
+}
+
+/// Whether the event calls with an initial value, or with one that an event before it called with; otherwise it notes
+/// the value. The operations are those of the events before.
+#[inline(always)]
+fn repeats(
+    known: &InitialValues,
+    called: &mut CalledValues,
+    what: What,
+    operations: &[PackedOperation],
+) -> Result<bool, AllocError>
+    ensures { (initial : List ℕ) (events : List Event) (e : Event) → e.what ≡ what → KnowsInitial initial known.now → KnowsCalled events called.old
+        → operations.now ≡ operations_so_far events
+        → IfOk result (λ repeats. (repeats ≡ (repeats_value events e || calls_initial initial e)) × (repeats ≡ false → KnowsCalled (events ++ e ∷ []) called.new)) }
+{
+    if known.are_called(what) {
+        return Ok(true);
+    }
+    called.note(what, operations)
 }

@@ -1,15 +1,13 @@
-//! The values that a queue holds at first, and the calls that enqueue one of them.
-ghost use Rattle.std.specs.Prelude.{◌≡◌, ◌<◌, not, ℕ, List, [], ◌∷◌, ◌++◌, IfOk, MatchResult, length};
+//! The values that a queue holds at first.
+ghost use Rattle.std.specs.Prelude.{◌≡◌, not, ℕ, List, [], ◌∷◌, ◌++◌, IfOk, MatchResult};
 ghost use Rattle.event_records.specs.declared.event.Event.{Event};
-ghost use Rattle.event_records.specs.declared.limits.TheConstants.{MAX_EVENTS};
 ghost use Rattle.history_merge.specs.Complete.{AreDistinct};
 ghost use Rattle.history_merge.specs.Faults.{calls_initial, is_initial};
-ghost use Rattle.history_merge.specs.Gathering.{HasRefusedInitial, HasWatched, KnowsInitial};
+ghost use Rattle.history_merge.specs.Gathering.{HasRefusedInitial, KnowsInitial};
 
 use crate::called::called_value;
-use crate::clash::Placed;
 use crate::fault::HistoryFault;
-use event_records::{Event, What};
+use event_records::What;
 use std::alloc::{AllocError, Global};
 use std::collections::BTreeSet;
 
@@ -36,7 +34,8 @@ impl InitialValues {
         Ok(known)
     }
 
-    fn none(alloc: Global) -> InitialValues
+    /// No values.
+    pub fn none(alloc: Global) -> InitialValues
         ensures { KnowsInitial [] result }
     {
         InitialValues {
@@ -72,55 +71,5 @@ impl InitialValues {
         ensures { (initial : List ℕ) → KnowsInitial initial self.now → result ≡ is_initial initial value }
     {
         self.least <= value && value <= self.greatest && self.values.contains(&value)
-    }
-}
-
-/// Initial values, and the place of the first call that enqueues one of them.
-#[derive(Drop)]
-pub struct InitialCalls {
-    values: InitialValues,
-    count: usize,
-    first: Option<usize>,
-    call: Option<Placed>,
-}
-
-impl InitialCalls {
-    /// Begins with no events.
-    pub fn new(values: InitialValues) -> InitialCalls
-        ensures { (initial : List ℕ) → KnowsInitial initial values → HasWatched initial [] result }
-    {
-        InitialCalls {
-            values,
-            count: 0,
-            first: None,
-            call: None,
-        }
-    }
-
-    /// Adds an event.
-    pub fn add(&mut self, event: Event)
-        ensures { (initial : List ℕ) (events : List Event) → HasWatched initial events self.old → length events < MAX_EVENTS
-            → HasWatched initial (events ++ event ∷ []) self.new }
-    {
-        if self.first.is_none() && self.values.are_called(event.what) {
-            let place = self.count;
-            self.first = Some(place);
-            self.call = Some(Placed { place, event });
-        }
-        self.count = self.count.saturating_add(1);
-    }
-
-    /// Returns the first call with an initial value.
-    pub fn call(&self) -> Option<Placed>
-        ensures { result ≡ self.now.call }
-    {
-        self.call
-    }
-
-    /// Returns the place of the first call with an initial value.
-    pub fn first(&self) -> Option<usize>
-        ensures { result ≡ self.now.first }
-    {
-        self.first
     }
 }

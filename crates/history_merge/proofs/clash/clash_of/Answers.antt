@@ -4,10 +4,10 @@ use Rattle.history_merge.proofs.Clashes.{first_with-append, pending-push, stands
 use Rattle.history_merge.proofs.clash.clash_of.Goals as goal
 
 pub returns-in_ok-earlier-in-CallWhilePending : goal.returns-in_ok-earlier-in-CallWhilePending
-returns-in_ok-earlier-in-CallWhilePending c = λ initial events formed none few here.
+returns-in_ok-earlier-in-CallWhilePending c = λ events formed run few here.
     let earlier = c.in_ok-earlier-in-CallWhilePending.earlier in
     let later = c.args.later in
-    let first = c.in_ok-earlier-in-CallWhilePending.ensures events formed none few in (
+    let first = c.in_ok-earlier-in-CallWhilePending.ensures events run few in (
       stands-append events (later.event ∷ []) earlier first.stands,
       stands-push events later here,
       pending-push events earlier later here
@@ -15,10 +15,10 @@ returns-in_ok-earlier-in-CallWhilePending c = λ initial events formed none few 
     )
 
 pub returns-in_ok-earlier-in-DuplicateValue : goal.returns-in_ok-earlier-in-DuplicateValue
-returns-in_ok-earlier-in-DuplicateValue c = λ initial events formed none few here.
+returns-in_ok-earlier-in-DuplicateValue c = λ events formed run few here.
     let earlier = c.in_ok-earlier-in-DuplicateValue.earlier in
     let later = c.args.later in
-    let first = c.in_ok-earlier-in-DuplicateValue.ensures events formed none few in (
+    let first = c.in_ok-earlier-in-DuplicateValue.ensures events run few in (
       stands-append events (later.event ∷ []) earlier first.stands,
       stands-push events later here,
       first_with-append events (later.event ∷ []) earlier later first.stands (record {
