@@ -1,7 +1,7 @@
 -- The way of the argument, from operations to matched values:
 -- Lists: what a list contains, and what is made of lists.
 -- CallPlaces, FreshDequeues: each dequeue's source, or the chosen dequeue of a value that was not there.
--- ReturnOrder, TakenPlaces, RepeatedDequeues: two dequeues of one source, the chosen pair of them first.
+-- RepeatedDequeues: the one dequeue of each source, or the chosen pair of one source.
 -- MatchedDequeues, Lives: the one dequeue of each accepted value; the lives that there are, each once.
 -- FilledOperations: those of a filled history, which are matched where there are initial values.
 -- FilledLines, ToldPlaces: what is found at places of a filled history, told by places of the history.
@@ -13,9 +13,7 @@ pub mod FilledOperations
 pub mod Lives
 pub mod Longest
 pub mod CallPlaces
-pub mod TakenPlaces
 pub mod FreshDequeues
-pub mod ReturnOrder
 pub mod RepeatedDequeues
 pub mod MatchedDequeues
 pub mod SortedOut

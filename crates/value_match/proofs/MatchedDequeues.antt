@@ -3,13 +3,13 @@ use Rattle.std.proofs.Common.{◌≡◌, ℕ, ◌<◌, List, length, get_or, Opt
 use Rattle.std.specs.Prelude.{MatchOption, find}
 use Rattle.std.proofs.lemmas.Option.{slice_get-get_or, slice_get_within}
 use Rattle.history_merge.specs.declared.operation.Operation.{Operation}
-use Rattle.history_merge.specs.declared.operation.OpKind.TheVariants.{Enq, Deq, Empty}
+use Rattle.history_merge.specs.declared.operation.OpKind.TheVariants.{Enq, Deq}
 use Rattle.history_merge.specs.Complete.{AreComplete}
 use Rattle.history_merge.specs.Operations.{Did, NoneDid, IsAt}
 use Rattle.history_merge.proofs.Distinct.{contains_at, place_of, one_at}
 use Rattle.value_match.specs.Lives.{is_dequeue_of, IsMaybeAt}
 use Rattle.value_match.specs.Violations.{IsClear, NoFreshViolation, NoRepeatViolation}
-use Rattle.value_match.specs.Inner.Sources.{HoldsSources, HoldsTakers, HoldsDequeues, IsDequeuePlace, TakesFrom}
+use Rattle.value_match.specs.Inner.Sources.{HoldsSources, HoldsTakers, HoldsDequeues, IsDequeuePlace}
 use Rattle.value_match.proofs.Lives.{found_dequeue, same_found}
 use Rattle.value_match.proofs.RepeatedDequeues.{taken_from, takes_from_enqueue}
 
@@ -81,13 +81,3 @@ clear_from_takers operations sources takers complete no_fresh holds taken = reco
   no_fresh = no_fresh;
   no_repeat = no_repeat operations sources takers complete holds taken;
 }
-
--- sources are places of operations
-pub sources_in_range : (operations : List Operation) (sources : List (Option ℕ)) → NoFreshViolation operations → HoldsSources operations sources
-    → (i p : ℕ) → TakesFrom sources i p → p < length sources
-sources_in_range operations sources no_fresh holds i p from =
-    let d : Operation = record { call = 0; ret = 0; thread = 0; kind = Empty } in
-    let below : i < length operations = let inside = slice_get_within sources i (Some p) from in omega (arith, holds.one_each) in
-    let t = taken_from operations sources i p (get_or operations i d) holds no_fresh (slice_get-get_or operations i d below) from in
-    let inside = slice_get_within operations p t.call t.at_source in
-    omega (arith, holds.one_each)

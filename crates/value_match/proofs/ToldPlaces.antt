@@ -12,7 +12,7 @@ use Rattle.history_merge.specs.Legal.{ArePlacesOf}
 use Rattle.history_merge.specs.Operations.{Did, IsAt, NoneDid}
 use Rattle.value_match.specs.declared.fresh.FreshPlaces.{FreshPlaces}
 use Rattle.value_match.specs.declared.life.MatchedValue.{MatchedValue}
-use Rattle.value_match.specs.declared.repeat.RepeatPlaces.{RepeatPlaces}
+use Rattle.value_match.specs.declared.takers.RepeatPlaces.{RepeatPlaces}
 use Rattle.value_match.specs.declared.violation.Source.TheVariants as source
 use Rattle.value_match.specs.declared.violation.Violation.TheVariants as violation
 use Rattle.value_match.specs.Filling.{behind}

@@ -9,7 +9,6 @@ mod maybe_place;
 mod others;
 mod places;
 mod presorting;
-mod repeat;
 mod sources;
 mod table;
 mod takers;

@@ -1,28 +1,110 @@
-ghost use Rattle.std.specs.Prelude.{ℕ, ◌<◌, ◌≤◌, IfOk, MatchOption, length};
-ghost use Rattle.value_match.specs.Inner.Sources.{HoldsTakers, IsTakenTwice, TakesFrom};
+ghost use Rattle.std.specs.Prelude.{◌≡◌, ◌⊎◌, ◌<◌, ◌≤◌, ⊤, IfOk, MatchOption, length};
+ghost use Rattle.history_merge.specs.Complete.{AreComplete};
+ghost use Rattle.value_match.specs.Inner.MatchOutcome.{AreTakers};
+ghost use Rattle.value_match.specs.Inner.Sources.{HoldsSources, return_at};
+ghost use Rattle.value_match.specs.Violations.{NoFreshViolation};
 
 use crate::matching::MAX_MATCHED;
 use crate::maybe_place::MaybePlace;
+use history_merge::{OpId, PackedOperation};
 use std::alloc::{AllocError, Global};
 
-/// At each place that is a source the place of the operation that takes from it, unless two take from one.
-pub fn takers_of(
+/// The places of two dequeues of one value, in the order of their returns, and of its enqueue.
+#[derive(Clone, Copy, Debug)]
+pub(crate) struct RepeatPlaces {
+    pub(crate) enq: OpId,
+    pub(crate) first: OpId,
+    pub(crate) second: OpId,
+}
+
+/// What takes from the sources.
+#[derive(Debug, Drop)]
+pub(crate) enum Takers {
+    /// No two dequeues take from one source: at each source the one that does, if there is one.
+    Once(Vec<MaybePlace>),
+    /// Of the values that are dequeued twice the one whose second dequeue returns first, with these two dequeues.
+    Twice(RepeatPlaces),
+}
+
+/// What takes from the sources of all dequeues. Time O(n).
+pub(crate) fn takers_of(
     alloc: Global,
+    operations: &[PackedOperation],
     sources: &[MaybePlace],
-) -> Result<Option<Vec<MaybePlace>>, AllocError>
-    requires few { length sources.now ≤ MAX_MATCHED }
-    requires within { (i p : ℕ) → TakesFrom sources.now i p → p < length sources.now }
-    ensures { IfOk result (λ takers. MatchOption takers (IsTakenTwice sources.now) (λ takers. HoldsTakers sources.now takers.items)) }
+) -> Result<Takers, AllocError>
+    requires complete { AreComplete operations.now }
+    requires few { length operations.now ≤ MAX_MATCHED }
+    requires sources { HoldsSources operations.now sources.now }
+    requires no_fresh { NoFreshViolation operations.now }
+    ensures { IfOk result (AreTakers operations.now sources.now) }
 {
-    let mut takers = vec![in alloc; MaybePlace::none(); sources.len()]?;
+    // For each source the dequeue that returns first, of those so far.
+    let mut firsts = vec![in alloc; MaybePlace::none(); sources.len()]?;
+    let mut found = None;
     for (place, source) in sources.iter().enumerate() {
         let Some(source) = source.get() else {
             continue;
         };
-        if takers[source].get().is_some() {
-            return Ok(None);
-        }
-        takers[source] = MaybePlace::some(place);
+        let Some(other) = firsts[source].get() else {
+            firsts[source] = MaybePlace::some(place);
+            continue;
+        };
+        let pair = in_order(operations, source, other, place);
+        firsts[source] = MaybePlace::some(pair.first.place());
+        found = Some(sooner_of(operations, found, pair));
     }
-    Ok(Some(takers))
+    match found {
+        Some(pair) => Ok(Takers::Twice(pair)),
+        None => Ok(Takers::Once(firsts)),
+    }
+}
+
+/// The dequeues at two places, in the order of their returns, of the value whose enqueue stands at the first place.
+fn in_order(operations: &[PackedOperation], enq: usize, one: usize, other: usize) -> RepeatPlaces
+    requires few { length operations.now ≤ MAX_MATCHED }
+    requires enq { enq < length operations.now }
+    requires one { one < length operations.now }
+    requires other { other < length operations.now }
+    ensures enq { result.enq ≡ enq }
+    ensures in_order { return_at operations.now result.first ≤ return_at operations.now result.second }
+    ensures both { ((result.first ≡ one) × (result.second ≡ other)) ⊎ ((result.first ≡ other) × (result.second ≡ one)) }
+{
+    let (first, second) = if return_at(operations, one) <= return_at(operations, other) {
+        (one, other)
+    } else {
+        (other, one)
+    };
+    RepeatPlaces {
+        enq: OpId::new(enq as u32),
+        first: OpId::new(first as u32),
+        second: OpId::new(second as u32),
+    }
+}
+
+/// The pair, or the one that was found before, whose second dequeue returns first.
+fn sooner_of(
+    operations: &[PackedOperation],
+    found: Option<RepeatPlaces>,
+    pair: RepeatPlaces,
+) -> RepeatPlaces
+    requires found { MatchOption found ⊤ (λ f. f.second < length operations.now) }
+    requires pair { pair.second < length operations.now }
+    ensures { MatchOption found (result ≡ pair)
+        (λ f. ((result ≡ f) × (return_at operations.now f.second ≤ return_at operations.now pair.second))
+        ⊎ ((result ≡ pair) × (return_at operations.now pair.second ≤ return_at operations.now f.second))) }
+{
+    match found {
+        Some(found)
+            if return_at(operations, found.second.place())
+                <= return_at(operations, pair.second.place()) => { found }
+        _ => pair,
+    }
+}
+
+/// The return of the operation at this place.
+fn return_at(operations: &[PackedOperation], place: usize) -> u64
+    requires { place < length operations.now }
+    ensures { result ≡ return_at operations.now place }
+{
+    operations[place].unpack().ret
 }

@@ -4,7 +4,7 @@ ghost use Rattle.value_match.specs.declared.violation.Violation.TheVariants.{Fre
 ghost use Rattle.value_match.specs.Told.{told_place, told_source};
 
 use crate::fresh::FreshPlaces;
-use crate::repeat::RepeatPlaces;
+use crate::takers::RepeatPlaces;
 use crate::violation::{Source, Violation};
 use history_merge::OpId;
 

@@ -12,9 +12,8 @@ use crate::accepted::Pair;
 use crate::fresh::{FreshPlaces, first_fresh};
 use crate::matching::{FilledMatching, MAX_MATCHED, Matchable, Matched, Matching, SortedOut};
 use crate::maybe_place::MaybePlace;
-use crate::repeat::{RepeatPlaces, find_repeat};
 use crate::sources::sources_of;
-use crate::takers::takers_of;
+use crate::takers::{RepeatPlaces, Takers, takers_of};
 use crate::told::{told_fresh, told_repeat};
 use history_merge::{History, OpId, OpKind, PackedOperation, fill};
 use std::alloc::{AllocError, Global};
@@ -37,8 +36,7 @@ pub(crate) enum MatchOutcome {
 /// `history_merge` gives them. A violation names the history's own operations and initial values.
 ///
 /// Time O(n) for n operations of values that leave nearly in the order of their calls, or by recorder's names nearly in that of
-/// their threads' calls; else the calls of the others are sorted by value, O(n log n). Where a value is dequeued twice,
-/// O(n log n) for a sort by return. The answer borrows the operations and takes a word for each accepted value; beside it the
+/// their threads' calls; else the calls of the others are sorted by value, O(n log n). The answer borrows the operations and takes a word for each accepted value; beside it the
 /// work takes some two words for each operation, and a few more for each call or dequeue that is sorted. Where there are
 /// initial values the answer holds the filled history's operations.
 pub fn match_values(alloc: Global, history: &History) -> Result<Matched<'_>, AllocError>
@@ -87,15 +85,12 @@ fn find(alloc: Global, operations: &[PackedOperation]) -> Result<MatchOutcome, A
     if let Some(places) = first_fresh(operations, &sources) {
         return Ok(MatchOutcome::Fresh(places));
     }
-    match takers_of(alloc, sources.places.as_slice())? {
-        Some(dequeues) => {
+    match takers_of(alloc, operations, sources.places.as_slice())? {
+        Takers::Once(dequeues) => {
             let sorted = sorted_out(alloc, operations, dequeues.as_slice())?;
             Ok(MatchOutcome::Clear(sorted))
         }
-        None => {
-            let places = find_repeat(alloc, operations, sources.places.as_slice())?;
-            Ok(MatchOutcome::Repeat(places))
-        }
+        Takers::Twice(places) => Ok(MatchOutcome::Repeat(places)),
     }
 }
 

@@ -1,6 +1,6 @@
 -- From each dequeue to the call that enqueued its value, and back.
-use Rattle.std.specs.Prelude.{◌≡◌, ◌≢◌, ℕ, ◌<◌, All, AllPairs, List, length, slice_get, slice_index_or, Option, Some, None, Contains, IsTrue}
-use Rattle.std.specs.List.Sorted.{IsNonDecreasingBy}
+use Rattle.std.specs.Prelude.{◌≡◌, ℕ, List, length, slice_get, slice_index_or, Option, Some, None, Contains, IsTrue}
+use Rattle.std.specs.Option.{option_map_or}
 use Rattle.history_merge.specs.declared.operation.Operation.{Operation}
 use Rattle.history_merge.specs.declared.operation.OpKind.{OpKind}
 use Rattle.history_merge.specs.declared.operation.OpKind.TheVariants.{Enq, Deq}
@@ -37,22 +37,15 @@ IsFreshFrom operations source deq = (enq : Option Operation) × IsMaybeAt operat
 abbrev pub TakesFrom : List (Option ℕ) → ℕ → ℕ → Type 0
 TakesFrom sources i p = slice_get sources i ≡ Some (Some p)
 
--- two operations have one source
-abbrev pub IsTakenTwice : List (Option ℕ) → Type 0
-IsTakenTwice sources = (i : ℕ) × (j : ℕ) × (p : ℕ) × (i < j) × TakesFrom sources i p × TakesFrom sources j p
-
 -- at each place stands the one operation that has its source there, if there is one
 pub record HoldsTakers (sources takers : List (Option ℕ)) : Type 0 where
   pub one_each : length takers ≡ length sources
   pub taken : (p i : ℕ) → slice_index_or takers p None ≡ Some i → TakesFrom sources i p
   pub takes : (i p : ℕ) → TakesFrom sources i p → slice_index_or takers p None ≡ Some i
 
--- each operation with a source once, as its return ticket and its place, by rising return
-pub record IsByReturn (operations : List Operation) (sources : List (Option ℕ)) (order : List (ℕ × ℕ)) : Type 0 where
-  pub names : All (λ e. (o : Operation) × IsAt operations e.1 o × (e.0 ≡ o.ret)) order
-  pub has_each : (i p : ℕ) (o : Operation) → IsAt operations i o → TakesFrom sources i p → Contains order (o.ret, i)
-  pub has_once : AllPairs (λ x y. x.1 ≢ y.1) order
-  pub rises : IsNonDecreasingBy (λ e. e.0) order
+-- the return of the operation at this place
+abbrev pub return_at : List Operation → ℕ → ℕ
+return_at operations place = option_map_or (λ o. o.ret) (slice_get operations place) 0
 
 -- the place is that of a dequeue of this value; there is none only where the value was never dequeued
 abbrev pub IsDequeuePlace : List Operation → ℕ → Option ℕ → Type 0
