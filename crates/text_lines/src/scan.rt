@@ -1,5 +1,5 @@
 //! What stands at the front of some bytes, found in one pass.
-ghost use Rattle.std.specs.Prelude.{◌≡◌, ◌^◌, ◌<◌, ◌≤◌, ◌++◌, length, IfSome, IfNone, List, ℕ, decimal, false, true, take, slice_index};
+ghost use Rattle.std.specs.Prelude.{◌≡◌, ◌+◌, ◌^◌, ◌<◌, ◌≤◌, ◌++◌, length, IfSome, IfNone, List, ℕ, decimal, false, true, take, drop, slice_index};
 ghost use Rattle.std.specs.Bool.{MatchBool};
 ghost use Rattle.std.specs.Str.Parse.{digits_value};
 ghost use Rattle.text_lines.specs.Lines.{begins_with_digit};
@@ -69,6 +69,21 @@ pub fn after_word<'a>(bytes: &'a [u8], word: &[u8]) -> Option<&'a [u8]>
         return None;
     }
     Some(rest)
+}
+
+/// Returns the place after the word that stands at this place. A word of eight bytes is compared at once.
+#[inline(always)]
+pub fn after_word_at(bytes: &[u8], at: usize, word: &[u8]) -> Option<usize>
+    requires { at + length word.now ≤ length bytes.now }
+    ensures rest { IfSome result (λ end. drop at bytes.now ≡ word.now ++ drop end bytes.now) }
+    ensures end { IfSome result (λ end. end ≡ at + length word.now) }
+    ensures none { IfNone result ((rest : List ℕ) → drop at bytes.now ≡ word.now ++ rest → ⊥) }
+{
+    let end = at + word.len();
+    if !is_same(&bytes[at..end], word) {
+        return None;
+    }
+    Some(end)
 }
 
 /// Whether the bytes are those of the word.
