@@ -1,67 +1,85 @@
 -- Digits that are read eight at a time.
-use Rattle.std.proofs.Common.{◌≡◌, ℕ, ◌+◌, ◌*◌, ◌^◌, ◌<◌, ◌≤◌, List, ◌++◌, length, take, drop, get_or, arith, ap, sym, subst, ◌∙◌, refl}
+use Rattle.std.proofs.Common.{◌≡◌, ℕ, ◌+◌, ◌-◌, ◌*◌, ◌/◌, ◌%◌, ◌^◌, ◌<◌, ◌≤◌, List, ◌++◌, length, take, drop, get_or, arith, ap, sym, ◌∙◌, refl}
 use Rattle.std.proofs.Common.{length-drop, add-zero}
-use Rattle.std.specs.Prelude.{decimal}
 use Rattle.std.specs.Char.{is_ascii_digit}
-use Rattle.std.specs.List.{list_all, prefix_len}
+use Rattle.std.specs.List.{list_all}
 use Rattle.std.specs.Str.Parse.{digits_value}
 use Rattle.std.proofs.Math.Seq.{take-add}
 use Rattle.std.proofs.lemmas.List.{length-take-le, take-take, take_rest, drop-drop, get_or-drop}
 use Rattle.std.proofs.lemmas.List.Folds.{list_all-append}
+use Rattle.std.specs.Prelude.{bit_xor, decimal}
+use lib.Bits.{xor_lt}
+use lib.Count.{count_trailing_zeros}
+use lib.Lanes.{number_l}
+use Rattle.core.specs.Slice.Scan.{little_endian}
+use Rattle.core.specs.Dec2flt.Digits.{IsEightBytes}
+use Rattle.core.specs.Float.Numeral.{digits_len}
+use Rattle.core.proofs.dec2flt.Eight.{eight_at, word_at, lanes_are, all_digits, first_other, shifted_is}
 use Rattle.core.proofs.dec2flt.DigitsLemmas.{digits_value-append}
-use Rattle.text_lines.specs.Inner.Digits.{IsDigitsSoFar}
+use Rattle.text_lines.specs.Inner.Digits.{IsDigitsSoFar, AreFlagsFromTen, IsValueOfEight}
 use Rattle.text_lines.proofs.Digits.{digits_front_is}
-use Rattle.text_lines.proofs.Scanning.{few_in_range, number_stands}
+use Rattle.text_lines.proofs.Scanning.{number_stands}
 
--- the digits that begin eight bytes
-pub digits_of_eight : (bytes : List ℕ) (count value : ℕ) → 8 ≤ length bytes → count ≡ prefix_len is_ascii_digit (take 8 bytes)
-    → value ≡ digits_value 10 (take count (take 8 bytes)) → IsDigitsSoFar bytes count value
-digits_of_eight bytes count value long count_is value_is =
-    let so_far = (digits_front_is (take 8 bytes) count _ count_is refl).so_far in
-    let eight = length-take-le 8 bytes long in
-    let few : count ≤ 8 = omega (arith, so_far.within, eight) in
-    let same : take count (take 8 bytes) ≡ take count bytes = take-take count 8 bytes few in
-    record {
-      within = omega (arith, few, long);
-      digits = sym (ap (list_all is_ascii_digit) same) ∙ so_far.digits;
-      value_is = value_is ∙ ap (digits_value 10) same;
-    }
+-- eight bytes at a place, and the word of what they are above the digit 0
+module _ (bytes : List ℕ) (at word : ℕ) (fits : (place : ℕ) → get_or bytes place 0 < 256) (room : at + 8 ≤ length bytes) (is : word ≡ little_endian bytes at) where
+  abbrev front : List ℕ
+  front = take 8 (drop at bytes)
 
--- with the digits that follow them
-pub digits_and_more : (bytes : List ℕ) (count more value next : ℕ) → IsDigitsSoFar bytes count value → IsDigitsSoFar (drop count bytes) more next
-    → IsDigitsSoFar bytes (count + more) (value * 10 ^ more + next)
-digits_and_more bytes count more value next first last =
-    let all = take-add count more bytes in
-    let long : length (take more (drop count bytes)) ≡ more = length-take-le more (drop count bytes) last.within in
+  abbrev lanes : ℕ
+  lanes = bit_xor word 0x3030_3030_3030_3030
+
+  eight : IsEightBytes front
+  eight = eight_at bytes at fits room
+
+  word_is : word ≡ number_l 256 front
+  word_is = is ∙ word_at bytes at room
+
+  -- the value of the first digits is that of the word when they are moved up
+  digits_by : (count moved value : ℕ) → count ≡ digits_len front → moved ≡ lanes * 256 ^ (8 - count) % 2 ^ 64 → IsValueOfEight moved value
+      → IsDigitsSoFar (drop at bytes) count value
+  digits_by count moved value count_is moved_is told =
+      let so_far = (digits_front_is front count _ count_is refl).so_far in
+      let few : count ≤ 8 = omega (arith, so_far.within, eight.0) in
+      let same : take count front ≡ take count (drop at bytes) = take-take count 8 (drop at bytes) few in
+      let by_lanes = moved_is ∙ ap (λ (w : ℕ). w * 256 ^ (8 - count) % 2 ^ 64) (lanes_are front word eight word_is) in
+      let found = shifted_is front count moved eight (omega (arith, count_is)) few by_lanes in
+      record {
+        within = omega (arith, few, room, length-drop at bytes);
+        digits = sym (ap (list_all is_ascii_digit) same) ∙ so_far.digits;
+        value_is = told found.0 found.1 found.2 ∙ found.3 ∙ ap (digits_value 10) same;
+      }
+
+  module _ (flags : ℕ) (flagged : AreFlagsFromTen lanes flags) where
+    -- no byte is flagged
+    pub all_eight : (value : ℕ) → word < 2 ^ 64 → flags ≡ 0 → IsValueOfEight lanes value → IsDigitsSoFar (drop at bytes) 8 value
+    all_eight value small none =
+        let lanes_fit = xor_lt 64 word 0x3030_3030_3030_3030 small (omega arith) in
+        digits_by 8 lanes value (sym (all_digits front word eight word_is flags flagged none)) (omega (arith, lanes_fit))
+
+    -- the first byte that is flagged ends the digits
+    pub first_of_eight : (count moved value : ℕ) → 0 < flags → count ≡ count_trailing_zeros 64 flags / 8 → moved ≡ lanes * 256 ^ (8 - count) % 2 ^ 64
+        → IsValueOfEight moved value → IsDigitsSoFar (drop at bytes) count value
+    first_of_eight count moved value some count_is =
+        digits_by count moved value (count_is ∙ sym (first_other front word eight word_is flags flagged some).0)
+
+-- digits at a place, with those that follow them
+pub more_digits : (bytes : List ℕ) (at count more value next : ℕ) → IsDigitsSoFar (drop at bytes) count value → IsDigitsSoFar (drop (at + count) bytes) more next
+    → IsDigitsSoFar (drop at bytes) (count + more) (value * 10 ^ more + next)
+more_digits bytes at count more value next first behind =
+    let last = rw (← drop-drop count at bytes) at behind in
+    let rest = drop at bytes in
+    let all = take-add count more rest in
+    let long : length (take more (drop count rest)) ≡ more = length-take-le more (drop count rest) last.within in
     record {
-      within = omega (arith, first.within, last.within, length-drop count bytes);
+      within = omega (arith, first.within, last.within, length-drop count rest);
       digits = rw (all, list_all-append, first.digits, last.digits) refl;
       value_is = rw (all, digits_value-append, long, ← first.value_is, ← last.value_is) refl;
     }
 
--- digits whose value is in range
-pub record AreFewDigits (bytes : List ℕ) (count value : ℕ) : Type 0 where
-  pub so_far : IsDigitsSoFar bytes count value
-  pub fits : value < 2 ^ 64
-
--- up to 19 digits, with those that follow the first ones at their place
-pub few_digits : (bytes : List ℕ) (at count more value next power : ℕ) → IsDigitsSoFar (drop at bytes) count value
-    → IsDigitsSoFar (drop (at + count) bytes) more next → power ≡ 10 ^ more → count + more ≤ 19
-    → AreFewDigits (drop at bytes) (count + more) (value * power + next)
-few_digits bytes at count more value next power first last power_is few =
-    let there : IsDigitsSoFar (drop count (drop at bytes)) more next =
-    subst (λ (rest : List ℕ). IsDigitsSoFar rest more next) (sym (drop-drop count at bytes)) last in
-    let all : IsDigitsSoFar (drop at bytes) (count + more) (value * power + next) =
-    rw power_is (digits_and_more (drop at bytes) count more value next first there) in
-    let small = few_in_range (drop at bytes) (count + more) all.within all.digits few in
-    record { so_far = all; fits = omega (arith, all.value_is, small) }
-
 -- digits without a leading zero are the number at their place
-pub number_stands_at : (bytes : List ℕ) (at count value : ℕ) → IsDigitsSoFar (drop at bytes) count value → count ≤ 19 → 0 < count
+pub number_stands_at : (bytes : List ℕ) (at count value : ℕ) → IsDigitsSoFar (drop at bytes) count value → value < 2 ^ 64 → 0 < count
     → (1 < count → get_or bytes at 0 ≡ 48 → ⊥) → drop at bytes ≡ decimal value ++ drop (at + count) bytes
-number_stands_at bytes at count value so_far few some lead =
-    let small = few_in_range (drop at bytes) count so_far.within so_far.digits few in
-    let first : get_or (drop at bytes) 0 0 ≡ get_or bytes at 0 =
-    get_or-drop at bytes 0 0 ∙ ap (λ (place : ℕ). get_or bytes place 0) (add-zero at) in
-    number_stands (drop at bytes) count value so_far some (λ many zero. lead many (sym first ∙ zero)) (omega (arith, so_far.value_is, small))
+number_stands_at bytes at count value so_far small some lead =
+    let first : get_or (drop at bytes) 0 0 ≡ get_or bytes at 0 = get_or-drop at bytes 0 0 ∙ ap (λ (place : ℕ). get_or bytes place 0) (add-zero at) in
+    number_stands (drop at bytes) count value so_far some (λ many zero. lead many (sym first ∙ zero)) small
     ∙ ap (λ (rest : List ℕ). decimal value ++ rest) (take_rest (drop at bytes) count ∙ drop-drop count at bytes)

@@ -1,15 +1,9 @@
 //! Numbers whose digits are read eight at a time.
-ghost use Rattle.std.specs.Prelude.{◌≡◌, ℕ, ◌+◌, ◌-◌, ◌*◌, ◌^◌, ◌%◌, ◌<◌, ◌≤◌, ◌++◌, List, length, drop, nat_le, decimal, IfSome};
-ghost use Rattle.core.specs.Slice.Scan.{little_endian, digits_from, flag_word};
-ghost use Rattle.core.specs.Dec2flt.Digits.{IsEightDigits};
-ghost use Rattle.core.specs.Int.Digits.{number_from_digits};
-ghost use Rattle.text_lines.specs.Inner.Digits.{IsDigitsSoFar};
-ghost use lib.Lanes.{number_l};
+ghost use Rattle.std.specs.Prelude.{◌≡◌, ◌+◌, ◌-◌, ◌*◌, ◌^◌, ◌%◌, ◌<◌, ◌≤◌, ◌++◌, length, drop, decimal, IfSome};
+ghost use Rattle.core.specs.Slice.Scan.{little_endian};
+ghost use Rattle.text_lines.specs.Inner.Digits.{IsDigitsSoFar, AreFlagsFromTen, IsValueOfEight};
 
 use core::dec2flt::ten_to;
-
-/// As many digits are in range, whatever they are.
-const MOST_DIGITS: usize = 19;
 
 /// Returns the eight bytes at this place as one number, the first of them as its lowest byte.
 #[inline(always)]
@@ -17,22 +11,13 @@ fn eight_at(bytes: &[u8], at: usize) -> u64
     requires { at + 8 ≤ length bytes.now }
     ensures { result ≡ little_endian bytes.now at }
 {
-    u64::from_le_bytes([
-        bytes[at],
-        bytes[at + 1],
-        bytes[at + 2],
-        bytes[at + 3],
-        bytes[at + 4],
-        bytes[at + 5],
-        bytes[at + 6],
-        bytes[at + 7],
-    ])
+    u64::from_le_bytes(*bytes[at..].first_chunk().unwrap())
 }
 
 /// Returns the high bit of each byte that is 10 or more. No sum carries into the next byte.
 #[inline(always)]
 fn flags_from_ten(word: u64) -> u64
-    ensures { (byte : ℕ → ℕ) → ((k : ℕ) → byte k < 256) → word ≡ digits_from byte 0 8 → result ≡ flag_word (λ k. nat_le 10 (byte k)) }
+    ensures { AreFlagsFromTen word result }
 {
     ((word & 0x7f7f_7f7f_7f7f_7f7f) + 0x7676_7676_7676_7676 | word) & 0x8080_8080_8080_8080
 }
@@ -50,7 +35,7 @@ fn move_up(word: u64, count: u32) -> u64
 /// Returns the number that eight digits make, the first of them in the lowest byte.
 #[inline(always)]
 fn value_of_eight(word: u64) -> u64
-    ensures { (digits : List ℕ) → IsEightDigits digits → word ≡ number_l 256 digits → result ≡ number_from_digits 10 digits }
+    ensures { IsValueOfEight word result }
 {
     let pairs = word.wrapping_mul(10).wrapping_add(word >> 8);
     let first = (pairs & 0x0000_00ff_0000_00ff).wrapping_mul(100 + (1_000_000 << 32));
@@ -74,29 +59,26 @@ fn eight_digits_at(bytes: &[u8], at: usize) -> (usize, u64)
     (count as usize, value_of_eight(move_up(word, count)))
 }
 
-/// Reads up to eight more digits after these at a place. Returns how many they all are, and their value, if they are
-/// at most 19.
+/// Reads up to eight more digits after these at a place. Returns how many they all are, and their value, if that is in
+/// range.
 #[inline(always)]
 fn more_digits_at(bytes: &[u8], at: usize, count: usize, value: u64) -> Option<(usize, u64)>
     requires room { at + count + 8 ≤ length bytes.now }
     requires so_far { IsDigitsSoFar (drop at bytes.now) count value }
     ensures digits { IfSome result (λ p. IsDigitsSoFar (drop at bytes.now) p.0 p.1) }
-    ensures few { IfSome result (λ p. p.0 ≤ 19) }
     ensures most { IfSome result (λ p. p.0 ≤ count + 8) }
 {
     let (more, next) = eight_digits_at(bytes, at + count);
-    if count + more > MOST_DIGITS {
-        return None;
-    }
-    Some((count + more, value * ten_to(more as u64) + next))
+    let value = value.checked_mul(ten_to(more as u64))?.checked_add(next)?;
+    Some((count + more, value))
 }
 
-/// Returns how many digits stand at this place, and their value, if they are at most 19.
+/// Returns how many digits stand at this place, up to 24, and their value, if that is in range.
 #[inline(always)]
 fn digits_at(bytes: &[u8], at: usize) -> Option<(usize, u64)>
     requires { at + 24 ≤ length bytes.now }
     ensures digits { IfSome result (λ p. IsDigitsSoFar (drop at bytes.now) p.0 p.1) }
-    ensures few { IfSome result (λ p. p.0 ≤ 19) }
+    ensures most { IfSome result (λ p. p.0 ≤ 24) }
 {
     let (count, value) = eight_digits_at(bytes, at);
     if count < 8 {
@@ -111,13 +93,12 @@ fn digits_at(bytes: &[u8], at: usize) -> Option<(usize, u64)>
 
 /// Returns the number at this place, and the place after its digits.
 ///
-/// It reads each number of at most 19 digits, and may refuse a longer one. Room for more digits than those lets it
-/// read eight at a time.
+/// Room for more digits than a number has lets it read eight at a time.
 #[inline(always)]
 pub fn number_at(bytes: &[u8], at: usize) -> Option<(u64, usize)>
     requires { at + 24 ≤ length bytes.now }
     ensures number { IfSome result (λ p. drop at bytes.now ≡ decimal p.0 ++ drop p.1 bytes.now) }
-    ensures end { IfSome result (λ p. p.1 ≤ at + 19) }
+    ensures end { IfSome result (λ p. p.1 ≤ at + 24) }
 {
     let (count, value) = digits_at(bytes, at)?;
     if count == 0 {

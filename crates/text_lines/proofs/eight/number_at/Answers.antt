@@ -9,4 +9,4 @@ returns-clause-number c =
       | else-count-gt1-via-then-count-gt1+else-bytes-at-eq48 w ↦ λ many zero. w.if-bytes-at-eq48.false zero
       | else-count-gt1-via-else-count-gt1 w ↦ λ many zero. let few = w.if-count-gt1.false in absurd (omega (arith, few, many))
     ] in
-    number_stands_at c.args.bytes.now c.args.at c.in_ok-count.count c.in_ok-count.value c.in_ok-count.ensures.digits c.in_ok-count.ensures.few (omega arith) lead
+    number_stands_at c.args.bytes.now c.args.at c.in_ok-count.count c.in_ok-count.value c.in_ok-count.ensures.digits (omega arith) (omega arith) lead
