@@ -5,7 +5,7 @@ ghost use Rattle.history_text.specs.Histories as wanted;
 ghost use Rattle.history_text.specs.Histories.{event_line, what_fields, HasValueInRange, HasEventLine, event_format};
 ghost use Rattle.std.proofs.Common.{lit≤};
 
-use crate::item::Item;
+use crate::item::{Item, ROOM};
 use event_records::{Event, MAX_EVENTS, MAX_THREAD, MAX_TICKET, What};
 use text_lines::{Field, NumberFields, TextFault, after_word_at, number_at};
 
@@ -26,9 +26,6 @@ pub(crate) const VALUE: Field = Field::Number {
     least: 0,
     greatest: u64::MAX,
 };
-
-/// As many bytes have room for all that is read at once of a line.
-const ROOM_FOR_AN_EVENT: usize = 64;
 
 /// The forms of the lines of events, and what each form stands for, with 0 as the value.
 const EVENT_FORMS: [(What, &[Field]); 6] = [
@@ -108,7 +105,6 @@ fn thread_at(bytes: &[u8], at: usize) -> Option<(u8, usize)>
 fn what_at(bytes: &[u8], at: usize) -> Option<(What, usize)>
     requires { at + 34 ≤ length bytes.now }
     ensures what { IfSome result (λ p. (drop at bytes.now ≡ line (spaced (what_fields p.0)) ++ drop p.1 bytes.now) × HasValueInRange p.0) }
-    ensures end { IfSome result (λ p. p.1 ≤ length bytes.now) }
 {
     if let Some(at) = after_word_at(bytes, at, b"call-enq") {
         let at = after_word_at(bytes, at, b" ")?;
@@ -136,12 +132,13 @@ fn what_at(bytes: &[u8], at: usize) -> Option<(What, usize)>
     Some((What::RetEmpty, at))
 }
 
-/// Returns the event whose line stands at the front, and the place after it.
+/// Returns the event whose line stands whole at the front, and the place after it.
+///
+/// It reads each right line and no wrong one. `event_in` judges what it doesn't read.
 #[inline(always)]
-fn event_with_room(bytes: &[u8]) -> Option<(Event, usize)>
-    requires { ROOM_FOR_AN_EVENT ≤ length bytes.now }
-    ensures event { IfSome result (λ p. (bytes.now ≡ event_line p.0 ++ drop p.1 bytes.now) × HasEventLine p.0) }
-    ensures end { IfSome result (λ p. p.1 ≤ length bytes.now) }
+fn event_front(bytes: &[u8]) -> Option<(Event, usize)>
+    requires { ROOM ≤ length bytes.now }
+    ensures { IfSome result (λ p. (bytes.now ≡ event_line p.0 ++ drop p.1 bytes.now) × HasEventLine p.0) }
 {
     let (ticket, at) = number_at(bytes, 0)?;
     if ticket > MAX_TICKET {
@@ -156,37 +153,6 @@ fn event_with_room(bytes: &[u8]) -> Option<(Event, usize)>
         what,
     };
     Some((event, at))
-}
-
-/// Does the same with few bytes, in a copy that has room.
-#[inline(never)]
-fn event_without_room(bytes: &[u8]) -> Option<(Event, usize)>
-    requires { length bytes.now ≤ ROOM_FOR_AN_EVENT }
-    ensures event { IfSome result (λ p. (bytes.now ≡ event_line p.0 ++ drop p.1 bytes.now) × HasEventLine p.0) }
-    ensures end { IfSome result (λ p. p.1 ≤ length bytes.now) }
-{
-    let mut copy = [0; ROOM_FOR_AN_EVENT];
-    copy[..bytes.len()].copy_from_slice(bytes);
-    let (event, end) = event_with_room(&copy)?;
-    if end > bytes.len() {
-        return None;
-    }
-    Some((event, end))
-}
-
-/// Returns the event whose line stands whole at the front, and the bytes after it.
-///
-/// It reads most right lines and no wrong one. `event_in` judges what it doesn't read.
-#[inline(always)]
-fn event_front(bytes: &[u8]) -> Option<(Event, &[u8])>
-    ensures { IfSome result (λ p. (bytes.now ≡ event_line p.0 ++ p.1.now) × HasEventLine p.0) }
-{
-    let (event, end) = if bytes.len() >= ROOM_FOR_AN_EVENT {
-        event_with_room(bytes)?
-    } else {
-        event_without_room(bytes)?
-    };
-    Some((event, &bytes[end..]))
 }
 
 impl Item for Event {
@@ -207,7 +173,7 @@ impl Item for Event {
     }
 
     #[inline(always)]
-    fn at_front(bytes: &[u8]) -> Option<(Event, &[u8])> {
+    fn at_front(bytes: &[u8]) -> Option<(Event, usize)> {
         event_front(bytes)
     }
 }
