@@ -1,5 +1,5 @@
 -- Digits that are read eight at a time.
-use Rattle.std.proofs.Common.{◌≡◌, ℕ, ◌+◌, ◌-◌, ◌*◌, ◌/◌, ◌%◌, ◌^◌, ◌<◌, ◌≤◌, List, ◌++◌, length, take, drop, get_or, arith, ap, sym, ◌∙◌, refl}
+use Rattle.std.proofs.Common.{◌≡◌, ℕ, ◌+◌, ◌*◌, ◌^◌, ◌<◌, ◌≤◌, List, ◌++◌, length, take, drop, get_or, arith, ap, sym, ◌∙◌, refl}
 use Rattle.std.proofs.Common.{length-drop, add-zero}
 use Rattle.std.specs.Char.{is_ascii_digit}
 use Rattle.std.specs.List.{list_all}
@@ -7,60 +7,28 @@ use Rattle.std.specs.Str.Parse.{digits_value}
 use Rattle.std.proofs.Math.Seq.{take-add}
 use Rattle.std.proofs.lemmas.List.{length-take-le, take-take, take_rest, drop-drop, get_or-drop}
 use Rattle.std.proofs.lemmas.List.Folds.{list_all-append}
-use Rattle.std.specs.Prelude.{bit_xor, decimal}
-use lib.Bits.{xor_lt}
-use lib.Count.{count_trailing_zeros}
-use lib.Lanes.{number_l}
-use Rattle.core.specs.Slice.Scan.{little_endian}
-use Rattle.core.specs.Dec2flt.Digits.{IsEightBytes}
-use Rattle.core.specs.Float.Numeral.{digits_len}
-use Rattle.core.proofs.dec2flt.Eight.{eight_at, word_at, lanes_are, all_digits, first_other, shifted_is}
+use Rattle.std.specs.Prelude.{decimal}
 use Rattle.core.proofs.dec2flt.DigitsLemmas.{digits_value-append}
-use Rattle.text_lines.specs.Inner.Digits.{IsDigitsSoFar, AreFlagsFromTen, IsValueOfEight}
-use Rattle.text_lines.proofs.Digits.{digits_front_is}
-use Rattle.text_lines.proofs.Scanning.{number_stands}
+use Rattle.text_lines.specs.Inner.Digits.{AreDigitsFront, IsDigitsSoFar}
+use Rattle.text_lines.proofs.Scanning.{few_in_range, number_stands}
 
--- eight bytes at a place, and the word of what they are above the digit 0
-module _ (bytes : List ℕ) (at word : ℕ) (fits : (place : ℕ) → get_or bytes place 0 < 256) (room : at + 8 ≤ length bytes) (is : word ≡ little_endian bytes at) where
-  abbrev front : List ℕ
-  front = take 8 (drop at bytes)
-
-  abbrev lanes : ℕ
-  lanes = bit_xor word 0x3030_3030_3030_3030
-
-  eight : IsEightBytes front
-  eight = eight_at bytes at fits room
-
-  word_is : word ≡ number_l 256 front
-  word_is = is ∙ word_at bytes at room
-
-  -- the value of the first digits is that of the word when they are moved up
-  digits_by : (count moved value : ℕ) → count ≡ digits_len front → moved ≡ lanes * 256 ^ (8 - count) % 2 ^ 64 → IsValueOfEight moved value
-      → IsDigitsSoFar (drop at bytes) count value
-  digits_by count moved value count_is moved_is told =
-      let so_far = (digits_front_is front count _ count_is refl).so_far in
-      let few : count ≤ 8 = omega (arith, so_far.within, eight.0) in
-      let same : take count front ≡ take count (drop at bytes) = take-take count 8 (drop at bytes) few in
-      let by_lanes = moved_is ∙ ap (λ (w : ℕ). w * 256 ^ (8 - count) % 2 ^ 64) (lanes_are front word eight word_is) in
-      let found = shifted_is front count moved eight (omega (arith, count_is)) few by_lanes in
+-- the digits at the front of eight bytes at a place stand at that place
+pub digits_of_eight : (bytes : List ℕ) (at count value : ℕ) → at + 8 ≤ length bytes → AreDigitsFront (take 8 (drop at bytes)) count value
+    → IsDigitsSoFar (drop at bytes) count value × (count ≤ 8)
+digits_of_eight bytes at count value room front =
+    let rest = drop at bytes in
+    let long : length (take 8 rest) ≡ 8 = length-take-le 8 rest (omega (arith, length-drop at bytes)) in
+    let few : count ≤ 8 = omega (arith, long, front.so_far.within) in
+    let same : take count (take 8 rest) ≡ take count rest = take-take count 8 rest few in
+    let small = few_in_range (take 8 rest) count front.so_far.within front.so_far.digits (omega arith) in
+    let is : value ≡ digits_value 10 (take count (take 8 rest)) = omega (arith, front.value_is, small) in (
       record {
-        within = omega (arith, few, room, length-drop at bytes);
-        digits = sym (ap (list_all is_ascii_digit) same) ∙ so_far.digits;
-        value_is = told found.0 found.1 found.2 ∙ found.3 ∙ ap (digits_value 10) same;
-      }
-
-  module _ (flags : ℕ) (flagged : AreFlagsFromTen lanes flags) where
-    -- no byte is flagged
-    pub all_eight : (value : ℕ) → word < 2 ^ 64 → flags ≡ 0 → IsValueOfEight lanes value → IsDigitsSoFar (drop at bytes) 8 value
-    all_eight value small none =
-        let lanes_fit = xor_lt 64 word 0x3030_3030_3030_3030 small (omega arith) in
-        digits_by 8 lanes value (sym (all_digits front word eight word_is flags flagged none)) (omega (arith, lanes_fit))
-
-    -- the first byte that is flagged ends the digits
-    pub first_of_eight : (count moved value : ℕ) → 0 < flags → count ≡ count_trailing_zeros 64 flags / 8 → moved ≡ lanes * 256 ^ (8 - count) % 2 ^ 64
-        → IsValueOfEight moved value → IsDigitsSoFar (drop at bytes) count value
-    first_of_eight count moved value some count_is =
-        digits_by count moved value (count_is ∙ sym (first_other front word eight word_is flags flagged some).0)
+        within = omega (arith, length-drop at bytes);
+        digits = sym (ap (list_all is_ascii_digit) same) ∙ front.so_far.digits;
+        value_is = is ∙ ap (digits_value 10) same;
+      },
+      few,
+    )
 
 -- digits at a place, with those that follow them
 pub more_digits : (bytes : List ℕ) (at count more value next : ℕ) → IsDigitsSoFar (drop at bytes) count value → IsDigitsSoFar (drop (at + count) bytes) more next

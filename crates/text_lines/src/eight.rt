@@ -1,47 +1,9 @@
 //! Numbers whose digits are read eight at a time.
-ghost use Rattle.std.specs.Prelude.{◌≡◌, ◌+◌, ◌-◌, ◌*◌, ◌^◌, ◌%◌, ◌<◌, ◌≤◌, ◌++◌, length, drop, decimal, IfSome};
-ghost use Rattle.core.specs.Slice.Scan.{little_endian};
-ghost use Rattle.text_lines.specs.Inner.Digits.{IsDigitsSoFar, AreFlagsFromTen, IsValueOfEight};
+ghost use Rattle.std.specs.Prelude.{◌≡◌, ◌+◌, ◌≤◌, ◌++◌, length, drop, decimal, IfSome};
+ghost use Rattle.text_lines.specs.Inner.Digits.{IsDigitsSoFar};
 
+use crate::scan::digits_front;
 use core::dec2flt::ten_to;
-
-/// Returns the eight bytes at this place as one number, the first of them as its lowest byte.
-#[inline(always)]
-fn eight_at(bytes: &[u8], at: usize) -> u64
-    requires { at + 8 ≤ length bytes.now }
-    ensures { result ≡ little_endian bytes.now at }
-{
-    u64::from_le_bytes(*bytes[at..].first_chunk().unwrap())
-}
-
-/// Returns the high bit of each byte that is 10 or more. No sum carries into the next byte.
-#[inline(always)]
-fn flags_from_ten(word: u64) -> u64
-    ensures { AreFlagsFromTen word result }
-{
-    ((word & 0x7f7f_7f7f_7f7f_7f7f) + 0x7676_7676_7676_7676 | word) & 0x8080_8080_8080_8080
-}
-
-/// Moves the first bytes up to the end, and zeros in below them.
-#[inline(always)]
-fn move_up(word: u64, count: u32) -> u64
-    requires { count < 8 }
-    ensures { result ≡ word * 256 ^ (8 - count) % 2 ^ 64 }
-{
-    // Two shifts, as one may not be by 64.
-    word << (56 - 8 * count) << 8
-}
-
-/// Returns the number that eight digits make, the first of them in the lowest byte.
-#[inline(always)]
-fn value_of_eight(word: u64) -> u64
-    ensures { IsValueOfEight word result }
-{
-    let pairs = word.wrapping_mul(10).wrapping_add(word >> 8);
-    let first = (pairs & 0x0000_00ff_0000_00ff).wrapping_mul(100 + (1_000_000 << 32));
-    let second = ((pairs >> 16) & 0x0000_00ff_0000_00ff).wrapping_mul(1 + (10_000 << 32));
-    first.wrapping_add(second) >> 32
-}
 
 /// Returns how many digits stand at this place, up to eight, and their value.
 #[inline(always)]
@@ -50,13 +12,7 @@ fn eight_digits_at(bytes: &[u8], at: usize) -> (usize, u64)
     ensures digits { IsDigitsSoFar (drop at bytes.now) result.0 result.1 }
     ensures most { result.0 ≤ 8 }
 {
-    let word = eight_at(bytes, at) ^ 0x3030_3030_3030_3030;
-    let others = flags_from_ten(word);
-    if others == 0 {
-        return (8, value_of_eight(word));
-    }
-    let count = others.trailing_zeros() / 8;
-    (count as usize, value_of_eight(move_up(word, count)))
+    digits_front(&bytes[at..at + 8])
 }
 
 /// Reads up to eight more digits after these at a place. Returns how many they all are, and their value, if that is in

@@ -26,7 +26,7 @@ pub use forms::{Field, NumberFields, parse_line};
 pub use in_place::InPlace;
 pub use line::{LONGEST_LINE, Line};
 pub use memory::MemorySource;
-pub use scan::{after_word, after_word_at, number_front};
+pub use scan::after_word_at;
 pub use sink::{TextSink, WriteFault, write_piece};
 pub use source::{ReadFailed, TextSource, Watched};
 pub use write_buffer::{WriteBuffer, make_room};

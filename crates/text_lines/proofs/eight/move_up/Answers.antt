@@ -1,5 +1,0 @@
-use Rattle.core.proofs.dec2flt.Eight.{bytes_up}
-use Rattle.text_lines.proofs.eight.move_up.Goals as goal
-
-pub returns : goal.returns
-returns c = bytes_up c.args.word c.args.count c.requires
