@@ -11,7 +11,7 @@ fn eight_at(bytes: &[u8], at: usize) -> u64
     requires { at + 8 ≤ length bytes.now }
     ensures { result ≡ little_endian bytes.now at }
 {
-    u64::from_le_bytes(*bytes[at..].first_chunk().unwrap())
+    u64::from_le_bytes(*bytes[at..at + 8].first_chunk().unwrap())
 }
 
 /// Returns the high bit of each byte that is 10 or more. No sum carries into the next byte.
