@@ -3,7 +3,7 @@ use Rattle.std.proofs.Common.{◌≡◌, ℕ, ◌+◌, ◌-◌, ◌≤◌, ◌<�
 use Rattle.std.proofs.Common.{IfSome, IfOk, Ok, Err, append_assoc}
 use Rattle.std.specs.declared.result.Result.{Result}
 use Rattle.std.proofs.Common.{length-append, length-drop}
-use Rattle.std.proofs.Math.Seq.{take-add, take-append_seam}
+use Rattle.std.proofs.Math.Seq.{take-append-add}
 use Rattle.std.proofs.lemmas.List.{length-take-le, take_all, take-append-le, drop-drop}
 use Rattle.text_lines.specs.Input.{Ahead, Takes, ReadTakes}
 use Rattle.history_text.specs.Reading.{with_front, HasMore}
@@ -13,16 +13,15 @@ abbrev pub part : List ℕ → ℕ → ℕ → List ℕ
 part bytes at filled = take (filled - at) (drop at bytes)
 
 -- text that stands at a place, and ends within what is filled
-part_splits : (bytes : List ℕ) (at filled len : ℕ) (text : List ℕ) → len ≤ filled - at → filled ≤ length bytes → drop at bytes ≡ text ++ drop len (drop at bytes)
-    → part bytes at filled ≡ text ++ part bytes (at + len) filled
+part_splits : (bytes : List ℕ) (at filled len : ℕ) (text : List ℕ) → len ≤ filled - at → filled ≤ length bytes
+    → drop at bytes ≡ text ++ drop len (drop at bytes) → part bytes at filled ≡ text ++ part bytes (at + len) filled
 part_splits bytes at filled len text within fits is =
     let rest = drop at bytes in
-    let total : length rest ≡ length text + (length rest - len) = ap (λ (r : List ℕ). length r) is ∙ length-append text (drop len rest) ∙ ap (λ (n : ℕ). length text + n) (length-drop len rest) in
-    let long : len ≡ length text = omega (arith, total, length-drop at bytes, within, fits) in
-    let count : filled - at ≡ len + (filled - (at + len)) = omega (arith, within) in
-    let front : take len rest ≡ text = ap (λ (r : List ℕ). take len r) is ∙ ap (λ (n : ℕ). take n (text ++ drop len rest)) long ∙ take-append_seam text (drop len rest) in
-    ap (λ (n : ℕ). take n rest) count ∙ take-add len (filled - (at + len)) rest ∙ ap (λ (t : List ℕ). t ++ take (filled - (at + len)) (drop len rest)) front
-    ∙ ap (λ (r : List ℕ). text ++ take (filled - (at + len)) r) (drop-drop len at bytes)
+    let more = drop len rest in
+    let long = ap (λ (r : List ℕ). length r) is ∙ length-append text more in
+    let count : filled - at ≡ length text + (filled - (at + len)) =
+    omega (arith, long, length-drop len rest, length-drop at bytes, within, fits) in
+    ap (λ (r : List ℕ). take (filled - at) r) is ∙ rw (count, take-append-add, drop-drop) refl
 
 -- text at a place of the buffer is taken
 pub takes_from_buffer : (bytes : List ℕ) (at filled len room : ℕ) (text : List ℕ) (ahead : Option Ahead) → len ≤ filled - at → filled ≤ length bytes
