@@ -1,13 +1,13 @@
 //! The line of an event, judged by its form, or read in one pass.
-ghost use Rattle.std.specs.Prelude.{◌≡◌, ◌≤◌, ◌++◌, ◌∷◌, decimal, IfErr, IfSome, slice_index};
+ghost use Rattle.std.specs.Prelude.{◌≡◌, ◌+◌, ◌≤◌, ◌++◌, ◌∷◌, length, drop, decimal, IfErr, IfSome, slice_index};
 ghost use Rattle.text_lines.specs.Lines.{IsLineFault, fields_of, line, spaced};
 ghost use Rattle.history_text.specs.Histories as wanted;
 ghost use Rattle.history_text.specs.Histories.{event_line, what_fields, HasValueInRange, HasEventLine, event_format};
 ghost use Rattle.std.proofs.Common.{lit≤};
 
-use crate::item::Item;
+use crate::item::{Item, ROOM};
 use event_records::{Event, MAX_EVENTS, MAX_THREAD, MAX_TICKET, What};
-use text_lines::{Field, NumberFields, TextFault, after_word, number_front};
+use text_lines::{Field, NumberFields, TextFault, after_word_at, number_at};
 
 /// A ticket in a line.
 pub(crate) const TICKET: Field = Field::Number {
@@ -75,83 +75,84 @@ fn event_in(line: u64, bytes: &[u8]) -> Result<Event, TextFault>
     Ok(event_of(what, &numbers))
 }
 
-/// Returns the thread at the front, and the bytes after the space that follows it.
+/// Returns the thread at this place, and the place after the space that follows it.
 #[inline(always)]
-fn thread_front(bytes: &[u8]) -> Option<(u8, &[u8])>
-    ensures { IfSome result (λ p. (bytes.now ≡ decimal p.0 ++ 32 ∷ p.1.now) × (p.0 ≤ MAX_THREAD)) }
+fn thread_at(bytes: &[u8], at: usize) -> Option<(u8, usize)>
+    requires { at + 3 ≤ length bytes.now }
+    ensures thread { IfSome result (λ p. (drop at bytes.now ≡ decimal p.0 ++ 32 ∷ drop p.1 bytes.now) × (p.0 ≤ MAX_THREAD)) }
+    ensures end { IfSome result (λ p. p.1 ≤ at + 3) }
 {
-    if bytes.len() < 3 {
-        return None;
+    let first = bytes[at].wrapping_sub(b'0');
+    if bytes[at + 1] == b' ' && first < 10 {
+        return Some((first, at + 2));
     }
-    let first = bytes[0].wrapping_sub(b'0');
-    if bytes[1] == b' ' && first < 10 {
-        return Some((first, &bytes[2..]));
-    }
-    let second = bytes[1].wrapping_sub(b'0');
-    if bytes[2] != b' ' || first == 0 || first > 6 || second > 9 {
+    let second = bytes[at + 1].wrapping_sub(b'0');
+    if bytes[at + 2] != b' ' || first == 0 || first > 6 || second > 9 {
         return None;
     }
     let thread = first * 10 + second;
     if thread > MAX_THREAD {
         return None;
     }
-    Some((thread, &bytes[3..]))
+    Some((thread, at + 3))
 }
 
-/// Returns what a thread called or the queue answered, if its words and a line feed stand at the front, and the bytes
+/// Returns what a thread called or the queue answered, if its words and a line feed stand at this place, and the place
 /// after them.
 ///
 /// Eight bytes are compared at once.
 #[inline(always)]
-fn what_front(bytes: &[u8]) -> Option<(What, &[u8])>
-    ensures { IfSome result (λ p. (bytes.now ≡ line (spaced (what_fields p.0)) ++ p.1.now) × HasValueInRange p.0) }
+fn what_at(bytes: &[u8], at: usize) -> Option<(What, usize)>
+    requires { at + 34 ≤ length bytes.now }
+    ensures what { IfSome result (λ p. (drop at bytes.now ≡ line (spaced (what_fields p.0)) ++ drop p.1 bytes.now) × HasValueInRange p.0) }
 {
-    if let Some(rest) = after_word(bytes, b"call-enq") {
-        let rest = after_word(rest, b" ")?;
-        let (value, rest) = number_front(rest)?;
-        let rest = after_word(rest, b"\n")?;
-        return Some((What::CallEnq(value), rest));
+    if let Some(at) = after_word_at(bytes, at, b"call-enq") {
+        let at = after_word_at(bytes, at, b" ")?;
+        let (value, at) = number_at(bytes, at)?;
+        let at = after_word_at(bytes, at, b"\n")?;
+        return Some((What::CallEnq(value), at));
     }
-    if let Some(rest) = after_word(bytes, b"ret-enq\n") {
-        return Some((What::RetEnq, rest));
+    if let Some(at) = after_word_at(bytes, at, b"ret-enq\n") {
+        return Some((What::RetEnq, at));
     }
-    if let Some(rest) = after_word(bytes, b"call-deq") {
-        let rest = after_word(rest, b"\n")?;
-        return Some((What::CallDeq, rest));
+    if let Some(at) = after_word_at(bytes, at, b"call-deq") {
+        let at = after_word_at(bytes, at, b"\n")?;
+        return Some((What::CallDeq, at));
     }
-    if let Some(rest) = after_word(bytes, b"ret-deq ") {
-        let (value, rest) = number_front(rest)?;
-        let rest = after_word(rest, b"\n")?;
-        return Some((What::RetDeq(value), rest));
+    if let Some(at) = after_word_at(bytes, at, b"ret-deq ") {
+        let (value, at) = number_at(bytes, at)?;
+        let at = after_word_at(bytes, at, b"\n")?;
+        return Some((What::RetDeq(value), at));
     }
-    if let Some(rest) = after_word(bytes, b"ret-not\n") {
-        return Some((What::RetNot, rest));
+    if let Some(at) = after_word_at(bytes, at, b"ret-not\n") {
+        return Some((What::RetNot, at));
     }
-    let rest = after_word(bytes, b"ret-empt")?;
-    let rest = after_word(rest, b"y\n")?;
-    Some((What::RetEmpty, rest))
+    let at = after_word_at(bytes, at, b"ret-empt")?;
+    let at = after_word_at(bytes, at, b"y\n")?;
+    Some((What::RetEmpty, at))
 }
 
-/// Returns the event whose line stands whole at the front, and the bytes after it.
+/// Returns the event whose line stands whole at the front, and the place after it.
 ///
-/// It reads most right lines and no wrong one. `event_in` judges what it doesn't read.
+/// It reads each right line and no wrong one. `event_in` judges what it doesn't read.
 #[inline(always)]
-fn event_front(bytes: &[u8]) -> Option<(Event, &[u8])>
-    ensures { IfSome result (λ p. (bytes.now ≡ event_line p.0 ++ p.1.now) × HasEventLine p.0) }
+fn event_front(bytes: &[u8]) -> Option<(Event, usize)>
+    requires { ROOM ≤ length bytes.now }
+    ensures { IfSome result (λ p. (bytes.now ≡ event_line p.0 ++ drop p.1 bytes.now) × HasEventLine p.0) }
 {
-    let (ticket, rest) = number_front(bytes)?;
+    let (ticket, at) = number_at(bytes, 0)?;
     if ticket > MAX_TICKET {
         return None;
     }
-    let rest = after_word(rest, b" ")?;
-    let (thread, rest) = thread_front(rest)?;
-    let (what, rest) = what_front(rest)?;
+    let at = after_word_at(bytes, at, b" ")?;
+    let (thread, at) = thread_at(bytes, at)?;
+    let (what, at) = what_at(bytes, at)?;
     let event = Event {
         ticket,
         thread,
         what,
     };
-    Some((event, rest))
+    Some((event, at))
 }
 
 impl Item for Event {
@@ -172,7 +173,7 @@ impl Item for Event {
     }
 
     #[inline(always)]
-    fn at_front(bytes: &[u8]) -> Option<(Event, &[u8])> {
+    fn at_front(bytes: &[u8]) -> Option<(Event, usize)> {
         event_front(bytes)
     }
 }

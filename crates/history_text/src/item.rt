@@ -1,5 +1,5 @@
 //! What texts list: events, steps or operations, one in each line.
-ghost use Rattle.std.specs.Prelude.{◌≡◌, ◌≤◌, ◌&&◌, ◌++◌, IfOk, IfErr, IfSome};
+ghost use Rattle.std.specs.Prelude.{◌≡◌, ◌≤◌, ◌&&◌, ◌++◌, length, drop, IfOk, IfErr, IfSome};
 ghost use Rattle.event_records.specs.declared.limits.TheConstants.{MAX_EVENTS};
 ghost use Rattle.text_lines.specs.Lines.{IsLineFault, fields_of, begins_as_end};
 ghost use Rattle.history_text.specs.Items as wanted;
@@ -7,6 +7,9 @@ ghost use Rattle.history_text.specs.Items.{Format, line_of};
 ghost use Rattle.history_text.specs.Inner.Taking.{IsSpelled, IsItemLine};
 
 use text_lines::{TextFault, end_in};
+
+/// As many bytes have room for all that is read at once of a line, and nothing is looked for behind them.
+pub(crate) const ROOM: usize = 64;
 
 /// What a line of a text stands for.
 pub(crate) trait Item: Drop {
@@ -27,11 +30,12 @@ pub(crate) trait Item: Drop {
         ensures of_line { IfErr result IsLineFault }
         ensures spelled { IfOk result (IsSpelled format (fields_of bytes.now)) };
 
-    /// Returns the item whose line stands whole at the front, and the bytes after it.
+    /// Returns the item whose line stands whole at the front, and the place after it.
     ///
     /// It may read some right lines, and reads no wrong one. `from_line` judges what it doesn't read.
-    fn at_front(bytes: &[u8]) -> Option<(Self, &[u8])>
-        ensures { IfSome result (λ p. (bytes.now ≡ line_of format p.0 ++ p.1.now) × format.HasLine p.0) }
+    fn at_front(bytes: &[u8]) -> Option<(Self, usize)>
+        requires { ROOM ≤ length bytes.now }
+        ensures { IfSome result (λ p. (bytes.now ≡ line_of format p.0 ++ drop p.1 bytes.now) × format.HasLine p.0) }
     {
         let _ = bytes;
         None

@@ -4,7 +4,7 @@ ghost use Rattle.std.specs.Prelude.{option_to_list, is_err, not, Err, Ok, length
 ghost use Rattle.event_records.specs.declared.limits.TheConstants.{MAX_INITIAL};
 ghost use Rattle.verdicts.specs.declared.verifying.Claimed.{Claimed};
 ghost use Rattle.history_text.specs.declared.schedule.Schedule.{Schedule};
-ghost use Rattle.text_lines.specs.Input.{EndOfInput, Failure, Takes, IsOver};
+ghost use Rattle.text_lines.specs.Input.{EndOfInput, Failure, Takes, IsOver, ReadTakes};
 ghost use Rattle.text_lines.specs.Lines.{line, spaced};
 ghost use Rattle.history_text.specs.Items.{line_of, lines_of, HaveLines};
 ghost use Rattle.history_text.specs.Versions.{value_format, count_fields, count_in as judged_count, lines_of_initial, header_of};
@@ -20,7 +20,7 @@ ghost use Rattle.history_text.specs.Inner.Taking.{HasInitialFault, IsOfInput};
 ghost use Rattle.text_lines.specs.Inner.Lines.{IsPartOfLine};
 
 use crate::collecting::Collects;
-use crate::item::{Item, item_in};
+use crate::item::{Item, ROOM, item_in};
 use crate::operation_line::answer_in;
 use crate::schedule::{Schedule, Steps};
 use crate::step_line::setting_in;
@@ -45,7 +45,7 @@ const BUFFER_LEN: usize = 4096;
 #[derive(Drop)]
 pub struct TextReader<R: TextSource> {
     source: R,
-    buffer: [u8; BUFFER_LEN],
+    buffer: [u8; BUFFER_LEN + ROOM],
     at: usize,
     filled: usize,
     lines: u64,
@@ -79,6 +79,15 @@ pub(crate) enum FrontLine {
     Nothing,
 }
 
+/// Reads bytes to the front of a buffer.
+fn read_front<R: TextSource>(source: &mut R, buffer: &mut [u8]) -> Result<usize, ReadFailed>
+    requires { BUFFER_LEN ≤ length buffer.old }
+    ensures bound { IfOk result (λ n. n ≤ BUFFER_LEN) }
+    ensures bytes { ReadTakes (R.ahead source.old) (R.ahead source.new) result buffer.new }
+{
+    source.read(&mut buffer[..BUFFER_LEN])
+}
+
 impl<R: TextSource> TextReader<R> {
     /// Makes a reader at the beginning of its source. It takes no memory, and asks for nothing yet.
     pub fn new(source: R) -> Self
@@ -86,7 +95,7 @@ impl<R: TextSource> TextReader<R> {
     {
         TextReader {
             source,
-            buffer: [0; BUFFER_LEN],
+            buffer: [0; BUFFER_LEN + ROOM],
             at: 0,
             filled: 0,
             lines: 0,
@@ -109,7 +118,7 @@ impl<R: TextSource> TextReader<R> {
         }
         self.at = 0;
         self.filled = 0;
-        self.filled = self.source.read(&mut self.buffer)?;
+        self.filled = read_front(&mut self.source, &mut self.buffer)?;
         if self.filled == 0 {
             return Ok(None);
         }
@@ -130,7 +139,7 @@ impl<R: TextSource> TextReader<R> {
         }
         self.at = 0;
         self.filled = 0;
-        self.filled = self.source.read(&mut self.buffer)?;
+        self.filled = read_front(&mut self.source, &mut self.buffer)?;
         Ok(self.filled > 0)
     }
 
@@ -219,9 +228,11 @@ impl<R: TextSource> TextReader<R> {
         ensures none { IfNone result (self.new ≡ self.old) }
         ensures is_stopped { self.new.is_stopped ≡ self.old.is_stopped }
     {
-        let (item, rest) = T::at_front(&self.buffer[self.at..self.filled])?;
-        let rest_len = rest.len();
-        self.at = self.filled - rest_len;
+        let (item, len) = T::at_front(&self.buffer[self.at..])?;
+        if len > self.filled - self.at {
+            return None;
+        }
+        self.at += len;
         self.lines += 1;
         Some(item)
     }

@@ -1,5 +1,5 @@
 //! The lines before the events: the first one, the count of the initial values, and each of these.
-ghost use Rattle.std.specs.Prelude.{◌≡◌, ◌++◌, IfErr, IfSome, MatchOption};
+ghost use Rattle.std.specs.Prelude.{◌≡◌, ◌≤◌, ◌++◌, length, drop, IfErr, IfSome, MatchOption};
 ghost use Rattle.std.proofs.Common.{lit≤};
 ghost use Rattle.text_lines.specs.Lines.{IsLineFault, fields_of};
 ghost use Rattle.history_text.specs.Items.{line_of};
@@ -7,10 +7,10 @@ ghost use Rattle.history_text.specs.Versions as wanted;
 ghost use Rattle.history_text.specs.Versions.{value_format, header_of};
 
 use crate::event_line::VALUE;
-use crate::item::Item;
+use crate::item::{Item, ROOM};
 use crate::version::Version;
 use event_records::MAX_INITIAL;
-use text_lines::{Field, TextFault, after_word, number_front};
+use text_lines::{Field, TextFault, after_word_at, number_at};
 
 /// Returns the version of which this is the first line.
 pub(crate) fn version_in(bytes: &[u8]) -> Option<Version>
@@ -69,16 +69,17 @@ fn value_in(line: u64, bytes: &[u8]) -> Result<u64, TextFault>
     Ok(numbers.at(0))
 }
 
-/// Returns the value whose line stands whole at the front, and the bytes after it.
+/// Returns the value whose line stands whole at the front, and the place after it.
 ///
 /// It reads each right line and no wrong one. `value_in` judges what it doesn't read.
 #[inline(always)]
-fn value_front(bytes: &[u8]) -> Option<(u64, &[u8])>
-    ensures { IfSome result (λ p. bytes.now ≡ line_of value_format p.0 ++ p.1.now) }
+fn value_front(bytes: &[u8]) -> Option<(u64, usize)>
+    requires { ROOM ≤ length bytes.now }
+    ensures { IfSome result (λ p. bytes.now ≡ line_of value_format p.0 ++ drop p.1 bytes.now) }
 {
-    let (value, rest) = number_front(bytes)?;
-    let rest = after_word(rest, b"\n")?;
-    Some((value, rest))
+    let (value, at) = number_at(bytes, 0)?;
+    let at = after_word_at(bytes, at, b"\n")?;
+    Some((value, at))
 }
 
 impl Item for u64 {
@@ -89,7 +90,7 @@ impl Item for u64 {
     }
 
     #[inline(always)]
-    fn at_front(bytes: &[u8]) -> Option<(u64, &[u8])> {
+    fn at_front(bytes: &[u8]) -> Option<(u64, usize)> {
         value_front(bytes)
     }
 

@@ -3,7 +3,7 @@ ghost use Rattle.std.specs.Prelude.{◌≡◌};
 
 use crate::complaints::{Given, Reads};
 use event_records::MAX_INITIAL;
-use text_lines::{after_word, number_front};
+use text_lines::number_in;
 
 /// What a line of the input should be.
 #[derive(Clone, Copy)]
@@ -58,19 +58,17 @@ pub(crate) fn field_of(line: &[u8], place: usize) -> Option<&[u8]> {
 
 /// The number that a whole field is.
 pub(crate) fn number_of(field: &[u8]) -> Option<u64> {
-    match number_front(field) {
-        Some((number, [])) => Some(number),
-        _ => None,
-    }
+    number_in(0, u64::MAX, field).ok()
 }
 
 /// How many values the queue holds first.
 fn initial_count(front: &[u8]) -> u64 {
-    let Some(rest) = after_word(front, b"fifo-history 2\ninitial ") else {
+    let Some(rest) = front.strip_prefix(b"fifo-history 2\ninitial ") else {
         return 0;
     };
-    match number_front(rest) {
-        Some((count, _)) => count.min(MAX_INITIAL as u64),
+    let field = rest.split(|byte| *byte == b'\n').next();
+    match field.and_then(number_of) {
+        Some(count) => count.min(MAX_INITIAL as u64),
         None => 0,
     }
 }

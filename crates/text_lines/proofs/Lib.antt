@@ -3,6 +3,7 @@
 -- Digits, Numbers, Fields: numbers and words, read as they are spelled; the fields of a line.
 -- Tables: lines that are judged by a table of their forms.
 -- Scanning: what stands at the front, found in one pass.
+-- EightDigits: digits that are read eight at a time.
 -- Lengths: how many digits a number has.
 -- MemoryOrNot: out of memory, and the other faults.
 -- Appending, Asking, Putting, Holding: bytes that are written in turn, what a sink was asked, both together, and what it keeps back.
@@ -19,5 +20,6 @@ pub mod Holding
 pub mod WrittenLines
 pub mod Tables
 pub mod Scanning
+pub mod EightDigits
 pub mod MemoryOrNot
 pub mod Lengths

@@ -1,5 +1,5 @@
 -- Lines, fields and numbers, of which all texts are made.
-use Rattle.std.specs.Prelude.{◌≡◌, ℕ, ◌+◌, ◌-◌, ◌^◌, ◌==◌, ◌&&◌, ◌||◌, nat_lt, nat_le, nat_eq, not, Bool, false, if◌then◌else◌}
+use Rattle.std.specs.Prelude.{◌≡◌, ℕ, ◌+◌, ◌-◌, ◌^◌, ◌==◌, ◌&&◌, ◌||◌, nat_lt, nat_le, nat_eq, not, Bool, if◌then◌else◌}
 use Rattle.std.specs.Prelude.{List, [], ◌∷◌, ◌++◌, length, take, drop, codes, decimal, Option, Some, None, Ok, Err, slice_index}
 use Rattle.std.specs.declared.result.Result.{Result}
 use Rattle.std.specs.List.{slice_split, join_with_byte, position_or_len, list_all, starts_with}
@@ -71,11 +71,6 @@ fields_of bytes = slice_split (λ b. b == 32) bytes
 -- the digit 0, or digits of which the first isn't 0
 abbrev pub is_number : List ℕ → Bool
 is_number field = nat_lt 0 (length field) && (list_all is_ascii_digit field && (nat_lt (length field) 2 || not (slice_index field 0 == 48)))
-
--- the first byte is a digit
-abbrev pub begins_with_digit : List ℕ → Bool
-begins_with_digit [] = false
-begins_with_digit (b ∷ bytes) = is_ascii_digit b
 
 -- what a number field of line n stands for, up to a greatest number
 abbrev pub number_in : ℕ → ℕ → List ℕ → Result ℕ TextFault

@@ -6,6 +6,7 @@
 #![tactic(auto)]
 
 mod buffered;
+mod eight;
 mod fault;
 mod field;
 mod forms;
@@ -18,13 +19,14 @@ mod source;
 mod write_buffer;
 
 pub use buffered::Buffered;
+pub use eight::number_at;
 pub use fault::TextFault;
 pub use field::{end_in, split_field};
 pub use forms::{Field, NumberFields, parse_line};
 pub use in_place::InPlace;
 pub use line::{LONGEST_LINE, Line};
 pub use memory::MemorySource;
-pub use scan::{after_word, number_front};
+pub use scan::after_word_at;
 pub use sink::{TextSink, WriteFault, write_piece};
 pub use source::{ReadFailed, TextSource, Watched};
 pub use write_buffer::{WriteBuffer, make_room};

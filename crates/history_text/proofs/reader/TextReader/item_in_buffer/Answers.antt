@@ -1,4 +1,4 @@
-use Rattle.std.proofs.Common.{◌≤◌, ◌-◌, ap, subst, Option, length, rules}
+use Rattle.std.proofs.Common.{◌≤◌, ◌+◌, ◌-◌, ap, subst, Option, length, rules}
 use Rattle.text_lines.specs.Input.{Ahead, Takes}
 use Rattle.history_text.specs.Reading.{Input, with_front}
 use Rattle.history_text.specs.Items.{line_of}
@@ -9,10 +9,10 @@ pub returns-clause-item : goal.returns-clause-item
 returns-clause-item g c =
     let reader = c.self.inside in
     let found = c.in_ok-item.ensures in
-    let within : reader.filled ≤ length reader.buffer = search (rules, c.self.invariant.1, c.self.ranges) in
+    let fits : reader.filled ≤ length reader.buffer = search (rules, c.self.invariant.1, c.self.ranges) in
+    let all : length reader.buffer ≤ reader.at + (4160 - reader.at) = search (rules, c.self.invariant.1, c.self.ranges) in
     let text = line_of g.T.Item.format c.in_ok-item.item in
-    let taken = takes_from_buffer reader.buffer reader.at reader.filled text c.in_ok-item.rest.now
-    (g.R.TextSource.ahead reader.source) c.self.invariant.0 within found.0 in
-    let left : Option Ahead = with_front (part reader.buffer (reader.filled - length c.in_ok-item.rest.now) reader.filled)
-    (g.R.TextSource.ahead reader.source) in
+    let ahead = g.R.TextSource.ahead reader.source in
+    let taken = takes_from_buffer reader.buffer reader.at reader.filled c.in_ok-item.len _ text ahead c.if-len-self.false fits all found.0 in
+    let left : Option Ahead = with_front (part reader.buffer (reader.at + c.in_ok-item.len) reader.filled) ahead in
     (subst (λ (l : Option Ahead). Takes l left text) (ap (λ (i : Input). i.left) c.self.view_is) taken, found.1)
