@@ -178,7 +178,7 @@ called_begun (CallEnq v) h = refl
 called_begun CallDeq h = refl
 called_begun _ h = cc
 
--- the event of a pending call is told by its operation
+-- a pending call is the call event of its operation
 call_event_begun : (call : Event) → is_call call.what ≡ true → call_event (operation_so_far call None) ≡ call
 call_event_begun call h = rw (called_begun call.what h) refl
 
@@ -225,7 +225,7 @@ formed_after_answer initial events n e old new place o d kind order below return
       fault_of_return initial events n e order below returns ∙ rw (answer.at.pending, right) refl,
     )
 
--- the pending call of a thread is told by its operation
+-- the call event of the operation at the place that is kept of a thread is its pending call
 pub call_at : (events : List Event) (thread : ℕ) (old : Forming) (place : ℕ) (found : Option Operation) → thread ≤ MAX_THREAD → HasFormed events old
     → get_or old.pending thread None ≡ Some place → found ≡ slice_get old.operations.items place → option_map call_event found ≡ pending_call thread events
 call_at events thread old place found below known is stands =
