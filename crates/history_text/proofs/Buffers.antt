@@ -46,7 +46,7 @@ has_more_in_buffer bytes at filled (Some a) some within =
     has_more_behind (part bytes at filled) a (omega (arith, long, some))
 
 -- what a read put at the front of a piece stands at the front of more
-pub read_takes_more : {E : Type 0} (old new : Option Ahead) (result : Result ℕ E) (piece more : List ℕ) → IfOk result (λ n. n ≤ length piece) → 0 < length piece
-    → ReadTakes old new result piece → ReadTakes old new result (piece ++ more)
+pub read_takes_more : {E : Type 0} (old new : Option Ahead) (result : Result ℕ E) (piece more : List ℕ) → IfOk result (λ n. n ≤ length piece)
+    → 0 < length piece → ReadTakes old new result piece → ReadTakes old new result (piece ++ more)
 read_takes_more old new (Ok n) piece more bound some takes = (rw (take-append-le n piece more bound) takes.0, λ none _. takes.1 none some)
 read_takes_more old new (Err e) piece more bound some takes = takes

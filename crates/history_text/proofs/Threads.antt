@@ -9,7 +9,8 @@ abbrev pub above_zero : ℕ → ℕ
 above_zero byte = (byte + 208) % 256
 
 -- the byte at a place, and what comes after it
-byte_then : (bytes : List ℕ) (at byte next : ℕ) → at < length bytes → get_or bytes at 0 ≡ byte → next ≡ at + 1 → drop at bytes ≡ byte ∷ drop next bytes
+byte_then : (bytes : List ℕ) (at byte next : ℕ) → at < length bytes → get_or bytes at 0 ≡ byte → next ≡ at + 1
+    → drop at bytes ≡ byte ∷ drop next bytes
 byte_then bytes at byte next within is next_is = rw (drop_more bytes at 0 within, is, next_is) refl
 
 module _ (bytes : List ℕ) (at : ℕ) (fits : (place : ℕ) → get_or bytes place 0 < 256) where

@@ -104,7 +104,7 @@ fn thread_at(bytes: &[u8], at: usize) -> Option<(u8, usize)>
 #[inline(always)]
 fn what_at(bytes: &[u8], at: usize) -> Option<(What, usize)>
     requires { at + 34 ≤ length bytes.now }
-    ensures what { IfSome result (λ p. (drop at bytes.now ≡ line (spaced (what_fields p.0)) ++ drop p.1 bytes.now) × HasValueInRange p.0) }
+    ensures { IfSome result (λ p. (drop at bytes.now ≡ line (spaced (what_fields p.0)) ++ drop p.1 bytes.now) × HasValueInRange p.0) }
 {
     if let Some(at) = after_word_at(bytes, at, b"call-enq") {
         let at = after_word_at(bytes, at, b" ")?;
@@ -134,7 +134,7 @@ fn what_at(bytes: &[u8], at: usize) -> Option<(What, usize)>
 
 /// Returns the event whose line stands whole at the front, and the place after it.
 ///
-/// It reads each right line and no wrong one. `event_in` judges what it doesn't read.
+/// It reads no wrong line. `event_in` judges what it doesn't read.
 #[inline(always)]
 fn event_front(bytes: &[u8]) -> Option<(Event, usize)>
     requires { ROOM ≤ length bytes.now }

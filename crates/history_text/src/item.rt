@@ -8,7 +8,7 @@ ghost use Rattle.history_text.specs.Inner.Taking.{IsSpelled, IsItemLine};
 
 use text_lines::{TextFault, end_in};
 
-/// As many bytes hold all that is read at once of a line.
+/// As many bytes have room for all that is read of a line at once.
 pub(crate) const ROOM: usize = 64;
 
 /// What a line of a text stands for.

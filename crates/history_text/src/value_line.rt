@@ -71,7 +71,7 @@ fn value_in(line: u64, bytes: &[u8]) -> Result<u64, TextFault>
 
 /// Returns the value whose line stands whole at the front, and the place after it.
 ///
-/// It reads each right line and no wrong one. `value_in` judges what it doesn't read.
+/// It reads no wrong line. `value_in` judges what it doesn't read.
 #[inline(always)]
 fn value_front(bytes: &[u8]) -> Option<(u64, usize)>
     requires { ROOM ≤ length bytes.now }

@@ -21,7 +21,7 @@ mod write_buffer;
 pub use buffered::Buffered;
 pub use eight::number_at;
 pub use fault::TextFault;
-pub use field::{end_in, split_field};
+pub use field::{end_in, number_in, split_field};
 pub use forms::{Field, NumberFields, parse_line};
 pub use in_place::InPlace;
 pub use line::{LONGEST_LINE, Line};
