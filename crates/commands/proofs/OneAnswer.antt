@@ -9,7 +9,6 @@ use Rattle.history_merge.specs.Merge.{IsMerged}
 use Rattle.history_merge.specs.Operations.{operations_of}
 use Rattle.history_merge.specs.Initial.{HistoryView, IsCompleteFrom}
 use Rattle.history_merge.proofs.ExactFaults.{complete_has_no_fault}
-use Rattle.history_merge.proofs.InitialValues.{complete_from_nothing}
 use Rattle.history_merge.proofs.OneFault.{one_first_fault}
 use Rattle.history_stats.proofs.OneStatistics.{one_statistics}
 use Rattle.recorder_core.specs.Setting.{Setting}
@@ -119,8 +118,8 @@ one_judgement text a b has (inr x) (inr y) = one_judged text a b has x y
 -- ---- what is shrunk
 
 -- a complete history of a queue that is empty first
-from_nothing : (events : List Event) → IsCompleteHistory events → IsCompleteFrom [] events
-from_nothing events complete = (complete_from_nothing events).1 complete
+pub from_nothing : (events : List Event) → IsCompleteHistory events → IsCompleteFrom [] events
+from_nothing events complete = record { complete = complete; values_are_distinct = complete.values_are_distinct }
 
 one_small : (text : HistoryText) (a b : Reply) → HasText text → (x : IsShrunk text a) (y : IsShrunk text b) → x.small ≡ y.small
 one_small text a b has x y =

@@ -2,8 +2,8 @@ use Rattle.std.proofs.Common.{inl, subst}
 use Rattle.history_merge.specs.Operations.{operations_of}
 use Rattle.verdicts.specs.Claiming.{claim_of}
 use Rattle.commands.specs.Judging.{IsVerdictClaim}
-use Rattle.history_merge.proofs.InitialValues.{complete_from_nothing}
 use Rattle.commands.proofs.Findings.{decided_claim, is_from_none}
+use Rattle.commands.proofs.OneAnswer.{from_nothing}
 use Rattle.commands.proofs.Played.{left_open_found, played_found, merges_to_complete, few_events}
 use Rattle.commands.proofs.sim.play.Goals as goal
 
@@ -16,7 +16,7 @@ returns-in-Open-clause-found c =
 pub merged_from-requires-clause-complete : goal.merged_from-requires-clause-complete
 merged_from-requires-clause-complete c =
     let ended = rw (c.as_slice.ensures, c.in-Done.is) at c.in_ok-rejections.ensures.ending in
-    λ merged is. (complete_from_nothing merged).1 (merges_to_complete _ _ c.requires.few_threads _ ended merged is)
+    λ merged is. from_nothing merged (merges_to_complete _ _ c.requires.few_threads _ ended merged is)
 
 pub merged_from-requires-clause-few : goal.merged_from-requires-clause-few
 merged_from-requires-clause-few c =
