@@ -1,5 +1,6 @@
 -- Values that are dequeued twice, met by a walk over the operations.
-use Rattle.std.proofs.Common.{◌≡◌, ◌≢◌, ℕ, zero, suc, ◌+◌, ◌<◌, ◌≤◌, ◌⊎◌, List, length, get_or, set, replicate, Option, Some, None, refl, sym, ◌∙◌, ap, subst}
+use Rattle.std.proofs.Common.{◌≡◌, ◌≢◌, ℕ, zero, suc, ◌+◌, ◌<◌, ◌≤◌, ◌⊎◌, List, length}
+use Rattle.std.proofs.Common.{get_or, set, replicate, Option, Some, None, refl, sym, ◌∙◌, ap, subst}
 use Rattle.std.proofs.Common.{inl, inr, arith, get_or-set_other, get_or-set_same, length-set}
 use Rattle.std.specs.Prelude.{AllPairs, MatchOption, slice_get, ⊤}
 use Rattle.std.proofs.lemmas.Bool.{cases_eq, cases_order}
@@ -339,7 +340,8 @@ met_again returns sources firsts n p other found pair result one from inside hel
           ]
     ]
 
-    soonest_pair : (m : ℕ) → ((q i j : ℕ) → i < n → j < n → TakesFrom sources i q → TakesFrom sources j q → returns i < returns j → returns pair.second ≤ returns j)
+    soonest_pair : (m : ℕ) → ((q i j : ℕ) → i < n → j < n
+        → TakesFrom sources i q → TakesFrom sources j q → returns i < returns j → returns pair.second ≤ returns j)
         → IsSoonest returns sources (n + 1) pair
     soonest_pair m before = record {
       first_from = subst (TakesFrom sources pair.first) (sym is_pair.enq) ends.first_from;
