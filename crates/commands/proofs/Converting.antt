@@ -1,25 +1,15 @@
 -- A history's text and its conversion say one history.
-use Rattle.std.proofs.Common.{◌≡◌, ◌++◌, ◌≤◌, ℕ, List, arith, refl, sym, ◌∙◌, ap, subst, inl, inr}
-use Rattle.history_merge.specs.declared.fault.HistoryFault.{HistoryFault}
+use Rattle.commands.proofs.Common.{◌++◌, ◌∙◌, ◌≡◌, ◌≤◌, ap, arith, inl, inr, List, refl, subst, sym, ℕ}
+use Rattle.commands.proofs.Common.{answer_of_history_fault, answer_of_text_fault, answer_status, AnswersOf}
+use Rattle.commands.proofs.Common.{AnswersOrNoMemory, Claimed, ClaimOnText, convert, converted, Converts, Counts}
+use Rattle.commands.proofs.Common.{HasText, HasVerdictText, HaveValueLines, HistoryFault, HistoryText, in_version_2}
+use Rattle.commands.proofs.Common.{input_of, IsClaimOf, IsHistoryOf, IsSound, Judges, memory_fault, One, Reply, said_by}
+use Rattle.commands.proofs.Common.{SameOrNoMemory, text_of, TextFault, Two, value_format, verdict_text, Verifies}
+use Rattle.commands.proofs.Common.{Version}
 use Rattle.history_merge.specs.declared.fault.HistoryFault.TheVariants as history
-use Rattle.text_lines.specs.declared.fault.TextFault.{TextFault}
 use Rattle.text_lines.specs.declared.fault.TextFault.TheVariants as text
-use Rattle.verdicts.specs.declared.verifying.Claimed.{Claimed}
-use Rattle.history_text.specs.declared.version.Version.{Version}
-use Rattle.history_text.specs.declared.version.Version.TheVariants.{One, Two}
-use Rattle.history_text.specs.Versions.{HistoryText}
 use Rattle.history_text.specs.Items.{HaveLines}
-use Rattle.history_text.specs.Versions.{text_of, HasText, HaveValueLines, value_format}
-use Rattle.history_text.specs.Claims.{HasVerdictText}
-use Rattle.history_text.specs.Verdicts.{verdict_text}
-use Rattle.command_words.specs.Commands.{convert}
-use Rattle.commands.specs.Answers.{Reply, converted, memory_fault, answer_of_text_fault, answer_of_history_fault, answer_status}
 use Rattle.commands.specs.Conversions.{ConvertedIsSameHistory, ConvertedIsKept, ConvertedIsChecked, ConvertedIsCounted, ConvertedIsVerified}
-use Rattle.commands.specs.Evidence.{input_of}
-use Rattle.commands.specs.Inputs.{ClaimOnText, IsHistoryOf, IsClaimOf}
-use Rattle.commands.specs.Judging.{AnswersOrNoMemory, Converts, Counts, IsSound, Judges, Verifies, in_version_2, said_by}
-use Rattle.commands.specs.OneAnswer.{SameOrNoMemory}
-use Rattle.commands.specs.Running.{AnswersOf}
 use Rattle.commands.proofs.OneAnswer.{answered_of_claim, answered_of_history, one_counting, one_judgement, one_verification}
 use Rattle.commands.proofs.OneInput.{one_history}
 

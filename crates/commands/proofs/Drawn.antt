@@ -1,23 +1,11 @@
 -- From what is drawn of a history to what `draw` answers.
-use Rattle.std.proofs.Common.{◌≡◌, Option, Some, None, arith, refl, sym, subst, inl, inr}
-use Rattle.history_merge.specs.Initial.{HistoryView}
-use Rattle.history_merge.specs.Operations.{operations_of}
-use Rattle.verdicts.specs.declared.verifying.Claimed.{Claimed}
-use Rattle.verdicts.specs.declared.verdict.Verdict.{Verdict}
-use Rattle.verdicts.specs.Claims.{IsTrueClaim}
-use Rattle.verdicts.specs.Claiming.{claim_of}
-use Rattle.verdicts.specs.Verdicts.{IsEvidence, IsExact, IsVerdict}
-use Rattle.verdicts.proofs.TrueClaims.{evidence_is_true}
-use Rattle.history_text.specs.Versions.{HistoryText}
-use Rattle.command_words.specs.declared.options.DrawOptions.{DrawOptions}
-use Rattle.commands.specs.Answers.{Reply, refused_size}
+use Rattle.commands.proofs.Common.{◌≡◌, arith, inl, inr, None, Option, refl, Some, subst, sym, answer_of_fault}
+use Rattle.commands.proofs.Common.{AnswersOrNoMemory, claim_of, Claimed, drawable, DrawOptions, Draws, DrawsAlone}
+use Rattle.commands.proofs.Common.{DrawsClaim, evidence_is_true, Fault, HasFewValues, HistoryText, HistoryView, IsDrawn}
+use Rattle.commands.proofs.Common.{IsEvidence, IsExact, IsFaulty, IsSmall, IsSound, IsTooLarge, IsTrueClaim, IsVerdict}
+use Rattle.commands.proofs.Common.{IsVerdictClaim, operations_of, refused_size, Reply, said_by, Verdict}
 use Rattle.commands.specs.Inner.Drawing.{IsUndrawn}
-use Rattle.commands.specs.Outcomes.{answer_of_fault}
-use Rattle.commands.specs.declared.outcome.Fault.{Fault}
 use Rattle.commands.specs.declared.outcome.Fault.TheVariants.{Text, History, Size, Queue, Limit, Memory, Run}
-use Rattle.commands.specs.Inputs.{drawable}
-use Rattle.commands.specs.Judging.{AnswersOrNoMemory, Draws, DrawsAlone, DrawsClaim, IsDrawn, IsFaulty, said_by}
-use Rattle.commands.specs.Judging.{HasFewValues, IsSmall, IsSound, IsTooLarge, IsVerdictClaim}
 
 -- a claim is that of the verdict
 pub claims_verdict : (history : HistoryView) (verdict : Verdict) (claimed : Claimed) → IsVerdict history.initial (operations_of history.events) verdict

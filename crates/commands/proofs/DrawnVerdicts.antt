@@ -1,17 +1,8 @@
 -- A history on its own is drawn as if the verdict of `check` followed it.
-use Rattle.std.proofs.Common.{◌++◌, refl, subst, inl, inr}
-use Rattle.verdicts.specs.declared.verifying.Claimed.{Claimed}
-use Rattle.command_words.specs.declared.options.DrawOptions.{DrawOptions}
-use Rattle.text_lines.specs.Input.{Ahead}
-use Rattle.text_lines.proofs.MemoryOrNot.{is_memory}
-use Rattle.history_text.specs.Versions.{HistoryText}
-use Rattle.history_text.specs.Versions.{text_of}
-use Rattle.history_text.specs.Verdicts.{verdict_text}
-use Rattle.commands.specs.Answers.{Reply}
-use Rattle.commands.specs.Evidence.{DrawnAsChecked, input_of}
-use Rattle.commands.specs.Inputs.{ClaimOnText, Drawable, alone, with_claim, IsDrawableOf, IsFaultOfDrawableInput}
-use Rattle.commands.specs.Judging.{AnswersFor, AnswersOrNoMemory, Draws, DrawsAlone, DrawsClaim}
-use Rattle.commands.specs.OneAnswer.{SameOrNoMemory}
+use Rattle.commands.proofs.Common.{◌++◌, inl, inr, refl, subst, Ahead, alone, AnswersFor, AnswersOrNoMemory, Claimed}
+use Rattle.commands.proofs.Common.{ClaimOnText, Drawable, DrawnAsChecked, DrawOptions, Draws, DrawsAlone, DrawsClaim}
+use Rattle.commands.proofs.Common.{HistoryText, input_of, is_memory, IsDrawableOf, IsFaultOfDrawableInput, Reply}
+use Rattle.commands.proofs.Common.{SameOrNoMemory, text_of, verdict_text, with_claim}
 use Rattle.commands.proofs.OneAnswer.{answers_memory, alone_as_claimed, one_picture_of_claim}
 use Rattle.commands.proofs.OneInput.{one_drawable, only_memory_of_drawable}
 use Rattle.commands.proofs.Validity.{IsWritten, claim_is_written, judged_is_written}

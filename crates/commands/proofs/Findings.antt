@@ -1,28 +1,15 @@
 -- From the fault of a list of events, or of an input, to what is answered of it.
-use Rattle.std.proofs.Common.{◌≡◌, ◌∙◌, ℕ, ◌≤◌, ◌⊎◌, List, [], length, arith, Option, Some, None, IfSome, inl, inr, refl, ap}
-use Rattle.history_merge.specs.declared.fault.HistoryFault.{HistoryFault}
+use Rattle.commands.proofs.Common.{[], ◌∙◌, ◌≡◌, ◌≤◌, ◌⊎◌, ap, arith, filter, IfSome, inl, inr, length, List, None}
+use Rattle.commands.proofs.Common.{Option, refl, Some, ℕ, Ahead, answer_of_history_fault, AnswersFor, AnswersOrNoMemory}
+use Rattle.commands.proofs.Common.{ArePartOf, claim_of, from_none, HasText, HaveValueLines, HistoryFault, HistoryText}
+use Rattle.commands.proofs.Common.{HistoryView, IsDecided, IsEvidence, IsExact, IsFaulty, IsLinearizable, IsShrunk}
+use Rattle.commands.proofs.Common.{IsSound, IsVerdict, IsVerdictClaim, judged, Judges, MAX_INITIAL, memory_fault, One}
+use Rattle.commands.proofs.Common.{operations_of, Reply, said_in, shown, ShowsNoViolation, Shrinks, TextFault, Two}
+use Rattle.commands.proofs.Common.{Verdict, Version}
 use Rattle.history_merge.specs.declared.fault.HistoryFault.TheVariants.{TicketOrder, BadThread, CallWhilePending, ReturnWithoutCall, WrongReturn}
 use Rattle.history_merge.specs.declared.fault.HistoryFault.TheVariants.{DuplicateValue, Pending, Memory, InitialTwice}
 use Rattle.history_merge.specs.Faults.{IsFirstFault}
-use Rattle.history_merge.specs.Initial.{HistoryView}
-use Rattle.history_merge.specs.Operations.{operations_of}
-use Rattle.event_records.specs.declared.limits.TheConstants.{MAX_INITIAL}
-use Rattle.history_text.specs.Versions.{HistoryText}
-use Rattle.history_text.specs.declared.version.Version.{Version}
-use Rattle.history_text.specs.declared.version.Version.TheVariants.{One, Two}
-use Rattle.history_text.specs.Versions.{HasText, HaveValueLines, said_in}
-use Rattle.verdicts.specs.declared.verdict.Verdict.{Verdict}
 use Rattle.verdicts.specs.declared.verdict.Verdict.TheVariants.{Yes, No}
-use Rattle.history_merge.specs.Legal.{IsLinearizable}
-use Rattle.verdicts.specs.Claiming.{claim_of}
-use Rattle.verdicts.specs.Decided.{IsDecided}
-use Rattle.verdicts.specs.Verdicts.{IsEvidence, IsExact, IsVerdict}
-use Rattle.std.specs.Prelude.{filter}
-use Rattle.verdicts.specs.Selection.{ArePartOf}
-use Rattle.commands.specs.Answers.{Reply, ShowsNoViolation, shown, judged, memory_fault, answer_of_history_fault}
-use Rattle.text_lines.specs.declared.fault.TextFault.{TextFault}
-use Rattle.text_lines.specs.Input.{Ahead}
-use Rattle.commands.specs.Judging.{IsFaulty, IsShrunk, IsVerdictClaim, AnswersFor, AnswersOrNoMemory, IsSound, Judges, Shrinks, from_none}
 
 -- the first fault is answered, and out of memory as such
 pub fault_found : (history : HistoryView) (fault : HistoryFault) → IsFirstFault history.initial history.events fault

@@ -1,17 +1,14 @@
 -- The values that a queue is given before a run are names of initial values.
-use Rattle.std.proofs.Common.{◌≡◌, ◌≢◌, ℕ, ◌≤◌, Bool, true, false, List, [], length, arith, refl, sym, ◌∙◌, ap, subst, inl, inr}
-use Rattle.std.specs.Prelude.{◌==◌, if◌then◌else◌}
-use Rattle.std.specs.Prelude.{All, AllPairs}
+use Rattle.commands.proofs.Common.{[], ◌==◌, ◌∙◌, ◌≡◌, ◌≢◌, ◌≤◌, All, AllPairs, ap, arith, Bool, false, if◌then◌else◌}
+use Rattle.commands.proofs.Common.{inl, inr, length, List, refl, subst, sym, true, ℕ, AnswersOrNoMemory, claim_of}
+use Rattle.commands.proofs.Common.{Event, HistoryView, IsCompleteFrom, IsDecided, IsMerged, IsVerdictClaim}
+use Rattle.commands.proofs.Common.{IsWithinRanges, LEAST_INITIAL_NAME, MAX_STRESS_INITIAL, One, operations_of, Reply}
+use Rattle.commands.proofs.Common.{run_fault, said_in, Settings, shown, Two, Verdict, Version}
 use Rattle.std.specs.List.{range_with_len}
 use Rattle.std.proofs.lemmas.List.FromFn.{get_or-range_with_len, length-range_with_len}
-use Rattle.event_records.specs.declared.limits.TheConstants.{LEAST_INITIAL_NAME, MAX_STRESS_INITIAL}
-use Rattle.event_records.specs.declared.event.Event.{Event}
 use Rattle.event_records.specs.declared.kind.Kind.{Kind}
 use Rattle.event_records.specs.declared.kind.Answer.{Answer}
 use Rattle.event_records.specs.Question.{Question}
-use Rattle.history_merge.specs.Initial.{HistoryView, IsCompleteFrom}
-use Rattle.history_merge.specs.Merge.{IsMerged}
-use Rattle.history_merge.specs.Operations.{operations_of}
 use Rattle.recorder_core.specs.Initial.{AreInitialNames}
 use Rattle.recorder_core.specs.Replay.{AreRecorded, Replays}
 use Rattle.workloads.specs.Seeds.{IsSeeded}
@@ -23,17 +20,8 @@ use Rattle.stress_run.specs.Preloaded.{AreTaken, IsFirstRefused}
 use Rattle.stress_run.specs.declared.faults.RunFault.{RunFault}
 use Rattle.stress_run.specs.declared.faults.RunFault.TheVariants.{Preload}
 use Rattle.stress_run.specs.Recorded.{RecordedView}
-use Rattle.verdicts.specs.declared.verdict.Verdict.{Verdict}
-use Rattle.verdicts.specs.Claiming.{claim_of}
 use Rattle.value_match.proofs.FilledOperations.{no_elements}
-use Rattle.history_text.specs.declared.version.Version.{Version}
-use Rattle.history_text.specs.declared.version.Version.TheVariants.{One, Two}
-use Rattle.history_text.specs.Versions.{said_in}
-use Rattle.command_words.specs.Options.{IsWithinRanges, Settings}
 use Rattle.commands.specs.declared.stress.TheConstants.{TRIES}
-use Rattle.verdicts.specs.Decided.{IsDecided}
-use Rattle.commands.specs.Answers.{Reply, run_fault, shown}
-use Rattle.commands.specs.Judging.{AnswersOrNoMemory, IsVerdictClaim}
 use Rattle.commands.specs.Stressing.{RunsOrFails, first_values, run_history, run_version}
 use Rattle.commands.specs.Inner.Stressing.{IsShownRun}
 use Rattle.commands.proofs.Findings.{decided_claim}

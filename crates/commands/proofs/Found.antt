@@ -1,21 +1,11 @@
 -- From what calls on the reader gave to what the input is; and what an outcome without a report names.
-use Rattle.std.proofs.Common.{◌≡◌, ℕ, List, [], ◌++◌, Option, Some, None, inl, inr, ap, sym, ◌∙◌, append-nil, IfSome, subst}
-use Rattle.std.specs.declared.result.Result.{Result}
-use Rattle.std.specs.Prelude.{Ok, Err}
-use Rattle.std.specs.Result.{IsErr}
-use Rattle.verdicts.specs.declared.verifying.Claimed.{Claimed}
-use Rattle.text_lines.specs.declared.fault.TextFault.{TextFault}
-use Rattle.text_lines.specs.declared.fault.TextFault.TheVariants.{Read}
-use Rattle.text_lines.specs.Input.{Ahead, EndOfInput, Failure, IsOver, Takes}
+use Rattle.commands.proofs.Common.{[], ◌++◌, ◌∙◌, ◌≡◌, ap, append-nil, Err, IfSome, inl, inr, IsErr, List, None, Ok}
+use Rattle.commands.proofs.Common.{Option, Result, Some, subst, sym, ℕ, Ahead, Claimed, EndOfInput, Failure, Fault}
+use Rattle.commands.proofs.Common.{HasText, HasVerdictText, HistoryText, IsClaimOf, IsFaultOfDrawableInput, IsHistoryOf}
+use Rattle.commands.proofs.Common.{IsOver, NamesPlaces, Read, Takes, Takes-append, text_of, TextFault, verdict_text}
 use Rattle.text_lines.specs.Lines.{fault_at}
-use Rattle.text_lines.proofs.Consuming.{Takes-append}
-use Rattle.history_text.specs.Versions.{HistoryText, HasText, text_of}
-use Rattle.history_text.specs.Verdicts.{verdict_text}
-use Rattle.history_text.specs.Claims.{HasVerdictText}
-use Rattle.commands.specs.Inputs.{IsWhole, IsHistoryOf, IsClaimOf, IsFaultOfDrawableInput}
-use Rattle.commands.specs.Outcomes.{NamesPlaces}
+use Rattle.commands.specs.Inputs.{IsWhole}
 use Rattle.commands.specs.declared.outcome.Report.{Report}
-use Rattle.commands.specs.declared.outcome.Fault.{Fault}
 
 -- a fault names no place
 pub no_places : (outcome : Result Report Fault) → IsErr outcome → NamesPlaces outcome

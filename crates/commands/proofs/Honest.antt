@@ -1,24 +1,12 @@
 -- An honest schedule that is done is answered by `YES`.
-use Rattle.std.proofs.Common.{◌≡◌, ℕ, ◌≤◌, List, inl, inr, ap, ◌∙◌}
-use Rattle.event_records.specs.declared.event.Event.{Event}
+use Rattle.commands.proofs.Common.{◌∙◌, ◌≡◌, ◌≤◌, ap, inl, inr, List, ℕ, accepted, Attempt, claim_of, Claimed, Event}
+use Rattle.commands.proofs.Common.{IsDone, IsExact, IsLinearizable, MAX_THREADS, operations_at, operations_of, played}
+use Rattle.commands.proofs.Common.{rejections, Reply, Setting, SimulatesIn, Verdict}
 use Rattle.history_merge.specs.declared.operation.Operation.{Operation}
-use Rattle.history_merge.specs.Legal.{IsLinearizable}
-use Rattle.history_merge.specs.Operations.{operations_of}
-use Rattle.event_records.specs.declared.limits.TheConstants.{MAX_THREADS}
-use Rattle.recorder_core.specs.Setting.{Setting}
-use Rattle.recorder_core.specs.Schedule.{Attempt, accepted}
-use Rattle.recorder_core.specs.Laws.{IsDone}
 use Rattle.recorder_core.specs.Replay.{IsHonest, effects_order}
 use Rattle.recorder_core.proofs.Legal.{effects_order_is_legal}
-use Rattle.simulation.specs.Simulations.{rejections}
-use Rattle.verdicts.specs.declared.verifying.Claimed.{Claimed}
 use Rattle.verdicts.specs.declared.verifying.Claimed.TheVariants as claim
-use Rattle.verdicts.specs.declared.verdict.Verdict.{Verdict}
 use Rattle.verdicts.specs.declared.verdict.Verdict.TheVariants.{Yes, No}
-use Rattle.verdicts.specs.Verdicts.{IsExact}
-use Rattle.verdicts.specs.Claiming.{claim_of, operations_at}
-use Rattle.commands.specs.Answers.{Reply, played}
-use Rattle.commands.specs.Judging.{SimulatesIn}
 
 -- an exact verdict on operations that have a linearization claims `YES`
 claims_yes : (initial : List ℕ) (operations : List Operation) (verdict : Verdict) (claimed : Claimed) → IsLinearizable initial operations

@@ -1,16 +1,13 @@
 -- From the faults of calls on the reader to the fault of the input.
-use Rattle.std.proofs.Common.{◌≡◌, ◌≢◌, ℕ, List, [], ◌∷◌, ◌++◌, ◌⊎◌, Option, Some, None, inl, inr, ap, sym, ◌∙◌, refl, append-nil, IfSome, subst}
-use Rattle.history_text.specs.Versions.{HistoryText}
-use Rattle.text_lines.specs.declared.fault.TextFault.{TextFault}
-use Rattle.text_lines.specs.declared.fault.TextFault.TheVariants.{Read, Header, Line, Number, Limit, Count, Cut, Trailing, Memory}
-use Rattle.text_lines.proofs.MemoryOrNot.{follows, is_memory, known_fault}
-use Rattle.text_lines.proofs.Consuming.{Takes-append}
-use Rattle.history_text.specs.Versions.{text_of, line_count, HasText, IsTextFault, NoRoomForText}
-use Rattle.history_text.specs.Claims.{IsVerdictTextFault, NoRoomForVerdict}
-use Rattle.text_lines.specs.Input.{Ahead, Ending, Takes}
+use Rattle.commands.proofs.Common.{[], ◌++◌, ◌∙◌, ◌∷◌, ◌≡◌, ◌≢◌, ◌⊎◌, ap, append-nil, IfSome, inl, inr, List, None}
+use Rattle.commands.proofs.Common.{Option, refl, Some, subst, sym, ℕ, AfterHistory, Ahead, Count, Cut, Ending, follows}
+use Rattle.commands.proofs.Common.{HasText, Header, HistoryText, is_memory, IsFaultAfter, IsFaultOfClaimInput}
+use Rattle.commands.proofs.Common.{IsFaultOfDrawableInput, IsFaultOfHistoryInput, IsFaultOfOneText, IsHistoryOf}
+use Rattle.commands.proofs.Common.{IsTextFault, IsVerdictTextFault, known_fault, Line, line_count, NoRoomForText}
+use Rattle.commands.proofs.Common.{NoRoomForVerdict, Number, Read, Takes, Takes-append, text_of, TextFault, Trailing}
+use Rattle.text_lines.specs.declared.fault.TextFault.TheVariants.{Limit, Memory}
 use Rattle.history_text.specs.Reading.{HasFirstFault, HasEndFault, HasTextFault, HasVerdictTextFault, HasMore}
 use Rattle.history_text.proofs.OneHistory as histories
-use Rattle.commands.specs.Inputs.{IsFaultOfOneText, IsFaultOfHistoryInput, IsFaultAfter, AfterHistory, IsFaultOfClaimInput, IsFaultOfDrawableInput, IsHistoryOf}
 
 -- ---- one text
 

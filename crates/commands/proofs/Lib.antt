@@ -5,6 +5,7 @@
 -- Validity, ShrunkTexts: what is written, read again, is a claim that is true.
 -- DrawnVerdicts: a history on its own is drawn as if its verdict followed it.
 -- Honest: an honest schedule that is done is answered by `YES`.
+mod Common
 pub mod Exits
 pub mod Saying
 pub mod InputFaults

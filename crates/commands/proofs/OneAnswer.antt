@@ -1,47 +1,31 @@
 -- Out of memory aside, an input has one answer.
-use Rattle.std.proofs.Common.{◌≡◌, ◌≢◌, ◌↔◌, ◌⊎◌, Bool, true, false, IsTrue, ◌≤◌, List, [], length, arith, refl, sym, ◌∙◌, ap, subst, inl, inr}
-use Rattle.std.specs.Prelude.{Contains, flat_map}
+use Rattle.commands.proofs.Common.{[], ◌↔◌, ◌∙◌, ◌≡◌, ◌≢◌, ◌≤◌, ◌⊎◌, ap, arith, Bool, Contains, false, flat_map, inl}
+use Rattle.commands.proofs.Common.{inr, IsTrue, length, List, refl, subst, sym, true, Ahead, alone}
+use Rattle.commands.proofs.Common.{answer_of_history_fault, answer_of_text_fault, AnswersFor, AnswersOrNoMemory}
+use Rattle.commands.proofs.Common.{ArePartOf, check, Claimed, ClaimOnText, collected_lists, complete_has_no_fault}
+use Rattle.commands.proofs.Common.{Contents, convert, Converts, counted, Counts, draw, Drawable, DrawOptions, Draws}
+use Rattle.commands.proofs.Common.{DrawsAlone, DrawsClaim, Event, from_none, HasOneAnswer, HasScheduleText, HasText}
+use Rattle.commands.proofs.Common.{HistoryText, HistoryView, is_memory, IsClaimOf, IsCompleteFrom, IsCompleteHistory}
+use Rattle.commands.proofs.Common.{IsDrawableOf, IsDrawn, IsDrawnDecided, IsFaultOfClaimInput, IsFaultOfDrawableInput}
+use Rattle.commands.proofs.Common.{IsFaultOfHistoryInput, IsFaultOfScheduleInput, IsFaulty, IsHistoryOf, IsJudged}
+use Rattle.commands.proofs.Common.{IsMerged, IsOfFault, IsRefuted, IsScheduleOf, IsScheduleTextFault, IsShrunk, IsSound}
+use Rattle.commands.proofs.Common.{IsTextFault, IsTooLarge, IsTrueClaim, IsVerdictClaim, judged, Judges, KeepsViolation}
+use Rattle.commands.proofs.Common.{MAX_INITIAL, memory_fault, no_longer, NoRoomForSchedule, NoRoomForText}
+use Rattle.commands.proofs.Common.{operations_of, played, rejections, Reply, said_by, said_in, SameOrNoMemory}
+use Rattle.commands.proofs.Common.{schedule_of, schedule_text, Setting, shown, shrink, Shrinks, sim, Simulates, stats}
+use Rattle.commands.proofs.Common.{StaysChosen, text_of, TextFault, verified, Verifies, verify, with_claim}
 use Rattle.std.proofs.lemmas.List.Sorted.{Contains-permutation, IsPermutation-sym}
-use Rattle.event_records.specs.declared.event.Event.{Event}
-use Rattle.event_records.specs.declared.limits.TheConstants.{MAX_INITIAL}
-use Rattle.history_merge.specs.Complete.{IsCompleteHistory}
-use Rattle.history_merge.specs.Merge.{IsMerged}
-use Rattle.history_merge.specs.Operations.{operations_of}
-use Rattle.history_merge.specs.Initial.{HistoryView, IsCompleteFrom}
-use Rattle.history_merge.proofs.ExactFaults.{complete_has_no_fault}
 use Rattle.history_merge.proofs.OneFault.{one_first_fault}
 use Rattle.history_stats.proofs.OneStatistics.{one_statistics}
-use Rattle.recorder_core.specs.Setting.{Setting}
-use Rattle.recorder_core.specs.Laws.{collected_lists}
-use Rattle.simulation.specs.Simulations.{rejections, schedule_of}
-use Rattle.verdicts.specs.declared.verifying.Claimed.{Claimed}
-use Rattle.verdicts.specs.Claims.{IsTrueClaim}
 use Rattle.verdicts.proofs.EventsHeld.{part_is_one}
 use Rattle.verdicts.proofs.OneSelection.{selection_is_one}
 use Rattle.verdicts.proofs.OneVerdict.{chosen_violation_is_one}
 use Rattle.verdicts.proofs.SameLists.{same_lists}
-use Rattle.verdicts.specs.Selection.{ArePartOf, Contents, KeepsViolation, StaysChosen}
-use Rattle.verdicts.proofs.ShrunkEvents.{no_longer}
 use Rattle.verdicts.proofs.ShrunkHistories.{IsWhole}
-use Rattle.text_lines.specs.declared.fault.TextFault.{TextFault}
 use Rattle.text_lines.specs.declared.fault.TextFault.TheVariants as text
 use Rattle.history_text.specs.declared.schedule.Schedule.{Schedule}
-use Rattle.history_text.specs.Versions.{HistoryText}
-use Rattle.history_text.specs.Versions.{text_of, HasText, IsTextFault, NoRoomForText, said_in}
-use Rattle.history_text.specs.Schedules.{schedule_text, HasScheduleText, IsScheduleTextFault, NoRoomForSchedule}
-use Rattle.text_lines.specs.Input.{Ahead}
-use Rattle.text_lines.proofs.MemoryOrNot.{is_memory}
 use Rattle.history_text.proofs.OneHistory as histories
 use Rattle.history_text.proofs.OneSchedule as schedules
-use Rattle.command_words.specs.declared.options.DrawOptions.{DrawOptions}
-use Rattle.command_words.specs.Commands.{check, shrink, verify, draw, convert, stats, sim}
-use Rattle.commands.specs.Answers.{Reply, judged, shown, played, verified, counted, memory_fault, answer_of_text_fault, answer_of_history_fault}
-use Rattle.commands.specs.Inputs.{ClaimOnText, IsHistoryOf, IsFaultOfHistoryInput, IsScheduleOf, IsFaultOfScheduleInput, IsClaimOf, IsFaultOfClaimInput}
-use Rattle.commands.specs.Inputs.{Drawable, alone, with_claim, IsDrawableOf, IsFaultOfDrawableInput}
-use Rattle.commands.specs.Judging.{IsVerdictClaim, IsFaulty, IsJudged, IsShrunk, IsSound, Judges, Shrinks, Verifies, Draws, DrawsAlone, DrawsClaim}
-use Rattle.commands.specs.Judging.{Converts, Counts, Simulates, AnswersFor, IsTooLarge, IsRefuted, IsDrawn, IsDrawnDecided, from_none, said_by}
-use Rattle.commands.specs.Judging.{AnswersOrNoMemory, IsOfFault}
-use Rattle.commands.specs.OneAnswer.{SameOrNoMemory, HasOneAnswer}
 use Rattle.commands.proofs.OneInput.{one_value, only_memory, one_known_fault, one_history, one_claim, only_memory_of_claim, one_known_fault_of_claim}
 use Rattle.commands.proofs.OneInput.{one_drawable, only_memory_of_drawable, one_known_fault_of_drawable}
 use Rattle.commands.proofs.Findings.{few_values}

@@ -1,19 +1,15 @@
 -- An input says one thing, or has one fault.
-use Rattle.std.proofs.Common.{◌≡◌, ◌≢◌, ℕ, ◌⊎◌, List, [], ◌∷◌, ◌++◌, sym, ◌∙◌, ap, subst, inl, inr, append-nil}
-use Rattle.text_lines.specs.declared.fault.TextFault.{TextFault}
+use Rattle.commands.proofs.Common.{[], ◌++◌, ◌∙◌, ◌∷◌, ◌≡◌, ◌≢◌, ◌⊎◌, ap, append-nil, inl, inr, List, subst, sym, ℕ}
+use Rattle.commands.proofs.Common.{AfterHistory, Ahead, alone, Claimed, ClaimOnText, Drawable, Ending, EndOfInput}
+use Rattle.commands.proofs.Common.{Failure, HasText, HistoryText, IsClaimOf, IsDrawableOf, IsFaultAfter}
+use Rattle.commands.proofs.Common.{IsFaultOfClaimInput, IsFaultOfDrawableInput, IsFaultOfOneText, IsHistoryOf}
+use Rattle.commands.proofs.Common.{IsTextFault, IsVerdictTextFault, known_fault, line_count, NoRoomForText}
+use Rattle.commands.proofs.Common.{NoRoomForVerdict, text_of, TextFault, verdict_text, with_claim}
 use Rattle.text_lines.specs.declared.fault.TextFault.TheVariants as text
-use Rattle.text_lines.specs.Input.{Ahead, Ending, EndOfInput, Failure}
-use Rattle.text_lines.proofs.MemoryOrNot.{known_fault}
-use Rattle.verdicts.specs.declared.verifying.Claimed.{Claimed}
 use Rattle.verdicts.specs.declared.verifying.Claimed.TheVariants.{Yes, No}
-use Rattle.history_text.specs.Versions.{HistoryText}
-use Rattle.history_text.specs.Versions.{text_of, line_count, HasText, IsTextFault, NoRoomForText}
-use Rattle.history_text.specs.Verdicts.{verdict_text}
-use Rattle.history_text.specs.Claims.{IsVerdictTextFault, NoRoomForVerdict}
 use Rattle.history_text.proofs.OneHistory as histories
 use Rattle.history_text.proofs.OneVerdict as verdict_texts
-use Rattle.commands.specs.Inputs.{IsWhole, IsFaultAfter, IsFaultOfOneText, ClaimOnText, IsClaimOf, AfterHistory, IsFaultOfClaimInput}
-use Rattle.commands.specs.Inputs.{Drawable, alone, with_claim, IsHistoryOf, IsDrawableOf, IsFaultOfDrawableInput}
+use Rattle.commands.specs.Inputs.{IsWhole}
 
 -- ---- one text
 

@@ -1,21 +1,10 @@
 -- What is answered of a schedule that was played.
-use Rattle.std.proofs.Common.{◌≡◌, ◌≤◌, List, length, inl, inr, ap, subst, arith}
-use Rattle.std.specs.List.{flat_map}
-use Rattle.event_records.specs.declared.event.Event.{Event}
-use Rattle.event_records.specs.declared.limits.TheConstants.{MAX_EVENTS}
-use Rattle.history_merge.specs.Complete.{IsCompleteHistory}
-use Rattle.history_merge.specs.Merge.{IsMerged}
-use Rattle.event_records.specs.declared.limits.TheConstants.{MAX_THREADS}
-use Rattle.recorder_core.specs.Setting.{Setting}
-use Rattle.recorder_core.specs.Schedule.{Attempt}
-use Rattle.recorder_core.specs.Laws.{IsDone, collected_lists}
+use Rattle.commands.proofs.Common.{◌≡◌, ◌≤◌, ap, arith, flat_map, inl, inr, length, List, subst, Attempt, Claimed}
+use Rattle.commands.proofs.Common.{collected_lists, Event, IsCompleteHistory, IsDone, IsMerged, IsVerdictClaim}
+use Rattle.commands.proofs.Common.{left_open, MAX_EVENTS, MAX_THREADS, played, rejections, Setting, SimulatesIn}
 use Rattle.recorder_core.proofs.Collecting.{collected_is_fit}
 use Rattle.recorder_core.proofs.Fitting.{merged_is_complete}
 use Rattle.simulation.specs.declared.playing.Rejection.{Rejection}
-use Rattle.simulation.specs.Simulations.{rejections}
-use Rattle.verdicts.specs.declared.verifying.Claimed.{Claimed}
-use Rattle.commands.specs.Answers.{left_open, played}
-use Rattle.commands.specs.Judging.{IsVerdictClaim, SimulatesIn}
 
 module _ (setting : Setting) (schedule : List Attempt) (rejected : List Rejection) (is : rejected ≡ rejections setting schedule) where
   -- the machine isn't done

@@ -1,15 +1,11 @@
 -- What an error of the words leaves behind where nothing is wrong with them.
-use Rattle.std.proofs.Common.{◌≡◌, ◌⊎◌, ℕ, List, [], Bool, true, false, Option, Some, None, inl, inr, refl, IfSome, subst, sym, ◌∙◌}
-use Rattle.std.proofs.lemmas.Option.{same_Some}
-use Rattle.text_lines.specs.Input.{Ahead}
+use Rattle.commands.proofs.Common.{[], ◌∙◌, ◌≡◌, ◌⊎◌, Bool, false, IfSome, inl, inr, List, None, Option, refl}
+use Rattle.commands.proofs.Common.{same_Some, Some, subst, sym, true, ℕ, Ahead, AnswersOf, AnswersOrNoMemory}
+use Rattle.commands.proofs.Common.{memory_fault, PrintsAnswer, PrintsOneOf, PrintsSaid, Reply, Request, Settings}
+use Rattle.commands.proofs.Common.{stress}
 use Rattle.clap.specs.Kinds.{Kinds, HasKind, IsAmong}
 use Rattle.clap.specs.Values.{kind_of}
 use Rattle.clap.specs.declared.error.Error.{Error}
-use Rattle.command_words.specs.Commands.{Request, stress}
-use Rattle.command_words.specs.Options.{Settings}
-use Rattle.commands.specs.Answers.{Reply, memory_fault}
-use Rattle.commands.specs.Judging.{AnswersOrNoMemory}
-use Rattle.commands.specs.Running.{AnswersOf, PrintsOneOf, PrintsAnswer, PrintsSaid}
 use Rattle.commands.specs.Inner.Running.{Explains}
 
 -- memory ran out, and that is printed

@@ -1,9 +1,8 @@
 -- The message that memory ran out.
-use Rattle.std.proofs.Common.{◌≡◌, ℕ, Bool, true, false, List, [], ◌∷◌, codes, inl, refl}
-use Rattle.std.specs.Prelude.{All, ◌&&◌, nat_le}
+use Rattle.commands.proofs.Common.{[], ◌&&◌, ◌∷◌, ◌≡◌, All, Bool, codes, false, inl, leb-true, List, nat_le, refl, true}
+use Rattle.commands.proofs.Common.{ℕ}
 use Rattle.std.specs.List.{list_all}
 use Rattle.std.proofs.lemmas.List.Elements.{All-cons, All-nil}
-use Rattle.std.proofs.lemmas.Bool.{leb-true}
 use Rattle.messages.specs.Quoting.{IsPrintable}
 use Rattle.messages.specs.Messages.{IsMessage}
 

@@ -1,8 +1,7 @@
 -- The first of a name, after a search that passed all before it.
-use Rattle.std.proofs.Common.{◌≡◌, ◌≢◌, ℕ, zero, suc, ◌+◌, ◌<◌, List, [], ◌∷◌, ◌++◌, All, get_or, take, drop, length, ap, sym, ◌∙◌, arith, add-one, subst}
-use Rattle.std.proofs.Math.Seq.{take-suc}
+use Rattle.commands.proofs.Common.{[], ◌++◌, ◌+◌, ◌<◌, ◌∙◌, ◌∷◌, ◌≡◌, ◌≢◌, add-one, All, ap, arith, drop, false, get_or}
+use Rattle.commands.proofs.Common.{length, List, nat_eq, subst, suc, sym, take, take-suc, true, zero, ℕ}
 use Rattle.std.proofs.lemmas.List.Elements.{All-push}
-use Rattle.std.specs.Prelude.{nat_eq, true, false}
 use Rattle.std.specs.Cmp.Lexicographic.{pointwise, same_text}
 use Rattle.std.proofs.lemmas.Cmp.{nat_list_eq_equiv}
 use Rattle.commands.specs.Stressing.{IsFirstNamed}

@@ -1,32 +1,20 @@
 -- The text of a shrunk history and of its verdict, read again.
-use Rattle.std.proofs.Common.{◌≡◌, ℕ, ◌≤◌, ◌⊎◌, Bool, true, false, List, [], ◌∷◌, ◌++◌, length, filter, refl, sym, ◌∙◌, ap, subst, inl, inr, arith}
-use Rattle.std.proofs.Common.{append-nil, cond}
+use Rattle.commands.proofs.Common.{[], ◌++◌, ◌∙◌, ◌∷◌, ◌≡◌, ◌≤◌, ◌⊎◌, ap, append-nil, arith, Bool, cond, false, filter}
+use Rattle.commands.proofs.Common.{inl, inr, length, List, refl, subst, sym, true, ℕ, Ahead, answer_of_history_fault}
+use Rattle.commands.proofs.Common.{answer_of_text_fault, AnswersFor, AnswersOrNoMemory, claim_of, Claimed}
+use Rattle.commands.proofs.Common.{complete_has_no_fault, EndOfInput, Event, Failure, HasText, HaveValueLines}
+use Rattle.commands.proofs.Common.{HistoryFault, HistoryText, HistoryView, input_of, IsFaultAfter}
+use Rattle.commands.proofs.Common.{IsFaultOfHistoryInput, IsHistoryOf, IsSound, IsTextFault, IsVerdictClaim, judged}
+use Rattle.commands.proofs.Common.{Judges, MAX_INITIAL, memory_fault, no_longer, One, operations_of, Reply, said_by}
+use Rattle.commands.proofs.Common.{said_in, shown, Shrinks, ShrunkIsChecked, ShrunkIsValid, text_of, TextFault, Two}
+use Rattle.commands.proofs.Common.{Version}
 use Rattle.std.specs.List.{AllByRecursion}
-use Rattle.event_records.specs.declared.event.Event.{Event}
-use Rattle.event_records.specs.declared.limits.TheConstants.{MAX_INITIAL}
-use Rattle.history_merge.specs.Initial.{HistoryView}
-use Rattle.history_merge.specs.Operations.{operations_of}
-use Rattle.history_merge.specs.declared.fault.HistoryFault.{HistoryFault}
 use Rattle.history_merge.specs.declared.fault.HistoryFault.TheVariants as history
-use Rattle.history_merge.proofs.ExactFaults.{complete_has_no_fault}
-use Rattle.verdicts.specs.declared.verifying.Claimed.{Claimed}
-use Rattle.verdicts.specs.Claiming.{claim_of}
 use Rattle.verdicts.proofs.OneVerdict.{verdict_is_one}
-use Rattle.verdicts.proofs.ShrunkEvents.{no_longer}
-use Rattle.text_lines.specs.declared.fault.TextFault.{TextFault}
 use Rattle.text_lines.specs.declared.fault.TextFault.TheVariants as text
 use Rattle.text_lines.specs.Lines.{greatest_value}
-use Rattle.text_lines.specs.Input.{Ahead, EndOfInput, Failure}
-use Rattle.history_text.specs.Versions.{HistoryText}
-use Rattle.history_text.specs.declared.version.Version.{Version}
-use Rattle.history_text.specs.declared.version.Version.TheVariants.{One, Two}
 use Rattle.history_text.specs.Histories.{HasHistoryText, HasEventLine}
-use Rattle.history_text.specs.Versions.{text_of, HasText, HaveValueLines, IsTextFault, said_in}
 use Rattle.history_text.proofs.OneHistory as histories
-use Rattle.commands.specs.Answers.{Reply, judged, shown, memory_fault, answer_of_text_fault, answer_of_history_fault}
-use Rattle.commands.specs.Inputs.{IsHistoryOf, IsFaultOfHistoryInput, IsFaultAfter}
-use Rattle.commands.specs.Judging.{IsSound, IsVerdictClaim, said_by, Judges, Shrinks, AnswersFor, AnswersOrNoMemory}
-use Rattle.commands.specs.Evidence.{ShrunkIsValid, ShrunkIsChecked, input_of}
 use Rattle.commands.proofs.Findings.{few_values}
 use Rattle.commands.proofs.Validity.{IsWritten, written_is_valid}
 

@@ -1,28 +1,19 @@
 -- The text of a history and of its verdict, read again, is a claim that is true.
-use Rattle.std.proofs.Common.{◌≡◌, ◌⊎◌, ◌++◌, arith, refl, sym, ◌∙◌, ap, subst, inl, inr}
-use Rattle.history_merge.specs.Operations.{operations_of}
-use Rattle.history_merge.specs.declared.fault.HistoryFault.{HistoryFault}
+use Rattle.commands.proofs.Common.{◌++◌, ◌∙◌, ◌≡◌, ◌⊎◌, ap, arith, inl, inr, refl, subst, sym, AfterHistory, Ahead}
+use Rattle.commands.proofs.Common.{answer_of_history_fault, answer_of_text_fault, AnswersFor, AnswersOrNoMemory}
+use Rattle.commands.proofs.Common.{CheckedIsValid, Claimed, ClaimOnText, complete_has_no_fault, EndOfInput}
+use Rattle.commands.proofs.Common.{evidence_is_true, HasText, HasVerdictText, HistoryFault, HistoryText, input_of}
+use Rattle.commands.proofs.Common.{IsClaimOf, IsFaultOfClaimInput, IsFaultOfHistoryInput, IsHistoryOf, IsSound}
+use Rattle.commands.proofs.Common.{IsTextFault, IsTrueClaim, IsValidOrNoMemory, IsVerdictClaim, IsVerdictTextFault}
+use Rattle.commands.proofs.Common.{judged, Judges, line_count, memory_fault, operations_of, Reply, said_by, text_of}
+use Rattle.commands.proofs.Common.{TextFault, verdict_text, verified, Verifies}
 use Rattle.history_merge.specs.declared.fault.HistoryFault.TheVariants as history
-use Rattle.history_merge.proofs.ExactFaults.{complete_has_no_fault}
-use Rattle.verdicts.specs.declared.verifying.Claimed.{Claimed}
-use Rattle.verdicts.specs.Claims.{IsTrueClaim}
-use Rattle.verdicts.proofs.TrueClaims.{evidence_is_true}
 use Rattle.verdicts.proofs.FewLines.{verdict_has_few_lines}
-use Rattle.text_lines.specs.declared.fault.TextFault.{TextFault}
 use Rattle.text_lines.specs.declared.fault.TextFault.TheVariants as text
-use Rattle.text_lines.specs.Input.{Ahead, EndOfInput}
-use Rattle.history_text.specs.Versions.{HistoryText}
-use Rattle.history_text.specs.Versions.{text_of, line_count, HasText, IsTextFault}
-use Rattle.history_text.specs.Verdicts.{verdict_text}
-use Rattle.history_text.specs.Claims.{HasVerdictText, IsVerdictTextFault}
 use Rattle.history_text.proofs.OneHistory as histories
 use Rattle.history_text.proofs.OneVerdict as verdict_texts
 use Rattle.history_text.proofs.WrittenClaims.{claim_has_text}
-use Rattle.commands.specs.Answers.{Reply, judged, verified, memory_fault, answer_of_text_fault, answer_of_history_fault}
-use Rattle.commands.specs.Inputs.{ClaimOnText, AfterHistory, IsClaimOf, IsFaultOfClaimInput, IsHistoryOf, IsFaultOfHistoryInput}
-use Rattle.commands.specs.Judging.{IsSound, IsVerdictClaim, said_by, Judges, Verifies, AnswersFor, AnswersOrNoMemory}
 use Rattle.commands.proofs.Findings.{few_values}
-use Rattle.commands.specs.Evidence.{CheckedIsValid, IsValidOrNoMemory, input_of}
 
 -- ---- answers that differ
 

@@ -1,17 +1,10 @@
 -- The bars in the lanes are the operations.
-use Rattle.std.proofs.Common.{◌≡◌, ℕ, ◌<◌, ◌≤◌, inl, inr, Bool, true, false, List, [], ◌∷◌, Some, refl, sym, ap, subst, ◌∙◌, arith, eq-eqb}
-use Rattle.std.specs.Prelude.{Contains, find, slice_get}
-use Rattle.std.proofs.lemmas.Bool.{cases_lt, cond_both}
-use Rattle.std.proofs.lemmas.Bool.Decides.{nat_tests}
-use Rattle.event_records.specs.declared.event.Event.{Event}
-use Rattle.history_merge.specs.declared.operation.Operation.{Operation}
-use Rattle.history_merge.specs.Complete.{IsCompleteHistory, AreComplete}
-use Rattle.history_merge.specs.Operations.{operations_of}
-use Rattle.history_merge.proofs.Completeness.{operations_are_complete}
-use Rattle.history_merge.proofs.Distinct.{contains_cons, not_in_none, contains_at, pairs_at, one_at, found_first, IsTraced, traced, same_call}
-use Rattle.history_merge.proofs.Distinct.{return_differs_from_call}
-use Rattle.drawing.specs.Drawn.{drawn_operations}
-use Rattle.drawing.specs.Layout.{is_under_way}
+use Rattle.drawing.proofs.Common.{[], ◌<◌, ◌∙◌, ◌∷◌, ◌≡◌, ◌≤◌, ap, arith, Bool, cases_lt, cond_both, Contains, eq-eqb}
+use Rattle.drawing.proofs.Common.{false, find, inl, inr, List, nat_tests, refl, slice_get, Some, subst, sym, true, ℕ}
+use Rattle.drawing.proofs.Common.{AreComplete, contains_at, contains_cons, drawn_operations, Event, found_first}
+use Rattle.drawing.proofs.Common.{is_under_way, IsCompleteHistory, IsTraced, not_in_none, one_at, Operation}
+use Rattle.drawing.proofs.Common.{operations_are_complete, operations_of, pairs_at, return_differs_from_call, same_call}
+use Rattle.drawing.proofs.Common.{traced}
 use Rattle.drawing.specs.Laws.{BarsAreOfOperations, NoOtherBars}
 use Rattle.drawing.proofs.Nearness.{among_operations}
 

@@ -1,9 +1,6 @@
 -- How many elements pass a test, where another test lets more of them pass.
-use Rattle.std.proofs.Common.{◌≡◌, ℕ, ◌+◌, ◌≤◌, Bool, true, false, inl, inr, List, [], ◌∷◌, arith, cond, subst, sym, refl}
-use Rattle.std.specs.Prelude.{Contains, count_by}
-use Rattle.std.proofs.lemmas.Bool.{cond_both}
-use Rattle.std.proofs.lemmas.List.Sums.{sum_by-cons}
-use Rattle.history_merge.proofs.Distinct.{contains_cons, not_in_none}
+use Rattle.drawing.proofs.Common.{[], ◌+◌, ◌∷◌, ◌≡◌, ◌≤◌, arith, Bool, cond, cond_both, Contains, count_by, false, inl}
+use Rattle.drawing.proofs.Common.{inr, List, refl, subst, sum_by-cons, sym, true, ℕ, contains_cons, not_in_none}
 
 module _ {X : Type 0} (p q : X → Bool) (more : (x : X) → p x ≡ true → q x ≡ true) where
   first_of : (r : X → Bool) (x : X) (xs : List X) → count_by r (x ∷ xs) ≡ cond (r x) 1 0 + count_by r xs

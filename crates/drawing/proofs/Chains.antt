@@ -1,7 +1,6 @@
 -- Texts to which pieces are added in turn.
-use Rattle.std.proofs.Common.{◌≡◌, ℕ, ◌+◌, ◌-◌, ◌≤◌, List, [], ◌∷◌, ◌++◌, length, get_or, take, drop, ap, ◌∙◌, append_assoc, Ok, Err, arith}
-use Rattle.std.proofs.lemmas.List.{take_all}
-use Rattle.verdicts.specs.declared.verifying.ClaimLine.{ClaimLine}
+use Rattle.drawing.proofs.Common.{[], ◌++◌, ◌+◌, ◌-◌, ◌∙◌, ◌∷◌, ◌≡◌, ◌≤◌, ap, append_assoc, arith, drop, Err, get_or}
+use Rattle.drawing.proofs.Common.{length, List, Ok, take, take_all, ℕ, ClaimLine}
 use Rattle.drawing.specs.Captions.{one_of_cover, cover_caption}
 
 -- the first value of a cover, and the rest

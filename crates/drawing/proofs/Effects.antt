@@ -1,17 +1,10 @@
 -- The effects of a `YES`, and the numbers of a claim.
-use Rattle.std.proofs.Common.{◌≡◌, ℕ, zero, suc, ◌+◌, ◌<◌, ◌≤◌, ◌⊎◌, inl, inr, max, List, [], ◌∷◌, take, Some}
-use Rattle.std.proofs.Common.{refl, sym, ap, subst, arith, add-one}
-use Rattle.std.specs.Prelude.{Contains, fold, slice_get}
-use Rattle.std.proofs.lemmas.Bool.{cases_lt}
-use Rattle.std.proofs.lemmas.List.Sorted.{Contains-permutation, IsPermutation-sym}
-use Rattle.history_merge.specs.declared.operation.Operation.{Operation}
-use Rattle.history_merge.specs.Complete.{AreComplete}
-use Rattle.history_merge.specs.Operations.{operations_of, Precedes}
-use Rattle.history_merge.proofs.Completeness.{operations_are_complete}
+use Rattle.drawing.proofs.Common.{[], ◌+◌, ◌<◌, ◌∷◌, ◌≡◌, ◌≤◌, ◌⊎◌, add-one, ap, arith, cases_lt, Contains}
+use Rattle.drawing.proofs.Common.{Contains-permutation, fold, inl, inr, IsPermutation-sym, List, max, refl, slice_get}
+use Rattle.drawing.proofs.Common.{Some, subst, suc, sym, take, zero, ℕ, AreComplete, call_before_return, contains_at}
+use Rattle.drawing.proofs.Common.{Event, one_at, Operation, operations_are_complete, operations_of, pairs_at, point}
+use Rattle.drawing.proofs.Common.{Precedes, return_differs_from_call, traced}
 use Rattle.history_merge.specs.Legal.{IsLegalOrder}
-use Rattle.history_merge.proofs.Distinct.{pairs_at, one_at, contains_at, traced, return_differs_from_call, call_before_return}
-use Rattle.event_records.specs.declared.event.Event.{Event}
-use Rattle.drawing.specs.Layout.{point}
 use Rattle.drawing.specs.Laws.{EffectsAreInBars, EffectsRise}
 
 -- the greatest so far

@@ -1,21 +1,15 @@
 -- The lines of evidence are operations and initial values of the history.
-use Rattle.std.proofs.Common.{◌≡◌, ℕ, ◌+◌, ◌*◌, ◌&&◌, inl, inr, List, [], ◌∷◌, length, map, Some, None, Option, MatchOption}
-use Rattle.std.proofs.Common.{refl, sym, ap, subst, ◌∙◌, arith}
-use Rattle.std.specs.Prelude.{Contains, flat_map, nat_le, option_to_list}
-use Rattle.std.proofs.lemmas.List.Elements.{Contains-append_cases}
-use Rattle.std.proofs.lemmas.Option.{cond_some}
+use Rattle.drawing.proofs.Common.{[], ◌&&◌, ◌*◌, ◌+◌, ◌∙◌, ◌∷◌, ◌≡◌, ap, arith, cond_some, Contains}
+use Rattle.drawing.proofs.Common.{Contains-append_cases, flat_map, inl, inr, length, List, map, MatchOption, nat_le}
+use Rattle.drawing.proofs.Common.{None, Option, option_to_list, refl, Some, subst, sym, ℕ, ClaimLine, contains_at}
+use Rattle.drawing.proofs.Common.{contains_cons, Did, filled, later_by, NoneDid, not_in_none, one_deeper, Op, Operation}
+use Rattle.drawing.proofs.Common.{Precedes}
 use Rattle.event_records.specs.declared.limits.TheConstants.{MAX_TICKET}
-use Rattle.history_merge.specs.declared.operation.Operation.{Operation}
 use Rattle.history_merge.specs.declared.operation.OpKind.TheVariants.{Deq}
-use Rattle.history_merge.specs.Initial.{filled, later_by}
-use Rattle.history_merge.specs.Operations.{Did, NoneDid, Precedes}
-use Rattle.history_merge.proofs.Distinct.{contains_at, contains_cons, not_in_none}
 use Rattle.value_match.specs.declared.life.Life.{Life}
 use Rattle.value_match.specs.Lives.{IsLife, dequeue_of, enqueue_of, operations_of_life}
 use Rattle.value_match.specs.Violations.{FullViolation, fresh, repeat, order, witness, CoversFrom, IsViolationOf, lines_of}
-use Rattle.value_match.proofs.Lists.{one_deeper}
-use Rattle.verdicts.specs.declared.verifying.ClaimLine.{ClaimLine}
-use Rattle.verdicts.specs.declared.verifying.ClaimLine.TheVariants.{Op, Initial}
+use Rattle.verdicts.specs.declared.verifying.ClaimLine.TheVariants.{Initial}
 use Rattle.verdicts.specs.Claims.{in_filled, stands_for}
 use Rattle.value_match.proofs.FilledLines.{called_late}
 use Rattle.drawing.specs.Laws.{LinesAreOfHistory}

@@ -1,11 +1,7 @@
 -- Lanes of different threads stand apart.
-use Rattle.std.proofs.Common.{◌≡◌, ℕ, ◌+◌, ◌*◌, ◌/◌, ◌==◌, ◌<◌, ◌≤◌, List, true, false, cond, subst, sym, eqb-true, arith}
-use Rattle.std.specs.Prelude.{Contains, nat_lt}
-use Rattle.std.proofs.Math.Nat.{mul-le-mul_left}
-use Rattle.std.proofs.lemmas.Bool.{cond_both}
-use Rattle.std.proofs.lemmas.Bool.Decides.{nat_tests}
-use Rattle.drawing.specs.Scene.{lanes_before}
-use Rattle.drawing.specs.Terminal.{lane_place}
+use Rattle.drawing.proofs.Common.{◌*◌, ◌+◌, ◌/◌, ◌<◌, ◌==◌, ◌≡◌, ◌≤◌, arith, cond, cond_both, Contains, eqb-true, false}
+use Rattle.drawing.proofs.Common.{List, mul-le-mul_left, nat_lt, nat_tests, subst, sym, true, ℕ, lane_place}
+use Rattle.drawing.proofs.Common.{lanes_before}
 use Rattle.drawing.specs.Laws.{LanesAreApart}
 use Rattle.drawing.proofs.Below.{one_fewer}
 

@@ -1,15 +1,13 @@
 -- What a loop adds with one more element.
-use Rattle.std.proofs.Common.{◌≡◌, ℕ, ◌+◌, ◌<◌, List, [], ◌∷◌, ◌++◌, map, length, take, get_or, ap, sym, ◌∙◌, zero-add}
-use Rattle.std.proofs.Common.{append-nil, append_assoc, arith, max, length-take-le, cond, Bool, true, false, drop, Some, refl}
-use Rattle.std.specs.List.{range_with_len, flat_map, filter, find, enumerate_from}
-use Rattle.std.proofs.lemmas.List.{map-append, map-id, map_more, take_more, at_drop_more}
+use Rattle.drawing.proofs.Common.{[], ◌++◌, ◌+◌, ◌<◌, ◌∙◌, ◌∷◌, ◌≡◌, ap, append-nil, append_assoc, arith, Bool, cond}
+use Rattle.drawing.proofs.Common.{drop, enumerate_from, false, filter, find, flat_map, fold-append, fold_more, get_or}
+use Rattle.drawing.proofs.Common.{length, length-take-le, List, map, map-id, max, range_with_len, refl, Some, sym, take}
+use Rattle.drawing.proofs.Common.{true, zero-add, ℕ, greatest_call, has_operations, Operation, placed, point}
+use Rattle.drawing.proofs.Common.{threads_below, with_words, Word}
+use Rattle.std.proofs.lemmas.List.{map-append, map_more, take_more, at_drop_more}
 use Rattle.std.proofs.lemmas.List.FromFn.{filter_of_map_range_with_len_more, map-range_with_len_more}
 use Rattle.std.proofs.lemmas.Grind.{flat_map-append}
 use Rattle.text_lines.proofs.Appending.{flat_map-more}
-use Rattle.std.proofs.lemmas.List.Sums.{fold_more, fold-append}
-use Rattle.history_merge.specs.declared.operation.Operation.{Operation}
-use Rattle.drawing.specs.Layout.{threads_below, has_operations, point, greatest_call}
-use Rattle.drawing.specs.Words.{Word, placed, with_words}
 
 -- what is found from one element on is that element, or is found from the next one on
 pub find_step : {X : Type 0} (p : X → Bool) (xs : List X) (i : ℕ) (d : X) → i < length xs

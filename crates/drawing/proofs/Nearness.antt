@@ -1,29 +1,17 @@
 -- Which operations are drawn: those that overlap one of a `NO`, and with no distance no others.
-use Rattle.std.proofs.Common.{◌≡◌, ℕ, zero, suc, ◌+◌, ◌-◌, ◌<◌, ◌≤◌, inl, inr, Bool, true, false, ◌&&◌, ◌||◌, cond, List, [], ◌∷◌, ◌++◌, length, map}
-use Rattle.std.proofs.Common.{get_or, take, filter, Some, None, Option, refl, sym, ap, subst, ◌∙◌, arith}
-use Rattle.std.specs.Prelude.{Contains, nat_lt, nat_le, count_by, flat_map}
-use Rattle.std.specs.List.{list_any}
-use Rattle.std.proofs.lemmas.Bool.{cases_lt}
+use Rattle.drawing.proofs.Common.{[], ◌&&◌, ◌++◌, ◌+◌, ◌-◌, ◌<◌, ◌||◌, ◌∙◌, ◌∷◌, ◌≡◌, ◌≤◌, ap, arith, Bool, cases_lt}
+use Rattle.drawing.proofs.Common.{cond, Contains, Contains-append_left, Contains-append_right, count_by, false, filter}
+use Rattle.drawing.proofs.Common.{filter_more, flat_map, get_or, inl, inr, IsPartitionedBy-ltb, length, List, list_any}
+use Rattle.drawing.proofs.Common.{map, nat_le, nat_lt, nat_tests, None, Option, refl, slice_get-get_or, Some, subst}
+use Rattle.drawing.proofs.Common.{suc, sum_by-cons, sym, take, true, zero, ℕ, call_before_return, Claimed, ClaimLine}
+use Rattle.drawing.proofs.Common.{contains_at, contains_cons, drawn_operations, Event, events_before, HistoryView}
+use Rattle.drawing.proofs.Common.{is_near_any, No, not_in_none, one_deeper, Op, Operation, operation_in}
+use Rattle.drawing.proofs.Common.{operations_are_complete, operations_in, operations_of, pairs_at, passed_filter}
+use Rattle.drawing.proofs.Common.{passes_filter, stand_near, standing_of, traced, Yes}
 use Rattle.std.proofs.lemmas.List.Folds.{Any-from_list_any, list_any-from_Any}
-use Rattle.std.proofs.lemmas.Bool.Decides.{nat_tests}
-use Rattle.std.proofs.lemmas.Option.{slice_get-get_or}
 use Rattle.std.specs.List.Sorted.{IsPartitionedBy, IsNonDecreasingBy}
-use Rattle.std.proofs.lemmas.List.Sorted.{IsPartitionedBy-ltb}
 use Rattle.event_records.specs.Turns.{TicketsRise}
-use Rattle.std.proofs.lemmas.List.Elements.{Contains-append_left, Contains-append_right, filter_more}
-use Rattle.std.proofs.lemmas.List.Sums.{sum_by-cons}
-use Rattle.event_records.specs.declared.event.Event.{Event}
-use Rattle.history_merge.specs.Initial.{HistoryView}
-use Rattle.history_merge.specs.declared.operation.Operation.{Operation}
-use Rattle.history_merge.specs.Operations.{operations_of}
-use Rattle.history_merge.proofs.Completeness.{operations_are_complete}
-use Rattle.history_merge.proofs.Distinct.{call_before_return, contains_at, contains_cons, not_in_none, pairs_at, traced}
-use Rattle.value_match.proofs.Lists.{one_deeper, passes_filter, passed_filter}
-use Rattle.verdicts.specs.declared.verifying.ClaimLine.{ClaimLine}
-use Rattle.verdicts.specs.declared.verifying.ClaimLine.TheVariants.{Op, Initial}
-use Rattle.verdicts.specs.declared.verifying.Claimed.{Claimed}
-use Rattle.verdicts.specs.declared.verifying.Claimed.TheVariants.{Yes, No}
-use Rattle.drawing.specs.Drawn.{events_before, standing_of, stand_near, is_near_any, operation_in, operations_in, drawn_operations}
+use Rattle.verdicts.specs.declared.verifying.ClaimLine.TheVariants.{Initial}
 use Rattle.drawing.specs.Laws.{OverlappingAreDrawn, NoOthersAreDrawn, LinesAreDrawn}
 use Rattle.drawing.proofs.Below.{fewer, one_fewer}
 

@@ -1,23 +1,15 @@
 -- The numbers of a claim.
-use Rattle.std.proofs.Common.{◌≡◌, ℕ, ◌+◌, Bool, true, List, [], ◌∷◌, get_or, map, Some, None, Option}
-use Rattle.std.proofs.Common.{refl, sym, ap, subst, ◌∙◌, cond, eq-eqb, eqb-true}
-use Rattle.std.specs.Prelude.{Contains, nat_eq, not, option_map, slice_get}
-use Rattle.std.specs.List.{position, position_or_len}
+use Rattle.drawing.proofs.Common.{[], ◌+◌, ◌∙◌, ◌∷◌, ◌≡◌, ap, Bool, cond, Contains, eq-eqb, eqb-true, get_or, List}
+use Rattle.drawing.proofs.Common.{lt-ltb, map, nat_eq, None, not, Option, option_map, position, position_or_len, refl}
+use Rattle.drawing.proofs.Common.{slice_get, slice_get-get_or, slice_get_within, Some, subst, sym, true, ℕ, ClaimLine}
+use Rattle.drawing.proofs.Common.{contains_at, Op, Operation, operations_are_complete, operations_of, Row, same_call}
+use Rattle.drawing.proofs.Common.{stands_in}
 use Rattle.std.proofs.lemmas.List.Folds.{find_at}
 use Rattle.std.proofs.lemmas.List.Quantifiers.{position-Some}
-use Rattle.std.proofs.lemmas.Bool.{lt-ltb}
 use Rattle.std.proofs.lemmas.List.{length-map}
-use Rattle.std.proofs.lemmas.Option.{slice_get-get_or, slice_get_within}
-use Rattle.history_merge.specs.declared.operation.Operation.{Operation}
-use Rattle.history_merge.specs.Operations.{operations_of}
-use Rattle.history_merge.proofs.Completeness.{operations_are_complete}
-use Rattle.history_merge.proofs.Distinct.{contains_at, same_call}
-use Rattle.verdicts.specs.declared.verifying.ClaimLine.{ClaimLine}
-use Rattle.verdicts.specs.declared.verifying.ClaimLine.TheVariants.{Op, Initial}
+use Rattle.verdicts.specs.declared.verifying.ClaimLine.TheVariants.{Initial}
 use Rattle.value_match.specs.Filling.{filling_at}
 use Rattle.verdicts.specs.Claims.{filling_of}
-use Rattle.drawing.specs.Layout.{stands_in}
-use Rattle.drawing.specs.declared.scene.Row.{Row}
 use Rattle.drawing.specs.declared.scene.Row.TheVariants as row
 use Rattle.drawing.specs.Laws.{NumbersAreOfLines, LinesHaveNumbers, InitialNumbersAreOfLines, InitialLinesHaveNumbers}
 use Rattle.drawing.proofs.Bars.{found}

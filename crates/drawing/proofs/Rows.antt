@@ -1,25 +1,14 @@
 -- Rows stand in the order of time.
-use Rattle.std.proofs.Common.{◌≡◌, ℕ, zero, suc, ◌+◌, ◌<◌, ◌≤◌, Bool, true, false, ◌&&◌, ◌||◌, ◌⊎◌, inl, inr, List, [], ◌∷◌, ◌++◌, length, Some}
-use Rattle.std.proofs.Common.{refl, sym, ap, subst, ◌∙◌, arith, eq-eqb, eqb-true, zero-add}
-use Rattle.std.specs.Prelude.{Contains, ◌==◌, nat_lt, nat_eq, slice_get, sum_by}
-use Rattle.std.specs.List.{flat_map, enumerate_from}
-use Rattle.std.proofs.lemmas.Bool.{cases_lt, cond_both}
-use Rattle.std.proofs.lemmas.Bool.Decides.{nat_tests}
-use Rattle.std.proofs.lemmas.List.Elements.{Contains-append_left, Contains-append_right}
-use Rattle.std.proofs.lemmas.List.Sums.{sum_by-append, sum_by-cons}
-use Rattle.std.proofs.lemmas.List.Sorted.{Contains-permutation, IsPermutation-sym}
-use Rattle.event_records.specs.declared.event.Event.{Event}
-use Rattle.history_merge.specs.declared.operation.Operation.{Operation}
-use Rattle.history_merge.specs.Initial.{HistoryView}
-use Rattle.history_merge.specs.Operations.{operations_of}
-use Rattle.history_merge.proofs.Distinct.{contains_at, contains_cons, not_in_none, traced}
-use Rattle.verdicts.specs.declared.verifying.Claimed.{Claimed}
-use Rattle.verdicts.specs.declared.verifying.Claimed.TheVariants.{Yes}
+use Rattle.drawing.proofs.Common.{[], ◌&&◌, ◌++◌, ◌+◌, ◌<◌, ◌==◌, ◌||◌, ◌∙◌, ◌∷◌, ◌≡◌, ◌≤◌, ◌⊎◌, ap, arith, Bool}
+use Rattle.drawing.proofs.Common.{cases_lt, cond_both, Contains, Contains-append_left, Contains-append_right}
+use Rattle.drawing.proofs.Common.{Contains-permutation, enumerate_from, eq-eqb, eqb-true, false, flat_map, inl, inr}
+use Rattle.drawing.proofs.Common.{IsPermutation-sym, length, List, nat_eq, nat_lt, nat_tests, refl, slice_get, Some}
+use Rattle.drawing.proofs.Common.{subst, suc, sum_by, sum_by-append, sum_by-cons, sym, true, zero, zero-add, ℕ, Claimed}
+use Rattle.drawing.proofs.Common.{contains_at, contains_cons, effect_if, effect_row_if, effect_rows, Event, event_rows}
+use Rattle.drawing.proofs.Common.{has_row, HistoryView, initial_row, initial_rows, left_out_rows, not_in_none}
+use Rattle.drawing.proofs.Common.{Operation, operations_of, point, Row, row_number, row_time, row_turn, rows_after}
+use Rattle.drawing.proofs.Common.{rows_of, stands_above, traced, Yes}
 use Rattle.drawing.specs.Claim.{order_of}
-use Rattle.drawing.specs.Layout.{point}
-use Rattle.drawing.specs.Scene.{initial_row, initial_rows, effect_row_if, effect_if, effect_rows, event_rows, has_row, left_out_rows}
-use Rattle.drawing.specs.Scene.{rows_after, rows_of, row_time, row_turn, stands_above, row_number}
-use Rattle.drawing.specs.declared.scene.Row.{Row}
 use Rattle.drawing.specs.declared.scene.Row.TheVariants.{Head, Initial, Ticket, LeftOut, Effect}
 use Rattle.drawing.specs.Laws.{RowsRise, InitialValuesHaveRows, OperationsHaveRows, EffectsHaveRows, InitialRowsAreFirst, RowsTellPrecedence}
 use Rattle.drawing.specs.Laws.{EventsAreCounted, EffectRowsAreInBars, EffectRowsRise, events_in}

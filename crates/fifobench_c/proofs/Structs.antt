@@ -1,13 +1,11 @@
 -- Structs that are events, one more at a time.
-use Rattle.std.proofs.Common.{◌≡◌, ℕ, zero, suc, ◌+◌, ◌<◌, List, [], ◌∷◌, ◌++◌, map, length, get_or, take, drop, Option, Some, None, ap, sym, subst}
-use Rattle.std.proofs.Common.{◌∙◌, arith, add-one, refl}
-use Rattle.std.specs.Prelude.{slice_get}
-use Rattle.std.proofs.Math.Seq.{take-suc, take-length}
+use Rattle.fifobench_c.proofs.Common.{[], ◌++◌, ◌+◌, ◌<◌, ◌∙◌, ◌∷◌, ◌≡◌, add-one, ap, arith, drop, get_or, length, List}
+use Rattle.fifobench_c.proofs.Common.{map, None, Option, refl, slice_get, Some, subst, suc, sym, take, take-suc, zero}
+use Rattle.fifobench_c.proofs.Common.{ℕ, AreEvents, Event, event_of, IsFirstUnknown}
+use Rattle.std.proofs.Math.Seq.{take-length}
 use Rattle.std.proofs.lemmas.List.{map-append, length-map}
-use Rattle.event_records.specs.declared.event.Event.{Event}
 use Rattle.fifobench_c.specs.declared.recorded.RecordedEvent.{RecordedEvent}
 use Rattle.std.proofs.lemmas.Option.{same_Some, slice_get_within}
-use Rattle.fifobench_c.specs.Recorded.{event_of, AreEvents, IsFirstUnknown}
 
 -- as many events as structs
 pub as_many : (structs : List RecordedEvent) (events : List Event) → AreEvents structs events → length events ≡ length structs

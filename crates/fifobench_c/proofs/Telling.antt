@@ -1,7 +1,6 @@
 -- From the answer that was found, or out of memory for its text, to one of the answers that are right.
-use Rattle.std.proofs.Common.{ℕ, ◌⊎◌, List, inl, inr, refl}
+use Rattle.fifobench_c.proofs.Common.{◌⊎◌, inl, inr, List, refl, ℕ, AnswersOrNoMemory}
 use Rattle.commands.specs.Answers.{Reply, memory_fault}
-use Rattle.commands.specs.Judging.{AnswersOrNoMemory}
 use Rattle.fifobench_c.specs.Filling.{TellsAnswer, TellsOneOf}
 
 module _ {A : Type 0} (OfValue : A → Reply → Type 0) (value : A) (old new : List ℕ) (needed result : ℕ) where

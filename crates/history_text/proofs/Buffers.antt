@@ -1,12 +1,9 @@
 -- What is taken from the buffer of a reader.
-use Rattle.std.proofs.Common.{◌≡◌, ℕ, ◌+◌, ◌-◌, ◌≤◌, ◌<◌, List, [], ◌∷◌, ◌++◌, length, take, drop, arith, ap, ◌∙◌, refl, Option, Some, None}
-use Rattle.std.proofs.Common.{IfSome, IfOk, Ok, Err, append_assoc}
-use Rattle.std.specs.declared.result.Result.{Result}
-use Rattle.std.proofs.Common.{length-append, length-drop}
+use Rattle.history_text.proofs.Common.{[], ◌++◌, ◌+◌, ◌-◌, ◌<◌, ◌∙◌, ◌∷◌, ◌≡◌, ◌≤◌, ap, append_assoc, arith, drop}
+use Rattle.history_text.proofs.Common.{drop-drop, Err, IfOk, IfSome, length, length-append, length-drop, length-take-le}
+use Rattle.history_text.proofs.Common.{List, None, Ok, Option, refl, Result, Some, take, take-append-le, take_all, ℕ}
+use Rattle.history_text.proofs.Common.{Ahead, HasMore, ReadTakes, Takes, with_front}
 use Rattle.std.proofs.Math.Seq.{take-append-add}
-use Rattle.std.proofs.lemmas.List.{length-take-le, take_all, take-append-le, drop-drop}
-use Rattle.text_lines.specs.Input.{Ahead, Takes, ReadTakes}
-use Rattle.history_text.specs.Reading.{with_front, HasMore}
 
 -- the bytes of a buffer from one place to another
 abbrev pub part : List ℕ → ℕ → ℕ → List ℕ

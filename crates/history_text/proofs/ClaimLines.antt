@@ -1,32 +1,17 @@
 -- The lines of a verdict: what is read is spelled so, and what is written is read back.
-use Rattle.std.proofs.Common.{◌≡◌, ℕ, ◌<◌, ◌≤◌, ◌^◌, List, [], ◌∷◌, ◌++◌, length, true, false, nat_eq, arith, ap, subst, refl, inl, inr, Some, Ok, codes}
-use Rattle.std.specs.Prelude.{decimal}
-use Rattle.std.specs.declared.result.Result.{Result}
-use Rattle.text_lines.specs.declared.fault.TextFault.{TextFault}
+use Rattle.history_text.proofs.Common.{[], ◌++◌, ◌<◌, ◌^◌, ◌∷◌, ◌≡◌, ◌≤◌, AllByRecursion, ap, arith, bytes_eq, codes}
+use Rattle.history_text.proofs.Common.{decimal, decimal_nonempty, false, inl, inr, length, List, list_all, nat_eq}
+use Rattle.history_text.proofs.Common.{nat_tests, Ok, refl, Result, Some, subst, true, ℕ, ◌>>=◌, all_digits, AreOfForm}
+use Rattle.history_text.proofs.Common.{bind_ok, both, chosen, claim_line_fields, claim_line_format, claim_line_in}
+use Rattle.history_text.proofs.Common.{ClaimLine, Deq, empty_operation, Ending, Enq, front_of, greatest_value}
+use Rattle.history_text.proofs.Common.{HasClaimLine, HasOperationLine, Initial, initial_form, initial_forms, initial_of}
+use Rattle.history_text.proofs.Common.{is_initial, is_line_form, IsKindInRange, IsSpelled, item_at_front, kind_fields}
+use Rattle.history_text.proofs.Common.{kind_with, line_of, MAX_CLAIM_LINES, MAX_THREAD, MAX_TICKET, numbers_in, Op}
+use Rattle.history_text.proofs.Common.{Operation, operation_fields, operation_format, operation_forms, operation_in}
+use Rattle.history_text.proofs.Common.{operation_of, OpKind, parse_line, parse_line_says, read_by, spelled, TextFault}
+use Rattle.history_text.proofs.Common.{valued_operation}
 use Rattle.std.specs.Char.{is_ascii_digit}
-use Rattle.std.specs.List.{AllByRecursion, list_all}
-use Rattle.std.specs.Str.{bytes_eq}
-use Rattle.std.proofs.lemmas.Bool.Decides.{nat_tests}
-use Rattle.std.proofs.lemmas.Fmt.{decimal_nonempty}
-use Rattle.event_records.specs.declared.limits.TheConstants.{MAX_TICKET, MAX_THREAD, MAX_CLAIM_LINES}
-use Rattle.history_merge.specs.declared.operation.Operation.{Operation}
-use Rattle.history_merge.specs.declared.operation.OpKind.{OpKind}
-use Rattle.history_merge.specs.declared.operation.OpKind.TheVariants.{Enq, Deq, Empty, Not}
-use Rattle.verdicts.specs.declared.verifying.ClaimLine.{ClaimLine}
-use Rattle.verdicts.specs.declared.verifying.ClaimLine.TheVariants.{Op, Initial}
-use Rattle.text_lines.specs.Lines.{greatest_value, front_of, ◌>>=◌}
-use Rattle.text_lines.specs.Input.{Ending}
-use Rattle.text_lines.specs.Forms.{parse_line, numbers_in, spelled, AreOfForm}
-use Rattle.text_lines.proofs.Numbers.{both, bind_ok, chosen}
-use Rattle.text_lines.proofs.Tables.{parse_line_says, is_line_form}
-use Rattle.text_lines.proofs.WrittenLines.{all_digits}
-use Rattle.history_text.specs.Items.{line_of, item_at_front, read_by}
-use Rattle.history_text.specs.Verdicts.{kind_fields, operation_fields, claim_line_fields}
-use Rattle.history_text.specs.Claims.{IsKindInRange, HasOperationLine, HasClaimLine, empty_operation}
-use Rattle.history_text.specs.Claims.{valued_operation, operation_forms, kind_with, operation_of}
-use Rattle.history_text.specs.Claims.{is_initial, operation_in, operation_format, initial_form, initial_forms, initial_of}
-use Rattle.history_text.specs.Claims.{claim_line_in, claim_line_format}
-use Rattle.history_text.specs.Inner.Taking.{IsSpelled}
+use Rattle.history_merge.specs.declared.operation.OpKind.TheVariants.{Empty, Not}
 use Rattle.history_text.proofs.FormLines.{IsReadAs, row_back, read_says, item_read}
 
 -- ---- what is read is spelled so

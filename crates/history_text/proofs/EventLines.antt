@@ -1,19 +1,12 @@
 -- The line of an event: what is read is spelled so, and what is written is read back.
-use Rattle.std.proofs.Common.{◌≡◌, ℕ, ◌<◌, ◌≤◌, List, [], ◌∷◌, ◌++◌, true, arith, ap, sym, refl, Some, Ok, codes}
-use Rattle.std.specs.Prelude.{decimal}
-use Rattle.std.specs.List.{AllByRecursion}
-use Rattle.event_records.specs.declared.event.Event.{Event}
+use Rattle.history_text.proofs.Common.{[], ◌++◌, ◌<◌, ◌∷◌, ◌≡◌, ◌≤◌, AllByRecursion, ap, arith, codes, decimal, List}
+use Rattle.history_text.proofs.Common.{Ok, refl, Some, sym, true, ℕ, ◌>>=◌, AreOfForm, Ending, Event, event_format}
+use Rattle.history_text.proofs.Common.{event_forms, event_in, event_line, event_of, front_of, greatest_value}
+use Rattle.history_text.proofs.Common.{HasEventLine, HasValueInRange, is_line_form, IsSpelled, item_at_front}
+use Rattle.history_text.proofs.Common.{MAX_EVENTS, MAX_THREAD, MAX_TICKET, numbers_in, parse_line, parse_line_says}
+use Rattle.history_text.proofs.Common.{plain_event, spelled, valued_event, what_fields, what_with}
 use Rattle.event_records.specs.declared.event.What.{What}
 use Rattle.event_records.specs.declared.event.What.TheVariants.{CallEnq, RetEnq, RetNot, CallDeq, RetDeq, RetEmpty}
-use Rattle.event_records.specs.declared.limits.TheConstants.{MAX_TICKET, MAX_THREAD, MAX_EVENTS}
-use Rattle.text_lines.specs.Lines.{greatest_value, front_of, ◌>>=◌}
-use Rattle.text_lines.specs.Input.{Ending}
-use Rattle.text_lines.specs.Forms.{parse_line, numbers_in, spelled, AreOfForm}
-use Rattle.text_lines.proofs.Tables.{parse_line_says, is_line_form}
-use Rattle.history_text.specs.Items.{item_at_front}
-use Rattle.history_text.specs.Histories.{what_fields, event_line, HasValueInRange, HasEventLine, plain_event, valued_event, event_forms}
-use Rattle.history_text.specs.Histories.{what_with, event_of, event_in, event_format}
-use Rattle.history_text.specs.Inner.Taking.{IsSpelled}
 use Rattle.history_text.proofs.FormLines.{IsReadAs, row_back, read_says, item_read}
 
 -- ---- what is read is spelled so

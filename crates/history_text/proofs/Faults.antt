@@ -1,16 +1,11 @@
 -- What the line ahead is, by what was taken of it.
-use Rattle.std.proofs.Common.{◌≡◌, ℕ, ◌<◌, List, [], ◌∷◌, ◌++◌, length, Bool, true, false, arith, sym, subst, refl, Option, Some, None, Ok, Err}
-use Rattle.std.specs.Prelude.{IfSome, IfOk, IfErr}
-use Rattle.std.specs.declared.result.Result.{Result}
-use Rattle.text_lines.specs.declared.fault.TextFault.{TextFault}
-use Rattle.text_lines.specs.declared.fault.TextFault.TheVariants.{Read, Cut}
-use Rattle.text_lines.specs.Lines.{line, end_line, front_of, Front, Whole, TooLong, Unfinished, Nothing, is_line_feed, longest_line}
-use Rattle.history_text.specs.Items.{Format, item_at_front, item_in, item_at_nothing}
-use Rattle.text_lines.specs.Input.{Ahead, Ending, EndOfInput, Failure, Takes, IsOver}
-use Rattle.text_lines.specs.Inner.Lines.{IsPartOfLine}
-use Rattle.history_text.specs.Inner.Taking.{HasItemFault, TakesItem, TakesEnd, IsItemLine}
-use Rattle.text_lines.proofs.Consuming.{before, before_end}
-use Rattle.text_lines.proofs.Fronts.{whole, front_unfinished, front_too_long}
+use Rattle.history_text.proofs.Common.{[], ◌++◌, ◌<◌, ◌∷◌, ◌≡◌, arith, Bool, Err, false, IfErr, IfOk, IfSome, length}
+use Rattle.history_text.proofs.Common.{List, None, Ok, Option, refl, Result, Some, subst, sym, true, ℕ, Ahead, before}
+use Rattle.history_text.proofs.Common.{before_end, Cut, end_line, Ending, EndOfInput, Failure, Format, Front, front_of}
+use Rattle.history_text.proofs.Common.{front_too_long, front_unfinished, HasItemFault, is_line_feed, IsItemLine, IsOver}
+use Rattle.history_text.proofs.Common.{IsPartOfLine, item_at_front, item_at_nothing, item_in, line, longest_line}
+use Rattle.history_text.proofs.Common.{Nothing, Read, Takes, TakesEnd, TakesItem, TextFault, Unfinished, Whole, whole}
+use Rattle.text_lines.specs.Lines.{TooLong}
 
 -- what holds of the front of the input
 abbrev pub AtFront : Option Ahead → (Ending → Front → Type 0) → Type 0

@@ -1,14 +1,7 @@
 -- The next line of the input, by what its fields say.
-use Rattle.std.proofs.Common.{◌≡◌, ℕ, List, ap, sym, subst, ◌∙◌, refl, Option, Ok, Err}
-use Rattle.std.specs.Prelude.{IfOk, IfErr}
-use Rattle.std.specs.declared.result.Result.{Result}
-use Rattle.std.proofs.lemmas.List.Splits.{join_with_byte-slice_split}
-use Rattle.text_lines.specs.declared.fault.TextFault.{TextFault}
-use Rattle.text_lines.specs.Lines.{line, spaced, fields_of}
-use Rattle.text_lines.specs.Input.{Ahead, Takes}
-use Rattle.text_lines.specs.Inner.Lines.{IsPartOfLine}
-use Rattle.history_text.specs.Items.{Format, line_of, line_at_front}
-use Rattle.history_text.specs.Inner.Taking.{HasLineFault, IsSpelled}
+use Rattle.history_text.proofs.Common.{◌∙◌, ◌≡◌, ap, Err, IfErr, IfOk, join_with_byte-slice_split, List, Ok, Option}
+use Rattle.history_text.proofs.Common.{refl, Result, subst, sym, ℕ, Ahead, fields_of, Format, HasLineFault}
+use Rattle.history_text.proofs.Common.{IsPartOfLine, IsSpelled, line, line_at_front, line_of, spaced, Takes, TextFault}
 use Rattle.history_text.proofs.Faults.{at_line}
 
 -- ---- lines that aren't whole

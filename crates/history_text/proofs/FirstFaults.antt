@@ -1,19 +1,11 @@
 -- From a fault of one line to the first fault of the whole input.
-use Rattle.std.proofs.Common.{◌≡◌, ℕ, ◌+◌, ◌<◌, false, List, [], ◌∷◌, ◌++◌, length, arith, ap, sym, subst, ◌∙◌, refl, append-nil, length-append}
-use Rattle.std.proofs.Common.{Option, Some, None, inl, inr, Ok, Err, IfSome, IfOk, IfErr, MatchResult}
-use Rattle.std.specs.Prelude.{OnOk, is_err}
-use Rattle.std.specs.declared.result.Result.{Result}
-use Rattle.std.specs.List.{flat_map, AllByRecursion}
-use Rattle.std.proofs.lemmas.Grind.{flat_map-append}
-use Rattle.text_lines.specs.declared.fault.TextFault.{TextFault}
-use Rattle.text_lines.specs.declared.fault.TextFault.TheVariants.{Memory}
+use Rattle.history_text.proofs.Common.{[], ◌++◌, ◌+◌, ◌<◌, ◌∙◌, ◌∷◌, ◌≡◌, AllByRecursion, ap, append-nil, arith, Err}
+use Rattle.history_text.proofs.Common.{false, flat_map, flat_map-append, IfErr, IfOk, IfSome, inl, inr, is_err, length}
+use Rattle.history_text.proofs.Common.{length-append, List, MatchResult, None, Ok, OnOk, Option, refl, Result, Some}
+use Rattle.history_text.proofs.Common.{subst, sym, ℕ, Ahead, Ending, Format, front_of, HasFirstFault, HasItemFault}
+use Rattle.history_text.proofs.Common.{HasItemsFault, HaveLines, IsOfInput, item_at_front, ItemFault, line_of, lines_of}
+use Rattle.history_text.proofs.Common.{Memory, NoRoom, Takes, Takes-append, TextFault}
 use Rattle.text_lines.specs.Faults.{MemoryOr}
-use Rattle.text_lines.specs.Lines.{front_of}
-use Rattle.history_text.specs.Items.{Format, line_of, lines_of, HaveLines, ItemFault, NoRoom, item_at_front}
-use Rattle.text_lines.specs.Input.{Ahead, Ending, Takes}
-use Rattle.history_text.specs.Reading.{HasFirstFault}
-use Rattle.history_text.specs.Inner.Taking.{HasItemFault, HasItemsFault, IsOfInput}
-use Rattle.text_lines.proofs.Consuming.{Takes-append}
 use Rattle.text_lines.proofs.MemoryOrNot.{is_memory, known_fault, follows}
 
 other_fault : (Lacking : Type 0) (IsFault : TextFault → Type 0) (fault : TextFault) → IsOfInput fault → IsFault fault → MemoryOr Lacking IsFault fault

@@ -1,15 +1,9 @@
 -- The first line of a verdict as it is read, and what comes after it.
-use Rattle.std.proofs.Common.{◌≡◌, ℕ, ◌+◌, List, ap, subst, refl, Option, Some, None, inr}
-use Rattle.verdicts.specs.declared.verifying.ViolationKind.{ViolationKind}
-use Rattle.text_lines.specs.declared.fault.TextFault.{TextFault}
-use Rattle.text_lines.specs.declared.fault.TextFault.TheVariants.{Line}
-use Rattle.text_lines.specs.Lines.{line}
-use Rattle.history_text.specs.Items.{ItemFault, NoRoom}
-use Rattle.history_text.specs.Claims.{first_line, IsNoFirstLine, FirstLineFault, operation_format, claim_line_format, IsVerdictTextFault, NoRoomForVerdict}
-use Rattle.text_lines.specs.Input.{Ahead, Takes}
-use Rattle.history_text.specs.Reading.{HasVerdictTextFault}
-use Rattle.text_lines.specs.Inner.Lines.{IsPartOfLine}
-use Rattle.history_text.specs.Inner.Taking.{HasFirstLineFault, HasItemsFault}
+use Rattle.history_text.proofs.Common.{◌+◌, ◌≡◌, ap, inr, List, None, Option, refl, Some, subst, ℕ, Ahead}
+use Rattle.history_text.proofs.Common.{claim_line_format, first_line, FirstLineFault, HasFirstLineFault, HasItemsFault}
+use Rattle.history_text.proofs.Common.{HasVerdictTextFault, IsNoFirstLine, IsPartOfLine, IsVerdictTextFault, ItemFault}
+use Rattle.history_text.proofs.Common.{Line, line, NoRoom, NoRoomForVerdict, operation_format, Takes, TextFault}
+use Rattle.history_text.proofs.Common.{ViolationKind}
 use Rattle.history_text.proofs.Faults.{at_line}
 use Rattle.history_text.proofs.FirstFaults.{later_fault}
 

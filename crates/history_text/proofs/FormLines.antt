@@ -1,15 +1,9 @@
 -- Lines that are read by a table: what is written is read back, and what is read is spelled so.
-use Rattle.std.proofs.Common.{◌≡◌, ℕ, ◌<◌, List, ◌++◌, true, refl, ap, subst, ◌∙◌, Some, Ok, Err}
-use Rattle.std.specs.declared.result.Result.{Result}
-use Rattle.std.specs.List.{AllByRecursion, list_all}
-use Rattle.text_lines.specs.declared.fault.TextFault.{TextFault}
-use Rattle.text_lines.specs.Lines.{line, spaced, front_of, ◌>>=◌}
-use Rattle.text_lines.specs.Input.{Ending}
-use Rattle.text_lines.specs.Forms.{Table, FieldForm, parse_line, numbers_in, spelled, AreOfForm}
-use Rattle.text_lines.proofs.Numbers.{bind_ok}
-use Rattle.text_lines.proofs.Tables.{has_bits, numbers_back, parse_line_says, is_line_form, spelled_is_line}
-use Rattle.text_lines.proofs.WrittenLines.{IsLineOf}
-use Rattle.history_text.specs.Items.{Format, line_of, item_at_front, read_by}
+use Rattle.history_text.proofs.Common.{◌++◌, ◌<◌, ◌∙◌, ◌≡◌, AllByRecursion, ap, Err, List, list_all, Ok, refl, Result}
+use Rattle.history_text.proofs.Common.{Some, subst, true, ℕ, ◌>>=◌, AreOfForm, bind_ok, Ending, FieldForm, Format}
+use Rattle.history_text.proofs.Common.{front_of, has_bits, is_line_form, IsLineOf, item_at_front, line, line_of}
+use Rattle.history_text.proofs.Common.{numbers_back, numbers_in, parse_line, parse_line_says, read_by, spaced, spelled}
+use Rattle.history_text.proofs.Common.{spelled_is_line, Table, TextFault}
 use Rattle.history_text.proofs.ItemFronts.{item_front}
 use Rattle.history_text.proofs.OneLine.{Says, line_front}
 

@@ -1,15 +1,9 @@
 -- The first line, an item's and the last one, read from what is written of them, whatever comes after.
-use Rattle.std.proofs.Common.{◌≡◌, ℕ, ◌^◌, ◌<◌, List, ◌++◌, Bool, true, false, ◌&&◌, nat_lt, arith, ap, ◌∙◌, refl, Some, None, Ok, codes}
-use Rattle.std.specs.Prelude.{decimal}
-use Rattle.std.specs.Str.{bytes_eq}
-use Rattle.std.proofs.lemmas.Bool.Decides.{nat_tests}
-use Rattle.std.proofs.lemmas.Fmt.{length-decimal-le}
-use Rattle.text_lines.specs.Lines.{line, spaced, end_line, begins_as_end, front_of, header_fault}
-use Rattle.text_lines.specs.Input.{Ending}
-use Rattle.text_lines.specs.Inner.Lines.{IsPartOfLine}
-use Rattle.text_lines.proofs.Fronts.{whole}
-use Rattle.text_lines.proofs.WrittenLines.{IsLineOf, number_is_field, field_is_clean, end_read}
-use Rattle.history_text.specs.Items.{Format, line_of, item_at_front}
+use Rattle.history_text.proofs.Common.{◌&&◌, ◌++◌, ◌<◌, ◌^◌, ◌∙◌, ◌≡◌, ap, arith, Bool, bytes_eq, codes, decimal, false}
+use Rattle.history_text.proofs.Common.{length-decimal-le, List, nat_lt, nat_tests, None, Ok, refl, Some, true, ℕ}
+use Rattle.history_text.proofs.Common.{begins_as_end, end_line, end_read, Ending, field_is_clean, Format, front_of}
+use Rattle.history_text.proofs.Common.{header_fault, IsLineOf, IsPartOfLine, item_at_front, line, line_of}
+use Rattle.history_text.proofs.Common.{number_is_field, spaced, whole}
 
 and_false : (a b : Bool) → b ≡ false → (a && b) ≡ false
 and_false true b e = e

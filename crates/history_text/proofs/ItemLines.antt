@@ -1,14 +1,9 @@
 -- The line of an item, and the last line, as they are judged.
-use Rattle.std.proofs.Common.{◌≡◌, ℕ, ◌^◌, ◌<◌, List, ◌++◌, take, drop, true, ◌&&◌, ap, ap₂, sym, ◌∙◌, refl, Some, None, Ok, Err}
-use Rattle.std.specs.Prelude.{decimal, IfOk}
-use Rattle.std.specs.declared.result.Result.{Result}
-use Rattle.std.proofs.lemmas.List.{take-append-drop}
-use Rattle.std.proofs.lemmas.List.Splits.{join_with_byte-slice_split}
-use Rattle.text_lines.specs.declared.fault.TextFault.{TextFault}
-use Rattle.text_lines.specs.Lines.{line, spaced, fields_of, begins_as_end, end_in, end_word}
-use Rattle.text_lines.proofs.Numbers.{both, text_is, end_ok}
-use Rattle.history_text.specs.Items.{Format, item_in}
-use Rattle.history_text.specs.Inner.Taking.{IsSpelled, IsItemLine}
+use Rattle.history_text.proofs.Common.{◌&&◌, ◌++◌, ◌<◌, ◌^◌, ◌∙◌, ◌≡◌, ap, ap₂, decimal, drop, Err, IfOk}
+use Rattle.history_text.proofs.Common.{join_with_byte-slice_split, List, None, Ok, refl, Result, Some, sym, take}
+use Rattle.history_text.proofs.Common.{take-append-drop, true, ℕ, begins_as_end, both, end_in, end_ok, end_word}
+use Rattle.history_text.proofs.Common.{fields_of, Format, IsItemLine, IsSpelled, item_in, line, spaced, text_is}
+use Rattle.history_text.proofs.Common.{TextFault}
 
 -- the last line counts the items before it
 pub last_line_ok : {A : Type 0} (format : Format A) (n k : ℕ) (bytes field : List ℕ) → k < 2 ^ 64 → (format.is_counted && begins_as_end bytes) ≡ true

@@ -1,18 +1,10 @@
 -- The lines at some places.
-use Rattle.std.proofs.Common.{◌≡◌, ℕ, ◌+◌, ◌<◌, List, [], ◌∷◌, ◌++◌, length, take, get_or, Bool, Option, Some, None, ap, ap₂, subst, sym, ◌∙◌, refl}
-use Rattle.std.proofs.Common.{append-nil}
-use Rattle.std.specs.Prelude.{filter_map, option_map, slice_get}
-use Rattle.std.specs.List.{flat_map, cons_option}
-use Rattle.std.specs.Result.{IsErrAnd}
-use Rattle.std.specs.declared.result.Result.{Result}
-use Rattle.std.specs.Option.{option_to_list}
-use Rattle.std.proofs.lemmas.Grind.{flat_map-append}
-use Rattle.history_merge.specs.declared.operation.Operation.{Operation}
-use Rattle.verdicts.specs.declared.verifying.ClaimLine.TheVariants.{Op}
-use Rattle.history_text.specs.Verdicts.{operation_line, claim_line}
-use Rattle.history_text.specs.Inner.Verdicts.{operation_text}
-use Rattle.text_lines.specs.Writing.{Asked, PutsText, TakesFront, TakesSome}
-use Rattle.text_lines.proofs.Putting.{one_more_put, puts_then, stops_at_next, stops_before}
+use Rattle.history_text.proofs.Common.{[], ◌++◌, ◌+◌, ◌<◌, ◌∙◌, ◌∷◌, ◌≡◌, ap, append-nil, ap₂, Bool, cons_option}
+use Rattle.history_text.proofs.Common.{filter_map, flat_map, flat_map-append, get_or, IsErrAnd, length, List, None}
+use Rattle.history_text.proofs.Common.{Option, option_map, option_to_list, refl, Result, slice_get, Some, subst, sym}
+use Rattle.history_text.proofs.Common.{take, ℕ, Asked, claim_line, one_more_put, Op, Operation, operation_line}
+use Rattle.history_text.proofs.Common.{operation_text, puts_then, PutsText, stops_at_next, stops_before, TakesFront}
+use Rattle.history_text.proofs.Common.{TakesSome}
 
 module _ {S : Type 0} (contents : S → Option (List ℕ)) (has_refused : S → Bool) (transition : S → Asked → S → Type 0) where
   -- the lines of the first places went out in part

@@ -1,18 +1,11 @@
 -- Two texts of histories, of either version, at the front of one input are one, and an input has one first fault.
-use Rattle.std.proofs.Common.{◌≡◌, ℕ, ◌+◌, List, [], ◌++◌, length, cond, arith, ap, sym, subst, ◌∙◌, refl, true, inl, inr, append_assoc}
-use Rattle.std.specs.Str.{bytes_eq}
-use Rattle.event_records.specs.declared.event.Event.{Event}
-use Rattle.text_lines.specs.declared.fault.TextFault.{TextFault}
-use Rattle.text_lines.specs.Input.{Ending}
-use Rattle.text_lines.specs.Inner.Lines.{IsPartOfLine}
-use Rattle.text_lines.specs.Lines.{line, spaced, front_of}
-use Rattle.history_text.specs.declared.version.Version.{Version}
-use Rattle.history_text.specs.declared.version.Version.TheVariants.{One, Two}
-use Rattle.history_text.specs.Versions.{HistoryText}
-use Rattle.history_text.specs.Items.{lines_of, HaveLines, ItemFault}
-use Rattle.history_text.specs.Histories.{header, lines_to_end, event_format, HasHistoryText}
-use Rattle.history_text.specs.Versions.{value_format, count_fields, count_in, lines_of_initial, header_of, lines_before_events, text_of, HaveValueLines}
-use Rattle.history_text.specs.Versions.{HasText, NoVersionFault, InitialFault, FaultAfterHeader, IsTextFault}
+use Rattle.history_text.proofs.Common.{[], ◌++◌, ◌+◌, ◌∙◌, ◌≡◌, ap, append_assoc, arith, bytes_eq, cond, inl, inr}
+use Rattle.history_text.proofs.Common.{length, List, refl, subst, sym, true, ℕ, count_fields, count_in, Ending, Event}
+use Rattle.history_text.proofs.Common.{event_format, FaultAfterHeader, front_of, HasHistoryText, HasText, HaveLines}
+use Rattle.history_text.proofs.Common.{HaveValueLines, header, header_of, HistoryText, InitialFault, IsPartOfLine}
+use Rattle.history_text.proofs.Common.{IsTextFault, ItemFault, line, lines_before_events, lines_of, lines_of_initial}
+use Rattle.history_text.proofs.Common.{lines_to_end, NoVersionFault, One, spaced, text_of, TextFault, Two, value_format}
+use Rattle.history_text.proofs.Common.{Version}
 use Rattle.history_text.proofs.ItemFronts.{header_front}
 use Rattle.history_text.proofs.OneLine.{some_is, none_or_some, one_first_line, one_said}
 use Rattle.history_text.proofs.OneLine.{said_or_fault, one_line_fault, as_many_agree, more_or_fault, one_fault_after}

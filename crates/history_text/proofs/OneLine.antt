@@ -1,14 +1,8 @@
 -- What the input begins with is one line, and says one thing.
-use Rattle.std.proofs.Common.{◌≡◌, ℕ, ◌+◌, ◌<◌, List, [], ◌∷◌, ◌++◌, length, arith, ap, ap₂, sym, ◌∙◌, refl, append_assoc, Option, Some, None, Ok, Err}
-use Rattle.std.specs.List.{AllByRecursion}
-use Rattle.std.specs.declared.result.Result.{Result}
-use Rattle.text_lines.specs.declared.fault.TextFault.{TextFault}
-use Rattle.text_lines.specs.Lines.{line, spaced, front_of, Front, Whole}
-use Rattle.text_lines.specs.Input.{Ending, EndOfInput}
-use Rattle.text_lines.specs.Inner.Lines.{IsPartOfLine}
-use Rattle.text_lines.proofs.Fronts.{whole}
-use Rattle.text_lines.proofs.WrittenLines.{IsLineOf}
-use Rattle.history_text.specs.Items.{Format, line_of, lines_of, line_at_front, LineFault}
+use Rattle.history_text.proofs.Common.{[], ◌++◌, ◌+◌, ◌<◌, ◌∙◌, ◌∷◌, ◌≡◌, AllByRecursion, ap, append_assoc, ap₂, arith}
+use Rattle.history_text.proofs.Common.{Err, length, List, None, Ok, Option, refl, Result, Some, sym, ℕ, Ending}
+use Rattle.history_text.proofs.Common.{EndOfInput, Format, Front, front_of, IsLineOf, IsPartOfLine, line, line_at_front}
+use Rattle.history_text.proofs.Common.{line_of, LineFault, lines_of, spaced, TextFault, Whole, whole}
 
 -- what stands in two equal options is equal
 pub some_is : {A : Type 0} (x y : A) → (let left : Option A = Some x in left ≡ Some y) → x ≡ y

@@ -1,15 +1,11 @@
 -- Two texts of schedules at the front of one input are one, and an input has one first fault.
-use Rattle.std.proofs.Common.{◌≡◌, ℕ, ◌+◌, List, ◌++◌, length, arith, ap, sym, subst, ◌∙◌, refl, Some, None, Ok, inl, inr, append_assoc}
-use Rattle.std.proofs.lemmas.List.{append_cancel_left}
-use Rattle.recorder_core.specs.declared.step.Step.{Step}
-use Rattle.text_lines.specs.declared.fault.TextFault.{TextFault}
+use Rattle.history_text.proofs.Common.{◌++◌, ◌+◌, ◌∙◌, ◌≡◌, ap, append_assoc, append_cancel_left, arith, inl, inr}
+use Rattle.history_text.proofs.Common.{length, List, None, Ok, refl, Some, subst, sym, ℕ, After, end_line, Ending}
+use Rattle.history_text.proofs.Common.{EndOfInput, front_of, HasScheduleText, HaveLines, header_fault}
+use Rattle.history_text.proofs.Common.{IsScheduleTextFault, IsSetting, item_at_front, ItemFault, line, LineFault}
+use Rattle.history_text.proofs.Common.{lines_before_steps, lines_of, schedule_header, schedule_text, setting_fields}
+use Rattle.history_text.proofs.Common.{setting_in, spaced, Step, step_format, TextFault}
 use Rattle.history_text.specs.declared.schedule.Schedule.{Schedule}
-use Rattle.text_lines.specs.Lines.{line, spaced, end_line, front_of, header_fault, After}
-use Rattle.history_text.specs.Items.{lines_of, HaveLines, item_at_front, LineFault, ItemFault}
-use Rattle.history_text.specs.Schedules.{setting_fields, setting_in, schedule_header, lines_before_steps}
-use Rattle.history_text.specs.Schedules.{schedule_text, step_format, IsSetting, HasScheduleText}
-use Rattle.history_text.specs.Schedules.{IsScheduleTextFault}
-use Rattle.text_lines.specs.Input.{Ending, EndOfInput}
 use Rattle.history_text.proofs.ItemFronts.{end_front, header_front}
 use Rattle.history_text.proofs.OneLine.{some_is, none_or_some, one_said, said_or_fault, one_line_fault}
 use Rattle.history_text.proofs.StepLines.{step_front, setting_says}

@@ -1,12 +1,8 @@
 -- The events at the front of one input, and the line after them, are one list, and have no fault.
-use Rattle.std.proofs.Common.{◌≡◌, ℕ, List, ◌++◌, length, arith, ap, sym, subst, ◌∙◌, refl, None, Ok, append_assoc}
-use Rattle.std.proofs.lemmas.List.{append_cancel_left}
-use Rattle.event_records.specs.declared.event.Event.{Event}
-use Rattle.text_lines.specs.declared.fault.TextFault.{TextFault}
-use Rattle.text_lines.specs.Lines.{end_line, front_of}
-use Rattle.history_text.specs.Items.{lines_of, item_at_front, ItemFault}
-use Rattle.history_text.specs.Histories.{lines_to_end, event_format, HasHistoryText}
-use Rattle.text_lines.specs.Input.{Ending, EndOfInput}
+use Rattle.history_text.proofs.Common.{◌++◌, ◌∙◌, ◌≡◌, ap, append_assoc, append_cancel_left, arith, length, List, None}
+use Rattle.history_text.proofs.Common.{Ok, refl, subst, sym, ℕ, end_line, Ending, EndOfInput, Event, event_format}
+use Rattle.history_text.proofs.Common.{front_of, HasHistoryText, item_at_front, ItemFault, lines_of, lines_to_end}
+use Rattle.history_text.proofs.Common.{TextFault}
 use Rattle.history_text.proofs.ItemFronts.{end_front}
 use Rattle.history_text.proofs.EventLines.{event_front}
 use Rattle.history_text.proofs.Runs.{stops_at_last, same_items, no_item_fault}

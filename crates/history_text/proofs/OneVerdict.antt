@@ -1,23 +1,16 @@
 -- Two claims whose texts are one input are one, and an input has one first fault.
-use Rattle.std.proofs.Common.{◌≡◌, ℕ, ◌+◌, List, [], ◌++◌, length, cond, false, arith, ap, sym, subst, ◌∙◌, refl, append-nil, Option, Some, None, Ok, inl}
-use Rattle.std.proofs.Common.{inr, IfOk, IfErr, MatchResult, codes}
-use Rattle.std.specs.declared.result.Result.{Result}
-use Rattle.std.specs.Str.{bytes_eq}
-use Rattle.verdicts.specs.declared.verifying.ViolationKind.{ViolationKind}
+use Rattle.history_text.proofs.Common.{[], ◌++◌, ◌+◌, ◌∙◌, ◌≡◌, ap, append-nil, arith, bytes_eq, codes, cond, false}
+use Rattle.history_text.proofs.Common.{IfErr, IfOk, inl, inr, length, List, MatchResult, None, Ok, Option, refl, Result}
+use Rattle.history_text.proofs.Common.{Some, subst, sym, ℕ, Ahead, claim_line_format, ClaimFault, Ending, EndOfInput}
+use Rattle.history_text.proofs.Common.{first_line, FirstLineFault, Format, Front, front_of, HasVerdictText}
+use Rattle.history_text.proofs.Common.{HasVerdictTextFault, HaveLines, IsAll, IsOver, IsPartOfLine, IsVerdictTextFault}
+use Rattle.history_text.proofs.Common.{item_at_front, ItemFault, line, lines_of, Memory, NoRoomForVerdict, Nothing}
+use Rattle.history_text.proofs.Common.{operation_format, Takes, TextFault, Unfinished, verdict_text, ViolationKind}
+use Rattle.history_text.proofs.Common.{Whole, whole}
 use Rattle.verdicts.specs.declared.verifying.ViolationKind.TheVariants.{VFresh, VRepeat, VOrd, VWit}
 use Rattle.verdicts.specs.declared.verifying.Claimed.{Claimed}
 use Rattle.verdicts.specs.declared.verifying.Claimed.TheVariants.{Yes, No}
-use Rattle.text_lines.specs.declared.fault.TextFault.{TextFault}
-use Rattle.text_lines.specs.declared.fault.TextFault.TheVariants.{Memory}
-use Rattle.text_lines.specs.Lines.{line, front_of, Front, Whole, TooLong, Unfinished, Nothing}
-use Rattle.history_text.specs.Items.{Format, lines_of, HaveLines, item_at_front, ItemFault}
-use Rattle.history_text.specs.Verdicts.{verdict_text}
-use Rattle.history_text.specs.Claims.{first_line, FirstLineFault, ClaimFault, operation_format}
-use Rattle.history_text.specs.Claims.{claim_line_format, HasVerdictText, IsVerdictTextFault, NoRoomForVerdict}
-use Rattle.text_lines.specs.Input.{Ahead, Ending, EndOfInput, Takes, IsOver}
-use Rattle.history_text.specs.Reading.{HasVerdictTextFault, IsAll}
-use Rattle.text_lines.specs.Inner.Lines.{IsPartOfLine}
-use Rattle.text_lines.proofs.Fronts.{whole}
+use Rattle.text_lines.specs.Lines.{TooLong}
 use Rattle.history_text.proofs.FirstFaults.{is_read}
 use Rattle.history_text.proofs.OneLine as lines
 use Rattle.history_text.proofs.OneLine.{some_is}

@@ -1,10 +1,7 @@
 -- What is read of a text that stands at the front of the input.
-use Rattle.std.proofs.Common.{◌≡◌, ℕ, List, ◌++◌, sym, subst, ◌∙◌, refl, Option, Some, None, Ok, Err, IfOk, IfErr, MatchResult}
-use Rattle.std.specs.declared.result.Result.{Result}
-use Rattle.text_lines.specs.declared.fault.TextFault.{TextFault}
-use Rattle.text_lines.specs.declared.fault.TextFault.TheVariants.{Memory}
-use Rattle.text_lines.specs.Input.{Ahead, Ending, Takes}
-use Rattle.history_text.specs.Reading.{HasFirstFault, BeginsWith}
+use Rattle.history_text.proofs.Common.{◌++◌, ◌∙◌, ◌≡◌, Err, IfErr, IfOk, List, MatchResult, None, Ok, Option, refl}
+use Rattle.history_text.proofs.Common.{Result, Some, subst, sym, ℕ, Ahead, BeginsWith, Ending, HasFirstFault, Memory}
+use Rattle.history_text.proofs.Common.{Takes, TextFault}
 use Rattle.history_text.proofs.FirstFaults.{is_read}
 
 module _ {T : Type 0} (HasIt : T → Type 0) (text : T → List ℕ) (IsFault : Ending → List ℕ → TextFault → Type 0) (LacksRoom : List ℕ → Type 0)

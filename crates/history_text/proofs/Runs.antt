@@ -1,12 +1,8 @@
 -- The items that an input begins with are determined, and so is what comes after them.
-use Rattle.std.proofs.Common.{◌≡◌, ℕ, ◌+◌, ◌<◌, ◌≤◌, List, [], ◌∷◌, ◌++◌, length, arith, ap, ap₂, sym, subst, ◌∙◌, refl, Option, Some, None, Ok, Err}
-use Rattle.std.proofs.Common.{append_assoc}
-use Rattle.std.specs.List.{AllByRecursion}
-use Rattle.std.specs.declared.result.Result.{Result}
-use Rattle.text_lines.specs.declared.fault.TextFault.{TextFault}
-use Rattle.text_lines.specs.Lines.{front_of}
-use Rattle.history_text.specs.Items.{Format, line_of, lines_of, HaveLines, item_at_front, ItemFault}
-use Rattle.text_lines.specs.Input.{Ending}
+use Rattle.history_text.proofs.Common.{[], ◌++◌, ◌+◌, ◌<◌, ◌∙◌, ◌∷◌, ◌≡◌, ◌≤◌, AllByRecursion, ap, append_assoc, ap₂}
+use Rattle.history_text.proofs.Common.{arith, Err, length, List, None, Ok, Option, refl, Result, Some, subst, sym, ℕ}
+use Rattle.history_text.proofs.Common.{Ending, Format, front_of, HaveLines, item_at_front, ItemFault, line_of, lines_of}
+use Rattle.history_text.proofs.Common.{TextFault}
 use Rattle.history_text.proofs.OneLine.{some_is, none_or_some, fault_or_ok, two_faults}
 
 -- ---- an item, the last line and a fault are three things

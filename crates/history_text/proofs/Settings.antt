@@ -1,14 +1,9 @@
 -- The setting of a schedule as it is read, and what comes before a schedule's steps.
-use Rattle.std.proofs.Common.{◌≡◌, ℕ, ◌+◌, List, subst, refl, Option, Ok, inl, inr}
-use Rattle.text_lines.specs.declared.fault.TextFault.{TextFault}
-use Rattle.text_lines.specs.Lines.{line, spaced, fields_of}
-use Rattle.history_text.specs.Items.{LineFault, ItemFault, NoRoom}
-use Rattle.history_text.specs.Schedules.{setting_fields, setting_in, step_format, schedule_header, lines_before_steps, IsSetting}
-use Rattle.history_text.specs.Schedules.{IsScheduleTextFault, NoRoomForSchedule}
-use Rattle.text_lines.specs.Input.{Ahead, Takes}
-use Rattle.history_text.specs.Reading.{HasScheduleTextFault}
-use Rattle.history_text.specs.Inner.Taking.{HasLineFault, HasItemsFault, IsOfInput}
-use Rattle.text_lines.proofs.Consuming.{Takes-append}
+use Rattle.history_text.proofs.Common.{◌+◌, ◌≡◌, inl, inr, List, Ok, Option, refl, subst, ℕ, Ahead, fields_of}
+use Rattle.history_text.proofs.Common.{HasItemsFault, HasLineFault, HasScheduleTextFault, IsOfInput}
+use Rattle.history_text.proofs.Common.{IsScheduleTextFault, IsSetting, ItemFault, line, LineFault, lines_before_steps}
+use Rattle.history_text.proofs.Common.{NoRoom, NoRoomForSchedule, schedule_header, setting_fields, setting_in, spaced}
+use Rattle.history_text.proofs.Common.{step_format, Takes, Takes-append, TextFault}
 use Rattle.history_text.proofs.FirstFaults.{line_fault, later_fault}
 use Rattle.history_text.proofs.StepLines.{setting_ok}
 

@@ -1,21 +1,14 @@
 -- The lines of a schedule: what is read is spelled so, and what is written is read back.
-use Rattle.std.proofs.Common.{◌≡◌, ℕ, ◌<◌, ◌≤◌, List, [], ◌∷◌, ◌++◌, true, arith, refl, Some, Ok, codes}
-use Rattle.std.specs.Prelude.{decimal}
-use Rattle.std.specs.List.{AllByRecursion}
-use Rattle.event_records.specs.declared.limits.TheConstants.{MAX_THREAD, MAX_STEPS}
-use Rattle.recorder_core.specs.declared.step.Step.{Step}
+use Rattle.history_text.proofs.Common.{[], ◌++◌, ◌<◌, ◌∷◌, ◌≡◌, ◌≤◌, AllByRecursion, arith, codes, decimal, List, Ok}
+use Rattle.history_text.proofs.Common.{refl, Some, true, ℕ, ◌>>=◌, AreOfForm, draining, Ending, front_of, HasStepLine}
+use Rattle.history_text.proofs.Common.{is_line_form, IsAnswerInRange, IsSetting, IsSpelled, item_at_front, line}
+use Rattle.history_text.proofs.Common.{line_of, MAX_STEPS, MAX_THREAD, numbers_in, parse_line, parse_line_says}
+use Rattle.history_text.proofs.Common.{plain_saying, plain_step, setting_fields, setting_form, setting_forms}
+use Rattle.history_text.proofs.Common.{setting_in, setting_of, spaced, spelled, Step, step_fields, step_format}
+use Rattle.history_text.proofs.Common.{step_forms, step_in, step_of, step_with, valued_saying}
 use Rattle.recorder_core.specs.declared.step.Step.TheVariants.{AskEnq, AskDeq, Push, Effect, Say, Ret, Drain, Close}
 use Rattle.event_records.specs.declared.kind.Answer.{Answer}
 use Rattle.event_records.specs.declared.kind.Answer.TheVariants.{Taken, Not, Got, Empty}
-use Rattle.text_lines.specs.Lines.{line, spaced, front_of, ◌>>=◌}
-use Rattle.text_lines.specs.Input.{Ending}
-use Rattle.text_lines.specs.Forms.{parse_line, numbers_in, spelled, AreOfForm}
-use Rattle.text_lines.proofs.Tables.{parse_line_says, is_line_form}
-use Rattle.history_text.specs.Items.{line_of, item_at_front}
-use Rattle.history_text.specs.Schedules.{step_fields, setting_fields, IsAnswerInRange, HasStepLine, plain_step, plain_saying, valued_saying}
-use Rattle.history_text.specs.Schedules.{draining, step_forms, step_with, step_of, step_in}
-use Rattle.history_text.specs.Schedules.{setting_form, setting_forms, setting_of, setting_in, step_format, IsSetting}
-use Rattle.history_text.specs.Inner.Taking.{IsSpelled}
 use Rattle.history_text.proofs.OneLine.{Says}
 use Rattle.history_text.proofs.FormLines.{IsReadAs, row_back, read_says, item_read, line_read}
 

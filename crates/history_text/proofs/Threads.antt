@@ -1,8 +1,6 @@
 -- The thread in the line of an event, which has one or two digits.
-use Rattle.std.proofs.Common.{◌≡◌, ℕ, ◌+◌, ◌*◌, ◌/◌, ◌%◌, ◌<◌, ◌≤◌, List, ◌∷◌, ◌++◌, length, get_or, drop, arith, refl}
-use Rattle.std.specs.Prelude.{decimal}
-use Rattle.std.proofs.lemmas.Fmt.{decimal_digit, decimal_step}
-use Rattle.std.proofs.lemmas.List.{drop_more}
+use Rattle.history_text.proofs.Common.{◌%◌, ◌*◌, ◌++◌, ◌+◌, ◌/◌, ◌<◌, ◌∷◌, ◌≡◌, ◌≤◌, arith, decimal, decimal_digit}
+use Rattle.history_text.proofs.Common.{decimal_step, drop, drop_more, get_or, length, List, refl, ℕ}
 
 -- what a byte is above the digit 0, if it isn't below
 abbrev pub above_zero : ℕ → ℕ

@@ -1,17 +1,11 @@
 -- The lines of initial values and of their count: what is read is spelled so, and what is written is read back.
-use Rattle.std.proofs.Common.{◌≡◌, ℕ, ◌<◌, ◌≤◌, List, [], ◌∷◌, length, true, false, cond, arith, refl, inl, inr, Ok, codes}
-use Rattle.std.specs.Prelude.{decimal, ◌==◌}
-use Rattle.std.specs.List.{onto_first}
-use Rattle.std.proofs.lemmas.Fmt.{decimal_nonempty}
-use Rattle.std.proofs.lemmas.Bool.Decides.{nat_tests}
-use Rattle.event_records.specs.declared.limits.TheConstants.{MAX_INITIAL}
-use Rattle.text_lines.specs.Lines.{line, spaced, greatest_value, fields_of}
-use Rattle.text_lines.specs.Forms.{FieldForm, Word, Number, spelled, AreOfForm}
+use Rattle.history_text.proofs.Common.{[], ◌<◌, ◌==◌, ◌∷◌, ◌≡◌, ◌≤◌, arith, codes, cond, decimal, decimal_nonempty}
+use Rattle.history_text.proofs.Common.{false, inl, inr, length, List, nat_tests, Ok, onto_first, refl, true, ℕ, a_value}
+use Rattle.history_text.proofs.Common.{AreOfForm, chosen, count_fields, count_forms, count_in, FieldForm, fields_of}
+use Rattle.history_text.proofs.Common.{greatest_value, is_blank, IsSpelled, line, line_of, MAX_INITIAL, Number}
+use Rattle.history_text.proofs.Common.{number_of, spaced, spelled, value_fields, value_format, value_forms, value_in}
+use Rattle.history_text.proofs.Common.{Word}
 use Rattle.text_lines.proofs.Fields.{has_field}
-use Rattle.text_lines.proofs.Numbers.{chosen}
-use Rattle.history_text.specs.Items.{line_of, a_value}
-use Rattle.history_text.specs.Versions.{value_fields, value_forms, number_of, is_blank, value_in, value_format, count_fields, count_forms, count_in}
-use Rattle.history_text.specs.Inner.Taking.{IsSpelled}
 use Rattle.history_text.proofs.OneLine.{Says}
 use Rattle.history_text.proofs.FormLines.{row_back, read_says, line_read}
 

@@ -1,25 +1,13 @@
 -- What is taken of a history of either version, and its first fault.
-use Rattle.std.proofs.Common.{◌≡◌, ℕ, ◌+◌, ◌<◌, ◌≤◌, List, ◌++◌, length, arith, sym, subst, refl, Bool, true, false}
-use Rattle.std.proofs.Common.{Option, Some, None, Ok, Err, inl, inr, IfSome, append_assoc}
-use Rattle.std.specs.Prelude.{IfOk}
-use Rattle.std.specs.declared.result.Result.{Result}
-use Rattle.std.specs.Str.{bytes_eq}
-use Rattle.event_records.specs.declared.limits.TheConstants.{MAX_INITIAL}
-use Rattle.text_lines.specs.declared.fault.TextFault.{TextFault}
-use Rattle.text_lines.specs.declared.fault.TextFault.TheVariants.{Header}
-use Rattle.text_lines.specs.Lines.{line, spaced, header_fault}
-use Rattle.text_lines.specs.Input.{Ahead, Takes}
-use Rattle.text_lines.specs.Inner.Lines.{IsPartOfLine}
-use Rattle.history_text.specs.declared.version.Version.{Version}
-use Rattle.history_text.specs.declared.version.Version.TheVariants.{One, Two}
-use Rattle.history_text.specs.Items.{Format, line_of, lines_of, HaveLines, ItemFault, NoRoom, FaultAmong, NoRoomAmong}
-use Rattle.history_text.specs.Histories.{event_format}
-use Rattle.history_text.specs.Versions.{value_format, count_fields, lines_of_initial, header_of, lines_before_events, count_before_events}
-use Rattle.history_text.specs.Versions.{HaveValueLines, AfterCount, InitialFault, IsTextFault, NoRoomForText}
-use Rattle.history_text.specs.Reading.{HasTextFault}
-use Rattle.history_text.specs.Inner.Taking.{HasNoVersion, HasHeaderFault, HasItemsFault, HasFaultAmong, HasInitialFault}
-use Rattle.text_lines.proofs.Consuming.{Takes-append}
-use Rattle.text_lines.proofs.Numbers.{text_is}
+use Rattle.history_text.proofs.Common.{◌++◌, ◌+◌, ◌<◌, ◌≡◌, ◌≤◌, append_assoc, arith, Bool, bytes_eq, Err, false, IfOk}
+use Rattle.history_text.proofs.Common.{IfSome, inl, inr, length, List, None, Ok, Option, refl, Result, Some, subst, sym}
+use Rattle.history_text.proofs.Common.{true, ℕ, AfterCount, Ahead, count_before_events, count_fields, event_format}
+use Rattle.history_text.proofs.Common.{FaultAmong, Format, HasFaultAmong, HasHeaderFault, HasInitialFault}
+use Rattle.history_text.proofs.Common.{HasItemsFault, HasNoVersion, HasTextFault, HaveLines, HaveValueLines, Header}
+use Rattle.history_text.proofs.Common.{header_fault, header_of, InitialFault, IsPartOfLine, IsTextFault, ItemFault}
+use Rattle.history_text.proofs.Common.{line, line_of, lines_before_events, lines_of, lines_of_initial, MAX_INITIAL}
+use Rattle.history_text.proofs.Common.{NoRoom, NoRoomAmong, NoRoomForText, One, spaced, Takes, Takes-append, text_is}
+use Rattle.history_text.proofs.Common.{TextFault, Two, value_format, Version}
 use Rattle.history_text.proofs.Faults.{at_line}
 use Rattle.history_text.proofs.FirstFaults.{later_fault, takes_item, HaveLines-push}
 

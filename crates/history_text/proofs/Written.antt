@@ -1,15 +1,9 @@
 -- That a complete history has a text.
-use Rattle.std.proofs.Common.{◌≡◌, ℕ, ◌≤◌, List, [], length, refl}
-use Rattle.std.specs.List.{All}
+use Rattle.history_text.proofs.Common.{[], ◌≡◌, ◌≤◌, All, length, List, refl, ℕ, Event, greatest_value, HasEventLine}
+use Rattle.history_text.proofs.Common.{HasHistoryText, HasText, HasValueInRange, MAX_EVENTS, MAX_INITIAL, One, Two}
+use Rattle.history_text.proofs.Common.{Version}
 use Rattle.std.proofs.lemmas.List.Elements.{recursion_from_All}
-use Rattle.event_records.specs.declared.event.Event.{Event}
-use Rattle.event_records.specs.declared.limits.TheConstants.{MAX_EVENTS, MAX_INITIAL}
 use Rattle.history_merge.specs.Complete.{IsCompleteHistory}
-use Rattle.text_lines.specs.Lines.{greatest_value}
-use Rattle.history_text.specs.declared.version.Version.{Version}
-use Rattle.history_text.specs.declared.version.Version.TheVariants.{One, Two}
-use Rattle.history_text.specs.Histories.{HasEventLine, HasHistoryText, HasValueInRange}
-use Rattle.history_text.specs.Versions.{HasText}
 
 -- a complete history has a text
 pub complete_has_text : (events : List Event) → IsCompleteHistory events → All (λ e. HasValueInRange e.what) events → length events ≤ MAX_EVENTS

@@ -1,34 +1,21 @@
 -- The claim of a verdict on a history that has a text has a text.
-use Rattle.std.proofs.Common.{◌≡◌, ℕ, ◌+◌, ◌≤◌, List, [], ◌∷◌}
-use Rattle.std.proofs.Common.{length, Option, Some, None, arith, refl, subst, inl, inr}
-use Rattle.std.specs.Prelude.{Contains, slice_get, filter_map, map, option_map}
-use Rattle.std.specs.List.{cons_option, AllByRecursion}
-use Rattle.std.proofs.lemmas.List.{length-map}
-use Rattle.event_records.specs.declared.event.Event.{Event}
-use Rattle.event_records.specs.declared.limits.TheConstants.{MAX_CLAIM_LINES}
-use Rattle.history_merge.specs.declared.operation.Operation.{Operation}
-use Rattle.history_merge.specs.declared.operation.OpKind.{OpKind}
-use Rattle.history_merge.specs.declared.operation.OpKind.TheVariants.{Enq, Deq, Empty, Not}
+use Rattle.history_text.proofs.Common.{[], ◌+◌, ◌∷◌, ◌≡◌, ◌≤◌, AllByRecursion, arith, cons_option, Contains, filter_map}
+use Rattle.history_text.proofs.Common.{inl, inr, length, length-map, List, map, None, Option, option_map, refl}
+use Rattle.history_text.proofs.Common.{slice_get, Some, subst, ℕ, claim_of, ClaimLine, Deq, Enq, Event, greatest_value}
+use Rattle.history_text.proofs.Common.{HasClaimLine, HasEventLine, HasHistoryText, HasOperationLine, HasText}
+use Rattle.history_text.proofs.Common.{HasValueInRange, HasVerdictText, HaveValueLines, HistoryText, Initial}
+use Rattle.history_text.proofs.Common.{IsKindInRange, line_at, MAX_CLAIM_LINES, One, Op, Operation, OpKind, Two}
+use Rattle.history_text.proofs.Common.{verdict_places, Version, violation_places}
+use Rattle.history_merge.specs.declared.operation.OpKind.TheVariants.{Empty, Not}
 use Rattle.history_merge.specs.Operations.{operations_of}
 use Rattle.history_merge.proofs.Distinct.{contains_at, contains_cons}
 use Rattle.recorder_core.specs.Laws.{operation_call, operation_return, call_of_kind, return_of_kind}
 use Rattle.recorder_core.proofs.Members.{none_in_nil}
 use Rattle.recorder_core.proofs.Ticketed.{operation_events}
-use Rattle.text_lines.specs.Lines.{greatest_value}
 use Rattle.verdicts.specs.declared.verdict.Verdict.{Verdict}
 use Rattle.verdicts.specs.declared.verdict.Verdict.TheVariants as found
-use Rattle.verdicts.specs.declared.verifying.ClaimLine.{ClaimLine}
-use Rattle.verdicts.specs.declared.verifying.ClaimLine.TheVariants.{Op, Initial}
 use Rattle.verdicts.specs.declared.shown.LinePlace.{LinePlace}
 use Rattle.verdicts.specs.declared.shown.LinePlace.TheVariants as place
-use Rattle.verdicts.specs.Claiming.{line_at}
-use Rattle.history_text.specs.declared.version.Version.{Version}
-use Rattle.history_text.specs.declared.version.Version.TheVariants.{One, Two}
-use Rattle.history_text.specs.Versions.{HistoryText}
-use Rattle.history_text.specs.Histories.{HasValueInRange, HasEventLine, HasHistoryText}
-use Rattle.history_text.specs.Versions.{HaveValueLines, HasText}
-use Rattle.history_text.specs.Verdicts.{verdict_places, violation_places, claim_of}
-use Rattle.history_text.specs.Claims.{IsKindInRange, HasOperationLine, HasClaimLine, HasVerdictText}
 
 all_of : {X : Type 0} (P : X → Type 0) (xs : List X) (x : X) → AllByRecursion P xs → Contains xs x → P x
 all_of P [] x all among = absurd (none_in_nil x among)

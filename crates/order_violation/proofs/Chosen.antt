@@ -1,23 +1,19 @@
 -- A value that overtakes another is an order violation, and each order violation is one.
-use Rattle.std.proofs.Common.{◌≡◌, ◌<◌, ◌≤◌, List, Option, Some, None, refl, sym, ◌∙◌, ap, subst, arith, ℕ, length}
-use Rattle.std.specs.Prelude.{Contains, All, MatchOption, option_map}
-use Rattle.std.proofs.lemmas.List.Elements.{All-contains}
+use Rattle.order_violation.proofs.Common.{◌<◌, ◌∙◌, ◌≡◌, ◌≤◌, All, All-contains, ap, arith, Contains, length, List}
+use Rattle.order_violation.proofs.Common.{MatchOption, None, Option, option_map, refl, Some, subst, sym, ℕ}
+use Rattle.order_violation.proofs.Common.{call_or_never, dequeue_call, dequeue_of, dequeue_return, enqueue_of}
+use Rattle.order_violation.proofs.Common.{HoldsLives, IsFirstOvertaking, IsLife, IsLongestOf, IsMaybeAt, Life}
+use Rattle.order_violation.proofs.Common.{MatchedValue, NonePasses, Overtakes, return_or_never, StaysAtLeast}
 use Rattle.history_merge.specs.declared.operation.Operation.{Operation}
 use Rattle.history_merge.specs.declared.operation.OpKind.TheVariants.{Deq}
 use Rattle.history_merge.specs.Operations.{Did, NoneDid, Precedes, IsAt}
 use Rattle.history_merge.specs.Complete.{AreComplete}
 use Rattle.history_merge.specs.Initial.{filled}
 use Rattle.history_merge.proofs.Distinct.{return_in_range, call_before_return}
-use Rattle.value_match.specs.declared.life.Life.{Life}
-use Rattle.value_match.specs.declared.life.MatchedValue.{MatchedValue}
 use Rattle.value_match.specs.declared.life.TheConstants.{NEVER}
 use Rattle.value_match.specs.Filling.{behind}
 use Rattle.value_match.specs.Told.{told_place, told_source}
-use Rattle.value_match.specs.Lives.{IsLife, HoldsLives, IsMaybeAt, call_or_never, return_or_never, dequeue_call, dequeue_return, dequeue_of, enqueue_of}
 use Rattle.value_match.specs.Violations.{IsClear, IsOrderViolation, NoOrderViolation}
-use Rattle.value_match.specs.Choice.{StaysAtLeast}
-use Rattle.value_match.specs.Longest.{NonePasses, IsLongestOf}
-use Rattle.order_violation.specs.Overtaking.{Overtakes, IsFirstOvertaking}
 use Rattle.order_violation.specs.Pairs.{IsChosenPair}
 use Rattle.value_match.proofs.Lives.{value_is_life, value_of_life, places_of_value}
 use Rattle.value_match.proofs.ToldPlaces.{value_told}

@@ -1,13 +1,11 @@
 -- The first that overtakes another, of two lists of candidates and of one more in a scan.
-use Rattle.std.proofs.Common.{◌≡◌, ℕ, ◌+◌, ◌<◌, ◌≤◌, List, [], ◌∷◌, ◌++◌, length, get_or, take, Option, None, Some, true, false, sym, subst, inl, inr, arith}
-use Rattle.std.specs.Prelude.{All, Contains, MatchOption, is_some}
-use Rattle.std.proofs.lemmas.List.Elements.{All-nil, All-push, All-append, All-weaker, All-contains, Contains-push, Contains-append_left, Contains-append_right}
-use Rattle.value_match.specs.declared.life.Life.{Life}
-use Rattle.value_match.specs.declared.life.MatchedValue.{MatchedValue}
-use Rattle.value_match.specs.Lives.{enqueue_call, dequeue_call, dequeue_return}
-use Rattle.value_match.specs.Choice.{StaysAtLeast}
-use Rattle.value_match.specs.Longest.{EntersBefore, IsLongestOf, NonePasses, FindsLongest}
-use Rattle.order_violation.specs.Overtaking.{Overtakes, IsSoonerOf, IsFirstOvertaking, FindsFirst}
+use Rattle.order_violation.proofs.Common.{[], ◌++◌, ◌+◌, ◌<◌, ◌∷◌, ◌≡◌, ◌≤◌, All, All-append, All-contains, All-nil}
+use Rattle.order_violation.proofs.Common.{All-push, All-weaker, arith, Contains, Contains-append_left}
+use Rattle.order_violation.proofs.Common.{Contains-append_right, Contains-push, false, get_or, inl, inr, is_some}
+use Rattle.order_violation.proofs.Common.{length, List, MatchOption, None, Option, Some, subst, sym, take, true, ℕ}
+use Rattle.order_violation.proofs.Common.{dequeue_call, dequeue_return, enqueue_call, EntersBefore, FindsFirst}
+use Rattle.order_violation.proofs.Common.{FindsLongest, IsFirstOvertaking, IsLongestOf, IsSoonerOf, Life, MatchedValue}
+use Rattle.order_violation.proofs.Common.{NonePasses, Overtakes, StaysAtLeast}
 use Rattle.value_match.proofs.Lists.{one_more}
 
 -- a value that overtakes another is no sooner than this one

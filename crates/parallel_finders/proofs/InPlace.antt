@@ -1,12 +1,12 @@
 -- A vector whose slice is sorted, and one that is found sorted.
-use Rattle.std.proofs.Common.{◌≡◌, ℕ, zero, suc, ◌+◌, ◌<◌, ◌≤◌, Bool, true, false, List, [], ◌∷◌, ◌++◌, length, get_or, take, drop, Some, sym, ap, Bor, arith}
+use Rattle.parallel_finders.proofs.Common.{[], ◌++◌, ◌+◌, ◌<◌, ◌∷◌, ◌≡◌, ◌≤◌, ap, append-nil, arith, Bool, Bor, drop}
+use Rattle.parallel_finders.proofs.Common.{false, get_or, is_le, IsNonDecreasingBy, IsPermutation, length, List}
+use Rattle.parallel_finders.proofs.Common.{nat_cmp, Some, suc, sym, take, take_all, true, zero, ℕ}
 use denote.Param.Members.{Mut}
 use Rattle.std.specs.Fn.{ComputesKey}
-use Rattle.std.specs.Ordering.{is_le, is_some_and, nat_cmp}
+use Rattle.std.specs.Ordering.{is_some_and}
 use Rattle.std.specs.List.{IsAllAdjacentAnswer}
-use Rattle.std.specs.Prelude.{IsPermutation}
-use Rattle.std.specs.List.Sorted.{IsNonDecreasingBy}
-use Rattle.std.proofs.lemmas.List.{append-nil, drop_all, take_all}
+use Rattle.std.proofs.lemmas.List.{drop_all}
 use Rattle.std.proofs.lemmas.List.Sorted.{IsNonDecreasingBy-from_all_adjacent, IsPermutation-trans, non_decreasing_from_is_sorted}
 use Rattle.value_match.proofs.Lists.{moved_in_place}
 

@@ -1,7 +1,6 @@
 -- Texts to which pieces are added in turn.
-use Rattle.std.proofs.Common.{◌≡◌, ℕ, List, [], ◌∷◌, ◌++◌, ap, ◌∙◌, append-nil, append_assoc, Ok, Err}
-use Rattle.std.specs.List.{concat}
-use Rattle.std.specs.Prelude.{OnOk}
+use Rattle.svg_picture.proofs.Common.{[], ◌++◌, ◌∙◌, ◌∷◌, ◌≡◌, ap, append-nil, append_assoc, concat, Err, List, Ok}
+use Rattle.svg_picture.proofs.Common.{OnOk, ℕ}
 use Rattle.std.specs.declared.result.Result.{Result}
 
 -- a tag, what stands after it, and another tag

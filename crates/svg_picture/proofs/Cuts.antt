@@ -1,7 +1,6 @@
 -- The lines of a text, one after another.
-use Rattle.std.proofs.Common.{◌≡◌, ℕ, ◌+◌, ◌-◌, ◌<◌, List, [], ◌∷◌, length, get_or, take, drop}
+use Rattle.svg_picture.proofs.Common.{[], ◌+◌, ◌-◌, ◌<◌, ◌∷◌, ◌≡◌, drop, get_or, length, List, take, ℕ, parts}
 use Rattle.text_lines.proofs.Fields.{is_one_part, cut_at_first}
-use Rattle.svg_picture.specs.Layout.{parts}
 
 -- a text without a line feed is one line
 pub is_one_line : (bytes : List ℕ) → ((k : ℕ) → k < length bytes → get_or bytes k 0 ≡ 10 → ⊥) → parts bytes ≡ bytes ∷ []

@@ -1,8 +1,8 @@
 -- A picture is a well-formed document.
-use Rattle.std.proofs.Common.{◌≡◌, ℕ, true, false, Bool, cond, ◌&&◌, List, [], ◌∷◌, refl, ap₂, rules}
-use Rattle.svg_picture.specs.Markup.{Tag, Svg, Title, Desc, Style, Defs, Pattern, Group, Text, Rect, Line, tag_name, tag_attributes}
-use Rattle.svg_picture.specs.Markup.{Content, Nothing, Words, Element, Then, is_plain, plain_byte, plain_words, text_of}
-use Rattle.svg_picture.specs.Picture.{page_content, inside, page_of, svg_picture}
+use Rattle.svg_picture.proofs.Common.{[], ◌&&◌, ◌∷◌, ◌≡◌, ap₂, Bool, cond, false, List, refl, rules, true, ℕ, Content}
+use Rattle.svg_picture.proofs.Common.{Defs, Desc, Element, Group, inside, is_plain, Line, Nothing, page_content}
+use Rattle.svg_picture.proofs.Common.{page_of, Pattern, plain_byte, plain_words, Rect, Style, Svg, svg_picture, Tag}
+use Rattle.svg_picture.proofs.Common.{tag_attributes, tag_name, Text, text_of, Then, Title, Words}
 use Rattle.svg_picture.specs.Laws.{are_plain, IsTag, IsMarkup, PicturesAreWellFormed, nothing, plain, closed, both}
 
 -- ---- plain words

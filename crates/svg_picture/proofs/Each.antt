@@ -1,10 +1,10 @@
 -- The text of several contents, one for each element.
-use Rattle.std.proofs.Common.{◌≡◌, ℕ, ◌+◌, ◌<◌, List, [], ◌∷◌, ◌++◌, map, length, take, get_or, ap, sym, ◌∙◌, append-nil, append_assoc, refl}
-use Rattle.std.specs.List.{enumerate_from, flat_map}
+use Rattle.svg_picture.proofs.Common.{[], ◌++◌, ◌+◌, ◌<◌, ◌∙◌, ◌∷◌, ◌≡◌, ap, append-nil, append_assoc, enumerate_from}
+use Rattle.svg_picture.proofs.Common.{flat_map, get_or, length, List, map, refl, sym, take, ℕ, Content, each, group}
+use Rattle.svg_picture.proofs.Common.{text_of}
 use Rattle.std.proofs.lemmas.List.{map_more, map-append}
 use Rattle.std.proofs.lemmas.Grind.{flat_map-append}
 use Rattle.drawing.proofs.Loops.{enumerated_more}
-use Rattle.svg_picture.specs.Markup.{Content, group, each, text_of}
 
 -- two groups make one
 pub group_append : (cs bs : List Content) → text_of (group (cs ++ bs)) ≡ text_of (group cs) ++ text_of (group bs)

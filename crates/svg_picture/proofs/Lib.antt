@@ -1,3 +1,4 @@
+mod Common
 pub mod Chains
 pub mod Each
 pub mod Cuts

@@ -1,13 +1,8 @@
 -- What violates among some operations violates among others, where each did the same and the order of clocks is kept.
-use Rattle.std.proofs.Common.{◌≡◌, ℕ, ◌<◌, ◌⊎◌, List, [], ◌∷◌, Option, Some, None, refl, ap, inl, inr, map}
-use Rattle.std.specs.Prelude.{MatchOption, option_map, ⊤}
-use Rattle.history_merge.specs.declared.operation.Operation.{Operation}
-use Rattle.history_merge.specs.declared.operation.OpKind.{OpKind}
-use Rattle.history_merge.specs.declared.operation.OpKind.TheVariants.{Enq, Deq, Empty, Not}
-use Rattle.history_merge.specs.Operations.{Did, NoneDid, Precedes}
-use Rattle.value_match.specs.declared.life.Life.{Life}
-use Rattle.value_match.specs.Lives.{IsLife, dequeue_of, enqueue_of}
-use Rattle.value_match.specs.Violations.{FullViolation, fresh, repeat, order, witness, CoversFrom, IsViolationOf, IsEnqueuedTooLate, IsFreshViolation}
+use Rattle.verdicts.proofs.Common.{[], ⊤, ◌<◌, ◌∷◌, ◌≡◌, ◌⊎◌, ap, inl, inr, List, map, MatchOption, None, Option}
+use Rattle.verdicts.proofs.Common.{option_map, refl, Some, ℕ, CoversFrom, Deq, dequeue_of, Did, Empty, Enq, enqueue_of}
+use Rattle.verdicts.proofs.Common.{fresh, FullViolation, IsEnqueuedTooLate, IsFreshViolation, IsLife, IsViolationOf}
+use Rattle.verdicts.proofs.Common.{Life, NoneDid, Not, Operation, OpKind, order, Precedes, repeat, witness}
 
 -- the operations of a life, each by its image
 abbrev pub mapped_life : (Operation → Operation) → Life → Life

@@ -1,19 +1,13 @@
 -- The chosen violation is a violation, and the only one chosen.
-use Rattle.std.proofs.Common.{◌≡◌, ℕ, ◌<◌, ◌⊎◌, Bool, true, false, List, [], ◌∷◌, Option, Some, None, refl, sym, ◌∙◌, ap, subst, inl, inr, arith}
-use Rattle.std.specs.Prelude.{Contains, MatchOption, MatchBool, nat_lt}
-use Rattle.history_merge.specs.declared.operation.Operation.{Operation}
-use Rattle.history_merge.specs.declared.operation.OpKind.TheVariants.{Enq, Deq, Not}
-use Rattle.history_merge.specs.Operations.{Did, NoneDid, Precedes}
-use Rattle.history_merge.specs.Complete.{AreComplete}
-use Rattle.history_merge.proofs.Distinct.{same_call, same_return, same_value_call, same_enqueue, CallsFor}
-use Rattle.value_match.specs.declared.life.Life.{Life}
-use Rattle.value_match.specs.Lives.{call_or_never, dequeue_call, enqueue_return, enqueue_of}
-use Rattle.value_match.specs.Violations.{FullViolation, fresh, repeat, order, witness, IsViolationOf, IsClear, NoFreshViolation, NoRepeatViolation}
-use Rattle.value_match.specs.Violations.{IsFreshViolation, IsNeverEnqueued, IsEnqueuedTooLate, IsOrderViolation}
-use Rattle.value_match.specs.Choice.{IsChosenFullViolation, IsChosenFresh, IsChosenRepeat, IsChosenOrderViolation, IsChosenWitness, IsChosenCoverFrom}
-use Rattle.value_match.specs.Choice.{IsNextOfCover, StaysAtLeast}
-use Rattle.value_match.proofs.Lives.{one_life_of_enqueue}
-use Rattle.empty_witness.proofs.Covers.{chosen_cover_violates}
+use Rattle.verdicts.proofs.Common.{[], ◌<◌, ◌∙◌, ◌∷◌, ◌≡◌, ◌⊎◌, ap, arith, Bool, Contains, false, inl, inr, List}
+use Rattle.verdicts.proofs.Common.{MatchBool, MatchOption, nat_lt, None, Option, refl, Some, subst, sym, true, ℕ}
+use Rattle.verdicts.proofs.Common.{AreComplete, call_or_never, CallsFor, chosen_cover_violates, Deq, dequeue_call, Did}
+use Rattle.verdicts.proofs.Common.{Enq, enqueue_of, enqueue_return, fresh, FullViolation, IsChosenCoverFrom}
+use Rattle.verdicts.proofs.Common.{IsChosenFresh, IsChosenFullViolation, IsChosenOrderViolation, IsChosenRepeat}
+use Rattle.verdicts.proofs.Common.{IsChosenWitness, IsClear, IsEnqueuedTooLate, IsFreshViolation, IsNeverEnqueued}
+use Rattle.verdicts.proofs.Common.{IsNextOfCover, IsOrderViolation, IsViolationOf, Life, NoFreshViolation, NoneDid}
+use Rattle.verdicts.proofs.Common.{NoRepeatViolation, Not, one_life_of_enqueue, Operation, order, Precedes, repeat}
+use Rattle.verdicts.proofs.Common.{same_call, same_enqueue, same_return, same_value_call, StaysAtLeast, witness}
 
 are_clear : (operations : List Operation) → AreComplete operations → NoFreshViolation operations → NoRepeatViolation operations → IsClear operations
 are_clear operations complete no_fresh no_repeat = record { complete = complete; no_fresh = no_fresh; no_repeat = no_repeat }

@@ -1,25 +1,14 @@
 -- What is chosen in the whole stays chosen in the selection by its lines.
-use Rattle.std.proofs.Common.{◌≡◌, ℕ, Bool, true, false, List, [], ◌∷◌, Option, Some, None, refl, ap, subst, arith, zero, length}
-use Rattle.std.specs.Prelude.{Contains, filter, MatchBool, nat_lt, option_map}
-use Rattle.history_merge.specs.declared.operation.Operation.{Operation}
-use Rattle.history_merge.specs.declared.operation.OpKind.TheVariants.{Empty}
-use Rattle.history_merge.specs.Complete.{AreComplete}
-use Rattle.history_merge.specs.Initial.{filled}
-use Rattle.history_merge.proofs.Distinct.{one_at}
-use Rattle.value_match.specs.declared.life.Life.{Life}
-use Rattle.value_match.specs.declared.violation.CoverStep.{CoverStep}
-use Rattle.value_match.specs.declared.violation.Source.{Source}
+use Rattle.verdicts.proofs.Common.{[], ◌∷◌, ◌≡◌, ap, arith, Bool, Contains, false, filter, length, List, MatchBool}
+use Rattle.verdicts.proofs.Common.{nat_lt, None, Option, option_map, refl, Some, subst, true, zero, ℕ, AreComplete}
+use Rattle.verdicts.proofs.Common.{behind, chosen_cover_is_shortest, CoverStep, dequeue_call, dequeue_of, Empty}
+use Rattle.verdicts.proofs.Common.{enqueue_of, filled, fresh, FullViolation, IsChosenCoverFrom, IsChosenFullViolation}
+use Rattle.verdicts.proofs.Common.{IsChosenViolation, IsClear, IsCovered, IsLife, IsMaybeAt, IsMaybeOperation}
+use Rattle.verdicts.proofs.Common.{IsShortestCover, IsSource, IsViolationOf, Life, lines_of, Names, NamesCover}
+use Rattle.verdicts.proofs.Common.{NamesStep, one_at, one_deeper, Operation, order, repeat, selects, Source, Violation}
+use Rattle.verdicts.proofs.Common.{violation_covers, witness}
 use Rattle.value_match.specs.declared.violation.Source.TheVariants as source
-use Rattle.value_match.specs.declared.violation.Violation.{Violation}
 use Rattle.value_match.specs.declared.violation.Violation.TheVariants as violation
-use Rattle.value_match.specs.Lives.{IsLife, IsCovered, IsMaybeAt, dequeue_call, dequeue_of, enqueue_of}
-use Rattle.value_match.specs.Violations.{FullViolation, fresh, repeat, order, witness, IsViolationOf, IsClear, lines_of}
-use Rattle.value_match.specs.Choice.{IsChosenFullViolation, IsChosenCoverFrom}
-use Rattle.value_match.specs.Filling.{behind}
-use Rattle.value_match.specs.Outcome.{IsMaybeOperation, IsSource, Names, NamesCover, NamesStep, IsChosenViolation}
-use Rattle.value_match.proofs.Lists.{one_deeper}
-use Rattle.empty_witness.proofs.Covers.{violation_covers, chosen_cover_is_shortest}
-use Rattle.verdicts.specs.Selection.{selects, IsShortestCover}
 use Rattle.verdicts.proofs.CoverGaps.{chosen_are_lives}
 use Rattle.verdicts.proofs.SameLists.{one_beside}
 use Rattle.verdicts.proofs.KeptTickets.{selected_are_complete}

@@ -1,12 +1,8 @@
 -- Which lines show a cover.
-use Rattle.std.proofs.Common.{◌≡◌, ◌<◌, ◌≤◌, ◌↔◌, List, [], ◌∷◌, ◌++◌, length, get_or, drop, Option, Some, None, refl, ap, subst, arith}
-use Rattle.std.specs.Prelude.{MatchOption, flat_map, option_to_list, ⊤}
-use Rattle.history_merge.specs.declared.operation.Operation.{Operation}
-use Rattle.history_merge.specs.Operations.{Precedes}
-use Rattle.value_match.specs.declared.life.Life.{Life}
-use Rattle.value_match.specs.Lives.{IsLife, dequeue_of, enqueue_of, operations_of_life}
-use Rattle.value_match.specs.Violations.{CoversFrom}
-use Rattle.verdicts.specs.Inner.Claims.{ShowsCover}
+use Rattle.verdicts.proofs.Common.{[], ⊤, ◌++◌, ◌<◌, ◌↔◌, ◌∷◌, ◌≡◌, ◌≤◌, ap, arith, drop, flat_map, get_or, length}
+use Rattle.verdicts.proofs.Common.{List, MatchOption, None, Option, option_to_list, refl, Some, subst, CoversFrom}
+use Rattle.verdicts.proofs.Common.{dequeue_of, enqueue_of, IsLife, Life, Operation, operations_of_life, Precedes}
+use Rattle.verdicts.proofs.Common.{ShowsCover}
 
 abbrev life_of : Operation → Option Operation → Life
 life_of enqueue dequeue = record { enqueue = enqueue; dequeue = dequeue }

@@ -1,20 +1,12 @@
 -- The lines of a claim by the operations that they stand for.
-use Rattle.std.proofs.Common.{◌≡◌, ℕ, zero, suc, ◌-◌, ◌<◌, ◌≤◌, ◌↔◌, List, [], ◌∷◌}
-use Rattle.std.proofs.Common.{length, map, get_or, drop, Option, Some, None, refl, sym, ◌∙◌}
-use Rattle.std.proofs.Common.{ap, ap₂, subst, arith}
-use Rattle.std.proofs.Common.{length-drop}
-use Rattle.history_merge.specs.declared.operation.Operation.{Operation}
-use Rattle.history_merge.specs.declared.operation.OpKind.TheVariants.{Empty}
-use Rattle.history_merge.specs.Operations.{Did, Precedes}
-use Rattle.value_match.specs.Lives.{IsLife}
-use Rattle.value_match.specs.Violations.{FullViolation, fresh, repeat, order, witness, lines_of}
-use Rattle.value_match.specs.Violations.{IsNeverEnqueued, IsEnqueuedTooLate, IsRepeatViolation, IsOrderViolation}
-use Rattle.verdicts.specs.declared.verifying.ViolationKind.TheVariants.{VFresh, VRepeat, VOrd, VWit}
-use Rattle.verdicts.specs.declared.verifying.ClaimLine.{ClaimLine}
-use Rattle.verdicts.specs.declared.verifying.ViolationKind.{ViolationKind}
+use Rattle.verdicts.proofs.Common.{[], ◌<◌, ◌↔◌, ◌∙◌, ◌∷◌, ◌≡◌, ◌≤◌, ap, ap₂, arith, drop, get_or, length, length-drop}
+use Rattle.verdicts.proofs.Common.{List, map, None, Option, refl, Some, subst, suc, sym, zero, ℕ, all_of, ClaimLine}
+use Rattle.verdicts.proofs.Common.{Did, Empty, fresh, FullViolation, IsEnqueuedTooLate, IsLife, IsNeverEnqueued}
+use Rattle.verdicts.proofs.Common.{IsOrderViolation, IsRepeatViolation, lines_of, Operation, order, Precedes, repeat}
+use Rattle.verdicts.proofs.Common.{ShowsCover, ShowsKind, ShowsViolation, StandFor, StandForCover, StandForLife}
+use Rattle.verdicts.proofs.Common.{stands_for, VFresh, ViolationKind, VOrd, VRepeat, VWit, witness}
 use Rattle.verdicts.specs.declared.lookup.Filled.{Filled}
-use Rattle.verdicts.specs.Claims.{ShowsViolation, StandFor, kind_of, stands_for}
-use Rattle.verdicts.specs.Inner.Claims.{ShowsKind, StandForCover, StandForLife, ShowsCover, all_of}
+use Rattle.verdicts.specs.Claims.{kind_of}
 use Rattle.verdicts.proofs.ClaimedViolations.{through, one_line_fresh, two_lines_fresh, three_lines_repeat, three_lines_order, four_lines_order}
 use Rattle.verdicts.proofs.ClaimedViolations.{lines_of_witness}
 use Rattle.verdicts.proofs.ClaimedCovers.{none_shown, shown_by_one, shown_by_two, shown_by_more}

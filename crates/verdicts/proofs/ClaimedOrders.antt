@@ -1,12 +1,7 @@
 -- When the lines of a claim are a linearization.
-use Rattle.std.proofs.Common.{◌≡◌, ℕ, ◌+◌, ◌<◌, ◌≤◌, ◌⊎◌, max, List, length, get_or, inl, inr, arith}
-use Rattle.std.proofs.Common.{suc, Some, Option, map, drop, drop-cons, add-one, sym, ◌∙◌, ap}
-use Rattle.std.specs.Prelude.{AllPairs, option_and_then}
-use Rattle.std.proofs.lemmas.Bool.{cases_lt}
-use Rattle.std.proofs.lemmas.List.{get_or_default}
-use Rattle.history_merge.specs.declared.operation.Operation.{Operation}
-use Rattle.history_merge.specs.Operations.{Precedes}
-use Rattle.history_merge.specs.Queue.{accept, accept_all}
+use Rattle.verdicts.proofs.Common.{◌+◌, ◌<◌, ◌∙◌, ◌≡◌, ◌≤◌, ◌⊎◌, add-one, AllPairs, ap, arith, cases_lt, drop}
+use Rattle.verdicts.proofs.Common.{drop-cons, get_or, get_or_default, inl, inr, length, List, map, max, Option}
+use Rattle.verdicts.proofs.Common.{option_and_then, Some, suc, sym, ℕ, accept, accept_all, Operation, Precedes}
 
 -- ---- precedence
 

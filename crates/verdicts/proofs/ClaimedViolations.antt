@@ -1,14 +1,9 @@
 -- Which lines show a violation of each kind.
-use Rattle.std.proofs.Common.{◌≡◌, ℕ, ◌↔◌, List, [], ◌∷◌, Option, Some, None, refl, sym, ◌∙◌, ap, subst}
-use Rattle.std.specs.Prelude.{MatchOption, flat_map}
-use Rattle.history_merge.specs.declared.operation.Operation.{Operation}
-use Rattle.history_merge.specs.declared.operation.OpKind.TheVariants.{Enq, Deq, Empty, Not}
-use Rattle.history_merge.specs.Operations.{Did, NoneDid, Precedes}
-use Rattle.value_match.specs.Lives.{IsLife, operations_of_life}
-use Rattle.value_match.specs.Violations.{fresh, repeat, order, witness, IsNeverEnqueued, IsEnqueuedTooLate, IsRepeatViolation, IsOrderViolation, CoversFrom}
-use Rattle.verdicts.specs.declared.verifying.ViolationKind.TheVariants.{VFresh, VRepeat, VOrd, VWit}
-use Rattle.verdicts.specs.Claims.{ShowsViolation}
-use Rattle.verdicts.specs.Inner.Claims.{ShowsCover}
+use Rattle.verdicts.proofs.Common.{[], ◌↔◌, ◌∙◌, ◌∷◌, ◌≡◌, ap, flat_map, List, MatchOption, None, Option, refl, Some}
+use Rattle.verdicts.proofs.Common.{subst, sym, ℕ, CoversFrom, Deq, Did, Empty, Enq, fresh, IsEnqueuedTooLate, IsLife}
+use Rattle.verdicts.proofs.Common.{IsNeverEnqueued, IsOrderViolation, IsRepeatViolation, NoneDid, Not, Operation}
+use Rattle.verdicts.proofs.Common.{operations_of_life, order, Precedes, repeat, ShowsCover, ShowsViolation, VFresh}
+use Rattle.verdicts.proofs.Common.{VOrd, VRepeat, VWit, witness}
 
 -- two equivalences, one after the other
 pub through : {P Q R : Type 0} → P ↔ Q → Q ↔ R → P ↔ R

@@ -1,11 +1,9 @@
 -- What a set of numbers holds that was collected from a list.
-use Rattle.std.proofs.Common.{ℕ, ◌↔◌, List, nat_cmp}
-use Rattle.std.specs.Prelude.{Contains, IfOk, IsTrue, Result}
-use Rattle.std.specs.BTreeSet.{BTreeSet, contains, IsFromIterResult}
+use Rattle.verdicts.proofs.Common.{◌↔◌, BTreeSet, Contains, contains, IfOk, IfOk-weaker, IsFromIterResult, IsTrue, List}
+use Rattle.verdicts.proofs.Common.{nat_cmp, Result, ℕ}
 use Rattle.std.proofs.lemmas.Cmp.{nat_cmp_total}
 use Rattle.std.proofs.lemmas.Map.Lookups.{exact_unsigned}
 use Rattle.std.proofs.lemmas.Map.Views.{btree_set_contains_from_list}
-use Rattle.std.proofs.lemmas.Result.{IfOk-weaker}
 
 -- it holds the numbers of the list and no others
 pub holds_found : {E : Type 0} (result : Result (BTreeSet ℕ) E) (found : List ℕ) → IfOk result (IsFromIterResult nat_cmp found)

@@ -1,16 +1,9 @@
 -- Without any one of its values, a chosen cover leaves a gap of the window open.
-use Rattle.std.proofs.Common.{◌≡◌, ◌≢◌, ℕ, ◌<◌, ◌≤◌, ◌⊎◌, Bool, true, false, List, [], ◌∷◌, refl, sym, ap, subst, inl, inr, arith}
-use Rattle.std.specs.Prelude.{Contains, MatchBool, MatchOption, nat_lt}
-use Rattle.std.proofs.lemmas.Bool.{ltb-false}
-use Rattle.history_merge.specs.declared.operation.Operation.{Operation}
-use Rattle.history_merge.specs.declared.operation.OpKind.TheVariants.{Deq, Empty}
-use Rattle.history_merge.specs.Operations.{Did, NoneDid}
-use Rattle.history_merge.proofs.Distinct.{contains_cons, not_in_none, return_differs_from_call, return_in_range}
-use Rattle.value_match.specs.declared.life.Life.{Life}
-use Rattle.value_match.specs.Lives.{IsLife, Covers, IsCovered, call_or_never, enqueue_return, dequeue_call, enqueue_of}
-use Rattle.value_match.specs.Violations.{IsClear}
-use Rattle.value_match.specs.Choice.{IsNextOfCover, IsChosenCoverFrom}
-use Rattle.value_match.proofs.Lives.{dequeued_if_called}
+use Rattle.verdicts.proofs.Common.{[], ◌<◌, ◌∷◌, ◌≡◌, ◌≢◌, ◌≤◌, ◌⊎◌, ap, arith, Bool, Contains, false, inl, inr, List}
+use Rattle.verdicts.proofs.Common.{ltb-false, MatchBool, MatchOption, nat_lt, refl, subst, sym, true, ℕ, call_or_never}
+use Rattle.verdicts.proofs.Common.{contains_cons, Covers, Deq, dequeue_call, dequeued_if_called, Did, Empty, enqueue_of}
+use Rattle.verdicts.proofs.Common.{enqueue_return, IsChosenCoverFrom, IsClear, IsCovered, IsLife, IsNextOfCover, Life}
+use Rattle.verdicts.proofs.Common.{NoneDid, not_in_none, Operation, return_differs_from_call, return_in_range}
 
 below_if_not_same : (m n : ℕ) → m ≤ n → m ≢ n → m < n
 below_if_not_same m n le differs = let cases : (m < n) ⊎ (m ≡ n) = grind arith in elim cases [ inl less ↦ less | inr same ↦ absurd (differs same) ]

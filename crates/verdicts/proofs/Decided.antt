@@ -1,31 +1,18 @@
 -- A chosen violation decides a history, and so does a chosen order that is legal.
-use Rattle.std.proofs.Common.{◌≡◌, ◌⊎◌, ◌<◌, ℕ, List, length, map, subst, inl, inr}
-use Rattle.std.specs.Prelude.{All}
-use Rattle.std.proofs.lemmas.List.Elements.{All-map}
-use Rattle.history_merge.specs.declared.operation.Operation.{Operation}
-use Rattle.history_merge.specs.Complete.{AreComplete}
-use Rattle.history_merge.specs.Initial.{filled}
-use Rattle.history_merge.specs.Operations.{operations_of}
-use Rattle.history_merge.proofs.Filled.{filled_are_complete, linearizable_from_exactly}
-use Rattle.value_match.specs.declared.violation.Violation.{Violation}
+use Rattle.verdicts.proofs.Common.{◌<◌, ◌≡◌, ◌⊎◌, All, All-map, inl, inr, length, List, map, subst, ℕ, AreComplete}
+use Rattle.verdicts.proofs.Common.{CoverStep, filled, filled_are_complete, fresh, IsChosenViolation, IsClear, IsDecided}
+use Rattle.verdicts.proofs.Common.{IsMatched, IsPlaceWithin, IsWitnessAnswer, linearizable_from_exactly, lines_of, No}
+use Rattle.verdicts.proofs.Common.{NoOrderViolation, Operation, operations_of, order, OrderPair, repeat, Violation}
+use Rattle.verdicts.proofs.Common.{violation_places, witness, Yes}
 use Rattle.value_match.specs.declared.violation.Violation.TheVariants as violation
-use Rattle.value_match.specs.declared.violation.CoverStep.{CoverStep}
-use Rattle.value_match.specs.Violations.{fresh, repeat, order, witness, IsClear, NoOrderViolation, lines_of}
 use Rattle.value_match.specs.declared.matching.Matched.{Matched}
 use Rattle.value_match.specs.declared.matching.Matched.TheVariants as matched
-use Rattle.value_match.specs.Outcome.{IsChosenViolation, IsMatched}
-use Rattle.order_violation.specs.declared.pair.OrderPair.{OrderPair}
 use Rattle.order_violation.specs.Pairs.{IsChosenPair}
 use Rattle.empty_witness.specs.declared.answer.WitnessAnswer.TheVariants as found
-use Rattle.empty_witness.specs.Answers.{IsWitnessAnswer}
 use Rattle.linearizer.specs.Order.{AreChosenAndLegal}
 use Rattle.verdicts.specs.declared.shown.LinePlace.TheVariants as place
-use Rattle.verdicts.specs.declared.verdict.Verdict.TheVariants.{Yes, No}
 use Rattle.verdicts.specs.declared.verifying.Claimed.TheVariants as claimed
-use Rattle.verdicts.specs.Claiming.{IsPlaceWithin}
 use Rattle.verdicts.specs.Laws.{TrueClaimDecides}
-use Rattle.verdicts.specs.Decided.{IsDecided}
-use Rattle.verdicts.specs.Shown.{violation_places}
 use Rattle.verdicts.proofs.Excludes.{violation_excludes_order}
 use Rattle.verdicts.proofs.Chosen.{chosen_is_violation}
 use Rattle.verdicts.proofs.NamedPlaces.{all_within, each_shown, in_range}

@@ -1,17 +1,10 @@
 -- Each event of a complete history is the call or the return of one of its operations; so operations tell their events.
-use Rattle.std.proofs.Common.{◌≡◌, ℕ, ◌⊎◌, Bool, true, false, cond, List, [], ◌∷◌, Option, Some, None, refl, sym, ◌∙◌, ap, subst, inl, inr, nat_eq}
-use Rattle.std.specs.Prelude.{Contains, MatchOption, find, slice_get}
-use Rattle.std.specs.List.{cons_option}
-use Rattle.std.proofs.lemmas.Bool.{eqb-true, eq-eqb}
-use Rattle.event_records.specs.declared.event.Event.{Event}
-use Rattle.event_records.specs.Turns.{TakesTurns}
-use Rattle.event_records.specs.Projection.{projection}
-use Rattle.history_merge.specs.declared.operation.Operation.{Operation}
-use Rattle.history_merge.specs.Operations.{operations_of, operation_of}
-use Rattle.history_merge.specs.Complete.{IsCompleteHistory, IsCompleteUpTo}
-use Rattle.history_merge.proofs.Distinct.{IsTraced, contains_at, contains_cons, not_in_none, place_of, traced, same_event, one_at}
-use Rattle.value_match.proofs.Lists.{passed_filter}
-use Rattle.verdicts.specs.Selection.{ArePartOf}
+use Rattle.verdicts.proofs.Common.{[], ◌∙◌, ◌∷◌, ◌≡◌, ◌⊎◌, ap, Bool, cond, cons_option, Contains, eq-eqb, eqb-true}
+use Rattle.verdicts.proofs.Common.{false, find, inl, inr, List, MatchOption, nat_eq, None, Option, refl, slice_get}
+use Rattle.verdicts.proofs.Common.{Some, subst, sym, true, ℕ, ArePartOf, contains_at, contains_cons, Event}
+use Rattle.verdicts.proofs.Common.{IsCompleteHistory, IsCompleteUpTo, IsTraced, not_in_none, one_at, Operation}
+use Rattle.verdicts.proofs.Common.{operation_of, operations_of, passed_filter, place_of, projection, same_event}
+use Rattle.verdicts.proofs.Common.{TakesTurns, traced}
 use Rattle.verdicts.proofs.KeptEvents.{TurnsAfter, first_is_found, operation_made, among_later, among_first}
 use Rattle.verdicts.proofs.SameLists.{same_lists}
 

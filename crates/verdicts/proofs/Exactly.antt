@@ -1,6 +1,6 @@
 -- A complete history has a linearization if and only if it has no violation.
+use Rattle.verdicts.proofs.Common.{fresh, order, repeat, witness}
 use Rattle.verdicts.specs.Laws.{LinearizableExactly}
-use Rattle.value_match.specs.Violations.{fresh, repeat, order, witness}
 use Rattle.verdicts.proofs.Linearizable.{linearizable_without_violations}
 use Rattle.verdicts.proofs.Excludes.{violation_excludes_order}
 

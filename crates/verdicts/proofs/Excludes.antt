@@ -1,26 +1,17 @@
 -- Beside a violation no order is legal.
-use Rattle.std.proofs.Common.{◌≡◌, ℕ, zero, suc, ◌<◌, ◌≤◌, ◌⊎◌, List, [], ◌∷◌, ◌++◌, take}
-use Rattle.std.proofs.Common.{Option, Some, None, refl, sym, ◌∙◌, ap, append-nil, inl, inr, arith}
-use Rattle.std.specs.Prelude.{slice_get, map, Contains, IsSome, MatchOption, ⊤}
-use Rattle.std.proofs.lemmas.Bool.{eq-eqb}
-use Rattle.std.proofs.lemmas.List.Sorted.{Contains-permutation, IsPermutation-sym}
-use Rattle.history_merge.specs.declared.operation.Operation.{Operation}
-use Rattle.history_merge.specs.declared.operation.OpKind.{OpKind}
-use Rattle.history_merge.specs.declared.operation.OpKind.TheVariants.{Enq, Deq, Empty, Not}
-use Rattle.history_merge.specs.Operations.{Did, NoneDid, Precedes}
-use Rattle.history_merge.specs.Complete.{AreComplete}
-use Rattle.history_merge.specs.Queue.{accept, accept_all, IsAccepted}
-use Rattle.history_merge.specs.Legal.{IsLegalOrder}
+use Rattle.verdicts.proofs.Common.{[], ⊤, ◌++◌, ◌<◌, ◌∙◌, ◌∷◌, ◌≡◌, ◌≤◌, ◌⊎◌, ap, append-nil, arith, Contains}
+use Rattle.verdicts.proofs.Common.{Contains-permutation, eq-eqb, inl, inr, IsPermutation-sym, IsSome, List, map}
+use Rattle.verdicts.proofs.Common.{MatchOption, None, Option, refl, slice_get, Some, suc, sym, take, zero, ℕ, accept}
+use Rattle.verdicts.proofs.Common.{accept_all, AreComplete, contains_at, CoversFrom, Deq, dequeue_of, Did, Empty, Enq}
+use Rattle.verdicts.proofs.Common.{enqueue_of, fresh, FullViolation, IsAccepted, IsEnqueuedTooLate, IsLegalOrder}
+use Rattle.verdicts.proofs.Common.{IsNeverEnqueued, IsOrderViolation, IsRepeatViolation, IsViolationOf, Life, NoneDid}
+use Rattle.verdicts.proofs.Common.{Not, Operation, OpKind, order, pairs_at, Precedes, repeat, witness}
 use Rattle.history_merge.proofs.Runs.{enqueued, dequeued, enqueued_is_dequeued, IsQueueBefore, queue_before}
 use Rattle.history_merge.proofs.Places.{Member, Member-right, StandsBefore, enqueue_of_member, dequeue_of_member, split_at_enqueue, split_at_dequeue}
 use Rattle.history_merge.proofs.Places.{count, count-append, count_here, count-le-calls, calls_of_kind, same_place, same_front}
-use Rattle.history_merge.proofs.Distinct.{place_of as listed_place, contains_at, pairs_at}
+use Rattle.history_merge.proofs.Distinct.{place_of as listed_place}
 use Rattle.history_merge.proofs.Completeness.{called_once, returns_after_call, calls-IsPermutation}
-use Rattle.value_match.specs.declared.life.Life.{Life}
-use Rattle.value_match.specs.Violations.{FullViolation, fresh, repeat, order, witness, IsViolationOf, IsNeverEnqueued, IsEnqueuedTooLate, IsRepeatViolation}
-use Rattle.value_match.specs.Violations.{IsOrderViolation, CoversFrom}
 use Rattle.verdicts.specs.Laws.{ViolationExcludesOrder}
-use Rattle.value_match.specs.Lives.{dequeue_of, enqueue_of}
 use Rattle.linearizer.proofs.EachPosition.{some_injective}
 
 kind_at : (xs : List Operation) (i : ℕ) (o : Operation) → slice_get xs i ≡ Some o → slice_get (map (λ o. o.kind) xs) i ≡ Some o.kind

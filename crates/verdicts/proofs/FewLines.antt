@@ -1,49 +1,30 @@
 -- A verdict shows each operation once, so it names at most half as many as the history has events; its other lines are initial values.
-use Rattle.std.proofs.Common.{◌*◌, ◌≡◌, ℕ, zero, suc, ◌+◌, ◌<◌, ◌≤◌, ◌⊎◌, Bool, true}
-use Rattle.std.proofs.Common.{false, List, [], ◌∷◌, ◌++◌, length, map, Option, Some, None, refl}
-use Rattle.std.proofs.Common.{sym, ◌∙◌, ap, subst, inl, inr, arith, cond, ◌-◌}
-use Rattle.std.specs.Prelude.{AllPairs, Contains, MatchOption, nat_eq, nat_lt, filter, flat_map, option_map, option_to_list, slice_get, not, ⊤}
-use Rattle.std.specs.List.{AllByRecursion, AllZip, IsDistinct}
+use Rattle.verdicts.proofs.Common.{[], ⊤, ◌*◌, ◌++◌, ◌+◌, ◌-◌, ◌<◌, ◌∙◌, ◌∷◌, ◌≡◌, ◌≤◌, ◌⊎◌, AllByRecursion, AllPairs}
+use Rattle.verdicts.proofs.Common.{AllZip, ap, arith, Bool, cond, Contains, Contains-append_cases, Contains-append_left}
+use Rattle.verdicts.proofs.Common.{false, filter, flat_map, inl, inr, IsDistinct, length, length-append, length-map}
+use Rattle.verdicts.proofs.Common.{length_permutation, List, ltb-false, map, MatchOption, nat_eq, nat_lt, None, not}
+use Rattle.verdicts.proofs.Common.{not-true, Option, option_map, option_to_list, refl, slice_get, slice_get_within}
+use Rattle.verdicts.proofs.Common.{Some, subst, suc, sym, true, zero, ℕ, AllPairs-tail, AreComplete, ArePlacesOf}
+use Rattle.verdicts.proofs.Common.{call_before_return, call_or_never, ClaimLine, contains_at, contains_cons, Deq}
+use Rattle.verdicts.proofs.Common.{dequeue_call, dequeue_of, Did, Empty, Enq, enqueue_of, Event, event_later_by, filled}
+use Rattle.verdicts.proofs.Common.{filled_events, filled_is_complete, filled_operations, filling_events_from}
+use Rattle.verdicts.proofs.Common.{filling_from, filling_place, fresh, FullViolation, is_operation, IsChosenCoverFrom}
+use Rattle.verdicts.proofs.Common.{IsChosenFullViolation, IsClear, IsCompleteFrom, IsCompleteUpTo, IsCovered, IsLife}
+use Rattle.verdicts.proofs.Common.{IsVerdict, later_by, Life, line_at, LinePlace, lines_of, mapped_to, MAX_CLOCK}
+use Rattle.verdicts.proofs.Common.{MAX_EVENTS, MAX_INITIAL, MAX_OPERATIONS, No, NoneDid, not_in_none, one_deeper}
+use Rattle.verdicts.proofs.Common.{one_life_of_enqueue, Operation, operations_named, operations_of, operations_of_life}
+use Rattle.verdicts.proofs.Common.{operations_rise, order, pairs_at, passed_filter, place_of, repeat}
+use Rattle.verdicts.proofs.Common.{return_differs_from_call, same_call, same_return, traced, verdict_places}
+use Rattle.verdicts.proofs.Common.{violation_places, witness, Yes}
 use Rattle.std.specs.Set.{is_member}
 use Rattle.std.specs.Cmp.{unsigned_Decides, nat_eq_equiv}
 use Rattle.std.proofs.lemmas.Map.Made.{is_member-Decides, length-le_from_is_member}
-use Rattle.std.proofs.lemmas.Bool.{ltb-false, not-true}
-use Rattle.std.proofs.lemmas.List.{length-append, length-map}
-use Rattle.std.proofs.lemmas.List.Elements.{Contains-append_cases, Contains-append_left}
-use Rattle.std.proofs.lemmas.List.Sorted.{length_permutation}
 use Rattle.std.proofs.lemmas.List.Sums.{count_by-le-length, length-filter}
-use Rattle.std.proofs.lemmas.Option.{slice_get_within}
-use Rattle.event_records.specs.declared.event.Event.{Event}
-use Rattle.event_records.specs.declared.limits.TheConstants.{MAX_CLOCK, MAX_EVENTS, MAX_INITIAL, MAX_OPERATIONS}
-use Rattle.history_merge.specs.declared.operation.Operation.{Operation}
-use Rattle.history_merge.specs.declared.operation.OpKind.TheVariants.{Enq, Deq, Empty}
-use Rattle.history_merge.specs.Complete.{AreComplete, IsCompleteUpTo}
-use Rattle.history_merge.specs.Legal.{ArePlacesOf}
-use Rattle.history_merge.specs.Operations.{Did, NoneDid, operations_of}
-use Rattle.history_merge.proofs.Distinct.{contains_cons, not_in_none, place_of, contains_at, pairs_at, traced, same_call, same_return}
-use Rattle.history_merge.proofs.Distinct.{return_differs_from_call, call_before_return}
-use Rattle.history_merge.specs.Initial.{IsCompleteFrom, event_later_by, filled, filled_events, filling_events_from, filling_from, later_by}
-use Rattle.history_merge.proofs.Filled.{filled_is_complete, filled_operations}
 use Rattle.verdicts.specs.Laws.{VerdictHasFewLines}
-use Rattle.value_match.specs.declared.life.Life.{Life}
-use Rattle.value_match.specs.Lives.{IsLife, IsCovered, dequeue_call, call_or_never, dequeue_of, enqueue_of, operations_of_life}
-use Rattle.value_match.specs.Violations.{FullViolation, fresh, repeat, order, witness, IsClear, lines_of}
-use Rattle.value_match.specs.Choice.{IsChosenFullViolation, IsChosenCoverFrom}
-use Rattle.value_match.proofs.FilledLines.{filling_place}
-use Rattle.value_match.proofs.Lists.{one_deeper, mapped_to, passed_filter}
-use Rattle.value_match.proofs.Lives.{one_life_of_enqueue}
-use Rattle.linearizer.proofs.Keys.{AllPairs-tail}
-use Rattle.linearizer.proofs.OneOrder.{operations_rise}
 use Rattle.linearizer.specs.Order.{IsChosenOrder}
-use Rattle.verdicts.specs.declared.shown.LinePlace.{LinePlace}
 use Rattle.verdicts.specs.declared.shown.LinePlace.TheVariants as place
-use Rattle.verdicts.specs.declared.verifying.ClaimLine.{ClaimLine}
 use Rattle.verdicts.specs.declared.verifying.ClaimLine.TheVariants as line
 use Rattle.verdicts.specs.declared.verdict.Verdict.{Verdict}
-use Rattle.verdicts.specs.declared.verdict.Verdict.TheVariants.{Yes, No}
-use Rattle.verdicts.specs.Claiming.{is_operation, line_at, operations_named, verdict_places}
-use Rattle.verdicts.specs.Shown.{violation_places}
-use Rattle.verdicts.specs.Verdicts.{IsVerdict}
 use Rattle.verdicts.proofs.CoverGaps.{IsCalledInside, chosen_are_lives, handover, all_stay}
 use Rattle.value_match.proofs.FilledOperations.{length_filled, length_filling}
 use Rattle.verdicts.proofs.NamedPlaces.{IsShownAt, each_shown, zip_lengths}

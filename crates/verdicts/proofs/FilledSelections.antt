@@ -1,17 +1,8 @@
 -- A selection of a filled history is the filled history of the selection, at other clocks.
-use Rattle.std.proofs.Common.{◌≡◌, ℕ, ◌+◌, ◌-◌, ◌*◌, ◌<◌, Bool, true, false, cond, List}
-use Rattle.std.proofs.Common.{[], ◌∷◌, ◌++◌, length, refl, sym, ◌∙◌, ap, arith, map}
-use Rattle.std.specs.Prelude.{filter, nat_lt}
-use Rattle.std.proofs.lemmas.Bool.{ltb-false, ltb-true, le-ltb}
-use Rattle.std.proofs.lemmas.List.{map-append}
-use Rattle.std.proofs.lemmas.List.Elements.{filter_agree}
-use Rattle.std.proofs.lemmas.List.Folds.{map_fixed}
-use Rattle.history_merge.specs.declared.operation.Operation.{Operation}
-use Rattle.history_merge.specs.declared.operation.OpKind.TheVariants.{Enq}
-use Rattle.history_merge.specs.Initial.{filled, filling_from, later_by}
-use Rattle.history_merge.proofs.Later.{map_map, not_later}
-use Rattle.verdicts.specs.Selection.{selects}
-use Rattle.value_match.proofs.FilledLines.{same_operation}
+use Rattle.verdicts.proofs.Common.{[], ◌*◌, ◌++◌, ◌+◌, ◌-◌, ◌<◌, ◌∙◌, ◌∷◌, ◌≡◌, ap, arith, Bool, cond, false, filter}
+use Rattle.verdicts.proofs.Common.{filter_agree, le-ltb, length, List, ltb-false, ltb-true, map, map-append, map_fixed}
+use Rattle.verdicts.proofs.Common.{nat_lt, refl, sym, true, ℕ, Enq, filled, filling_from, later_by, map_map, not_later}
+use Rattle.verdicts.proofs.Common.{Operation, same_operation, selects}
 use Rattle.verdicts.proofs.Retiming.{Rises, retimed}
 
 -- ---- clocks

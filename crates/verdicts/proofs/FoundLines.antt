@@ -1,8 +1,6 @@
 -- What is found at places, one place after another.
-use Rattle.std.proofs.Common.{◌≡◌, ℕ, ◌+◌, ◌<◌, List, [], ◌∷◌, ◌++◌, length, get_or, take, filter_map, Option, Some, None, sym, ◌∙◌, ap}
-use Rattle.std.specs.List.{cons_option}
-use Rattle.std.proofs.lemmas.List.{append-nil, take_more}
-use Rattle.std.proofs.lemmas.List.Elements.{filter_map-append}
+use Rattle.verdicts.proofs.Common.{[], ◌++◌, ◌+◌, ◌<◌, ◌∙◌, ◌∷◌, ◌≡◌, ap, append-nil, cons_option, filter_map}
+use Rattle.verdicts.proofs.Common.{filter_map-append, get_or, length, List, None, Option, Some, sym, take, take_more, ℕ}
 
 module _ {X Y : Type 0} (find : X → Option Y) (xs : List X) (i : ℕ) (d : X) (before : List Y) (within : i < length xs)
     (was : before ≡ filter_map find (take i xs)) where

@@ -1,14 +1,9 @@
 -- The tickets of selected operations, held one operation after another.
-use Rattle.std.proofs.Common.{◌≡◌, ℕ, ◌+◌, ◌<◌, nat_eq, Bool, true, false, ◌||◌, cond, List, [], ◌∷◌, length, get_or, take}
-use Rattle.std.proofs.Common.{refl, sym, ◌∙◌, ap, ap₂}
-use Rattle.std.specs.Prelude.{filter}
-use Rattle.std.specs.Ordering.{nat_cmp, is_eq}
+use Rattle.verdicts.proofs.Common.{[], ◌+◌, ◌<◌, ◌||◌, ◌∙◌, ◌∷◌, ◌≡◌, ap, ap₂, Bool, cond, false, filter, filter_more}
+use Rattle.verdicts.proofs.Common.{get_or, is_eq, length, List, list_any-append, nat_cmp, nat_eq, refl, sym, take, true}
+use Rattle.verdicts.proofs.Common.{ℕ, holds_ticket, Operation}
 use Rattle.std.proofs.Math.Bool.{or-false}
-use Rattle.std.proofs.lemmas.List.Elements.{filter_more}
-use Rattle.std.proofs.lemmas.List.Folds.{list_any-append}
-use Rattle.history_merge.specs.declared.operation.Operation.{Operation}
 use Rattle.history_merge.proofs.KnownValues.{is_eq-nat_cmp}
-use Rattle.verdicts.specs.Inner.Selecting.{holds_ticket}
 
 -- one more operation: its tickets are held where it is selected
 held_with : (test : Operation → Bool) (operations : List Operation) (i : ℕ) (d : Operation) (t : ℕ) (passes : Bool) → i < length operations

@@ -1,27 +1,14 @@
 -- Some operations of a complete history, with both their events, make a complete history.
-use Rattle.std.proofs.Common.{◌≡◌, ◌≢◌, ℕ, zero, suc, ◌<◌, ◌≤◌, Bool, true, false, cond, List, [], ◌∷◌}
-use Rattle.std.proofs.Common.{Option, Some, None, refl, sym, ◌∙◌, ap, subst}
-use Rattle.std.proofs.Common.{arith, nat_eq}
-use Rattle.std.specs.Prelude.{All, AllPairs, Contains, filter, filter_map, find, IsTrue, MatchBool, ⊤}
-use Rattle.std.specs.List.{cons_option}
-use Rattle.std.proofs.lemmas.Bool.{eqb-true, eq-eqb}
-use Rattle.std.proofs.lemmas.List.Elements.{All-filter, All-cons, All-head, All-tail}
-use Rattle.std.proofs.lemmas.List.Kept.{AllPairs-filter, AllPairs-cons}
-use Rattle.event_records.specs.declared.event.Event.{Event}
-use Rattle.event_records.specs.declared.event.What.{What}
-use Rattle.event_records.specs.declared.event.What.TheVariants.{CallEnq, RetEnq, RetNot, CallDeq, RetDeq, RetEmpty}
-use Rattle.event_records.specs.declared.limits.TheConstants.{MAX_THREAD}
-use Rattle.event_records.specs.Turns.{TakesTurns, is_call, answers}
-use Rattle.event_records.specs.Projection.{projection}
-use Rattle.history_merge.specs.declared.operation.Operation.{Operation}
-use Rattle.history_merge.specs.declared.operation.OpKind.{OpKind}
-use Rattle.history_merge.specs.declared.operation.OpKind.TheVariants.{Enq, Deq, Empty, Not}
-use Rattle.history_merge.specs.Operations.{operations_of, operation_of, kind_of}
-use Rattle.history_merge.specs.Complete.{IsCompleteUpTo, called_value}
+use Rattle.verdicts.proofs.Common.{[], ⊤, ◌<◌, ◌∙◌, ◌∷◌, ◌≡◌, ◌≢◌, ◌≤◌, All, All-cons, All-filter, All-head, All-tail}
+use Rattle.verdicts.proofs.Common.{AllPairs, AllPairs-cons, AllPairs-filter, ap, arith, Bool, cond, cons_option}
+use Rattle.verdicts.proofs.Common.{Contains, eq-eqb, eqb-true, false, filter, filter_map, find, IsTrue, List, MatchBool}
+use Rattle.verdicts.proofs.Common.{nat_eq, None, Option, refl, Some, subst, suc, sym, true, zero, ℕ, AllPairs-tail}
+use Rattle.verdicts.proofs.Common.{answers, CallDeq, called_value, CallEnq, Deq, Empty, Enq, Event, is_call}
+use Rattle.verdicts.proofs.Common.{IsCompleteUpTo, MAX_THREAD, Not, one_deeper, Operation, operation_of, operations_of}
+use Rattle.verdicts.proofs.Common.{OpKind, projection, RetDeq, RetEmpty, RetEnq, RetNot, TakesTurns, What}
+use Rattle.history_merge.specs.Operations.{kind_of}
 use Rattle.history_merge.proofs.Completeness.{made_of}
 use Rattle.history_merge.proofs.Turns.{answer_is_return}
-use Rattle.value_match.proofs.Lists.{one_deeper}
-use Rattle.linearizer.proofs.Keys.{AllPairs-tail}
 
 -- what is found among all is found among what is kept, if it is kept
 find_kept : {X : Type 0} (p keeps : X → Bool) (xs : List X) (r : X) → find p xs ≡ Some r → keeps r ≡ true → find p (filter keeps xs) ≡ Some r

@@ -1,17 +1,10 @@
 -- The tickets of some operations of a complete history keep both events of each of these, and no other event.
-use Rattle.std.proofs.Common.{◌≤◌, arith, ◌≡◌, ℕ, ◌⊎◌, Bool, true, false, ◌||◌, List, refl, sym, ◌∙◌, ap, inl, inr, nat_eq}
-use Rattle.std.specs.Prelude.{Contains, filter}
-use Rattle.std.proofs.lemmas.Bool.{eqb-true, eq-eqb}
-use Rattle.std.proofs.lemmas.List.Folds.{Any-from_list_any, list_any-from_Any}
-use Rattle.event_records.specs.declared.event.Event.{Event}
-use Rattle.event_records.specs.declared.limits.TheConstants.{MAX_CLOCK}
-use Rattle.history_merge.specs.declared.operation.Operation.{Operation}
-use Rattle.history_merge.specs.Operations.{operations_of}
-use Rattle.history_merge.specs.Complete.{AreComplete, IsCompleteUpTo}
-use Rattle.history_merge.proofs.Distinct.{same_call, same_return, return_differs_from_call}
+use Rattle.verdicts.proofs.Common.{◌||◌, ◌∙◌, ◌≡◌, ◌≤◌, ◌⊎◌, Any-from_list_any, ap, arith, Bool, Contains, eq-eqb}
+use Rattle.verdicts.proofs.Common.{eqb-true, false, filter, inl, inr, List, list_any-from_Any, nat_eq, refl, sym, true}
+use Rattle.verdicts.proofs.Common.{ℕ, AreComplete, Event, holds_ticket, IsCompleteUpTo, MAX_CLOCK, Operation}
+use Rattle.verdicts.proofs.Common.{operations_of, passed_filter, passes_filter, return_differs_from_call, same_call}
+use Rattle.verdicts.proofs.Common.{same_return}
 use Rattle.history_merge.proofs.Completeness.{up_to_more}
-use Rattle.value_match.proofs.Lists.{passes_filter, passed_filter}
-use Rattle.verdicts.specs.Inner.Selecting.{holds_ticket}
 use Rattle.verdicts.proofs.KeptEvents.{KeepsBoth, kept_is_complete, operations_of_kept}
 
 either_true : (a b : Bool) → (a ≡ true) ⊎ (b ≡ true) → (a || b) ≡ true

@@ -10,6 +10,7 @@
 -- HeldTickets, EventsHeld, KeptTickets, KeptEvents, ShrunkEvents: the selected operations with their events are a complete history.
 -- ShrunkHistories, OneSelection: so the small history is minimal, has the violation, and is the only one.
 -- Rows: small histories, computed.
+mod Common
 pub mod Excludes
 pub mod Rows
 pub mod Linearizable

@@ -1,19 +1,11 @@
 -- A history without violations is linearizable.
-use Rattle.std.proofs.Common.{zero, ℕ, List, [], ◌∷◌, refl, inl, inr, arith, rules}
-use Rattle.std.specs.Prelude.{Contains, filter}
-use Rattle.std.specs.List.{AllZip}
-use Rattle.history_merge.specs.declared.operation.Operation.{Operation}
-use Rattle.history_merge.specs.declared.operation.OpKind.TheVariants.{Empty}
-use Rattle.history_merge.specs.Operations.{Did}
-use Rattle.history_merge.specs.Legal.{IsLinearizable}
-use Rattle.value_match.specs.Lives.{IsLeastFreeGap, AreLeastFreeGaps, is_empty_answer}
-use Rattle.value_match.specs.Violations.{IsClear, NoOrderViolation, NoWitnessViolation}
-use Rattle.value_match.proofs.Lists.{one_deeper}
-use Rattle.empty_witness.proofs.Covers.{chosen_cover}
+use Rattle.verdicts.proofs.Common.{[], ◌∷◌, AllZip, arith, Contains, filter, inl, inr, List, refl, rules, zero, ℕ}
+use Rattle.verdicts.proofs.Common.{AreLeastFreeGaps, chosen_cover, chosen_order_exists, Did, Empty, is_empty_answer}
+use Rattle.verdicts.proofs.Common.{IsClear, IsLeastFreeGap, IsLinearizable, NoOrderViolation, NoWitnessViolation}
+use Rattle.verdicts.proofs.Common.{one_deeper, Operation}
 use Rattle.empty_witness.proofs.FreeGaps.{free_gap_or_covered}
 use Rattle.empty_witness.proofs.Answers.{is_empty_did}
 use Rattle.linearizer.proofs.LegalOrder.{chosen_order_is_legal}
-use Rattle.linearizer.proofs.OneOrder.{chosen_order_exists}
 
 gaps_of : (operations answers : List Operation) → IsClear operations → NoWitnessViolation operations
     → ((o : Operation) → Contains answers o → Did operations o Empty) → (gaps : List ℕ) × AllZip (λ o c. IsLeastFreeGap operations o c) answers gaps

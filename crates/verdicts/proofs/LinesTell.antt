@@ -1,12 +1,7 @@
 -- A violation's kind and lines tell which one it is.
-use Rattle.std.proofs.Common.{◌≡◌, ℕ, List, [], ◌∷◌, ◌++◌, Option, Some, None, refl, sym, ◌∙◌, ap}
-use Rattle.std.specs.Prelude.{MatchOption, flat_map, option_to_list, ⊤}
-use Rattle.history_merge.specs.declared.operation.Operation.{Operation}
-use Rattle.history_merge.specs.declared.operation.OpKind.TheVariants.{Enq, Deq}
-use Rattle.value_match.specs.declared.life.Life.{Life}
-use Rattle.value_match.specs.Lives.{dequeue_of, enqueue_of, operations_of_life}
-use Rattle.value_match.specs.Violations.{fresh, repeat, order, witness}
-use Rattle.value_match.proofs.CoverLives.{AreLives, covers_are_lives}
+use Rattle.verdicts.proofs.Common.{[], ⊤, ◌++◌, ◌∙◌, ◌∷◌, ◌≡◌, ap, flat_map, List, MatchOption, None, Option}
+use Rattle.verdicts.proofs.Common.{option_to_list, refl, Some, sym, ℕ, AreLives, covers_are_lives, Deq, dequeue_of, Enq}
+use Rattle.verdicts.proofs.Common.{enqueue_of, fresh, Life, Operation, operations_of_life, order, repeat, witness}
 use Rattle.verdicts.specs.Laws.{LinesTellViolation}
 
 -- no life begins with a dequeue

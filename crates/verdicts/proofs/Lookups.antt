@@ -1,19 +1,12 @@
 -- Operations looked up by their calls.
-use Rattle.std.proofs.Common.{◌≡◌, ◌≢◌, ℕ, ◌<◌, ◌≤◌, ◌↔◌, Bool, true, false, IsTrue, MatchBool, List, length, get_or, Result, Ok, Err, Decides, refl}
-use Rattle.std.proofs.Common.{sym, ◌∙◌, ap, inl, inr, arith, rules}
-use Rattle.std.specs.Prelude.{Contains, MatchResult}
-use Rattle.std.specs.List.{HoldsAt, AllWithin}
-use Rattle.std.specs.List.Sorted.{IsSearchInRange, IsBinarySearchResult, IsNonDecreasingBy}
-use Rattle.std.specs.Ordering.{nat_cmp, ordering_index}
+use Rattle.verdicts.proofs.Common.{◌<◌, ◌↔◌, ◌∙◌, ◌≡◌, ◌≢◌, ◌≤◌, AllWithin, ap, arith, Bool, cases_lt, cases_order}
+use Rattle.verdicts.proofs.Common.{Contains, Decides, Err, false, get_or, get_or_default, HoldsAt, inl, inr}
+use Rattle.verdicts.proofs.Common.{IsBinarySearchResult, IsNonDecreasingBy, IsSearchInRange, IsTrue, length, List}
+use Rattle.verdicts.proofs.Common.{MatchBool, MatchResult, nat_cmp, nat_tests, Ok, refl, Result, rules, sym, true, ℕ}
+use Rattle.verdicts.proofs.Common.{CallsRise, NoneDid, Operation, OpKind}
+use Rattle.std.specs.Ordering.{ordering_index}
 use Rattle.std.proofs.lemmas.Cmp.{ranked}
-use Rattle.std.proofs.lemmas.Bool.{cases_order, cases_lt}
-use Rattle.std.proofs.lemmas.Bool.Decides.{nat_tests}
-use Rattle.std.proofs.lemmas.List.{get_or_default}
-use Rattle.history_merge.specs.declared.operation.Operation.{Operation}
 use Rattle.history_merge.specs.contracts.operation.OperationPartialEq.TheImpl.{ghosts}
-use Rattle.history_merge.specs.declared.operation.OpKind.{OpKind}
-use Rattle.history_merge.specs.Operations.{NoneDid}
-use Rattle.verdicts.specs.Inner.Claims.{CallsRise}
 
 -- `==` says whether two operations are the same
 pub eq-Decides : (x y : Operation) → Decides (ghosts.eq x y) (x ≡ y)

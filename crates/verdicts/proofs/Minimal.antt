@@ -1,20 +1,11 @@
 -- The selection by the lines of the chosen violation is minimal.
-use Rattle.std.proofs.Common.{◌≡◌, ℕ, zero, ◌⊎◌, Bool, true, false, cond, List, [], ◌∷◌, Option, Some, None, refl, sym, ◌∙◌, ap, subst, inl, inr, arith}
-use Rattle.std.specs.Prelude.{Contains, filter, flat_map}
-use Rattle.history_merge.specs.declared.operation.Operation.{Operation}
-use Rattle.history_merge.specs.declared.operation.OpKind.TheVariants.{Enq, Empty}
-use Rattle.history_merge.specs.Operations.{Did}
-use Rattle.history_merge.specs.Complete.{AreComplete}
-use Rattle.history_merge.specs.Legal.{IsLinearizable}
-use Rattle.history_merge.proofs.Distinct.{contains_cons, call_before_return, same_enqueue}
-use Rattle.value_match.specs.declared.life.Life.{Life}
-use Rattle.value_match.specs.Lives.{IsCovered, Covers, enqueue_of, operations_of_life}
-use Rattle.value_match.specs.Violations.{FullViolation, fresh, repeat, order, witness, IsViolationOf, IsOrderViolation, IsWitnessViolation, IsClear, lines_of}
-use Rattle.value_match.specs.Choice.{IsChosenFullViolation, IsChosenWitness}
-use Rattle.value_match.proofs.Lists.{one_deeper, passed_filter}
-use Rattle.value_match.proofs.Lives.{one_life_of_enqueue}
-use Rattle.empty_witness.proofs.Covers.{violation_covers}
-use Rattle.verdicts.specs.Selection.{value_of, selects}
+use Rattle.verdicts.proofs.Common.{[], ◌∙◌, ◌∷◌, ◌≡◌, ◌⊎◌, ap, arith, Bool, cond, Contains, false, filter, flat_map}
+use Rattle.verdicts.proofs.Common.{inl, inr, List, None, Option, refl, Some, subst, sym, true, zero, ℕ, AreComplete}
+use Rattle.verdicts.proofs.Common.{call_before_return, contains_cons, Covers, Did, Empty, Enq, enqueue_of, fresh}
+use Rattle.verdicts.proofs.Common.{FullViolation, IsChosenFullViolation, IsChosenWitness, IsClear, IsCovered}
+use Rattle.verdicts.proofs.Common.{IsLinearizable, IsOrderViolation, IsViolationOf, IsWitnessViolation, Life, lines_of}
+use Rattle.verdicts.proofs.Common.{one_deeper, one_life_of_enqueue, Operation, operations_of_life, order, passed_filter}
+use Rattle.verdicts.proofs.Common.{repeat, same_enqueue, selects, value_of, violation_covers, witness}
 use Rattle.verdicts.proofs.Chosen.{chosen_is_violation}
 use Rattle.verdicts.proofs.CoverGaps.{gap_without, chosen_are_lives}
 use Rattle.verdicts.proofs.Exactly.{linearizable_exactly}

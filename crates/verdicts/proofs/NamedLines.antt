@@ -1,20 +1,13 @@
 -- What the lines of a violation name, and what a selection by them holds.
-use Rattle.std.proofs.Common.{◌≡◌, ℕ, ◌⊎◌, Bool, true, List, [], ◌∷◌, Option, Some, None, refl, sym, ◌∙◌, ap, subst, inl, inr}
-use Rattle.std.specs.Prelude.{◌↔◌, Contains, IsTrue, filter, filter_map, flat_map, map, option_to_list, MatchOption}
-use Rattle.std.specs.Option.{option_map_or}
-use Rattle.history_merge.specs.declared.operation.Operation.{Operation}
-use Rattle.history_merge.specs.declared.operation.OpKind.{OpKind}
-use Rattle.history_merge.specs.declared.operation.OpKind.TheVariants.{Enq, Deq, Not}
-use Rattle.history_merge.specs.Operations.{Did, NoneDid, Precedes}
-use Rattle.history_merge.specs.Complete.{AreComplete}
-use Rattle.history_merge.proofs.Distinct.{contains_cons, not_in_none, same_call}
-use Rattle.value_match.specs.declared.life.Life.{Life}
-use Rattle.value_match.specs.Lives.{IsLife, dequeue_of, enqueue_of, operations_of_life}
-use Rattle.value_match.specs.Violations.{FullViolation, fresh, repeat, order, witness, IsFreshViolation, IsRepeatViolation, IsOrderViolation, IsViolationOf, lines_of}
-use Rattle.value_match.specs.Choice.{IsChosenFullViolation}
-use Rattle.value_match.proofs.Lists.{kept, keeps, mapped_from, mapped_to, passed_filter}
+use Rattle.verdicts.proofs.Common.{[], ◌↔◌, ◌∙◌, ◌∷◌, ◌≡◌, ◌⊎◌, ap, Bool, Contains, filter, filter_map, flat_map, inl}
+use Rattle.verdicts.proofs.Common.{inr, IsTrue, List, map, MatchOption, None, Option, option_map_or, option_to_list}
+use Rattle.verdicts.proofs.Common.{refl, Some, subst, sym, true, ℕ, AreComplete, contains_cons, Deq, dequeue_of, Did}
+use Rattle.verdicts.proofs.Common.{Enq, enqueue_of, fresh, FullViolation, IsChosenFullViolation, IsFreshViolation}
+use Rattle.verdicts.proofs.Common.{IsLife, IsOrderViolation, IsRepeatViolation, IsViolationOf, keeps, kept, Life}
+use Rattle.verdicts.proofs.Common.{lines_of, mapped_from, mapped_to, NoneDid, Not, not_in_none, Operation}
+use Rattle.verdicts.proofs.Common.{operations_of_life, OpKind, order, passed_filter, Precedes, repeat, same_call}
+use Rattle.verdicts.proofs.Common.{selects, value_of, witness}
 use Rattle.linearizer.proofs.NoneTwice.{from_flat_map}
-use Rattle.verdicts.specs.Selection.{value_of, selects}
 use Rattle.verdicts.proofs.CoverGaps.{chosen_are_lives}
 
 -- the values are those of the lines, and the calls are the lines' calls

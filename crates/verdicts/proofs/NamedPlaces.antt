@@ -1,32 +1,17 @@
 -- What a violation names stands at places of the history, and its lines are those of the filled history's operations.
-use Rattle.std.proofs.Common.{◌≡◌, ℕ, ◌+◌, ◌-◌, ◌*◌, ◌<◌, List, [], ◌∷◌, ◌++◌, length, map, Option, Some, None}
-use Rattle.std.proofs.Common.{refl, sym, ◌∙◌, ap, subst, arith, inl, inr}
-use Rattle.std.specs.Prelude.{All, Contains, flat_map, option_map, option_to_list, slice_get}
-use Rattle.std.specs.List.{AllZip, cons_option}
-use Rattle.std.proofs.lemmas.List.Elements.{All-nil, All-cons, Contains-append_left, Contains-append_right}
-use Rattle.std.proofs.lemmas.Option.{slice_get_within}
-use Rattle.history_merge.specs.declared.operation.Operation.{Operation}
-use Rattle.history_merge.specs.Initial.{filled}
-use Rattle.history_merge.specs.Legal.{ArePlacesOf}
-use Rattle.history_merge.specs.Operations.{IsAt}
-use Rattle.history_merge.proofs.Distinct.{contains_at}
-use Rattle.value_match.specs.declared.life.Life.{Life}
-use Rattle.value_match.specs.declared.violation.CoverStep.{CoverStep}
-use Rattle.value_match.specs.declared.violation.Source.{Source}
+use Rattle.verdicts.proofs.Common.{[], ◌*◌, ◌++◌, ◌+◌, ◌-◌, ◌<◌, ◌∙◌, ◌∷◌, ◌≡◌, All, All-cons, All-nil, AllZip, ap}
+use Rattle.verdicts.proofs.Common.{arith, cons_option, Contains, Contains-append_left, Contains-append_right, flat_map}
+use Rattle.verdicts.proofs.Common.{inl, inr, length, List, map, None, Option, option_map, option_to_list, refl}
+use Rattle.verdicts.proofs.Common.{slice_get, slice_get_within, Some, subst, sym, ℕ, ArePlacesOf, ClaimLine}
+use Rattle.verdicts.proofs.Common.{contains_at, CoverStep, dequeue_of, enqueue_of, filled, filled_at, fresh}
+use Rattle.verdicts.proofs.Common.{FullViolation, IsAt, IsMaybeOperation, IsOperation, IsPlaceWithin, IsSource, Life}
+use Rattle.verdicts.proofs.Common.{line_at, LinePlace, lines_at, lines_of, lines_of_history, mapped_to, maybe_place}
+use Rattle.verdicts.proofs.Common.{Names, NamesCover, Operation, operations_of_life, order, place_of_source}
+use Rattle.verdicts.proofs.Common.{places_of_step, repeat, Source, Violation, violation_places, witness}
 use Rattle.value_match.specs.declared.violation.Source.TheVariants as source
-use Rattle.value_match.specs.declared.violation.Violation.{Violation}
 use Rattle.value_match.specs.declared.violation.Violation.TheVariants as violation
-use Rattle.value_match.specs.Lives.{dequeue_of, enqueue_of, operations_of_life}
-use Rattle.value_match.specs.Outcome.{IsMaybeOperation, IsOperation, IsSource, Names, NamesCover}
-use Rattle.value_match.specs.Violations.{FullViolation, fresh, repeat, order, witness, lines_of}
-use Rattle.value_match.proofs.Lists.{mapped_to}
-use Rattle.verdicts.specs.declared.shown.LinePlace.{LinePlace}
 use Rattle.verdicts.specs.declared.shown.LinePlace.TheVariants.{Op, Initial}
-use Rattle.verdicts.specs.declared.verifying.ClaimLine.{ClaimLine}
 use Rattle.verdicts.specs.declared.verifying.ClaimLine.TheVariants as line
-use Rattle.verdicts.specs.Claiming.{IsPlaceWithin, line_at, lines_at, lines_of_history}
-use Rattle.verdicts.specs.Shown.{maybe_place, place_of_source, violation_places, places_of_step}
-use Rattle.value_match.proofs.FilledLines.{filled_at}
 use Rattle.verdicts.proofs.ShownLines.{accepted_value, early_line, later_line, line_of}
 
 -- ---- lists, element by element

@@ -1,26 +1,14 @@
 -- Two minimal selections that keep one violation, the chosen one of both, are one.
-use Rattle.std.proofs.Common.{◌≡◌, ◌≢◌, ℕ, ◌*◌, ◌⊎◌, Bool, true, false, cond, List, [], ◌∷◌, length, refl, sym, ◌∙◌, ap, subst, inl, inr, map}
-use Rattle.std.specs.Prelude.{Contains, filter}
-use Rattle.std.proofs.lemmas.Bool.{cases_lt}
-use Rattle.std.proofs.lemmas.List.Elements.{Contains-append_cases}
-use Rattle.history_merge.specs.declared.operation.Operation.{Operation}
-use Rattle.history_merge.specs.Complete.{AreComplete}
-use Rattle.history_merge.specs.Initial.{HistoryView, filled}
-use Rattle.history_merge.specs.Legal.{IsLinearizable}
-use Rattle.history_merge.specs.Operations.{operations_of}
-use Rattle.history_merge.proofs.Filled.{linearizable_from_exactly}
-use Rattle.value_match.specs.declared.violation.Violation.{Violation}
-use Rattle.value_match.specs.Violations.{FullViolation, IsViolationOf, lines_of}
-use Rattle.value_match.proofs.Lists.{mapped_from, mapped_to, passed_filter}
-use Rattle.verdicts.specs.declared.verifying.ClaimLine.{ClaimLine}
+use Rattle.verdicts.proofs.Common.{[], ◌*◌, ◌∙◌, ◌∷◌, ◌≡◌, ◌≢◌, ◌⊎◌, ap, Bool, cases_lt, cond, Contains}
+use Rattle.verdicts.proofs.Common.{Contains-append_cases, false, filter, inl, inr, length, List, map, refl, subst, sym}
+use Rattle.verdicts.proofs.Common.{true, ℕ, AreComplete, AreLinearizable, ClaimLine, Contents, contents_of, filled}
+use Rattle.verdicts.proofs.Common.{filled_of, FullViolation, HistoryView, IsLinearizable, IsMinimal, IsViolationOf}
+use Rattle.verdicts.proofs.Common.{KeepsViolation, linearizable_from_exactly, lines_of, lines_of_history, mapped_from}
+use Rattle.verdicts.proofs.Common.{mapped_to, Operation, operations_of, passed_filter, select, selects, StaysChosen}
+use Rattle.verdicts.proofs.Common.{Violation, violation_lines, violation_places, ViolationKind}
 use Rattle.verdicts.specs.declared.verifying.ClaimLine.TheVariants.{Op, Initial}
 use Rattle.verdicts.specs.declared.verifying.Claimed.{Claimed}
 use Rattle.verdicts.specs.declared.verifying.Claimed.TheVariants as claimed
-use Rattle.verdicts.specs.declared.verifying.ViolationKind.{ViolationKind}
-use Rattle.verdicts.specs.Claiming.{lines_of_history}
-use Rattle.verdicts.specs.Selection.{AreLinearizable, Contents, IsMinimal, KeepsViolation, StaysChosen, contents_of, select, selects, violation_lines}
-use Rattle.verdicts.specs.Shown.{violation_places}
-use Rattle.verdicts.specs.Verdicts.{filled_of}
 use Rattle.verdicts.proofs.Chosen.{chosen_is_violation}
 use Rattle.verdicts.proofs.Excludes.{violation_excludes_order}
 use Rattle.verdicts.proofs.FilledSelections.{lifted, lifted_rises}

@@ -1,44 +1,23 @@
 -- What is found of a history is the only thing that can be found of it.
-use Rattle.std.proofs.Common.{◌≡◌, ℕ, ◌*◌, ◌<◌, ◌≤◌, true, List, [], ◌∷◌, length, map, filter, Option, Some, None}
-use Rattle.std.proofs.Common.{refl, sym, ◌∙◌, ap, ap₂, subst, inl, inr, arith}
-use Rattle.std.specs.Prelude.{slice_get}
-use Rattle.std.specs.List.{AllZip}
-use Rattle.std.proofs.lemmas.Bool.{cases_order}
-use Rattle.std.proofs.lemmas.List.{append_cancel_left}
-use Rattle.history_merge.specs.declared.operation.Operation.{Operation}
-use Rattle.history_merge.specs.declared.operation.OpKind.TheVariants.{Empty}
-use Rattle.history_merge.specs.Complete.{AreComplete}
-use Rattle.history_merge.specs.Legal.{ArePlacesOf}
-use Rattle.event_records.specs.declared.event.Event.{Event}
-use Rattle.event_records.specs.declared.limits.TheConstants.{MAX_INITIAL}
-use Rattle.history_merge.specs.Operations.{IsAt, Did, operations_of}
-use Rattle.history_merge.specs.Initial.{IsCompleteFrom, filled, filling_from, later_by}
-use Rattle.history_merge.proofs.Distinct.{pairs_at, place_of, one_at}
+use Rattle.verdicts.proofs.Common.{[], ◌*◌, ◌<◌, ◌∙◌, ◌∷◌, ◌≡◌, ◌≤◌, AllZip, ap, append_cancel_left, ap₂, arith}
+use Rattle.verdicts.proofs.Common.{cases_order, filter, inl, inr, length, List, map, None, Option, refl, slice_get}
+use Rattle.verdicts.proofs.Common.{Some, subst, sym, true, ℕ, AreComplete, ArePlacesOf, behind, chosen_order_is_one}
+use Rattle.verdicts.proofs.Common.{CoverStep, dequeue_of, Did, Empty, enqueue_of, Event, filled, filled_are_complete}
+use Rattle.verdicts.proofs.Common.{filled_gap, filling_from, fresh, FullViolation, is_empty_answer, IsAt, IsChosenCover}
+use Rattle.verdicts.proofs.Common.{IsChosenViolation, IsClear, IsCompleteFrom, IsCovered, IsGapAnswer, IsLeastFreeGap}
+use Rattle.verdicts.proofs.Common.{IsMaybeOperation, IsOperation, IsSource, IsViolationOf, later_by, later_injective}
+use Rattle.verdicts.proofs.Common.{Life, linearizable_from_exactly, MAX_INITIAL, Names, NamesChosenFresh}
+use Rattle.verdicts.proofs.Common.{NamesChosenRepeat, NamesCover, NamesStep, No, one_at, Operation, operations_of}
+use Rattle.verdicts.proofs.Common.{operations_rise, order, OrderPair, pairs_at, passes_filter, place_of, repeat, Source}
+use Rattle.verdicts.proofs.Common.{Violation, witness, Yes}
 use Rattle.history_merge.proofs.Completeness.{operations_are_complete}
-use Rattle.history_merge.proofs.Filled.{filled_are_complete, linearizable_from_exactly}
-use Rattle.history_merge.proofs.Later.{later_injective}
-use Rattle.value_match.specs.declared.life.Life.{Life}
 use Rattle.value_match.specs.declared.matching.Matched.TheVariants as matched
-use Rattle.value_match.specs.declared.violation.CoverStep.{CoverStep}
-use Rattle.value_match.specs.declared.violation.Source.{Source}
 use Rattle.value_match.specs.declared.violation.Source.TheVariants as source
-use Rattle.value_match.specs.declared.violation.Violation.{Violation}
 use Rattle.value_match.specs.declared.violation.Violation.TheVariants as violation
-use Rattle.value_match.specs.Lives.{IsLeastFreeGap, IsCovered, is_empty_answer, dequeue_of, enqueue_of}
-use Rattle.value_match.specs.Choice.{IsChosenCover}
-use Rattle.value_match.specs.Outcome.{IsMaybeOperation, IsOperation, IsSource, Names, NamesStep}
-use Rattle.value_match.specs.Outcome.{NamesChosenFresh, NamesChosenRepeat, NamesCover, IsChosenViolation}
-use Rattle.value_match.specs.Violations.{FullViolation, fresh, repeat, order, witness, IsViolationOf, IsClear}
-use Rattle.value_match.proofs.Lists.{passes_filter}
-use Rattle.order_violation.specs.declared.pair.OrderPair.{OrderPair}
-use Rattle.empty_witness.specs.Answers.{IsGapAnswer}
 use Rattle.empty_witness.specs.declared.answer.GapAnswer.{GapAnswer}
 use Rattle.empty_witness.specs.declared.answer.GapAnswer.TheVariants as gap
 use Rattle.empty_witness.specs.declared.answer.WitnessAnswer.TheVariants as found
-use Rattle.linearizer.proofs.OneOrder.{chosen_order_is_one, operations_rise}
 use Rattle.linearizer.proofs.Positions.{beside}
-use Rattle.verdicts.specs.declared.verdict.Verdict.TheVariants.{Yes, No}
-use Rattle.value_match.specs.Filling.{behind, filled_gap}
 use Rattle.verdicts.specs.Laws.{VerdictIsOne, MatchedIsOne, PairIsOne, GapIsOne, WitnessIsOne}
 use Rattle.verdicts.proofs.Chosen.{one_chosen_violation, one_order, one_cover, one_witness}
 use Rattle.verdicts.proofs.SameLists.{one_beside}

@@ -1,30 +1,19 @@
 -- Operations at other tickets in the same order: the same ones violate, the same violation is chosen, and the same orders are legal.
-use Rattle.std.proofs.Common.{◌≡◌, ℕ, zero, suc, ◌+◌, ◌-◌, ◌<◌, ◌≤◌, ◌⊎◌, Bool, true, false}
-use Rattle.std.proofs.Common.{List, [], ◌∷◌, Option, Some, None, refl, sym, ◌∙◌, ap, subst}
-use Rattle.std.proofs.Common.{inl, inr, arith, map}
-use Rattle.std.specs.Prelude.{Contains, MatchBool, MatchOption, nat_lt, option_map, ⊤}
-use Rattle.std.proofs.lemmas.Bool.{cases_order, ltb-false, ltb-true, le-ltb, lt-ltb}
-use Rattle.event_records.specs.declared.limits.TheConstants.{MAX_CLOCK}
-use Rattle.history_merge.specs.declared.operation.Operation.{Operation}
-use Rattle.history_merge.specs.declared.operation.OpKind.{OpKind}
-use Rattle.history_merge.specs.declared.operation.OpKind.TheVariants.{Enq, Deq, Empty, Not}
-use Rattle.history_merge.specs.Complete.{AreComplete}
-use Rattle.history_merge.specs.Legal.{IsLegalOrder, IsLinearizable}
-use Rattle.history_merge.specs.Operations.{Did, NoneDid, Precedes}
-use Rattle.history_merge.proofs.Distinct.{call_before_return, return_in_range}
-use Rattle.history_merge.proofs.Later.{legal_moved, map_map}
-use Rattle.value_match.specs.declared.life.Life.{Life}
+use Rattle.verdicts.proofs.Common.{[], ⊤, ◌+◌, ◌-◌, ◌<◌, ◌∙◌, ◌∷◌, ◌≡◌, ◌≤◌, ◌⊎◌, ap, arith, Bool, cases_order}
+use Rattle.verdicts.proofs.Common.{Contains, false, inl, inr, le-ltb, List, lt-ltb, ltb-false, ltb-true, map, MatchBool}
+use Rattle.verdicts.proofs.Common.{MatchOption, nat_lt, None, Option, option_map, refl, Some, subst, suc, sym, true}
+use Rattle.verdicts.proofs.Common.{zero, ℕ, AreComplete, call_before_return, call_or_never, Deq, dequeue_call}
+use Rattle.verdicts.proofs.Common.{dequeue_of, Did, Empty, Enq, enqueue_of, enqueue_return, fresh, FullViolation}
+use Rattle.verdicts.proofs.Common.{IsChosenCoverFrom, IsChosenFullViolation, IsCovered, IsFreshViolation, IsLegalOrder}
+use Rattle.verdicts.proofs.Common.{IsLife, IsLinearizable, IsOrderViolation, IsViolationOf, legal_moved, Life, map_map}
+use Rattle.verdicts.proofs.Common.{mapped_from, mapped_to, MAX_CLOCK, NoFreshViolation, NoneDid, NoOrderViolation}
+use Rattle.verdicts.proofs.Common.{NoRepeatViolation, Not, one_deeper, Operation, OpKind, order, Precedes, repeat}
+use Rattle.verdicts.proofs.Common.{return_in_range, same_operation, StaysAtLeast, witness}
 use Rattle.value_match.specs.declared.life.TheConstants.{NEVER}
-use Rattle.value_match.specs.Lives.{IsCovered, IsLife, call_or_never, dequeue_call, dequeue_of, enqueue_of, enqueue_return}
-use Rattle.value_match.specs.Violations.{FullViolation, fresh, repeat, order, witness, IsViolationOf, IsFreshViolation}
-use Rattle.value_match.specs.Violations.{IsOrderViolation, NoFreshViolation, NoOrderViolation, NoRepeatViolation}
-use Rattle.value_match.specs.Choice.{IsChosenFullViolation, IsChosenCoverFrom, StaysAtLeast}
-use Rattle.value_match.proofs.Lists.{mapped_from, mapped_to, one_deeper}
 use Rattle.verdicts.proofs.Carried.{violation_carried, violation_itself, itself, life_carried, life_itself, mapped_violation, mapped_life}
 use Rattle.verdicts.proofs.CoverGaps.{chosen_are_lives}
 use Rattle.verdicts.proofs.Exactly.{linearizable_exactly}
 use Rattle.verdicts.proofs.Excludes.{violation_excludes_order}
-use Rattle.value_match.proofs.FilledLines.{same_operation}
 
 -- the same operation at other tickets
 abbrev pub retimed : (ℕ → ℕ) → Operation → Operation

@@ -1,13 +1,9 @@
 -- Lists of which the keys rise, with the same elements, are one list; so are lists of what stands beside the same elements.
-use Rattle.std.proofs.Common.{◌≡◌, ℕ, zero, suc, ◌<◌, ◌⊎◌, ◌↔◌, List, [], ◌∷◌, get_or, refl, sym, ap, ap₂, subst, inl, inr, arith}
-use Rattle.std.specs.Prelude.{AllPairs, Contains, IsPermutation}
-use Rattle.std.specs.List.{AllZip}
-use Rattle.std.specs.List.Sorted.{IsNonDecreasingBy}
-use Rattle.std.proofs.lemmas.Bool.{cases_order}
-use Rattle.std.proofs.lemmas.List.Sorted.{Contains-permutation, IsPermutation-sym, IsPermutation-trans}
-use Rattle.std.proofs.lemmas.Option.{slice_get-get_or}
-use Rattle.history_merge.proofs.Distinct.{contains_cons, not_in_none, place_of, pairs_at}
-use Rattle.linearizer.proofs.Keys.{AllPairs-tail, one_place}
+use Rattle.verdicts.proofs.Common.{[], ◌<◌, ◌↔◌, ◌∷◌, ◌≡◌, ◌⊎◌, AllPairs, AllZip, ap, ap₂, arith, cases_order, Contains}
+use Rattle.verdicts.proofs.Common.{Contains-permutation, get_or, inl, inr, IsNonDecreasingBy, IsPermutation}
+use Rattle.verdicts.proofs.Common.{IsPermutation-sym, IsPermutation-trans, List, refl, slice_get-get_or, subst, suc}
+use Rattle.verdicts.proofs.Common.{sym, zero, ℕ, AllPairs-tail, contains_cons, not_in_none, one_place, pairs_at}
+use Rattle.verdicts.proofs.Common.{place_of}
 
 -- the keys rise from each element to each later one
 abbrev pub KeysRise : {X : Type 0} → (X → ℕ) → List X → Type 0

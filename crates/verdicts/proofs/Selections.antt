@@ -1,17 +1,11 @@
 -- Violations of a selection are violations of the whole, and those that are selected stay.
-use Rattle.std.proofs.Common.{◌≡◌, ℕ, zero, suc, ◌⊎◌, Bool, true, List, [], ◌∷◌, Option, Some, None, refl, sym, ◌∙◌, ap, inl, inr, arith}
-use Rattle.std.specs.Prelude.{Contains, filter, MatchOption, flat_map, option_to_list}
-use Rattle.std.specs.Option.{option_map_or}
-use Rattle.history_merge.specs.declared.operation.Operation.{Operation}
-use Rattle.history_merge.specs.declared.operation.OpKind.{OpKind}
-use Rattle.history_merge.specs.declared.operation.OpKind.TheVariants.{Enq, Deq, Empty, Not}
-use Rattle.history_merge.specs.Operations.{Did, NoneDid, Precedes}
-use Rattle.value_match.specs.declared.life.Life.{Life}
-use Rattle.value_match.specs.Lives.{IsLife, dequeue_of, enqueue_of, operations_of_life}
-use Rattle.value_match.specs.Violations.{FullViolation, fresh, repeat, order, witness, IsViolationOf, IsNeverEnqueued, IsEnqueuedTooLate, CoversFrom, lines_of}
-use Rattle.value_match.proofs.Lists.{passes_filter, passed_filter, one_deeper}
+use Rattle.verdicts.proofs.Common.{[], ◌∙◌, ◌∷◌, ◌≡◌, ◌⊎◌, ap, arith, Bool, Contains, filter, flat_map, inl, inr, List}
+use Rattle.verdicts.proofs.Common.{MatchOption, None, Option, option_map_or, option_to_list, refl, Some, suc, sym, true}
+use Rattle.verdicts.proofs.Common.{zero, ℕ, CoversFrom, Deq, dequeue_of, Did, Empty, Enq, enqueue_of, fresh}
+use Rattle.verdicts.proofs.Common.{FullViolation, IsEnqueuedTooLate, IsLife, IsNeverEnqueued, IsViolationOf, Life}
+use Rattle.verdicts.proofs.Common.{lines_of, NoneDid, Not, one_deeper, Operation, operations_of_life, OpKind, order}
+use Rattle.verdicts.proofs.Common.{passed_filter, passes_filter, Precedes, repeat, selects, value_of, witness}
 use Rattle.linearizer.proofs.NoneTwice.{into_flat_map}
-use Rattle.verdicts.specs.Selection.{value_of, selects}
 
 first_line : (o : Operation) (lines : List Operation) → Contains (o ∷ lines) o
 first_line o lines = (zero, omega arith, refl)

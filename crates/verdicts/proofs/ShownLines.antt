@@ -1,17 +1,8 @@
 -- The lines of a violation of a filled history, as they are shown.
-use Rattle.std.proofs.Common.{◌≡◌, ℕ, ◌+◌, ◌-◌, ◌<◌, ◌≤◌, Bool, true, false, cond, Some}
-use Rattle.std.proofs.Common.{refl, sym, ◌∙◌, ap, arith}
-use Rattle.std.specs.Prelude.{nat_lt}
-use Rattle.std.proofs.lemmas.Bool.{ltb-false, ltb-true, le-ltb, lt-ltb}
-use Rattle.history_merge.specs.declared.operation.Operation.{Operation}
-use Rattle.history_merge.specs.declared.operation.OpKind.{OpKind}
-use Rattle.history_merge.specs.declared.operation.OpKind.TheVariants.{Enq}
-use Rattle.history_merge.specs.Initial.{later_by}
-use Rattle.verdicts.specs.declared.verifying.ClaimLine.{ClaimLine}
+use Rattle.verdicts.proofs.Common.{◌+◌, ◌-◌, ◌<◌, ◌∙◌, ◌≡◌, ◌≤◌, ap, arith, Bool, cond, false, le-ltb, lt-ltb}
+use Rattle.verdicts.proofs.Common.{ltb-false, ltb-true, nat_lt, refl, Some, sym, true, ℕ, call_in, ClaimLine, Enq}
+use Rattle.verdicts.proofs.Common.{later_by, Operation, OpKind, same_operation, value_in, value_of}
 use Rattle.verdicts.specs.declared.verifying.ClaimLine.TheVariants.{Op, Initial}
-use Rattle.verdicts.specs.Selection.{value_of}
-use Rattle.verdicts.specs.Inner.Selecting.{call_in, value_in}
-use Rattle.value_match.proofs.FilledLines.{same_operation}
 use Rattle.verdicts.proofs.Retiming.{Rises, retimed}
 
 -- the value of a successful enqueue

@@ -1,18 +1,11 @@
 -- The selected initial values and the events of the selected operations are a complete history.
-use Rattle.std.proofs.Common.{◌≡◌, ◌≢◌, ℕ, zero, suc, ◌≤◌, Bool, true, false, cond, List, [], ◌∷◌, ◌++◌, length, get_or, sym, ◌∙◌}
-use Rattle.std.proofs.Common.{subst, inl, inr, arith, not, refl}
-use Rattle.std.specs.Prelude.{Contains, filter}
-use Rattle.std.proofs.lemmas.List.Elements.{Contains-append_cases, Contains-append_left, Contains-append_right, Contains-get_or}
+use Rattle.verdicts.proofs.Common.{[], ◌++◌, ◌∙◌, ◌∷◌, ◌≡◌, ◌≢◌, ◌≤◌, AllPairs-cons, arith, Bool, cond, Contains}
+use Rattle.verdicts.proofs.Common.{Contains-append_cases, Contains-append_left, Contains-append_right, Contains-get_or}
+use Rattle.verdicts.proofs.Common.{false, filter, get_or, inl, inr, length, List, not, refl, subst, suc, sym, true}
+use Rattle.verdicts.proofs.Common.{zero, ℕ, AreComplete, AreDistinct, called_value, called_values, Event, filled}
+use Rattle.verdicts.proofs.Common.{filled_are_complete, IsCompleteFrom, keeps, kept, MAX_INITIAL, Operation}
+use Rattle.verdicts.proofs.Common.{operations_of, passed_filter}
 use Rattle.std.proofs.lemmas.List.Filters.{length-filter_both}
-use Rattle.std.proofs.lemmas.List.Kept.{AllPairs-cons}
-use Rattle.event_records.specs.declared.event.Event.{Event}
-use Rattle.event_records.specs.declared.limits.TheConstants.{MAX_INITIAL}
-use Rattle.history_merge.specs.declared.operation.Operation.{Operation}
-use Rattle.history_merge.specs.Complete.{AreComplete, AreDistinct, called_value, called_values}
-use Rattle.history_merge.specs.Initial.{IsCompleteFrom, filled}
-use Rattle.history_merge.specs.Operations.{operations_of}
-use Rattle.history_merge.proofs.Filled.{filled_are_complete}
-use Rattle.value_match.proofs.Lists.{kept, keeps, passed_filter}
 use Rattle.verdicts.proofs.KeptTickets.{events_at_tickets_of, operations_of_selected, selected_events_are_complete}
 
 -- some elements of a list are no more than all

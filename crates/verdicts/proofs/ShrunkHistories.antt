@@ -1,40 +1,21 @@
 -- The selection by the lines of the chosen violation of a history: the same violation is its chosen one, and nothing can be left out.
-use Rattle.std.proofs.Common.{◌≡◌, ◌≢◌, ℕ, ◌+◌, ◌-◌, ◌*◌, ◌<◌, ◌≤◌, ◌↔◌, Bool, true, false, IsTrue, List, [], ◌∷◌, length}
-use Rattle.std.proofs.Common.{Option, Some, None, refl, sym, ◌∙◌, ap, subst, inl, inr, arith, map, nat_eq}
-use Rattle.std.specs.Prelude.{Contains, filter, filter_map}
-use Rattle.std.specs.List.{list_any}
-use Rattle.std.specs.Option.{option_map_or}
-use Rattle.std.proofs.lemmas.Bool.{eqb-true, eq-eqb}
-use Rattle.std.proofs.lemmas.List.Elements.{Contains-append_cases, Contains-append_left, Contains-append_right, filter_agree}
-use Rattle.std.proofs.lemmas.List.Folds.{Any-from_list_any, list_any-from_Any}
-use Rattle.event_records.specs.declared.event.Event.{Event}
-use Rattle.event_records.specs.declared.limits.TheConstants.{MAX_EVENTS, MAX_INITIAL}
-use Rattle.history_merge.specs.declared.operation.Operation.{Operation}
-use Rattle.history_merge.specs.declared.operation.OpKind.TheVariants.{Enq}
-use Rattle.history_merge.specs.Complete.{AreComplete}
-use Rattle.history_merge.specs.Initial.{HistoryView, IsCompleteFrom, filled, filling_from, later_by}
-use Rattle.history_merge.specs.Legal.{IsLinearizable}
-use Rattle.history_merge.specs.Operations.{operations_of}
-use Rattle.history_merge.proofs.Distinct.{call_before_return, place_of}
-use Rattle.history_merge.proofs.Filled.{filled_are_complete, linearizable_from_exactly}
-use Rattle.value_match.specs.declared.violation.Violation.{Violation}
-use Rattle.value_match.specs.Outcome.{IsChosenViolation, Names}
-use Rattle.value_match.specs.Violations.{FullViolation, lines_of}
-use Rattle.value_match.specs.Choice.{IsChosenFullViolation}
-use Rattle.value_match.proofs.Lists.{kept, keeps, mapped_from, mapped_to, one_deeper, passed_filter}
-use Rattle.verdicts.specs.declared.verifying.ClaimLine.{ClaimLine}
+use Rattle.verdicts.proofs.Common.{[], ◌*◌, ◌+◌, ◌-◌, ◌<◌, ◌↔◌, ◌∙◌, ◌∷◌, ◌≡◌, ◌≢◌, ◌≤◌, Any-from_list_any, ap, arith}
+use Rattle.verdicts.proofs.Common.{Bool, Contains, Contains-append_cases, Contains-append_left, Contains-append_right}
+use Rattle.verdicts.proofs.Common.{eq-eqb, eqb-true, false, filter, filter_agree, filter_map, inl, inr, IsTrue, length}
+use Rattle.verdicts.proofs.Common.{List, list_any, list_any-from_Any, map, nat_eq, None, Option, option_map_or, refl}
+use Rattle.verdicts.proofs.Common.{Some, subst, sym, true, ℕ, AreComplete, AreLinearizable, ArePartOf}
+use Rattle.verdicts.proofs.Common.{call_before_return, call_in, ClaimLine, Contents, contents_of, Enq, Event, filled}
+use Rattle.verdicts.proofs.Common.{filled_are_complete, filled_of, filling_at, filling_from, filling_place}
+use Rattle.verdicts.proofs.Common.{filling_stands, FullViolation, HistoryView, holds_ticket, IsChosenFullViolation}
+use Rattle.verdicts.proofs.Common.{IsChosenViolation, IsCompleteFrom, IsLinearizable, IsMinimal, keeps, KeepsViolation}
+use Rattle.verdicts.proofs.Common.{kept, later_by, line_at, linearizable_from_exactly, lines_of, mapped_from, mapped_to}
+use Rattle.verdicts.proofs.Common.{MAX_EVENTS, MAX_INITIAL, Names, one_deeper, Operation, operations_of, passed_filter}
+use Rattle.verdicts.proofs.Common.{place_of, select, selects, SelectsNamed, StaysChosen, value_in, value_of, Violation}
+use Rattle.verdicts.proofs.Common.{violation_lines, violation_places}
 use Rattle.verdicts.specs.declared.verifying.Claimed.TheVariants as claimed
-use Rattle.value_match.specs.Filling.{filling_at}
 use Rattle.verdicts.specs.Claims.{kind_of}
-use Rattle.verdicts.specs.Claiming.{line_at}
-use Rattle.verdicts.specs.Selection.{AreLinearizable, ArePartOf, Contents, IsMinimal, KeepsViolation, StaysChosen, contents_of, select, selects, value_of}
-use Rattle.verdicts.specs.Selection.{violation_lines}
-use Rattle.verdicts.specs.Shown.{violation_places}
-use Rattle.verdicts.specs.Verdicts.{filled_of}
-use Rattle.verdicts.specs.Inner.Selecting.{SelectsNamed, call_in, holds_ticket, value_in}
 use Rattle.verdicts.proofs.Chosen.{chosen_is_violation}
 use Rattle.verdicts.proofs.ChosenSelections.{stays_chosen}
-use Rattle.value_match.proofs.FilledLines.{filling_place, filling_stands}
 use Rattle.verdicts.proofs.FilledSelections.{lifted, lifted_late, lifted_rises, selected_behind, selected_of_filled}
 use Rattle.verdicts.proofs.KeptTickets.{selected_are_complete}
 use Rattle.verdicts.proofs.Minimal.{AreMinimal, all_or_one, selection_is_minimal, stays_violation}

@@ -1,37 +1,21 @@
 -- The claim of a verdict lists the operations and the initial values that the verdict names.
-use Rattle.std.proofs.Common.{◌≡◌, ◌≢◌, ℕ, zero, suc, ◌-◌, ◌*◌, ◌<◌, not, cond, List, [], ◌∷◌, length, map}
-use Rattle.std.proofs.Common.{Option, Some, None, refl, sym, ◌∙◌}
-use Rattle.std.proofs.Common.{ap, subst, arith, inl, inr, nat_lt, nat_eq}
-use Rattle.std.specs.Prelude.{AllPairs, slice_get, option_map, position, Contains}
-use Rattle.std.specs.List.{cons_option, prefix_len, AllZip}
-use Rattle.std.proofs.lemmas.Bool.{eq-eqb, le-leb, lt-ltb, ne_eqb}
-use Rattle.std.proofs.lemmas.List.{get_or_append_left, length-append}
-use Rattle.linearizer.proofs.Keys.{AllPairs-tail}
-use Rattle.std.proofs.lemmas.Option.{slice_get_within}
-use Rattle.event_records.specs.declared.event.Event.{Event}
-use Rattle.event_records.specs.declared.limits.TheConstants.{MAX_TICKET}
-use Rattle.history_merge.specs.declared.operation.Operation.{Operation}
-use Rattle.history_merge.specs.Complete.{called_values}
-use Rattle.history_merge.specs.Initial.{IsCompleteFrom, filled}
-use Rattle.history_merge.specs.Legal.{ArePlacesOf, IsLegalOrder}
-use Rattle.history_merge.specs.Operations.{operations_of}
-use Rattle.history_merge.proofs.Distinct.{contains_at, operation_within, pairs_at, contains_cons, not_in_none, place_of}
-use Rattle.value_match.specs.declared.violation.Violation.{Violation}
+use Rattle.verdicts.proofs.Common.{[], ◌*◌, ◌-◌, ◌<◌, ◌∙◌, ◌∷◌, ◌≡◌, ◌≢◌, AllPairs, AllZip, ap, arith, cond}
+use Rattle.verdicts.proofs.Common.{cons_option, Contains, eq-eqb, get_or_append_left, inl, inr, le-leb, length}
+use Rattle.verdicts.proofs.Common.{length-append, List, lt-ltb, map, nat_eq, nat_lt, ne_eqb, None, not, Option}
+use Rattle.verdicts.proofs.Common.{option_map, position, prefix_len, refl, slice_get, slice_get_within, Some, subst}
+use Rattle.verdicts.proofs.Common.{suc, sym, zero, ℕ, AllPairs-tail, ArePlacesOf, called_values, contains_at}
+use Rattle.verdicts.proofs.Common.{contains_cons, Event, filled, filled_at, filling_at, fresh, FullViolation}
+use Rattle.verdicts.proofs.Common.{IsCompleteFrom, IsLegalOrder, LinePlace, lines_of, MAX_TICKET, Names, not_in_none}
+use Rattle.verdicts.proofs.Common.{one_deeper, Operation, operation_within, operations_at, operations_of, order}
+use Rattle.verdicts.proofs.Common.{pairs_at, place_of, repeat, stands_for, Violation, violation_kind, violation_places}
+use Rattle.verdicts.proofs.Common.{witness}
 use Rattle.value_match.specs.declared.violation.Violation.TheVariants.{Fresh, Repeat, Order, Witness}
-use Rattle.value_match.specs.Outcome.{Names}
-use Rattle.value_match.specs.Violations.{FullViolation, fresh, repeat, order, witness, lines_of}
 use Rattle.verdicts.specs.declared.verifying.ClaimLine.TheVariants.{Initial}
 use Rattle.verdicts.specs.declared.verdict.Verdict.TheVariants as found
-use Rattle.value_match.specs.Filling.{filling_at}
-use Rattle.verdicts.specs.Claims.{kind_of, stands_for}
-use Rattle.verdicts.specs.Claiming.{operations_at, violation_kind}
+use Rattle.verdicts.specs.Claims.{kind_of}
 use Rattle.verdicts.specs.Laws.{EvidenceIsTrueClaim}
-use Rattle.verdicts.specs.Shown.{violation_places}
-use Rattle.value_match.proofs.FilledLines.{filled_at}
 use Rattle.verdicts.proofs.NamedPlaces.{IsShownAt, each_shown, shown_lines}
-use Rattle.verdicts.specs.declared.shown.LinePlace.{LinePlace}
 use Rattle.verdicts.proofs.ShownLines.{accepted_value, early_line, later_line, line_of}
-use Rattle.value_match.proofs.Lists.{one_deeper}
 
 -- a violation and the operations that it names are of one kind
 pub same_kind : (initial : List ℕ) (operations : List Operation) (violation : Violation) (full : FullViolation) → Names initial operations violation full

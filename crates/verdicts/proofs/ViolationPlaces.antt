@@ -1,23 +1,13 @@
 -- The places of a violation whose lines are operations, and its lines at other tickets.
-use Rattle.std.proofs.Common.{◌≡◌, ℕ, zero, List, [], ◌∷◌, ◌++◌, length, Option, Some, None, refl, sym, ◌∙◌, ap, arith, map}
-use Rattle.std.specs.Prelude.{Contains, MatchOption, flat_map, option_map, option_to_list, ⊤}
-use Rattle.std.proofs.lemmas.List.{map-append}
-use Rattle.std.proofs.lemmas.List.Elements.{Contains-append_left, Contains-append_right}
-use Rattle.history_merge.specs.declared.operation.Operation.{Operation}
-use Rattle.history_merge.specs.declared.operation.OpKind.TheVariants.{Deq}
-use Rattle.history_merge.specs.Initial.{filled}
-use Rattle.history_merge.specs.Operations.{Did, NoneDid, Precedes}
-use Rattle.history_merge.proofs.Distinct.{place_of}
-use Rattle.value_match.specs.declared.life.Life.{Life}
-use Rattle.value_match.specs.declared.violation.CoverStep.{CoverStep}
-use Rattle.value_match.specs.declared.violation.Violation.{Violation}
+use Rattle.verdicts.proofs.Common.{[], ⊤, ◌++◌, ◌∙◌, ◌∷◌, ◌≡◌, ap, arith, Contains, Contains-append_left}
+use Rattle.verdicts.proofs.Common.{Contains-append_right, flat_map, length, List, map, map-append, MatchOption, None}
+use Rattle.verdicts.proofs.Common.{Option, option_map, option_to_list, refl, Some, sym, zero, ℕ, AreLives}
+use Rattle.verdicts.proofs.Common.{covers_are_lives, CoverStep, Deq, dequeue_of, Did, enqueue_of, filled, fresh}
+use Rattle.verdicts.proofs.Common.{FullViolation, IsMaybeAt, IsViolationOf, Life, lines_of, Names, NamesCover, NoneDid}
+use Rattle.verdicts.proofs.Common.{one_deeper, Operation, operations_of_life, order, place_of, Precedes, repeat}
+use Rattle.verdicts.proofs.Common.{Violation, witness}
 use Rattle.value_match.specs.declared.violation.Violation.TheVariants as violation
-use Rattle.value_match.specs.Lives.{IsMaybeAt, dequeue_of, enqueue_of, operations_of_life}
-use Rattle.value_match.specs.Outcome.{Names, NamesCover}
 use Rattle.value_match.specs.Told.{told_place, told_source}
-use Rattle.value_match.specs.Violations.{FullViolation, fresh, repeat, order, witness, IsViolationOf, lines_of}
-use Rattle.value_match.proofs.CoverLives.{AreLives, covers_are_lives}
-use Rattle.value_match.proofs.Lists.{one_deeper}
 use Rattle.value_match.proofs.ToldPlaces.{call_told, dequeue_told, empty_told, fresh_dequeues, maybe_told, source_told}
 use Rattle.verdicts.specs.Claims.{kind_of}
 use Rattle.verdicts.proofs.Retiming.{retimed, retimed_violation, retimed_life}

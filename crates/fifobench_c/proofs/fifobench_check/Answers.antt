@@ -1,7 +1,4 @@
-use Rattle.std.proofs.Common.{inl}
-use Rattle.command_words.specs.Commands.{check}
-use Rattle.commands.specs.Evidence.{input_of}
-use Rattle.commands.specs.Running.{AnswersOf}
+use Rattle.fifobench_c.proofs.Common.{inl, AnswersOf, check, input_of}
 use Rattle.fifobench_c.proofs.Telling.{told_one}
 use Rattle.fifobench_c.proofs.fifobench_check.Goals as goal
 

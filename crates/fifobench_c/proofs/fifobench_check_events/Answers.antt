@@ -1,5 +1,4 @@
-use Rattle.std.proofs.Common.{subst}
-use Rattle.commands.specs.Judging.{AnswersOrNoMemory, JudgesHistory, from_none}
+use Rattle.fifobench_c.proofs.Common.{subst, AnswersOrNoMemory, from_none, JudgesHistory}
 use Rattle.commands.specs.Outcomes.{answer_of}
 use Rattle.fifobench_c.proofs.Structs.{none_unknown, one_first, one_list}
 use Rattle.fifobench_c.proofs.Telling.{told_one}

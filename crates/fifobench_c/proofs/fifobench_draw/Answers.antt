@@ -1,9 +1,5 @@
-use Rattle.std.proofs.Common.{inl}
-use Rattle.command_words.specs.Commands.{draw}
-use Rattle.command_words.specs.Options.{drawing_as}
+use Rattle.fifobench_c.proofs.Common.{inl, AnswersOf, draw, drawing_as, input_of}
 use Rattle.command_words.specs.declared.options.PictureForm.TheVariants.{Svg}
-use Rattle.commands.specs.Evidence.{input_of}
-use Rattle.commands.specs.Running.{AnswersOf}
 use Rattle.fifobench_c.proofs.Telling.{told_one}
 use Rattle.fifobench_c.proofs.fifobench_draw.Goals as goal
 

@@ -1,7 +1,4 @@
-use Rattle.std.proofs.Common.{inl}
-use Rattle.command_words.specs.Commands.{shrink}
-use Rattle.commands.specs.Evidence.{input_of}
-use Rattle.commands.specs.Running.{AnswersOf}
+use Rattle.fifobench_c.proofs.Common.{inl, AnswersOf, input_of, shrink}
 use Rattle.fifobench_c.proofs.Telling.{told_one}
 use Rattle.fifobench_c.proofs.fifobench_shrink.Goals as goal
 

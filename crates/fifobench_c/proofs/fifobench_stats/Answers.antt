@@ -1,7 +1,4 @@
-use Rattle.std.proofs.Common.{inl}
-use Rattle.command_words.specs.Commands.{stats}
-use Rattle.commands.specs.Evidence.{input_of}
-use Rattle.commands.specs.Running.{AnswersOf}
+use Rattle.fifobench_c.proofs.Common.{inl, AnswersOf, input_of, stats}
 use Rattle.fifobench_c.proofs.Telling.{told_one}
 use Rattle.fifobench_c.proofs.fifobench_stats.Goals as goal
 

@@ -1,8 +1,5 @@
-use Rattle.std.proofs.Common.{inl, inr, refl}
-use Rattle.std.proofs.lemmas.Result.{err_from_is_err_and}
-use Rattle.history_text.specs.Versions.{said_in}
-use Rattle.commands.specs.Inputs.{IsHistoryOf, IsFaultOfHistoryInput}
-use Rattle.commands.specs.Judging.{IsFaulty, Judges, said_by}
+use Rattle.commands.proofs.Common.{err_from_is_err_and, inl, inr, refl, IsFaultOfHistoryInput, IsFaulty, IsHistoryOf}
+use Rattle.commands.proofs.Common.{Judges, said_by, said_in}
 use Rattle.commands.proofs.Findings.{answers_more, judged_text, of_value}
 use Rattle.commands.proofs.Found.{no_places}
 use Rattle.commands.proofs.check.check.Goals as goal

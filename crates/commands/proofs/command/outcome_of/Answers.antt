@@ -1,6 +1,4 @@
-use Rattle.std.proofs.Common.{◌≡◌}
-use Rattle.command_words.specs.Commands.{stress}
-use Rattle.command_words.specs.Options.{settings_of}
+use Rattle.commands.proofs.Common.{◌≡◌, settings_of, stress}
 use Rattle.commands.proofs.Runs.{same_settings}
 use Rattle.commands.proofs.command.outcome_of.Goals as goal
 

@@ -1,6 +1,4 @@
-use Rattle.std.proofs.Common.{inr, refl, sym, ◌∙◌, arith}
-use Rattle.std.proofs.lemmas.Option.{same_Some}
-use Rattle.commands.specs.Answers.{memory_fault}
+use Rattle.commands.proofs.Common.{◌∙◌, arith, inr, refl, same_Some, sym, memory_fault}
 use Rattle.commands.proofs.Runs.{memory_has_3, memory_is_said, memory_ran_out, or_no_memory, reads_out_of_memory, reads_printed}
 use Rattle.commands.proofs.command.run_command.Goals as goal
 

@@ -1,6 +1,4 @@
-use Rattle.std.proofs.Common.{ap, subst, ◌∙◌}
-use Rattle.commands.specs.Outcomes.{answer_of}
-use Rattle.commands.specs.Running.{SaysMessage}
+use Rattle.commands.proofs.Common.{◌∙◌, ap, subst, answer_of, SaysMessage}
 use Rattle.commands.proofs.Runs.{printed_of}
 use Rattle.commands.proofs.command.run_order.Goals as goal
 

@@ -1,7 +1,5 @@
-use Rattle.std.proofs.Common.{inl, inr, refl}
-use Rattle.std.proofs.lemmas.Result.{err_from_is_err_and}
-use Rattle.commands.specs.Inputs.{IsHistoryOf, IsFaultOfHistoryInput}
-use Rattle.commands.specs.Judging.{IsFaulty, Converts, said_by}
+use Rattle.commands.proofs.Common.{err_from_is_err_and, inl, inr, refl, Converts, IsFaultOfHistoryInput, IsFaulty}
+use Rattle.commands.proofs.Common.{IsHistoryOf, said_by}
 use Rattle.commands.proofs.Findings.{answers_more, of_value}
 use Rattle.commands.proofs.convert.convert.Goals as goal
 

@@ -1,4 +1,4 @@
-use Rattle.std.proofs.lemmas.Result.{IfOk-weaker}
+use Rattle.commands.proofs.Common.{IfOk-weaker}
 use Rattle.commands.proofs.Drawn.{claims_verdict}
 use Rattle.commands.proofs.draw.decided_claim.Goals as goal
 

@@ -1,8 +1,5 @@
-use Rattle.std.proofs.lemmas.Result.{err_from_is_err_and}
-use Rattle.std.proofs.Common.{subst}
-use Rattle.commands.specs.Inputs.{IsDrawableOf, IsFaultOfDrawableInput, drawable}
-use Rattle.commands.specs.Judging.{AnswersOrNoMemory, Draws}
-use Rattle.commands.specs.Outcomes.{answer_of}
+use Rattle.commands.proofs.Common.{err_from_is_err_and, subst, answer_of, AnswersOrNoMemory, drawable, Draws}
+use Rattle.commands.proofs.Common.{IsDrawableOf, IsFaultOfDrawableInput}
 use Rattle.commands.proofs.Findings.{of_value}
 use Rattle.commands.proofs.Drawn.{faulty_history}
 use Rattle.commands.proofs.draw.draw.Goals as goal

@@ -1,5 +1,4 @@
-use Rattle.std.proofs.lemmas.Result.{err_from_is_err_and}
-use Rattle.history_text.specs.Versions.{said_in}
+use Rattle.commands.proofs.Common.{err_from_is_err_and, said_in}
 use Rattle.commands.proofs.Drawn.{drawn_claim, undrawn_claim}
 use Rattle.commands.proofs.draw.draw_claim.Goals as goal
 

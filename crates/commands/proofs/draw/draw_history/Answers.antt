@@ -1,4 +1,4 @@
-use Rattle.std.proofs.Common.{length, ap, arith, rules}
+use Rattle.commands.proofs.Common.{ap, arith, length, rules}
 use Rattle.commands.proofs.draw.draw_history.Goals as goal
 
 pub draw_claim-requires-clause-few_values : goal.draw_claim-requires-clause-few_values

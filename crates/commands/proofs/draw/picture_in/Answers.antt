@@ -1,4 +1,4 @@
-use Rattle.std.proofs.Common.{rules}
+use Rattle.commands.proofs.Common.{rules}
 use Rattle.commands.proofs.draw.picture_in.Goals as goal
 
 pub returns-in-Svg : goal.returns-in-Svg

@@ -1,4 +1,4 @@
-use Rattle.std.proofs.Common.{arith}
+use Rattle.commands.proofs.Common.{arith}
 use Rattle.commands.proofs.Exits.{carried}
 use Rattle.commands.proofs.InputFaults.{history_fault, verdict_fault}
 use Rattle.commands.proofs.Found.{claim_found}

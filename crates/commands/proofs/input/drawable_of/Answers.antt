@@ -1,5 +1,4 @@
-use Rattle.std.proofs.Common.{arith}
-use Rattle.history_text.specs.Versions.{text_of}
+use Rattle.commands.proofs.Common.{arith, text_of}
 use Rattle.commands.proofs.Exits.{carried}
 use Rattle.commands.proofs.InputFaults.{drawable_history_fault, drawable_verdict_fault}
 use Rattle.commands.proofs.Found.{claim_found, history_found, read_fault_after, taken_through}

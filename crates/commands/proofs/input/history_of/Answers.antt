@@ -1,4 +1,4 @@
-use Rattle.commands.specs.Judging.{said_by}
+use Rattle.commands.proofs.Common.{said_by}
 use Rattle.commands.proofs.Findings.{fault_found}
 use Rattle.commands.proofs.input.history_of.Goals as goal
 

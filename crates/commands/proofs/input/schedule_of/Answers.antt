@@ -1,4 +1,4 @@
-use Rattle.history_text.specs.Schedules.{schedule_text, HasScheduleText, IsScheduleTextFault, NoRoomForSchedule}
+use Rattle.commands.proofs.Common.{HasScheduleText, IsScheduleTextFault, NoRoomForSchedule, schedule_text}
 use Rattle.commands.proofs.Exits.{carried}
 use Rattle.commands.proofs.InputFaults.{text_fault}
 use Rattle.commands.proofs.input.schedule_of.Goals as goal

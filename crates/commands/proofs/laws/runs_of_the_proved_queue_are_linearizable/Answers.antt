@@ -1,4 +1,4 @@
-use Rattle.std.proofs.Common.{inl, inr}
+use Rattle.commands.proofs.Common.{inl, inr}
 use Rattle.commands.proofs.laws.runs_of_the_proved_queue_are_linearizable.Goals as goal
 
 pub returns : goal.returns

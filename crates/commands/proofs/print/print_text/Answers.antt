@@ -1,4 +1,4 @@
-use Rattle.text_lines.proofs.Putting.{asked_if_err, asked_if_ok, bytes_if_err, bytes_if_ok, refused_if_err}
+use Rattle.commands.proofs.Common.{asked_if_err, asked_if_ok, bytes_if_err, bytes_if_ok, refused_if_err}
 use Rattle.commands.proofs.print.print_text.Goals as goal
 
 pub flush_written-requires : goal.flush_written-requires

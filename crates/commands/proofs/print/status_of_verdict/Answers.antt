@@ -1,4 +1,4 @@
-use Rattle.std.proofs.Common.{refl}
+use Rattle.commands.proofs.Common.{refl}
 use Rattle.commands.proofs.print.status_of_verdict.Goals as goal
 
 pub returns-in-No : goal.returns-in-No

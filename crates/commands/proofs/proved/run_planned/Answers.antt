@@ -1,9 +1,5 @@
-use Rattle.std.proofs.lemmas.Result.{err_from_is_err_and}
-use Rattle.std.proofs.Common.{subst, List, ℕ}
-use Rattle.history_merge.specs.Legal.{IsLinearizable}
-use Rattle.history_merge.specs.Operations.{operations_of}
-use Rattle.command_words.specs.Options.{settings_of}
-use Rattle.commands.specs.Outcomes.{answer_of}
+use Rattle.commands.proofs.Common.{err_from_is_err_and, List, subst, ℕ, answer_of, IsLinearizable, operations_of}
+use Rattle.commands.proofs.Common.{settings_of}
 use Rattle.commands.proofs.FirstValues.{failed_run, recorded_run}
 use Rattle.commands.proofs.proved.run_planned.Goals as goal
 

@@ -1,4 +1,4 @@
-use Rattle.std.proofs.Common.{inl, inr, refl}
+use Rattle.commands.proofs.Common.{inl, inr, refl}
 use Rattle.commands.proofs.Searched.{same_name, other_name}
 use Rattle.commands.proofs.proved.stress_unshelved.Goals as goal
 

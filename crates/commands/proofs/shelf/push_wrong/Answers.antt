@@ -1,5 +1,4 @@
-use Rattle.std.proofs.Common.{append_assoc}
-use Rattle.std.proofs.lemmas.List.{map-append}
+use Rattle.commands.proofs.Common.{append_assoc, map-append}
 use Rattle.commands.proofs.shelf.push_wrong.Goals as goal
 
 pub returns : goal.returns

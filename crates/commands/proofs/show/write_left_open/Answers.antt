@@ -1,7 +1,5 @@
-use Rattle.std.proofs.Common.{codes}
+use Rattle.commands.proofs.Common.{codes, longer_front, refused_text, rejection_lines, writes_then}
 use Rattle.text_lines.specs.Lines.{line}
-use Rattle.text_lines.proofs.Putting.{longer_front, refused_text, writes_then}
-use Rattle.commands.specs.Answers.{rejection_lines}
 use Rattle.commands.proofs.show.write_left_open.Goals as goal
 
 pub returns-in_err-write_rejections : goal.returns-in_err-write_rejections

@@ -1,10 +1,6 @@
-use Rattle.std.proofs.Common.{◌++◌}
-use Rattle.history_merge.specs.Operations.{operations_of}
+use Rattle.commands.proofs.Common.{◌++◌, claim_of, longer_front, operations_of, refused_text, rejection_lines}
+use Rattle.commands.proofs.Common.{verdict_text, writes_then}
 use Rattle.history_text.specs.Histories.{history_text}
-use Rattle.history_text.specs.Verdicts.{verdict_text}
-use Rattle.verdicts.specs.Claiming.{claim_of}
-use Rattle.text_lines.proofs.Putting.{longer_front, refused_text, writes_then}
-use Rattle.commands.specs.Answers.{rejection_lines}
 use Rattle.commands.proofs.show.write_played.Goals as goal
 
 pub returns-in_err-write_rejections : goal.returns-in_err-write_rejections

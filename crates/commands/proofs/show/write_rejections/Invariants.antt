@@ -1,6 +1,5 @@
-use Rattle.std.proofs.Common.{take}
+use Rattle.commands.proofs.Common.{take, rejection_lines}
 use Rattle.text_lines.specs.Writing.{TakesAll}
-use Rattle.commands.specs.Answers.{rejection_lines}
 use Rattle.commands.proofs.show.write_rejections.Given as goal
 
 abbrev pub invariant-loop-rejection : goal.invariant-loop-rejection

@@ -1,8 +1,5 @@
-use Rattle.history_merge.specs.Operations.{operations_of}
-use Rattle.history_text.specs.Versions.{said_in, text_of}
-use Rattle.history_text.specs.Verdicts.{verdict_text}
-use Rattle.verdicts.specs.Claiming.{claim_of}
-use Rattle.text_lines.proofs.Putting.{longer_front, refused_text, writes_then}
+use Rattle.commands.proofs.Common.{claim_of, longer_front, operations_of, refused_text, said_in, text_of, verdict_text}
+use Rattle.commands.proofs.Common.{writes_then}
 use Rattle.commands.proofs.show.write_shown.Goals as goal
 
 pub returns-in_err-write_history : goal.returns-in_err-write_history

@@ -1,7 +1,5 @@
-use Rattle.std.proofs.Common.{inl}
-use Rattle.std.proofs.lemmas.Result.{err_from_is_err_and}
-use Rattle.commands.specs.Inputs.{IsHistoryOf, IsFaultOfHistoryInput}
-use Rattle.commands.specs.Judging.{IsFaulty, Shrinks, said_by}
+use Rattle.commands.proofs.Common.{err_from_is_err_and, inl, IsFaultOfHistoryInput, IsFaulty, IsHistoryOf, said_by}
+use Rattle.commands.proofs.Common.{Shrinks}
 use Rattle.commands.proofs.Findings.{answers_more}
 use Rattle.commands.proofs.shrink.shrink.Goals as goal
 

@@ -1,4 +1,4 @@
-use Rattle.commands.specs.Outcomes.{answer_of}
+use Rattle.commands.proofs.Common.{answer_of}
 use Rattle.commands.proofs.Findings.{shrunk_no}
 use Rattle.commands.proofs.shrink.shrink_history.Goals as goal
 

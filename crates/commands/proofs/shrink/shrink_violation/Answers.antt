@@ -1,6 +1,4 @@
-use Rattle.std.proofs.Common.{inl, refl}
-use Rattle.history_merge.specs.Operations.{operations_of}
-use Rattle.verdicts.specs.Claiming.{claim_of}
+use Rattle.commands.proofs.Common.{inl, refl, claim_of, operations_of}
 use Rattle.commands.proofs.Findings.{decided_claim, part_of_none}
 use Rattle.commands.proofs.shrink.shrink_violation.Goals as goal
 

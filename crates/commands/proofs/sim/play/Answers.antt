@@ -1,7 +1,4 @@
-use Rattle.std.proofs.Common.{inl, subst}
-use Rattle.history_merge.specs.Operations.{operations_of}
-use Rattle.verdicts.specs.Claiming.{claim_of}
-use Rattle.commands.specs.Judging.{IsVerdictClaim}
+use Rattle.commands.proofs.Common.{inl, subst, claim_of, IsVerdictClaim, operations_of}
 use Rattle.commands.proofs.Findings.{decided_claim, is_from_none}
 use Rattle.commands.proofs.OneAnswer.{from_nothing}
 use Rattle.commands.proofs.Played.{left_open_found, played_found, merges_to_complete, few_events}

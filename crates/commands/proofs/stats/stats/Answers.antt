@@ -1,8 +1,5 @@
-use Rattle.std.proofs.Common.{inl}
-use Rattle.std.proofs.lemmas.Result.{err_from_is_err_and}
-use Rattle.commands.specs.Inputs.{IsHistoryOf, IsFaultOfHistoryInput}
-use Rattle.commands.specs.Judging.{IsFaulty, Counts, said_by}
-use Rattle.commands.specs.Outcomes.{answer_of}
+use Rattle.commands.proofs.Common.{err_from_is_err_and, inl, answer_of, Counts, IsFaultOfHistoryInput, IsFaulty}
+use Rattle.commands.proofs.Common.{IsHistoryOf, said_by}
 use Rattle.commands.proofs.Findings.{answers_more, of_value}
 use Rattle.commands.proofs.stats.stats.Goals as goal
 

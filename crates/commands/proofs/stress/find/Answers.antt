@@ -1,4 +1,4 @@
-use Rattle.std.proofs.Common.{refl}
+use Rattle.commands.proofs.Common.{refl}
 use Rattle.commands.proofs.Searched.{found_first, passed_more, same_name, other_name}
 use Rattle.commands.proofs.stress.find.Goals as goal
 

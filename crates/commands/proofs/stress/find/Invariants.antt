@@ -1,4 +1,4 @@
-use Rattle.std.proofs.Common.{◌≢◌, All, take}
+use Rattle.commands.proofs.Common.{◌≢◌, All, take}
 use Rattle.commands.proofs.stress.find.Given as goal
 
 abbrev pub invariant-loop-shelved : goal.invariant-loop-shelved

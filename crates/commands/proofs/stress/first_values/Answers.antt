@@ -1,6 +1,5 @@
-use Rattle.std.proofs.Common.{◌+◌, arith}
+use Rattle.commands.proofs.Common.{◌+◌, arith, LEAST_INITIAL_NAME}
 use Rattle.std.proofs.lemmas.Iterator.{YieldsList-from_range, items_from_collect}
-use Rattle.event_records.specs.declared.limits.TheConstants.{LEAST_INITIAL_NAME}
 use Rattle.commands.proofs.stress.first_values.Goals as goal
 
 pub returns : goal.returns

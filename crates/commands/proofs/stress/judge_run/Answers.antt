@@ -1,6 +1,4 @@
-use Rattle.std.proofs.Common.{◌∙◌, sym, subst, List, ℕ}
-use Rattle.history_merge.specs.Legal.{IsLinearizable}
-use Rattle.history_merge.specs.Operations.{operations_of}
+use Rattle.commands.proofs.Common.{◌∙◌, List, subst, sym, ℕ, IsLinearizable, operations_of}
 use Rattle.commands.proofs.Findings.{shows_none}
 use Rattle.commands.proofs.FirstValues.{judged_run, none_in_version_1}
 use Rattle.commands.proofs.stress.judge_run.Goals as goal

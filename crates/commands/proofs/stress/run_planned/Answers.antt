@@ -1,6 +1,4 @@
-use Rattle.std.proofs.lemmas.Result.{err_from_is_err_and}
-use Rattle.command_words.specs.Options.{settings_of}
-use Rattle.commands.specs.Outcomes.{answer_of}
+use Rattle.commands.proofs.Common.{err_from_is_err_and, answer_of, settings_of}
 use Rattle.commands.proofs.FirstValues.{failed_run, recorded_run}
 use Rattle.commands.proofs.stress.run_planned.Goals as goal
 

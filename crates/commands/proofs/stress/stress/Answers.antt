@@ -1,4 +1,4 @@
-use Rattle.std.proofs.Common.{inr}
+use Rattle.commands.proofs.Common.{inr}
 use Rattle.commands.proofs.stress.stress.Goals as goal
 
 pub returns-clause-found : goal.returns-clause-found

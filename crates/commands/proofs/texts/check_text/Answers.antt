@@ -1,9 +1,5 @@
-use Rattle.std.proofs.Common.{inl, inr, refl, Some}
-use Rattle.std.proofs.lemmas.Result.{err_from_is_err_and}
-use Rattle.history_text.specs.Versions.{said_in}
-use Rattle.commands.specs.Evidence.{input_of}
-use Rattle.commands.specs.Inputs.{IsHistoryOf, IsFaultOfHistoryInput}
-use Rattle.commands.specs.Judging.{IsFaulty, Judges, said_by}
+use Rattle.commands.proofs.Common.{err_from_is_err_and, inl, inr, refl, Some, input_of, IsFaultOfHistoryInput, IsFaulty}
+use Rattle.commands.proofs.Common.{IsHistoryOf, Judges, said_by, said_in}
 use Rattle.commands.proofs.Findings.{answers_more, judged_text}
 use Rattle.commands.proofs.Found.{no_places}
 use Rattle.commands.proofs.texts.check_text.Goals as goal

@@ -1,10 +1,5 @@
-use Rattle.std.proofs.Common.{◌≡◌, subst}
-use Rattle.std.proofs.lemmas.Result.{err_from_is_err_and}
-use Rattle.history_merge.specs.Operations.{operations_of}
-use Rattle.verdicts.specs.Claiming.{claim_of}
-use Rattle.history_text.specs.declared.version.Version.TheVariants.{One}
-use Rattle.commands.specs.Answers.{judged}
-use Rattle.commands.specs.Judging.{AnswersOrNoMemory, JudgesHistory}
+use Rattle.commands.proofs.Common.{◌≡◌, err_from_is_err_and, subst, AnswersOrNoMemory, claim_of, judged, JudgesHistory}
+use Rattle.commands.proofs.Common.{One, operations_of}
 use Rattle.commands.proofs.Findings.{fault_or, judged_text}
 use Rattle.commands.proofs.texts.judge_gathered.Goals as goal
 

@@ -1,4 +1,4 @@
-use Rattle.std.proofs.Common.{◌∙◌, ap}
+use Rattle.commands.proofs.Common.{◌∙◌, ap}
 use Rattle.commands.proofs.texts.text_of_outcome.Goals as goal
 
 pub returns-in-Ok : goal.returns-in-Ok

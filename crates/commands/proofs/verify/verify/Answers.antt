@@ -1,8 +1,5 @@
-use Rattle.std.proofs.Common.{subst}
-use Rattle.std.proofs.lemmas.Result.{err_from_is_err_and}
-use Rattle.commands.specs.Inputs.{IsClaimOf, IsFaultOfClaimInput}
-use Rattle.commands.specs.Judging.{AnswersOrNoMemory, Verifies}
-use Rattle.commands.specs.Outcomes.{answer_of}
+use Rattle.commands.proofs.Common.{err_from_is_err_and, subst, answer_of, AnswersOrNoMemory, IsClaimOf}
+use Rattle.commands.proofs.Common.{IsFaultOfClaimInput, Verifies}
 use Rattle.commands.proofs.Findings.{faulty_or, of_value}
 use Rattle.commands.proofs.verify.verify.Goals as goal
 

@@ -1,4 +1,4 @@
-use Rattle.std.proofs.Common.{rules}
+use Rattle.commands.proofs.Common.{rules}
 use Rattle.commands.proofs.verify.verify_claim.Goals as goal
 
 pub returns-clause-found : goal.returns-clause-found

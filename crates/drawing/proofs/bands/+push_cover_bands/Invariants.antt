@@ -1,4 +1,4 @@
-use Rattle.std.proofs.Common.{length}
+use Rattle.drawing.proofs.Common.{length}
 use Rattle.drawing.proofs.bands.+push_cover_bands.Given as goal
 
 abbrev pub decreases-push_cover_bands : goal.decreases-push_cover_bands

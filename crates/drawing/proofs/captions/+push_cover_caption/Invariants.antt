@@ -1,4 +1,4 @@
-use Rattle.std.proofs.Common.{length}
+use Rattle.drawing.proofs.Common.{length}
 use Rattle.drawing.proofs.captions.+push_cover_caption.Given as goal
 
 abbrev pub decreases-push_cover_caption : goal.decreases-push_cover_caption

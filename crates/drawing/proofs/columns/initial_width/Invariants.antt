@@ -1,5 +1,4 @@
-use Rattle.std.proofs.Common.{◌≡◌, ◌≤◌, take}
-use Rattle.drawing.specs.Layout.{initial_width}
+use Rattle.drawing.proofs.Common.{◌≡◌, ◌≤◌, take, initial_width}
 use Rattle.drawing.proofs.columns.initial_width.Given as goal
 
 abbrev pub invariant-loop-value : goal.invariant-loop-value

@@ -1,5 +1,4 @@
-use Rattle.std.proofs.Common.{◌≡◌, ◌≤◌, take}
-use Rattle.drawing.specs.Layout.{label_width}
+use Rattle.drawing.proofs.Common.{◌≡◌, ◌≤◌, take, label_width}
 use Rattle.drawing.proofs.columns.label_width.Given as goal
 
 abbrev pub invariant-loop-operation : goal.invariant-loop-operation

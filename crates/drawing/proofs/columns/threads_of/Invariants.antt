@@ -1,5 +1,4 @@
-use Rattle.std.proofs.Common.{◌≡◌, ◌≤◌, vec_len}
-use Rattle.drawing.specs.Layout.{threads_below}
+use Rattle.drawing.proofs.Common.{◌≡◌, ◌≤◌, vec_len, threads_below}
 use Rattle.drawing.proofs.columns.threads_of.Given as goal
 
 abbrev pub invariant-loop-thread : goal.invariant-loop-thread

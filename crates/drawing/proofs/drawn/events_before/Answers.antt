@@ -1,6 +1,4 @@
-use Rattle.std.proofs.Common.{rules, arith}
-use Rattle.std.specs.Prelude.{nat_lt}
-use Rattle.std.proofs.lemmas.List.Sorted.{IsPartitionPoint-from_clause}
+use Rattle.drawing.proofs.Common.{arith, IsPartitionPoint-from_clause, nat_lt, rules}
 use Rattle.drawing.proofs.Nearness.{counted_up_to, parted_by_ticket}
 use Rattle.drawing.proofs.drawn.events_before.Goals as goal
 

@@ -1,5 +1,4 @@
-use Rattle.std.proofs.Common.{true, false, ap, sym, ◌∙◌, ◌++◌, ◌∷◌, [], append-nil}
-use Rattle.drawing.specs.Drawn.{is_near_any, operations_in}
+use Rattle.drawing.proofs.Common.{[], ◌++◌, ◌∙◌, ◌∷◌, ap, append-nil, false, sym, true, is_near_any, operations_in}
 use Rattle.drawing.proofs.Nearness.{filter_step}
 use Rattle.drawing.proofs.drawn.near_operations.Goals.{then-is_near_any+in_ok-push, else-is_near_any}
 use Rattle.drawing.proofs.drawn.near_operations.Goals as goal

@@ -1,5 +1,4 @@
-use Rattle.std.proofs.Common.{◌≡◌, filter, take}
-use Rattle.drawing.specs.Drawn.{is_near_any, operations_in}
+use Rattle.drawing.proofs.Common.{◌≡◌, filter, take, is_near_any, operations_in}
 use Rattle.drawing.proofs.drawn.near_operations.Given as goal
 
 abbrev pub invariant-loop-operation : goal.invariant-loop-operation

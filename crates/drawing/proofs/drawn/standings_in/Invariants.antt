@@ -1,5 +1,4 @@
-use Rattle.std.proofs.Common.{◌≡◌, map, take}
-use Rattle.drawing.specs.Drawn.{operations_in, standing_of}
+use Rattle.drawing.proofs.Common.{◌≡◌, map, take, operations_in, standing_of}
 use Rattle.drawing.proofs.drawn.standings_in.Given as goal
 
 abbrev pub invariant-loop-line : goal.invariant-loop-line

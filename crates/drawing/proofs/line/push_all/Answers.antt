@@ -1,4 +1,4 @@
-use Rattle.drawing.specs.Inner.Words.{piece_text}
+use Rattle.drawing.proofs.Common.{piece_text}
 use Rattle.drawing.proofs.Loops.{flat_map_step}
 use Rattle.drawing.proofs.line.push_all.Goals as goal
 

@@ -1,6 +1,4 @@
-use Rattle.std.proofs.Common.{◌≡◌, ◌++◌, take}
-use Rattle.std.specs.List.{flat_map}
-use Rattle.drawing.specs.Inner.Words.{piece_text}
+use Rattle.drawing.proofs.Common.{◌++◌, ◌≡◌, flat_map, take, piece_text}
 use Rattle.drawing.proofs.line.push_all.Given as goal
 
 abbrev pub invariant-loop-piece : goal.invariant-loop-piece

@@ -1,5 +1,4 @@
-use Rattle.std.proofs.Common.{◌≡◌, drop, nat_eq}
-use Rattle.std.specs.List.{find}
+use Rattle.drawing.proofs.Common.{◌≡◌, drop, find, nat_eq}
 use Rattle.drawing.proofs.lookup.called_at.Given as goal
 
 abbrev pub invariant-loop-operation : goal.invariant-loop-operation

@@ -1,6 +1,4 @@
-use Rattle.std.proofs.Common.{◌≡◌, drop}
-use Rattle.std.specs.List.{find}
-use Rattle.drawing.specs.Layout.{stands_in}
+use Rattle.drawing.proofs.Common.{◌≡◌, drop, find, stands_in}
 use Rattle.drawing.proofs.lookup.line_in.Given as goal
 
 abbrev pub invariant-loop-line : goal.invariant-loop-line

@@ -1,4 +1,4 @@
-use Rattle.std.proofs.Common.{◌∙◌, sym}
+use Rattle.drawing.proofs.Common.{◌∙◌, sym}
 use Rattle.drawing.proofs.Numbers.{place_in_order}
 use Rattle.drawing.proofs.lookup.place_of.Goals as goal
 

@@ -1,6 +1,5 @@
-use Rattle.std.proofs.Common.{rules}
+use Rattle.drawing.proofs.Common.{rules, is_under_way}
 use Rattle.history_merge.specs.declared.operation.OpKind.TheVariants.{Enq}
-use Rattle.drawing.specs.Layout.{is_under_way}
 use Rattle.drawing.proofs.Loops.{passed_over}
 use Rattle.drawing.proofs.lookup.under_way.Goals as goal
 

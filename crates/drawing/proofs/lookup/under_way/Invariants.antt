@@ -1,6 +1,4 @@
-use Rattle.std.proofs.Common.{◌≡◌, drop}
-use Rattle.std.specs.List.{find}
-use Rattle.drawing.specs.Layout.{is_under_way}
+use Rattle.drawing.proofs.Common.{◌≡◌, drop, find, is_under_way}
 use Rattle.drawing.proofs.lookup.under_way.Given as goal
 
 abbrev pub invariant-loop-operation : goal.invariant-loop-operation

@@ -1,5 +1,4 @@
-use Rattle.std.proofs.Common.{◌≡◌, ◌≤◌, take}
-use Rattle.drawing.specs.Scene.{lanes_before}
+use Rattle.drawing.proofs.Common.{◌≡◌, ◌≤◌, take, lanes_before}
 use Rattle.drawing.proofs.scene.lanes_before.Given as goal
 
 abbrev pub invariant-loop-lower : goal.invariant-loop-lower

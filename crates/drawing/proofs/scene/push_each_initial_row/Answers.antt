@@ -1,4 +1,4 @@
-use Rattle.drawing.specs.Scene.{initial_row}
+use Rattle.drawing.proofs.Common.{initial_row}
 use Rattle.drawing.proofs.Loops.{flat_map_enumerated_step}
 use Rattle.drawing.proofs.scene.push_each_initial_row.Goals as goal
 

@@ -1,6 +1,4 @@
-use Rattle.std.proofs.Common.{◌≡◌, ◌++◌, take}
-use Rattle.std.specs.List.{flat_map, enumerate_from}
-use Rattle.drawing.specs.Scene.{initial_row}
+use Rattle.drawing.proofs.Common.{◌++◌, ◌≡◌, enumerate_from, flat_map, take, initial_row}
 use Rattle.drawing.proofs.scene.push_each_initial_row.Given as goal
 
 abbrev pub invariant-loop-place : goal.invariant-loop-place

@@ -1,4 +1,4 @@
-use Rattle.drawing.specs.Scene.{effect_if}
+use Rattle.drawing.proofs.Common.{effect_if}
 use Rattle.drawing.proofs.Loops.{point_more, flat_map_enumerated_step}
 use Rattle.drawing.proofs.scene.push_effect_rows.Goals as goal
 

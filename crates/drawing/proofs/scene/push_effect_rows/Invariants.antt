@@ -1,7 +1,4 @@
-use Rattle.std.proofs.Common.{◌≡◌, ◌++◌, take}
-use Rattle.std.specs.List.{flat_map, enumerate_from}
-use Rattle.drawing.specs.Layout.{greatest_call}
-use Rattle.drawing.specs.Scene.{effect_if}
+use Rattle.drawing.proofs.Common.{◌++◌, ◌≡◌, enumerate_from, flat_map, take, effect_if, greatest_call}
 use Rattle.drawing.proofs.scene.push_effect_rows.Given as goal
 
 abbrev pub invariant-loop-i : goal.invariant-loop-i

@@ -1,5 +1,4 @@
-use Rattle.std.proofs.Common.{◌≡◌, ◌≤◌, ◌++◌, drop}
-use Rattle.drawing.specs.Scene.{rows_after}
+use Rattle.drawing.proofs.Common.{◌++◌, ◌≡◌, ◌≤◌, drop, rows_after}
 use Rattle.drawing.proofs.scene.push_rows_of_events.Given as goal
 
 abbrev pub invariant-loop-event : goal.invariant-loop-event

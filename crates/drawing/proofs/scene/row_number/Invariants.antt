@@ -1,6 +1,4 @@
-use Rattle.std.proofs.Common.{◌≡◌, ◌≤◌, take}
-use Rattle.std.specs.Prelude.{count_by}
-use Rattle.drawing.specs.Scene.{stands_above}
+use Rattle.drawing.proofs.Common.{◌≡◌, ◌≤◌, count_by, take, stands_above}
 use Rattle.drawing.proofs.scene.row_number.Given as goal
 
 abbrev pub invariant-loop-other : goal.invariant-loop-other

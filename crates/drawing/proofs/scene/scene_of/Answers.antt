@@ -1,4 +1,4 @@
-use Rattle.drawing.specs.Scene.{scene_of}
+use Rattle.drawing.proofs.Common.{scene_of}
 use Rattle.drawing.proofs.scene.scene_of.Goals as goal
 
 pub returns-clause-scene : goal.returns-clause-scene

@@ -1,5 +1,4 @@
-use Rattle.std.proofs.Common.{◌≡◌, ◌≤◌, take}
-use Rattle.drawing.specs.Scene.{ticket_width}
+use Rattle.drawing.proofs.Common.{◌≡◌, ◌≤◌, take, ticket_width}
 use Rattle.drawing.proofs.scene.ticket_width.Given as goal
 
 abbrev pub invariant-loop-row : goal.invariant-loop-row

@@ -1,4 +1,4 @@
-use Rattle.drawing.specs.Terminal.{band_word}
+use Rattle.drawing.proofs.Common.{band_word}
 use Rattle.drawing.proofs.Loops.{words_enumerated_step}
 use Rattle.drawing.proofs.terminal.place_bands.Goals as goal
 

@@ -1,6 +1,4 @@
-use Rattle.std.proofs.Common.{◌≡◌, take}
-use Rattle.drawing.specs.Words.{with_words}
-use Rattle.drawing.specs.Terminal.{band_words}
+use Rattle.drawing.proofs.Common.{◌≡◌, take, band_words, with_words}
 use Rattle.drawing.proofs.terminal.place_bands.Given as goal
 
 abbrev pub invariant-loop-i : goal.invariant-loop-i

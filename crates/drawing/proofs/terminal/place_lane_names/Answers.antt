@@ -1,6 +1,4 @@
-use Rattle.std.specs.Prelude.{◌==◌}
-use Rattle.drawing.specs.Inner.Words.{scene_in}
-use Rattle.drawing.specs.Terminal.{lane_column, thread_digits}
+use Rattle.drawing.proofs.Common.{◌==◌, lane_column, scene_in, thread_digits}
 use Rattle.drawing.proofs.Loops.{words_step}
 use Rattle.drawing.proofs.terminal.place_lane_names.Goals as goal
 

@@ -1,7 +1,4 @@
-use Rattle.std.proofs.Common.{◌≡◌, take}
-use Rattle.drawing.specs.Inner.Words.{scene_in}
-use Rattle.drawing.specs.Words.{with_words}
-use Rattle.drawing.specs.Terminal.{lane_names}
+use Rattle.drawing.proofs.Common.{◌≡◌, take, lane_names, scene_in, with_words}
 use Rattle.drawing.proofs.terminal.place_lane_names.Given as goal
 
 abbrev pub invariant-loop-thread : goal.invariant-loop-thread

@@ -1,8 +1,4 @@
-use Rattle.std.proofs.Common.{◌≡◌, map, take}
-use Rattle.drawing.specs.Inner.Words.{scene_in}
-use Rattle.drawing.specs.Layout.{under_way}
-use Rattle.drawing.specs.Words.{with_words}
-use Rattle.drawing.specs.Terminal.{lane_sign, lane_column}
+use Rattle.drawing.proofs.Common.{◌≡◌, map, take, lane_column, lane_sign, scene_in, under_way, with_words}
 use Rattle.drawing.proofs.terminal.place_lanes.Given as goal
 
 abbrev pub invariant-loop-thread : goal.invariant-loop-thread

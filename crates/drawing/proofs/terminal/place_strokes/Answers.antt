@@ -1,5 +1,4 @@
-use Rattle.std.proofs.Common.{ℕ, ◌+◌, codes}
-use Rattle.drawing.specs.Terminal.{band_column}
+use Rattle.drawing.proofs.Common.{◌+◌, codes, ℕ, band_column}
 use Rattle.drawing.proofs.Loops.{words_range_step}
 use Rattle.drawing.proofs.terminal.place_strokes.Goals as goal
 

@@ -1,6 +1,4 @@
-use Rattle.std.proofs.Common.{◌≡◌}
-use Rattle.drawing.specs.Words.{with_words}
-use Rattle.drawing.specs.Terminal.{strokes}
+use Rattle.drawing.proofs.Common.{◌≡◌, strokes, with_words}
 use Rattle.drawing.proofs.terminal.place_strokes.Given as goal
 
 abbrev pub invariant-loop-i : goal.invariant-loop-i

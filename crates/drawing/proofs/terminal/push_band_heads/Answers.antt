@@ -1,4 +1,4 @@
-use Rattle.drawing.specs.Terminal.{head_line}
+use Rattle.drawing.proofs.Common.{head_line}
 use Rattle.drawing.proofs.Loops.{flat_map_enumerated_step}
 use Rattle.drawing.proofs.terminal.push_band_heads.Goals as goal
 

@@ -1,6 +1,4 @@
-use Rattle.std.proofs.Common.{◌≡◌, ◌++◌, take}
-use Rattle.std.specs.List.{flat_map, enumerate_from}
-use Rattle.drawing.specs.Terminal.{head_line}
+use Rattle.drawing.proofs.Common.{◌++◌, ◌≡◌, enumerate_from, flat_map, take, head_line}
 use Rattle.drawing.proofs.terminal.push_band_heads.Given as goal
 
 abbrev pub invariant-loop-i : goal.invariant-loop-i

@@ -1,5 +1,4 @@
-use Rattle.drawing.specs.Inner.Words.{scene_in}
-use Rattle.drawing.specs.Terminal.{numbered_row}
+use Rattle.drawing.proofs.Common.{numbered_row, scene_in}
 use Rattle.drawing.proofs.Loops.{flat_map_enumerated_step}
 use Rattle.drawing.proofs.terminal.push_each_row.Goals as goal
 

@@ -1,7 +1,4 @@
-use Rattle.std.proofs.Common.{◌≡◌, ◌++◌, take}
-use Rattle.std.specs.List.{flat_map, enumerate_from}
-use Rattle.drawing.specs.Inner.Words.{scene_in}
-use Rattle.drawing.specs.Terminal.{numbered_row}
+use Rattle.drawing.proofs.Common.{◌++◌, ◌≡◌, enumerate_from, flat_map, take, numbered_row, scene_in}
 use Rattle.drawing.proofs.terminal.push_each_row.Given as goal
 
 abbrev pub invariant-loop-i : goal.invariant-loop-i

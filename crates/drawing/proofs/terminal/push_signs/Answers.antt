@@ -1,4 +1,4 @@
-use Rattle.drawing.specs.Terminal.{sign_line}
+use Rattle.drawing.proofs.Common.{sign_line}
 use Rattle.drawing.proofs.Loops.{flat_map_step}
 use Rattle.drawing.proofs.terminal.push_signs.Goals as goal
 

@@ -1,6 +1,4 @@
-use Rattle.std.proofs.Common.{◌≡◌, ◌++◌, take}
-use Rattle.std.specs.List.{flat_map}
-use Rattle.drawing.specs.Terminal.{sign_line}
+use Rattle.drawing.proofs.Common.{◌++◌, ◌≡◌, flat_map, take, sign_line}
 use Rattle.drawing.proofs.terminal.push_signs.Given as goal
 
 abbrev pub invariant-loop-sign : goal.invariant-loop-sign

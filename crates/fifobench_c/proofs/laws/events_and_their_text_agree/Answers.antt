@@ -1,11 +1,8 @@
-use Rattle.std.proofs.Common.{List, inl, inr, refl}
-use Rattle.event_records.specs.declared.event.Event.{Event}
+use Rattle.fifobench_c.proofs.Common.{inl, inr, List, refl, Event, from_none, input_of}
 use Rattle.history_text.specs.Versions.{HistoryText}
 use Rattle.history_text.specs.declared.version.Version.TheVariants.{One}
 use Rattle.history_text.specs.Histories.{history_text}
 use Rattle.history_text.specs.Versions.{said_in}
-use Rattle.commands.specs.Evidence.{input_of}
-use Rattle.commands.specs.Judging.{from_none}
 use Rattle.commands.proofs.OneAnswer.{check_has_one}
 use Rattle.fifobench_c.proofs.laws.events_and_their_text_agree.Goals as goal
 

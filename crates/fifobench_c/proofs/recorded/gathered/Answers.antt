@@ -1,7 +1,7 @@
-use Rattle.std.proofs.Common.{◌≡◌, ◌<◌, [], ◌++◌, ◌∷◌, Some, arith, get_or, length, sym, take, ◌∙◌}
-use Rattle.std.proofs.lemmas.List.{get_or_default, length-take-le}
+use Rattle.fifobench_c.proofs.Common.{[], ◌++◌, ◌<◌, ◌∙◌, ◌∷◌, ◌≡◌, arith, get_or, length, length-take-le, Some, sym}
+use Rattle.fifobench_c.proofs.Common.{take, event_of}
+use Rattle.std.proofs.lemmas.List.{get_or_default}
 use Rattle.event_records.specs.declared.limits.TheConstants.{MAX_EVENTS}
-use Rattle.fifobench_c.specs.Recorded.{event_of}
 use Rattle.fifobench_c.proofs.Structs.{as_many, one_more}
 use Rattle.fifobench_c.proofs.recorded.gathered.Goals as goal
 

@@ -1,7 +1,5 @@
-use Rattle.std.proofs.Common.{List, [], take}
-use Rattle.event_records.specs.declared.event.Event.{Event}
+use Rattle.fifobench_c.proofs.Common.{[], List, take, AreEvents, Event}
 use Rattle.history_merge.specs.Gathering.{HasGathered}
-use Rattle.fifobench_c.specs.Recorded.{AreEvents}
 use Rattle.fifobench_c.proofs.recorded.gathered.Given as goal
 
 abbrev pub invariant-loop-place : goal.invariant-loop-place

@@ -1,5 +1,4 @@
-use Rattle.std.proofs.Common.{sym}
-use Rattle.text_lines.specs.Lines.{fields_of}
+use Rattle.history_text.proofs.Common.{sym, fields_of}
 use Rattle.history_text.proofs.EventLines.{event_said}
 use Rattle.history_text.proofs.event_line.event_in.Goals as goal
 

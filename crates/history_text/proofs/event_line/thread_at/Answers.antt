@@ -1,4 +1,4 @@
-use Rattle.std.proofs.Common.{arith}
+use Rattle.history_text.proofs.Common.{arith}
 use Rattle.history_text.proofs.Threads.{one_digit, two_digits}
 use Rattle.history_text.proofs.event_line.thread_at.Goals as goal
 

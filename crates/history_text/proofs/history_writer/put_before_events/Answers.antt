@@ -1,8 +1,5 @@
-use Rattle.std.proofs.Common.{◌≡◌, ◌++◌, ◌∷◌, [], List, ℕ, codes, length, append_assoc}
-use Rattle.std.specs.Prelude.{decimal}
-use Rattle.text_lines.specs.Lines.{line, spaced}
-use Rattle.text_lines.proofs.Putting.{puts_after}
-use Rattle.history_text.specs.Versions.{count_fields}
+use Rattle.history_text.proofs.Common.{[], ◌++◌, ◌∷◌, ◌≡◌, append_assoc, codes, decimal, length, List, ℕ, count_fields}
+use Rattle.history_text.proofs.Common.{line, puts_after, spaced}
 use Rattle.history_text.proofs.history_writer.put_before_events.Goals as goal
 
 -- a line of a header, a word, a number and a line feed are the header and the count line

@@ -1,7 +1,5 @@
-use Rattle.std.proofs.Common.{◌≡◌, ◌++◌, ◌∷◌, [], List, ℕ, codes, ◌∙◌, append_assoc}
-use Rattle.std.specs.Prelude.{decimal}
-use Rattle.text_lines.specs.Lines.{end_line}
-use Rattle.text_lines.proofs.Putting.{some_kept, stops_before}
+use Rattle.history_text.proofs.Common.{[], ◌++◌, ◌∙◌, ◌∷◌, ◌≡◌, append_assoc, codes, decimal, List, ℕ, end_line}
+use Rattle.history_text.proofs.Common.{some_kept, stops_before}
 use Rattle.history_text.proofs.history_writer.put_end.Goals as goal
 
 -- a word, a number and a line feed are the last line

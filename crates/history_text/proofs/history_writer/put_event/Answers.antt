@@ -1,6 +1,4 @@
-use Rattle.std.proofs.Common.{[]}
-use Rattle.text_lines.proofs.Putting.{some_kept, stops_before}
-use Rattle.history_text.specs.Histories.{event_line}
+use Rattle.history_text.proofs.Common.{[], event_line, some_kept, stops_before}
 use Rattle.history_text.proofs.history_writer.put_event.Goals as goal
 
 pub returns-in_err-make_room-clause-text : goal.returns-in_err-make_room-clause-text

@@ -1,11 +1,7 @@
-use Rattle.std.proofs.Common.{◌≡◌, List, ℕ, ◌∷◌, [], ◌++◌, ap, sym, subst, ◌∙◌, append_assoc, append-nil, rules}
-use Rattle.std.specs.List.{flat_map, All}
-use Rattle.std.proofs.lemmas.Grind.{flat_map-append}
+use Rattle.history_text.proofs.Common.{[], ◌++◌, ◌∙◌, ◌∷◌, ◌≡◌, All, ap, append-nil, append_assoc, flat_map}
+use Rattle.history_text.proofs.Common.{flat_map-append, List, rules, subst, sym, ℕ, Event, event_line, HasValueInRange}
+use Rattle.history_text.proofs.Common.{PutsText, some_then, stops_inside, TakesSome}
 use Rattle.std.proofs.lemmas.List.Elements.{All-push}
-use Rattle.event_records.specs.declared.event.Event.{Event}
-use Rattle.text_lines.specs.Writing.{PutsText, TakesSome}
-use Rattle.text_lines.proofs.Putting.{some_then, stops_inside}
-use Rattle.history_text.specs.Histories.{event_line, HasValueInRange}
 use Rattle.history_text.proofs.history_writer.put_events.Goals as goal
 
 -- the text of what was seen and of what is left is that of all

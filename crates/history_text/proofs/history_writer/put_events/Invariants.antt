@@ -1,8 +1,4 @@
-use Rattle.std.proofs.Common.{◌≡◌, List, ◌++◌}
-use Rattle.std.specs.List.{flat_map, All}
-use Rattle.event_records.specs.declared.event.Event.{Event}
-use Rattle.text_lines.specs.Writing.{TakesSome}
-use Rattle.history_text.specs.Histories.{event_line, HasValueInRange}
+use Rattle.history_text.proofs.Common.{◌++◌, ◌≡◌, All, flat_map, List, Event, event_line, HasValueInRange, TakesSome}
 use Rattle.history_text.proofs.history_writer.put_events.Given as goal
 
 abbrev pub invariant-loop-event : goal.invariant-loop-event

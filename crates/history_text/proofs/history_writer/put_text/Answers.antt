@@ -1,10 +1,6 @@
-use Rattle.std.proofs.Common.{[], length}
-use Rattle.std.specs.List.{flat_map}
-use Rattle.text_lines.specs.Lines.{end_line}
+use Rattle.history_text.proofs.Common.{[], flat_map, length, end_line, event_line, lines_before_events, lines_to_end}
+use Rattle.history_text.proofs.Common.{puts_then, stops_before, stops_inside}
 use Rattle.text_lines.proofs.Appending.{on_ok}
-use Rattle.text_lines.proofs.Putting.{puts_then, stops_before, stops_inside}
-use Rattle.history_text.specs.Histories.{event_line, lines_to_end}
-use Rattle.history_text.specs.Versions.{lines_before_events}
 use Rattle.history_text.proofs.Written.{written_has_text}
 use Rattle.history_text.proofs.history_writer.put_text.Goals as goal
 

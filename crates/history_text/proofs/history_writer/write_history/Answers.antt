@@ -1,4 +1,4 @@
-use Rattle.text_lines.proofs.Putting.{goes_out, refused_text}
+use Rattle.history_text.proofs.Common.{goes_out, refused_text}
 use Rattle.history_text.proofs.history_writer.write_history.Goals as goal
 
 pub returns-in_err-put_text-clause-text : goal.returns-in_err-put_text-clause-text

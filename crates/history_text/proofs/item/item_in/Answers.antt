@@ -1,5 +1,4 @@
-use Rattle.std.proofs.Common.{sym, ◌∙◌, arith}
-use Rattle.std.proofs.lemmas.List.{take_rest}
+use Rattle.history_text.proofs.Common.{◌∙◌, arith, sym, take_rest}
 use Rattle.history_text.proofs.ItemLines.{last_line_ok, last_line_faulty, item_line_ok}
 use Rattle.history_text.proofs.item.item_in.Goals as goal
 

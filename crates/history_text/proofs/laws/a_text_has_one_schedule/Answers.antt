@@ -1,4 +1,4 @@
-use Rattle.std.proofs.Common.{ap, [], ◌++◌, List, ℕ}
+use Rattle.history_text.proofs.Common.{[], ◌++◌, ap, List, ℕ}
 use Rattle.history_text.proofs.OneSchedule.{texts_agree}
 use Rattle.history_text.proofs.laws.a_text_has_one_schedule.Goals as goal
 

@@ -1,5 +1,4 @@
-use Rattle.std.proofs.Common.{[], ◌∙◌, sym, append-nil}
-use Rattle.history_text.specs.Schedules.{schedule_text}
+use Rattle.history_text.proofs.Common.{[], ◌∙◌, append-nil, sym, schedule_text}
 use Rattle.history_text.proofs.OneSchedule.{texts_agree}
 use Rattle.history_text.proofs.laws.no_schedule_text_begins_another.Goals as goal
 

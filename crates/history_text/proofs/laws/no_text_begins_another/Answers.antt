@@ -1,5 +1,4 @@
-use Rattle.std.proofs.Common.{[], ◌∙◌, sym, append-nil}
-use Rattle.history_text.specs.Versions.{text_of}
+use Rattle.history_text.proofs.Common.{[], ◌∙◌, append-nil, sym, text_of}
 use Rattle.history_text.proofs.OneHistory.{texts_agree}
 use Rattle.history_text.proofs.laws.no_text_begins_another.Goals as goal
 

@@ -1,6 +1,4 @@
-use Rattle.std.proofs.Common.{take}
-use Rattle.std.specs.List.{flat_map, All}
-use Rattle.text_lines.specs.Writing.{TakesSome}
+use Rattle.history_text.proofs.Common.{All, flat_map, take, TakesSome}
 use Rattle.history_text.proofs.lines.put_each.Given as goal
 
 abbrev pub invariant-loop-item : goal.invariant-loop-item

@@ -1,5 +1,4 @@
-use Rattle.std.proofs.Common.{[]}
-use Rattle.text_lines.proofs.Putting.{some_kept, stops_before}
+use Rattle.history_text.proofs.Common.{[], some_kept, stops_before}
 use Rattle.history_text.proofs.lines.put_one.Goals as goal
 
 pub returns-in_err-make_room-clause-text : goal.returns-in_err-make_room-clause-text

@@ -1,6 +1,4 @@
-use Rattle.std.proofs.Common.{sym, ◌∙◌}
-use Rattle.text_lines.specs.Lines.{fields_of}
-use Rattle.history_text.specs.Claims.{initial_forms, initial_of}
+use Rattle.history_text.proofs.Common.{◌∙◌, sym, fields_of, initial_forms, initial_of}
 use Rattle.history_text.proofs.FormLines.{read_as}
 use Rattle.history_text.proofs.operation_line.claim_line_in.Goals as goal
 

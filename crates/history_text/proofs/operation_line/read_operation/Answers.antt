@@ -1,7 +1,4 @@
-use Rattle.std.proofs.Common.{sym}
-use Rattle.std.proofs.lemmas.Result.{err_from_is_err_and}
-use Rattle.text_lines.specs.Lines.{fields_of}
-use Rattle.history_text.specs.Claims.{operation_forms, operation_of}
+use Rattle.history_text.proofs.Common.{err_from_is_err_and, sym, fields_of, operation_forms, operation_of}
 use Rattle.history_text.proofs.FormLines.{read_as, read_faulty}
 use Rattle.history_text.proofs.ClaimLines.{operation_said}
 use Rattle.history_text.proofs.operation_line.read_operation.Goals as goal

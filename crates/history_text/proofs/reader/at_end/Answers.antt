@@ -1,4 +1,4 @@
-use Rattle.std.proofs.Common.{rules}
+use Rattle.history_text.proofs.Common.{rules}
 use Rattle.history_text.proofs.reader.at_end.Goals.{in-Ok-None, in-Ok-Some, in-Err}
 use Rattle.history_text.proofs.reader.at_end.Goals as goal
 

@@ -1,4 +1,4 @@
-use Rattle.std.proofs.Common.{rules}
+use Rattle.history_text.proofs.Common.{rules}
 use Rattle.history_text.proofs.reader.is_at_end.Goals as goal
 
 pub returns-clause-left : goal.returns-clause-left

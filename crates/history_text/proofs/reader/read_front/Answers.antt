@@ -1,5 +1,4 @@
-use Rattle.std.proofs.Common.{◌≡◌, ℕ, ◌<◌, ◌≤◌, length, arith, subst, IfOk}
-use Rattle.std.proofs.lemmas.List.{length-take-le}
+use Rattle.history_text.proofs.Common.{◌<◌, ◌≡◌, ◌≤◌, arith, IfOk, length, length-take-le, subst, ℕ}
 use Rattle.history_text.specs.declared.reader.TheConstants.{BUFFER_LEN}
 use Rattle.history_text.proofs.Buffers.{read_takes_more}
 use Rattle.history_text.proofs.reader.read_front.Goals as goal

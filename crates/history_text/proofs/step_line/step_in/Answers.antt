@@ -1,5 +1,4 @@
-use Rattle.std.proofs.Common.{sym}
-use Rattle.text_lines.specs.Lines.{fields_of}
+use Rattle.history_text.proofs.Common.{sym, fields_of}
 use Rattle.history_text.proofs.StepLines.{step_said, thread_is_few}
 use Rattle.history_text.proofs.step_line.step_in.Goals as goal
 

@@ -1,4 +1,4 @@
-use Rattle.std.proofs.Common.{rules}
+use Rattle.history_text.proofs.Common.{rules}
 use Rattle.history_text.proofs.step_line.step_of.Goals as goal
 
 pub returns-in-Drain : goal.returns-in-Drain

@@ -1,5 +1,4 @@
-use Rattle.text_lines.specs.Lines.{fields_of}
-use Rattle.history_text.specs.Versions.{count_forms, number_of}
+use Rattle.history_text.proofs.Common.{count_forms, fields_of, number_of}
 use Rattle.history_text.proofs.FormLines.{read_as}
 use Rattle.history_text.proofs.value_line.count_in.Goals as goal
 

@@ -1,6 +1,4 @@
-use Rattle.std.proofs.Common.{sym, ◌∙◌}
-use Rattle.text_lines.specs.Lines.{fields_of}
-use Rattle.history_text.specs.Versions.{value_forms, number_of}
+use Rattle.history_text.proofs.Common.{◌∙◌, sym, fields_of, number_of, value_forms}
 use Rattle.history_text.proofs.FormLines.{read_as}
 use Rattle.history_text.proofs.value_line.value_in.Goals as goal
 

@@ -1,4 +1,4 @@
-use Rattle.std.proofs.Common.{append_assoc}
+use Rattle.history_text.proofs.Common.{append_assoc}
 use Rattle.history_text.proofs.verdict_writer.push_kind.Goals as goal
 
 pub returns-in-Deq-clause-words : goal.returns-in-Deq-clause-words

@@ -1,5 +1,4 @@
-use Rattle.std.proofs.Common.{◌++◌, [], ◌∷◌, ◌∙◌, append_assoc, codes}
-use Rattle.std.specs.Prelude.{decimal}
+use Rattle.history_text.proofs.Common.{[], ◌++◌, ◌∙◌, ◌∷◌, append_assoc, codes, decimal}
 use Rattle.history_text.proofs.verdict_writer.push_line.Goals as goal
 
 pub returns-in-Initial : goal.returns-in-Initial

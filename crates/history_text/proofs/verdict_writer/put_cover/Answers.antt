@@ -1,5 +1,4 @@
-use Rattle.history_text.specs.Inner.Verdicts.{line_text}
-use Rattle.history_text.specs.Verdicts.{places_of_step}
+use Rattle.history_text.proofs.Common.{line_text, places_of_step}
 use Rattle.history_text.proofs.Named.{step_is_put, step_stops}
 use Rattle.history_text.proofs.verdict_writer.put_cover.Goals as goal
 

@@ -1,8 +1,4 @@
-use Rattle.std.proofs.Common.{take}
-use Rattle.std.specs.List.{flat_map}
-use Rattle.history_text.specs.Verdicts.{places_of_step}
-use Rattle.history_text.specs.Inner.Verdicts.{lines_text}
-use Rattle.text_lines.specs.Writing.{TakesSome}
+use Rattle.history_text.proofs.Common.{flat_map, take, lines_text, places_of_step, TakesSome}
 use Rattle.history_text.proofs.verdict_writer.put_cover.Given as goal
 
 abbrev pub invariant-loop-step : goal.invariant-loop-step

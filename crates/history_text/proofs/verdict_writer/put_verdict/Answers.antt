@@ -1,8 +1,5 @@
-use Rattle.std.proofs.Common.{◌≡◌, ◌++◌, codes, refl}
-use Rattle.verdicts.specs.Claiming.{line_at}
-use Rattle.text_lines.specs.Lines.{line}
-use Rattle.text_lines.proofs.Putting.{puts_after}
-use Rattle.history_text.specs.Verdicts.{claim_line, kind_name, violation_kind, violation_places}
+use Rattle.history_text.proofs.Common.{◌++◌, ◌≡◌, codes, refl, claim_line, kind_name, line, line_at, puts_after}
+use Rattle.history_text.proofs.Common.{violation_kind, violation_places}
 use Rattle.history_text.proofs.Named.{order_is, text_at_places}
 use Rattle.history_text.proofs.verdict_writer.put_verdict.Goals as goal
 

@@ -1,5 +1,4 @@
-use Rattle.history_text.specs.Inner.Verdicts.{line_text}
-use Rattle.history_text.specs.Verdicts.{maybe_place}
+use Rattle.history_text.proofs.Common.{line_text, maybe_place}
 use Rattle.history_text.proofs.Named.{first_stops, others_then}
 use Rattle.history_text.proofs.verdict_writer.put_with_last.Goals as goal
 

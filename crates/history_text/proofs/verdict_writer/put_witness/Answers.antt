@@ -1,8 +1,5 @@
-use Rattle.std.proofs.Common.{[], ◌∷◌}
-use Rattle.history_text.specs.Inner.Verdicts.{line_text}
-use Rattle.std.specs.List.{flat_map}
+use Rattle.history_text.proofs.Common.{[], ◌∷◌, flat_map, line_text, places_of_step}
 use Rattle.verdicts.specs.declared.shown.LinePlace.TheVariants as place
-use Rattle.history_text.specs.Verdicts.{places_of_step}
 use Rattle.history_text.proofs.Named.{first_stops, others_then}
 use Rattle.history_text.proofs.verdict_writer.put_witness.Goals as goal
 

@@ -1,4 +1,4 @@
-use Rattle.text_lines.proofs.Putting.{goes_out, refused_text}
+use Rattle.history_text.proofs.Common.{goes_out, refused_text}
 use Rattle.history_text.proofs.verdict_writer.write_verdict.Goals as goal
 
 pub returns-in_err-put_verdict : goal.returns-in_err-put_verdict

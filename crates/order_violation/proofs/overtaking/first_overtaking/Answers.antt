@@ -1,6 +1,4 @@
-use Rattle.std.proofs.Common.{rules, arith, subst, sym, ◌∙◌}
-use Rattle.value_match.specs.Longest.{EntersBefore, FindsLongest}
-use Rattle.order_violation.specs.Overtaking.{FindsFirst}
+use Rattle.order_violation.proofs.Common.{◌∙◌, arith, rules, subst, sym, EntersBefore, FindsFirst, FindsLongest}
 use Rattle.order_violation.proofs.Scans.{first_stays, first_changes, overtaken_one, overtaken_none}
 use Rattle.order_violation.proofs.overtaking.first_overtaking.Goals as goal
 use Rattle.order_violation.proofs.overtaking.first_overtaking.Goals.{then-is_some, else-is_some}

@@ -1,5 +1,4 @@
-use Rattle.std.proofs.Common.{take}
-use Rattle.order_violation.specs.Overtaking.{FindsFirst}
+use Rattle.order_violation.proofs.Common.{take, FindsFirst}
 use Rattle.order_violation.proofs.overtaking.first_overtaking.Given as goal
 
 abbrev pub invariant-loop-place : goal.invariant-loop-place

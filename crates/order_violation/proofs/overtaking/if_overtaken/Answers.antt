@@ -1,8 +1,4 @@
-use Rattle.std.proofs.Common.{arith, subst, sym}
-use Rattle.value_match.specs.Longest.{FindsLongest}
-use Rattle.value_match.specs.Lives.{enqueue_call}
-use Rattle.value_match.specs.Longest.{EntersBefore}
-use Rattle.order_violation.specs.Overtaking.{Overtakes}
+use Rattle.order_violation.proofs.Common.{arith, subst, sym, enqueue_call, EntersBefore, FindsLongest, Overtakes}
 use Rattle.order_violation.proofs.Scans.{none_overtaken, longest_is_overtaken, longest_is_not_overtaken}
 use Rattle.order_violation.proofs.overtaking.if_overtaken.Goals as goal
 

@@ -1,5 +1,4 @@
-use Rattle.std.proofs.Common.{ℕ, List, ap, length, subst, sym}
-use Rattle.order_violation.specs.Overtaking.{FindsFirst}
+use Rattle.order_violation.proofs.Common.{ap, length, List, subst, sym, ℕ, FindsFirst}
 use Rattle.order_violation.specs.Pairs.{IsOrderAnswer}
 use Rattle.order_violation.proofs.Chosen.{no_overtaking, is_chosen_pair, dequeue_is_named}
 use Rattle.order_violation.proofs.search.chosen_pair.Goals as goal

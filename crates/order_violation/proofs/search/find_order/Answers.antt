@@ -1,5 +1,4 @@
-use Rattle.std.proofs.Common.{subst, sym}
-use Rattle.value_match.specs.Lives.{HoldsLives}
+use Rattle.order_violation.proofs.Common.{subst, sym, HoldsLives}
 use Rattle.order_violation.proofs.search.find_order.Goals as goal
 
 pub chosen_pair-requires-clause-lives : goal.chosen_pair-requires-clause-lives

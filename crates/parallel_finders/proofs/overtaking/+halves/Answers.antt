@@ -1,5 +1,4 @@
-use Rattle.std.proofs.Common.{subst}
-use Rattle.order_violation.specs.Overtaking.{FindsFirst}
+use Rattle.parallel_finders.proofs.Common.{subst, FindsFirst}
 use Rattle.parallel_finders.proofs.Halves.{whole}
 use Rattle.parallel_finders.proofs.overtaking.+halves.Goals as goal
 

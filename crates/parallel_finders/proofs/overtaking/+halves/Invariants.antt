@@ -1,4 +1,4 @@
-use Rattle.std.proofs.Common.{◌+◌, ◌*◌}
+use Rattle.parallel_finders.proofs.Common.{◌*◌, ◌+◌}
 use Rattle.parallel_finders.proofs.overtaking.+halves.Given as goal
 
 abbrev pub decreases-left : goal.decreases-left

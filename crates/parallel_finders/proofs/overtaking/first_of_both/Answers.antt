@@ -1,5 +1,4 @@
-use Rattle.std.proofs.Common.{subst}
-use Rattle.order_violation.specs.Overtaking.{FindsFirst}
+use Rattle.parallel_finders.proofs.Common.{subst, FindsFirst}
 use Rattle.order_violation.proofs.Scans.{sooner_is_first, low_is_first, high_is_first}
 use Rattle.parallel_finders.proofs.overtaking.first_of_both.Goals as goal
 

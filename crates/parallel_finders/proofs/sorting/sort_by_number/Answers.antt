@@ -1,5 +1,4 @@
-use Rattle.std.proofs.Common.{sym, subst, arith}
-use Rattle.std.specs.List.Sorted.{IsNonDecreasingBy}
+use Rattle.parallel_finders.proofs.Common.{arith, IsNonDecreasingBy, subst, sym}
 use Rattle.std.proofs.lemmas.List.Sorted.{IsNonDecreasingBy-from_sort}
 use Rattle.parallel_finders.proofs.InPlace.{in_place, moved_twice, rises_if_sorted}
 use Rattle.parallel_finders.proofs.sorting.sort_by_number.Goals as goal

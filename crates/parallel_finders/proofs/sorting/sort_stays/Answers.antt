@@ -1,5 +1,4 @@
-use Rattle.std.proofs.Common.{◌≡◌, rules}
-use Rattle.std.proofs.lemmas.Fn.{always_returns_same}
+use Rattle.parallel_finders.proofs.Common.{◌≡◌, always_returns_same, rules}
 use Rattle.parallel_finders.proofs.sorting.sort_stays.Goals as goal
 
 pub returns-clause-rises : goal.returns-clause-rises

@@ -1,5 +1,4 @@
-use Rattle.std.proofs.Common.{rules, subst, sym}
-use Rattle.std.specs.Prelude.{All}
+use Rattle.parallel_finders.proofs.Common.{All, rules, subst, sym}
 use Rattle.std.proofs.lemmas.List.Elements.{All-take, All-drop}
 use Rattle.empty_witness.specs.Answers.{IsEmptyAnswerAt}
 use Rattle.parallel_finders.proofs.windows.+halves.Goals as goal

@@ -1,4 +1,4 @@
-use Rattle.std.proofs.Common.{◌+◌, ◌*◌}
+use Rattle.parallel_finders.proofs.Common.{◌*◌, ◌+◌}
 use Rattle.parallel_finders.proofs.windows.+halves.Given as goal
 
 abbrev pub decreases-windows_at_par : goal.decreases-windows_at_par

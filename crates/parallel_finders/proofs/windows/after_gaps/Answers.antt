@@ -1,6 +1,5 @@
-use Rattle.std.proofs.Common.{◌++◌, subst, sym, ap, ◌∙◌}
+use Rattle.parallel_finders.proofs.Common.{◌++◌, ◌∙◌, ap, subst, sym, AreWindowsAt}
 use Rattle.empty_witness.specs.Answers.{AreGapsAt}
-use Rattle.empty_witness.specs.Covered.{AreWindowsAt}
 use Rattle.empty_witness.proofs.Answers.{gaps_together, high_is_first}
 use Rattle.parallel_finders.proofs.windows.after_gaps.Goals as goal
 

@@ -1,5 +1,4 @@
-use Rattle.std.proofs.Common.{subst}
-use Rattle.empty_witness.specs.Covered.{AreWindowsAt}
+use Rattle.parallel_finders.proofs.Common.{subst, AreWindowsAt}
 use Rattle.empty_witness.proofs.Answers.{low_is_first, sooner_is_first}
 use Rattle.parallel_finders.proofs.windows.sooner_covered.Goals as goal
 

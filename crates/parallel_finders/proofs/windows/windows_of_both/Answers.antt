@@ -1,5 +1,4 @@
-use Rattle.std.proofs.Common.{subst}
-use Rattle.empty_witness.specs.Covered.{AreWindowsAt}
+use Rattle.parallel_finders.proofs.Common.{subst, AreWindowsAt}
 use Rattle.parallel_finders.proofs.windows.windows_of_both.Goals as goal
 
 pub returns-in-Covered : goal.returns-in-Covered

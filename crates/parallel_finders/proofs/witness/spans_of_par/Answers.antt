@@ -1,5 +1,4 @@
-use Rattle.std.proofs.Common.{◌<◌, sym, subst}
-use Rattle.std.specs.Prelude.{All, IsPermutation}
+use Rattle.parallel_finders.proofs.Common.{◌<◌, All, IsPermutation, subst, sym}
 use Rattle.std.proofs.lemmas.Result.{IfOk-weaker}
 use Rattle.empty_witness.specs.Spans.{AreJoined, AreSpansOf}
 use Rattle.empty_witness.proofs.ValueSpans.{stays_hold_some, are_spans}

@@ -1,6 +1,5 @@
-use Rattle.std.proofs.Common.{subst}
+use Rattle.parallel_finders.proofs.Common.{subst, AreWindowsAt}
 use Rattle.value_match.specs.Lives.{HoldsPlaces, is_empty_answer}
-use Rattle.empty_witness.specs.Covered.{AreWindowsAt}
 use Rattle.empty_witness.proofs.Answers.{places_are_empty}
 use Rattle.parallel_finders.proofs.witness.witness_in_pieces.Goals as goal
 

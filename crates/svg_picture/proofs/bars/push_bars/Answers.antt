@@ -1,5 +1,4 @@
-use Rattle.svg_picture.specs.Layout.{page_on}
-use Rattle.svg_picture.specs.Picture.{bar}
+use Rattle.svg_picture.proofs.Common.{bar, page_on}
 use Rattle.svg_picture.proofs.Each.{each_step}
 use Rattle.svg_picture.proofs.bars.push_bars.Goals as goal
 

@@ -1,7 +1,4 @@
-use Rattle.std.proofs.Common.{◌≡◌, ◌++◌, take}
-use Rattle.svg_picture.specs.Markup.{each, text_of}
-use Rattle.svg_picture.specs.Layout.{page_on}
-use Rattle.svg_picture.specs.Picture.{bar}
+use Rattle.svg_picture.proofs.Common.{◌++◌, ◌≡◌, take, bar, each, page_on, text_of}
 use Rattle.svg_picture.proofs.bars.push_bars.Given as goal
 
 abbrev pub invariant-loop-operation : goal.invariant-loop-operation

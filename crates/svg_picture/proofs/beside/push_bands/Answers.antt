@@ -1,5 +1,4 @@
-use Rattle.svg_picture.specs.Layout.{page_on}
-use Rattle.svg_picture.specs.Picture.{numbered_band}
+use Rattle.svg_picture.proofs.Common.{numbered_band, page_on}
 use Rattle.svg_picture.proofs.Each.{each_enumerated_step}
 use Rattle.svg_picture.proofs.beside.push_bands.Goals as goal
 

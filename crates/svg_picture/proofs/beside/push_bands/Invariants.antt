@@ -1,8 +1,4 @@
-use Rattle.std.proofs.Common.{◌≡◌, ◌++◌, take}
-use Rattle.std.specs.List.{enumerate_from}
-use Rattle.svg_picture.specs.Markup.{each, text_of}
-use Rattle.svg_picture.specs.Layout.{page_on}
-use Rattle.svg_picture.specs.Picture.{numbered_band}
+use Rattle.svg_picture.proofs.Common.{◌++◌, ◌≡◌, enumerate_from, take, each, numbered_band, page_on, text_of}
 use Rattle.svg_picture.proofs.beside.push_bands.Given as goal
 
 abbrev pub invariant-loop-i : goal.invariant-loop-i

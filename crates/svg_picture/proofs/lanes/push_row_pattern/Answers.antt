@@ -1,5 +1,5 @@
+use Rattle.svg_picture.proofs.Common.{row_pattern}
 use Rattle.svg_picture.proofs.Chains.{around}
-use Rattle.svg_picture.specs.Picture.{row_pattern}
 use Rattle.svg_picture.proofs.lanes.push_row_pattern.Goals as goal
 
 pub returns : goal.returns

@@ -1,5 +1,4 @@
-use Rattle.svg_picture.specs.Layout.{page_on}
-use Rattle.svg_picture.specs.Picture.{lane_names}
+use Rattle.svg_picture.proofs.Common.{lane_names, page_on}
 use Rattle.svg_picture.proofs.Each.{each_step}
 use Rattle.svg_picture.proofs.lanes.push_threads.Goals as goal
 

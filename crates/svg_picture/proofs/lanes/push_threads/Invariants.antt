@@ -1,7 +1,4 @@
-use Rattle.std.proofs.Common.{◌≡◌, ◌++◌, take}
-use Rattle.svg_picture.specs.Markup.{each, text_of}
-use Rattle.svg_picture.specs.Layout.{page_on}
-use Rattle.svg_picture.specs.Picture.{lane_names}
+use Rattle.svg_picture.proofs.Common.{◌++◌, ◌≡◌, take, each, lane_names, page_on, text_of}
 use Rattle.svg_picture.proofs.lanes.push_threads.Given as goal
 
 abbrev pub invariant-loop-thread : goal.invariant-loop-thread

@@ -1,4 +1,4 @@
-use Rattle.std.proofs.Common.{rules}
+use Rattle.svg_picture.proofs.Common.{rules}
 use Rattle.svg_picture.proofs.Cuts.{is_one_line, cut_at_line_feed}
 use Rattle.svg_picture.proofs.lines.split_line.Goals as goal
 

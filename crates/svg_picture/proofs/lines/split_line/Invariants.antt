@@ -1,4 +1,4 @@
-use Rattle.std.proofs.Common.{◌≡◌, ℕ, ◌<◌, get_or}
+use Rattle.svg_picture.proofs.Common.{◌<◌, ◌≡◌, get_or, ℕ}
 use Rattle.svg_picture.proofs.lines.split_line.Given as goal
 
 abbrev pub invariant-loop-i : goal.invariant-loop-i

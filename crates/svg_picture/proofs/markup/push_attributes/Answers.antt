@@ -1,4 +1,4 @@
-use Rattle.svg_picture.specs.Markup.{attribute_text, named}
+use Rattle.svg_picture.proofs.Common.{attribute_text, named}
 use Rattle.svg_picture.proofs.Each.{text_step}
 use Rattle.svg_picture.proofs.markup.push_attributes.Goals as goal
 

@@ -1,6 +1,4 @@
-use Rattle.std.proofs.Common.{◌≡◌, ◌++◌, take, map}
-use Rattle.std.specs.List.{flat_map}
-use Rattle.svg_picture.specs.Markup.{attribute_text, named}
+use Rattle.svg_picture.proofs.Common.{◌++◌, ◌≡◌, flat_map, map, take, attribute_text, named}
 use Rattle.svg_picture.proofs.markup.push_attributes.Given as goal
 
 abbrev pub invariant-loop-attribute : goal.invariant-loop-attribute

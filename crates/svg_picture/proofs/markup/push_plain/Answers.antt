@@ -1,5 +1,4 @@
-use Rattle.std.proofs.Common.{ap, ◌∙◌, ◌++◌, ◌∷◌, []}
-use Rattle.svg_picture.specs.Markup.{plain_byte}
+use Rattle.svg_picture.proofs.Common.{[], ◌++◌, ◌∙◌, ◌∷◌, ap, plain_byte}
 use Rattle.svg_picture.proofs.Each.{mapped_step}
 use Rattle.svg_picture.proofs.markup.push_plain.Goals as goal
 

@@ -1,5 +1,4 @@
-use Rattle.std.proofs.Common.{◌≡◌, ◌++◌, take}
-use Rattle.svg_picture.specs.Markup.{plain_words}
+use Rattle.svg_picture.proofs.Common.{◌++◌, ◌≡◌, take, plain_words}
 use Rattle.svg_picture.proofs.markup.push_plain.Given as goal
 
 abbrev pub invariant-loop-b : goal.invariant-loop-b

@@ -1,5 +1,5 @@
+use Rattle.svg_picture.proofs.Common.{page_content}
 use Rattle.svg_picture.proofs.Chains.{around}
-use Rattle.svg_picture.specs.Picture.{page_content}
 use Rattle.svg_picture.proofs.picture.push_page.Goals as goal
 
 pub returns : goal.returns

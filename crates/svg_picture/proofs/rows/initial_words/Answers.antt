@@ -1,4 +1,4 @@
-use Rattle.svg_picture.specs.Picture.{initial_words}
+use Rattle.svg_picture.proofs.Common.{initial_words}
 use Rattle.svg_picture.proofs.Chains.{four_pieces}
 use Rattle.svg_picture.proofs.rows.initial_words.Goals as goal
 

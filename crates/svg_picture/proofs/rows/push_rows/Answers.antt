@@ -1,5 +1,4 @@
-use Rattle.svg_picture.specs.Layout.{page_on}
-use Rattle.svg_picture.specs.Picture.{row_parts}
+use Rattle.svg_picture.proofs.Common.{page_on, row_parts}
 use Rattle.svg_picture.proofs.Each.{each_step}
 use Rattle.svg_picture.proofs.rows.push_rows.Goals as goal
 

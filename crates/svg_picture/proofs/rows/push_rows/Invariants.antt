@@ -1,7 +1,4 @@
-use Rattle.std.proofs.Common.{◌≡◌, ◌++◌, take}
-use Rattle.svg_picture.specs.Markup.{each, text_of}
-use Rattle.svg_picture.specs.Layout.{page_on}
-use Rattle.svg_picture.specs.Picture.{row_parts}
+use Rattle.svg_picture.proofs.Common.{◌++◌, ◌≡◌, take, each, page_on, row_parts, text_of}
 use Rattle.svg_picture.proofs.rows.push_rows.Given as goal
 
 abbrev pub invariant-loop-row : goal.invariant-loop-row

@@ -1,4 +1,4 @@
-use Rattle.svg_picture.specs.Picture.{numbered_sign}
+use Rattle.svg_picture.proofs.Common.{numbered_sign}
 use Rattle.svg_picture.proofs.Each.{each_enumerated_step}
 use Rattle.svg_picture.proofs.signs.push_signs.Goals as goal
 

@@ -1,7 +1,4 @@
-use Rattle.std.proofs.Common.{◌≡◌, ◌++◌, take}
-use Rattle.std.specs.List.{enumerate_from}
-use Rattle.svg_picture.specs.Markup.{each, text_of}
-use Rattle.svg_picture.specs.Picture.{numbered_sign}
+use Rattle.svg_picture.proofs.Common.{◌++◌, ◌≡◌, enumerate_from, take, each, numbered_sign, text_of}
 use Rattle.svg_picture.proofs.signs.push_signs.Given as goal
 
 abbrev pub invariant-loop-i : goal.invariant-loop-i

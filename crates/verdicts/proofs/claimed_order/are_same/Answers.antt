@@ -1,8 +1,5 @@
-use Rattle.std.proofs.Common.{◌∙◌, ◌++◌, ◌∷◌, [], ap, arith, get_or, refl, sym, take}
-use Rattle.std.proofs.lemmas.Bool.{false≢true}
-use Rattle.std.proofs.lemmas.List.{take_all, take_more}
-use Rattle.history_merge.specs.declared.operation.Operation.{Operation}
-use Rattle.history_merge.specs.declared.operation.OpKind.TheVariants.{Enq}
+use Rattle.verdicts.proofs.Common.{[], ◌++◌, ◌∙◌, ◌∷◌, ap, arith, false≢true, get_or, refl, sym, take, take_all}
+use Rattle.verdicts.proofs.Common.{take_more, Enq, Operation}
 use Rattle.verdicts.proofs.claimed_order.are_same.Goals as goal
 
 -- where there is no operation

@@ -1,5 +1,4 @@
-use Rattle.std.proofs.Common.{rules, IsTrue, ◌↔◌, ◌≡◌}
-use Rattle.std.proofs.lemmas.List.Sorted.{IsNonDecreasingBy-from_sort_by_key, length_permutation}
+use Rattle.verdicts.proofs.Common.{◌↔◌, ◌≡◌, IsNonDecreasingBy-from_sort_by_key, IsTrue, length_permutation, rules}
 use Rattle.verdicts.proofs.ClaimedViolations.{through}
 use Rattle.verdicts.proofs.SameLists.{sorted_tells}
 use Rattle.verdicts.proofs.claimed_order.holds_each_once.Goals as goal

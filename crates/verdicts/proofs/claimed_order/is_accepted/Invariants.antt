@@ -1,5 +1,4 @@
-use Rattle.std.proofs.Common.{◌≡◌, drop, map}
-use Rattle.history_merge.specs.Queue.{accept_all}
+use Rattle.verdicts.proofs.Common.{◌≡◌, drop, map, accept_all}
 use Rattle.verdicts.proofs.claimed_order.is_accepted.Given as goal
 
 abbrev pub invariant-loop-line : goal.invariant-loop-line

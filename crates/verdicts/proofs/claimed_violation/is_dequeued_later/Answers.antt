@@ -1,4 +1,4 @@
-use Rattle.std.proofs.lemmas.Bool.{lt-ltb, ltb-true}
+use Rattle.verdicts.proofs.Common.{lt-ltb, ltb-true}
 use Rattle.verdicts.proofs.claimed_violation.is_dequeued_later.Goals as goal
 
 pub returns-in-None : goal.returns-in-None

@@ -1,6 +1,5 @@
-use Rattle.std.proofs.Common.{◌∙◌}
+use Rattle.verdicts.proofs.Common.{◌∙◌, all_of}
 use Rattle.verdicts.proofs.ClaimedViolations.{is_life}
-use Rattle.verdicts.specs.Inner.Claims.{all_of}
 use Rattle.verdicts.proofs.claimed_violation.is_life_from.Goals as goal
 use Rattle.verdicts.proofs.claimed_violation.is_life_from.Goals.{then-did, else-did}
 

@@ -1,6 +1,4 @@
-use Rattle.std.proofs.Common.{sym, ◌∙◌, arith}
-use Rattle.std.proofs.lemmas.Bool.{lt-ltb, ltb-true}
-use Rattle.std.proofs.lemmas.List.{take_rest}
+use Rattle.verdicts.proofs.Common.{◌∙◌, arith, lt-ltb, ltb-true, sym, take_rest}
 use Rattle.verdicts.proofs.ClaimedViolations.{through}
 use Rattle.verdicts.proofs.ClaimedLines.{more_lines_cover, no_life_covers, no_lines_cover, none_stands_for_cover, one_line_covers, two_lines_cover}
 use Rattle.verdicts.proofs.claimed_violation.shows_cover.Goals as goal

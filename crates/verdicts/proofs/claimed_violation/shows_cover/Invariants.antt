@@ -1,5 +1,4 @@
-use Rattle.std.proofs.Common.{◌↔◌, length}
-use Rattle.verdicts.specs.Inner.Claims.{StandForCover}
+use Rattle.verdicts.proofs.Common.{◌↔◌, length, StandForCover}
 use Rattle.verdicts.proofs.claimed_violation.shows_cover.Given as goal
 
 abbrev pub invariant-loop-rest : goal.invariant-loop-rest

@@ -1,4 +1,4 @@
-use Rattle.std.proofs.Common.{sym, ◌∙◌}
+use Rattle.verdicts.proofs.Common.{◌∙◌, sym}
 use Rattle.verdicts.proofs.ClaimedViolations.{through}
 use Rattle.verdicts.proofs.ClaimedLines.{two_lines_fresh_are}
 use Rattle.verdicts.proofs.claimed_violation.shows_enqueued_too_late.Goals as goal

@@ -1,7 +1,4 @@
-use Rattle.std.proofs.Common.{subst, ◌↔◌, arith}
-use Rattle.std.specs.Prelude.{IsTrue}
-use Rattle.verdicts.specs.declared.verifying.ViolationKind.TheVariants.{VFresh}
-use Rattle.verdicts.specs.Inner.Claims.{ShowsKind}
+use Rattle.verdicts.proofs.Common.{◌↔◌, arith, IsTrue, subst, ShowsKind, VFresh}
 use Rattle.verdicts.proofs.ClaimedLines.{fresh_has_lines, one_line, two_lines}
 use Rattle.verdicts.proofs.claimed_violation.shows_fresh.Goals as goal
 

@@ -1,5 +1,4 @@
-use Rattle.std.proofs.Common.{sym, ◌∙◌, [], ◌∷◌, arith}
-use Rattle.verdicts.specs.declared.verifying.ViolationKind.TheVariants.{VFresh}
+use Rattle.verdicts.proofs.Common.{[], ◌∙◌, ◌∷◌, arith, sym, VFresh}
 use Rattle.verdicts.proofs.ClaimedViolations.{through}
 use Rattle.verdicts.proofs.ClaimedLines.{one_line_fresh_is, shown_by_none}
 use Rattle.verdicts.proofs.claimed_violation.shows_never_enqueued.Goals as goal

@@ -1,5 +1,4 @@
-use Rattle.std.proofs.Common.{◌≡◌, ◌-◌, length, drop, length-drop, sym, ◌∙◌, arith}
-use Rattle.std.proofs.lemmas.List.{take_rest}
+use Rattle.verdicts.proofs.Common.{◌-◌, ◌∙◌, ◌≡◌, arith, drop, length, length-drop, sym, take_rest}
 use Rattle.verdicts.proofs.ClaimedViolations.{through}
 use Rattle.verdicts.proofs.ClaimedLines.{four_lines_order_are, order_has_lines, three_lines_order_are}
 use Rattle.verdicts.proofs.claimed_violation.shows_order.Goals as goal

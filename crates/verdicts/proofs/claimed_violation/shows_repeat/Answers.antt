@@ -1,4 +1,4 @@
-use Rattle.std.proofs.Common.{sym, ◌∙◌, arith}
+use Rattle.verdicts.proofs.Common.{◌∙◌, arith, sym}
 use Rattle.verdicts.proofs.ClaimedViolations.{through}
 use Rattle.verdicts.proofs.ClaimedLines.{repeat_has_lines, three_lines_repeat_are}
 use Rattle.verdicts.proofs.claimed_violation.shows_repeat.Goals as goal

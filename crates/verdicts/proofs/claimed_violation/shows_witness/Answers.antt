@@ -1,5 +1,4 @@
-use Rattle.std.proofs.Common.{sym, ◌∙◌}
-use Rattle.std.proofs.lemmas.List.{take_rest}
+use Rattle.verdicts.proofs.Common.{◌∙◌, sym, take_rest}
 use Rattle.verdicts.proofs.ClaimedLines.{witness_lines_are}
 use Rattle.verdicts.proofs.claimed_violation.shows_witness.Goals as goal
 

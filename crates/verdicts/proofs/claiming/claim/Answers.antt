@@ -1,4 +1,4 @@
-use Rattle.std.proofs.Common.{refl}
+use Rattle.verdicts.proofs.Common.{refl}
 use Rattle.verdicts.proofs.claiming.claim.Goals as goal
 
 pub returns-in_ok-lines-in-Yes : goal.returns-in_ok-lines-in-Yes

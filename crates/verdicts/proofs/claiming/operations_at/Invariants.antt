@@ -1,5 +1,4 @@
-use Rattle.std.proofs.Common.{◌≡◌, take}
-use Rattle.verdicts.specs.Claiming.{operations_at}
+use Rattle.verdicts.proofs.Common.{◌≡◌, take, operations_at}
 use Rattle.verdicts.proofs.claiming.operations_at.Given as goal
 
 abbrev pub invariant-loop-place : goal.invariant-loop-place

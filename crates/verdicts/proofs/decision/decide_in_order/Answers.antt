@@ -1,5 +1,4 @@
-use Rattle.std.proofs.Common.{subst}
-use Rattle.empty_witness.specs.Answers.{IsWitnessAnswer}
+use Rattle.verdicts.proofs.Common.{subst, IsWitnessAnswer}
 use Rattle.verdicts.proofs.Decided.{no_is_decided, witness_is_chosen, yes_is_decided}
 use Rattle.verdicts.proofs.decision.decide_in_order.Goals as goal
 

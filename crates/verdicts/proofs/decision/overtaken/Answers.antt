@@ -1,7 +1,5 @@
-use Rattle.std.proofs.Common.{subst, sym}
+use Rattle.verdicts.proofs.Common.{subst, sym, IsDecided, No}
 use Rattle.order_violation.specs.Pairs.{IsOrderAnswer}
-use Rattle.verdicts.specs.declared.verdict.Verdict.TheVariants.{No}
-use Rattle.verdicts.specs.Decided.{IsDecided}
 use Rattle.verdicts.proofs.Decided.{no_is_decided, pair_is_chosen}
 use Rattle.verdicts.proofs.decision.overtaken.Goals as goal
 

@@ -1,5 +1,4 @@
-use Rattle.std.proofs.Common.{Ok, Err, ap, rules}
-use Rattle.std.proofs.lemmas.List.Sorted.{answers_always}
+use Rattle.verdicts.proofs.Common.{answers_always, ap, Err, Ok, rules}
 use Rattle.verdicts.proofs.Lookups.{searched_by_call, stands_at_its_call}
 use Rattle.verdicts.proofs.lookup.has_operation.Goals as goal
 

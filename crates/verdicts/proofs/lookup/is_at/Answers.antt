@@ -1,6 +1,4 @@
-use Rattle.std.proofs.Common.{Some, ap, refl, sym, ◌∙◌}
-use Rattle.std.proofs.lemmas.Bool.Decides.{Decides-at}
-use Rattle.std.proofs.lemmas.Option.{get_or_from_slice_get, slice_get_read}
+use Rattle.verdicts.proofs.Common.{◌∙◌, ap, Decides-at, get_or_from_slice_get, refl, slice_get_read, Some, sym}
 use Rattle.verdicts.proofs.Lookups.{eq-Decides}
 use Rattle.verdicts.proofs.lookup.is_at.Goals as goal
 

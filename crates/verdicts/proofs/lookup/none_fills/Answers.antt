@@ -1,7 +1,4 @@
-use Rattle.std.proofs.Common.{◌≡◌, rules, tests}
-use Rattle.std.proofs.lemmas.Iterator.{cases_from_all, YieldsList-from_slice}
-use Rattle.history_merge.specs.declared.operation.OpKind.TheVariants.{Enq}
-use Rattle.value_match.proofs.FilledLines.{none_fills_from_cases}
+use Rattle.verdicts.proofs.Common.{◌≡◌, cases_from_all, rules, tests, YieldsList-from_slice, Enq, none_fills_from_cases}
 use Rattle.verdicts.proofs.lookup.none_fills.Goals as goal
 
 pub returns : goal.returns

@@ -1,9 +1,5 @@
-use Rattle.std.proofs.Common.{filter_map, nat_cmp, rules, tests}
-use Rattle.std.specs.BTreeSet.{IsFromIterResult}
-use Rattle.std.proofs.lemmas.Iterator.{YieldsList-from_slice}
-use Rattle.std.proofs.lemmas.Iterator.Adapters.{fact_from_collect}
-use Rattle.std.proofs.lemmas.Iterator.Consumers.{YieldsList-from_filter_map}
-use Rattle.verdicts.specs.Inner.Selecting.{call_in}
+use Rattle.verdicts.proofs.Common.{fact_from_collect, filter_map, IsFromIterResult, nat_cmp, rules, tests}
+use Rattle.verdicts.proofs.Common.{YieldsList-from_filter_map, YieldsList-from_slice, call_in}
 use Rattle.verdicts.proofs.CollectedSets.{holds_found}
 use Rattle.verdicts.proofs.selection.calls_of.Goals as goal
 

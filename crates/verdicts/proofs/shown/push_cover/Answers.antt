@@ -1,8 +1,6 @@
-use Rattle.std.proofs.Common.{◌≡◌, ℕ, ◌+◌, ◌<◌, List, [], ◌∷◌, ◌++◌, length, get_or, take, flat_map, sym, ◌∙◌, ap}
-use Rattle.std.proofs.lemmas.List.{append_assoc, flat_map_more, take_more}
-use Rattle.value_match.specs.declared.violation.CoverStep.{CoverStep}
-use Rattle.verdicts.specs.declared.shown.LinePlace.{LinePlace}
-use Rattle.verdicts.specs.Shown.{maybe_place, place_of_source, places_of_step}
+use Rattle.verdicts.proofs.Common.{[], ◌++◌, ◌+◌, ◌<◌, ◌∙◌, ◌∷◌, ◌≡◌, ap, append_assoc, flat_map, flat_map_more, get_or}
+use Rattle.verdicts.proofs.Common.{length, List, sym, take, take_more, ℕ, CoverStep, LinePlace, maybe_place}
+use Rattle.verdicts.proofs.Common.{place_of_source, places_of_step}
 use Rattle.verdicts.proofs.shown.push_cover.Goals as goal
 
 -- the places of one more step

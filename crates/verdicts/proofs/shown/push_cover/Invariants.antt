@@ -1,5 +1,4 @@
-use Rattle.std.proofs.Common.{◌≡◌, ◌++◌, take, flat_map}
-use Rattle.verdicts.specs.Shown.{places_of_step}
+use Rattle.verdicts.proofs.Common.{◌++◌, ◌≡◌, flat_map, take, places_of_step}
 use Rattle.verdicts.proofs.shown.push_cover.Given as goal
 
 abbrev pub invariant-loop-step : goal.invariant-loop-step

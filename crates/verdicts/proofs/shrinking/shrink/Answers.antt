@@ -1,10 +1,5 @@
-use Rattle.std.proofs.Common.{◌≡◌, arith, length, ◌∙◌, ap, subst, nat_cmp}
-use Rattle.std.specs.BTreeSet.{contains}
-use Rattle.std.proofs.lemmas.Result.{IfOk-weaker}
-use Rattle.history_merge.specs.Operations.{operations_of}
-use Rattle.history_merge.proofs.Filled.{filled_are_complete}
-use Rattle.verdicts.specs.Selection.{violation_lines}
-use Rattle.verdicts.specs.Inner.Selecting.{SelectsNamed}
+use Rattle.verdicts.proofs.Common.{◌∙◌, ◌≡◌, ap, arith, contains, IfOk-weaker, length, nat_cmp, subst}
+use Rattle.verdicts.proofs.Common.{filled_are_complete, operations_of, SelectsNamed, violation_lines}
 use Rattle.verdicts.proofs.ChosenSelections.{has_shortest_cover}
 use Rattle.verdicts.proofs.ShrunkEvents.{no_longer}
 use Rattle.verdicts.proofs.ShrunkHistories.{IsShrunk, IsWhole, are_complete, are_selected, are_shrunk, few_events}

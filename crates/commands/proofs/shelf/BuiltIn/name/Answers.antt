@@ -1,4 +1,4 @@
-use Rattle.std.proofs.Common.{refl}
+use Rattle.commands.proofs.Common.{refl}
 use Rattle.commands.proofs.shelf.BuiltIn.name.Goals as goal
 
 pub returns-in-Lifo : goal.returns-in-Lifo

@@ -1,4 +1,4 @@
-use Rattle.history_text.specs.Histories.{event_format}
+use Rattle.history_text.proofs.Common.{event_format}
 use Rattle.history_text.proofs.ItemLines.{read_ok}
 use Rattle.history_text.proofs.EventLines.{event_ok}
 use Rattle.history_text.proofs.event_line.EventItem.from_line.Goals as goal

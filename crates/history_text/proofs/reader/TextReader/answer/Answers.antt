@@ -1,5 +1,4 @@
-use Rattle.std.proofs.Common.{◌≡◌, ◌+◌, ap, ◌∙◌}
-use Rattle.history_text.specs.Reading.{Input}
+use Rattle.history_text.proofs.Common.{◌+◌, ◌∙◌, ◌≡◌, ap, Input}
 use Rattle.history_text.proofs.FirstLines.{other_line}
 use Rattle.history_text.proofs.reader.TextReader.answer.Goals as goal
 

@@ -1,5 +1,4 @@
-use Rattle.std.proofs.Common.{arith}
-use Rattle.std.proofs.lemmas.Result.{err_from_is_err_and}
+use Rattle.history_text.proofs.Common.{arith, err_from_is_err_and}
 use Rattle.history_text.proofs.Versions.{initial_is_first}
 use Rattle.history_text.proofs.reader.TextReader.before_events.Goals as goal
 

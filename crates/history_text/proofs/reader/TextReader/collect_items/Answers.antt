@@ -1,6 +1,5 @@
-use Rattle.std.proofs.Common.{◌≡◌, ◌+◌, ◌++◌, ◌∷◌, [], length, length-append, arith, subst, ◌∙◌, Option}
-use Rattle.std.proofs.lemmas.Result.{err_from_is_err_and}
-use Rattle.history_text.specs.Inner.Taking.{TakesItem}
+use Rattle.history_text.proofs.Common.{[], ◌++◌, ◌+◌, ◌∙◌, ◌∷◌, ◌≡◌, arith, err_from_is_err_and, length, length-append}
+use Rattle.history_text.proofs.Common.{Option, subst, TakesItem}
 use Rattle.history_text.proofs.FirstFaults.{item_is_first, HaveLines-push, no_room, on_ok, takes_item}
 use Rattle.history_text.proofs.reader.TextReader.collect_items.Goals as goal
 

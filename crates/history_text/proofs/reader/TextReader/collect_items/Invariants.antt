@@ -1,6 +1,4 @@
-use Rattle.std.proofs.Common.{◌≡◌, ◌+◌, ◌-◌, List, length}
-use Rattle.text_lines.specs.Input.{Takes}
-use Rattle.history_text.specs.Items.{HaveLines, lines_of}
+use Rattle.history_text.proofs.Common.{◌+◌, ◌-◌, ◌≡◌, length, List, HaveLines, lines_of, Takes}
 use Rattle.history_text.proofs.reader.TextReader.collect_items.Given as goal
 
 abbrev pub invariant-loop-item : goal.invariant-loop-item

@@ -1,6 +1,4 @@
-use Rattle.std.proofs.Common.{◌≤◌, ap, subst, Option, IfSome, length, rules}
-use Rattle.text_lines.specs.Input.{Ahead}
-use Rattle.history_text.specs.Reading.{Input, HasMore}
+use Rattle.history_text.proofs.Common.{◌≤◌, ap, IfSome, length, Option, rules, subst, Ahead, HasMore, Input}
 use Rattle.history_text.proofs.Buffers.{has_more_in_buffer}
 use Rattle.history_text.proofs.reader.TextReader.has_byte.Goals as goal
 

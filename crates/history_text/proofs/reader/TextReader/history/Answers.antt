@@ -1,6 +1,4 @@
-use Rattle.std.proofs.Common.{arith, refl}
-use Rattle.std.proofs.lemmas.Result.{err_from_is_err_and}
-use Rattle.text_lines.proofs.Consuming.{Takes-append}
+use Rattle.history_text.proofs.Common.{arith, err_from_is_err_and, refl, Takes-append}
 use Rattle.history_text.proofs.Versions.{event_is_first}
 use Rattle.history_text.proofs.reader.TextReader.history.Goals as goal
 

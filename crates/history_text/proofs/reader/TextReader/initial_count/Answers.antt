@@ -1,8 +1,4 @@
-use Rattle.std.proofs.Common.{◌≤◌, ap, ◌∙◌}
-use Rattle.event_records.specs.declared.limits.TheConstants.{MAX_INITIAL}
-use Rattle.text_lines.specs.Lines.{fields_of}
-use Rattle.history_text.specs.Reading.{Input}
-use Rattle.history_text.specs.Versions.{count_in, count_fields}
+use Rattle.history_text.proofs.Common.{◌∙◌, ◌≤◌, ap, count_fields, count_in, fields_of, Input, MAX_INITIAL}
 use Rattle.history_text.proofs.FieldLines.{said_taken, next_line_faulty}
 use Rattle.history_text.proofs.ValueLines.{count_ok}
 use Rattle.history_text.proofs.reader.TextReader.initial_count.Goals as goal

@@ -1,4 +1,4 @@
-use Rattle.std.proofs.Common.{◌+◌, arith}
+use Rattle.history_text.proofs.Common.{◌+◌, arith}
 use Rattle.history_text.proofs.FirstFaults.{faults_by}
 use Rattle.history_text.proofs.Versions.{value_is_first, initial_taken}
 use Rattle.history_text.proofs.reader.TextReader.initial_values.Goals as goal

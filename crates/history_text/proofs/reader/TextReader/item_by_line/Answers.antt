@@ -1,7 +1,4 @@
-use Rattle.std.proofs.Common.{◌≡◌, ◌+◌, ap, ◌∙◌, sym, refl, Err}
-use Rattle.text_lines.specs.declared.fault.TextFault.TheVariants.{Read, Cut, Line}
-use Rattle.history_text.specs.Reading.{Input}
-use Rattle.history_text.specs.Items.{item_at_front}
+use Rattle.history_text.proofs.Common.{◌+◌, ◌∙◌, ◌≡◌, ap, Err, refl, sym, Cut, Input, item_at_front, Line, Read}
 use Rattle.history_text.proofs.Faults.{at_failure, at_cut, at_nothing, at_long, items_end, items_taken, items_faulty, failure_is_fault, nothing_is_cut}
 use Rattle.history_text.proofs.reader.TextReader.item_by_line.Goals as goal
 

@@ -1,7 +1,5 @@
-use Rattle.std.proofs.Common.{◌≤◌, ◌+◌, ◌-◌, ap, subst, Option, length, rules}
-use Rattle.text_lines.specs.Input.{Ahead, Takes}
-use Rattle.history_text.specs.Reading.{Input, with_front}
-use Rattle.history_text.specs.Items.{line_of}
+use Rattle.history_text.proofs.Common.{◌+◌, ◌-◌, ◌≤◌, ap, length, Option, rules, subst, Ahead, Input, line_of, Takes}
+use Rattle.history_text.proofs.Common.{with_front}
 use Rattle.history_text.proofs.Buffers.{takes_from_buffer, part}
 use Rattle.history_text.proofs.reader.TextReader.item_in_buffer.Goals as goal
 

@@ -1,5 +1,4 @@
-use Rattle.std.proofs.Common.{arith}
-use Rattle.std.proofs.lemmas.Result.{err_from_is_err_and}
+use Rattle.history_text.proofs.Common.{arith, err_from_is_err_and}
 use Rattle.history_text.proofs.FirstLines.{operation_is_first, claim_line_is_first}
 use Rattle.history_text.proofs.reader.TextReader.lines_of_claim.Goals as goal
 

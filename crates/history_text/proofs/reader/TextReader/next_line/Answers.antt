@@ -1,6 +1,4 @@
-use Rattle.std.proofs.Common.{sym, ◌∙◌, rules}
-use Rattle.text_lines.proofs.Consuming.{Takes-append}
-use Rattle.history_text.specs.Inner.Taking.{TakesLine}
+use Rattle.history_text.proofs.Common.{◌∙◌, rules, sym, Takes-append, TakesLine}
 use Rattle.history_text.specs.declared.reader.FrontLine.TheVariants.{TooLong}
 use Rattle.history_text.proofs.reader.TextReader.next_line.Goals as goal
 

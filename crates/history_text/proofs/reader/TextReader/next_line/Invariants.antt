@@ -1,6 +1,4 @@
-use Rattle.std.proofs.Common.{◌≡◌, ◌+◌, ◌-◌, length}
-use Rattle.text_lines.specs.Input.{Takes}
-use Rattle.text_lines.specs.Inner.Lines.{IsPartOfLine}
+use Rattle.history_text.proofs.Common.{◌+◌, ◌-◌, ◌≡◌, length, IsPartOfLine, Takes}
 use Rattle.history_text.proofs.reader.TextReader.next_line.Given as goal
 
 abbrev pub invariant-loop-line : goal.invariant-loop-line

@@ -1,5 +1,4 @@
-use Rattle.std.proofs.Common.{ap, ◌∙◌}
-use Rattle.history_text.specs.Reading.{Input}
+use Rattle.history_text.proofs.Common.{◌∙◌, ap, Input}
 use Rattle.history_text.proofs.FieldLines.{required_taken, next_line_faulty}
 use Rattle.history_text.proofs.reader.TextReader.required_by_line.Goals as goal
 

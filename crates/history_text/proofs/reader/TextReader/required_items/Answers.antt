@@ -1,4 +1,4 @@
-use Rattle.std.proofs.Common.{arith}
+use Rattle.history_text.proofs.Common.{arith}
 use Rattle.history_text.proofs.Versions.{no_room_among}
 use Rattle.history_text.proofs.reader.TextReader.required_items.Goals as goal
 

@@ -1,6 +1,4 @@
-use Rattle.std.proofs.Common.{◌≡◌, ◌+◌, ◌-◌, ◌≤◌, length}
-use Rattle.text_lines.specs.Input.{Takes}
-use Rattle.history_text.specs.Items.{HaveLines, lines_of}
+use Rattle.history_text.proofs.Common.{◌+◌, ◌-◌, ◌≡◌, ◌≤◌, length, HaveLines, lines_of, Takes}
 use Rattle.history_text.proofs.reader.TextReader.required_items.Given as goal
 
 abbrev pub invariant-loop-self : goal.invariant-loop-self

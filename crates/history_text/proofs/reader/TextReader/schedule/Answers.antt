@@ -1,5 +1,4 @@
-use Rattle.std.proofs.Common.{arith}
-use Rattle.std.proofs.lemmas.Result.{err_from_is_err_and}
+use Rattle.history_text.proofs.Common.{arith, err_from_is_err_and}
 use Rattle.history_text.proofs.Settings.{setting_is_first, step_is_first}
 use Rattle.history_text.proofs.reader.TextReader.schedule.Goals as goal
 

@@ -1,6 +1,4 @@
-use Rattle.std.proofs.Common.{ap, ◌∙◌}
-use Rattle.history_text.specs.Reading.{Input}
-use Rattle.history_text.specs.Schedules.{setting_in, setting_fields, IsSetting}
+use Rattle.history_text.proofs.Common.{◌∙◌, ap, Input, IsSetting, setting_fields, setting_in}
 use Rattle.history_text.proofs.FieldLines.{said_taken, next_line_faulty}
 use Rattle.history_text.proofs.Settings.{setting_said}
 use Rattle.history_text.proofs.reader.TextReader.setting.Goals as goal

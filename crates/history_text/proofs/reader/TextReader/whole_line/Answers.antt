@@ -1,6 +1,4 @@
-use Rattle.std.proofs.Common.{refl}
-use Rattle.text_lines.specs.declared.fault.TextFault.TheVariants.{Read, Cut}
-use Rattle.history_text.specs.Inner.Taking.{NoLineFault}
+use Rattle.history_text.proofs.Common.{refl, Cut, NoLineFault, Read}
 use Rattle.history_text.proofs.Faults.{at_failure, at_cut, at_nothing, at_long}
 use Rattle.history_text.proofs.reader.TextReader.whole_line.Goals as goal
 

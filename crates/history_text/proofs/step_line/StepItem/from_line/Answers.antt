@@ -1,4 +1,4 @@
-use Rattle.history_text.specs.Schedules.{step_format}
+use Rattle.history_text.proofs.Common.{step_format}
 use Rattle.history_text.proofs.ItemLines.{read_ok}
 use Rattle.history_text.proofs.StepLines.{step_ok}
 use Rattle.history_text.proofs.step_line.StepItem.from_line.Goals as goal

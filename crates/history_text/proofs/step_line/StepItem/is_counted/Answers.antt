@@ -1,4 +1,4 @@
-use Rattle.std.proofs.Common.{refl}
+use Rattle.history_text.proofs.Common.{refl}
 use Rattle.history_text.proofs.step_line.StepItem.is_counted.Goals as goal
 
 pub returns : goal.returns

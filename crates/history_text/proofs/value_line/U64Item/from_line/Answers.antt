@@ -1,4 +1,4 @@
-use Rattle.history_text.specs.Versions.{value_format}
+use Rattle.history_text.proofs.Common.{value_format}
 use Rattle.history_text.proofs.ItemLines.{read_ok}
 use Rattle.history_text.proofs.ValueLines.{value_ok}
 use Rattle.history_text.proofs.value_line.U64Item.from_line.Goals as goal

@@ -1,6 +1,4 @@
-use Rattle.std.proofs.Common.{◌∙◌, sym, ap, Some}
-use Rattle.std.specs.Prelude.{option_map}
-use Rattle.value_match.specs.Filling.{filling_at}
+use Rattle.verdicts.proofs.Common.{◌∙◌, ap, option_map, Some, sym, filling_at}
 use Rattle.verdicts.proofs.lookup.Filled.filling_of.Goals as goal
 
 pub returns-in_err-place : goal.returns-in_err-place

@@ -1,8 +1,5 @@
-use Rattle.std.proofs.Common.{◌/◌, arith}
-use Rattle.std.proofs.lemmas.Bool.Decides.{Decides-at}
-use Rattle.std.proofs.lemmas.Option.{slice_get-get_or}
+use Rattle.verdicts.proofs.Common.{◌/◌, arith, Decides-at, slice_get-get_or, called_early}
 use Rattle.verdicts.proofs.ClaimedViolations.{through}
-use Rattle.value_match.proofs.FilledLines.{called_early}
 use Rattle.verdicts.proofs.Lookups.{eq-Decides}
 use Rattle.verdicts.proofs.lookup.Filled.fills.Goals as goal
 

@@ -1,6 +1,5 @@
-use Rattle.std.proofs.Common.{arith, refl}
+use Rattle.verdicts.proofs.Common.{arith, refl, called_late, returned_early, same_operation}
 use Rattle.verdicts.proofs.ClaimedViolations.{through}
-use Rattle.value_match.proofs.FilledLines.{called_late, returned_early, same_operation}
 use Rattle.verdicts.proofs.lookup.Filled.has_operation.Goals as goal
 
 pub returns-then-operation-start-2 : goal.returns-then-operation-start-2

@@ -1,4 +1,4 @@
-use Rattle.value_match.proofs.FilledLines.{none_in_filled}
+use Rattle.verdicts.proofs.Common.{none_in_filled}
 use Rattle.verdicts.proofs.lookup.Filled.none_did.Goals as goal
 
 pub returns-then-none_fills : goal.returns-then-none_fills

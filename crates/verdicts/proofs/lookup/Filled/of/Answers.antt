@@ -1,4 +1,4 @@
-use Rattle.history_merge.proofs.Distinct.{calls_rise}
+use Rattle.verdicts.proofs.Common.{calls_rise}
 use Rattle.verdicts.proofs.lookup.Filled.of.Goals as goal
 
 pub returns-clause-looked_up : goal.returns-clause-looked_up

@@ -1,7 +1,5 @@
-use Rattle.std.proofs.Common.{nat_cmp, rules, tests}
-use Rattle.std.specs.BTreeSet.{contains}
-use Rattle.std.proofs.lemmas.Iterator.{YieldsList-from_slice, items_from_collect}
-use Rattle.std.proofs.lemmas.Iterator.Consumers.{YieldsList-from_copied, YieldsList-from_filter}
+use Rattle.verdicts.proofs.Common.{contains, items_from_collect, nat_cmp, rules, tests, YieldsList-from_copied}
+use Rattle.verdicts.proofs.Common.{YieldsList-from_filter, YieldsList-from_slice}
 use Rattle.verdicts.proofs.selection.Selection.initial.Goals as goal
 
 pub returns : goal.returns

@@ -1,6 +1,4 @@
-use Rattle.std.proofs.Common.{sym, ◌∙◌, ap, nat_cmp}
-use Rattle.std.specs.BTreeSet.{contains}
-use Rattle.verdicts.specs.Selection.{selects}
+use Rattle.verdicts.proofs.Common.{◌∙◌, ap, contains, nat_cmp, sym, selects}
 use Rattle.verdicts.proofs.HeldTickets.{held_more, held_same}
 use Rattle.verdicts.proofs.selection.Selection.tickets.Goals as goal
 use Rattle.verdicts.proofs.selection.Selection.tickets.Goals.{then-selects+in_ok-insert+in_ok-insert-2, else-selects}

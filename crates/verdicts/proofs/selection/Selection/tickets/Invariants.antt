@@ -1,7 +1,4 @@
-use Rattle.std.proofs.Common.{◌≡◌, ℕ, take, filter, nat_cmp}
-use Rattle.std.specs.BTreeSet.{contains}
-use Rattle.verdicts.specs.Selection.{selects}
-use Rattle.verdicts.specs.Inner.Selecting.{holds_ticket}
+use Rattle.verdicts.proofs.Common.{◌≡◌, contains, filter, nat_cmp, take, ℕ, holds_ticket, selects}
 use Rattle.verdicts.proofs.selection.Selection.tickets.Given as goal
 
 abbrev pub invariant-loop-operation : goal.invariant-loop-operation

@@ -1,0 +1,8 @@
+-- The names that most proofs of this crate cite, passed on from one place. Declares nothing.
+pub use Rattle.std.proofs.Common.{[], ◌*◌, ◌++◌, ◌+◌, ◌<◌, ◌∙◌, ◌∷◌, ◌≡◌, ◌≤◌, All, ap, append-nil, arith, Bool, Bor}
+pub use Rattle.std.proofs.Common.{drop, false, get_or, is_le, IsPermutation, length, List, nat_cmp, rules, Some, subst}
+pub use Rattle.std.proofs.Common.{suc, sym, take, take-append-drop, take_all, true, zero, ℕ}
+pub use Rattle.std.proofs.lemmas.Fn.{always_returns_same}
+pub use Rattle.std.specs.List.Sorted.{IsNonDecreasingBy}
+pub use Rattle.order_violation.specs.Overtaking.{FindsFirst}
+pub use Rattle.empty_witness.specs.Covered.{AreWindowsAt}
