@@ -20,7 +20,7 @@ use Rattle.stress_run.specs.Preloaded.{AreTaken, IsFirstRefused}
 use Rattle.stress_run.specs.declared.faults.RunFault.{RunFault}
 use Rattle.stress_run.specs.declared.faults.RunFault.TheVariants.{Preload}
 use Rattle.stress_run.specs.Recorded.{RecordedView}
-use Rattle.value_match.proofs.FilledOperations.{no_elements}
+use Rattle.history_merge.proofs.TimelineOperations.{no_elements}
 use Rattle.commands.specs.declared.stress.TheConstants.{TRIES}
 use Rattle.commands.specs.Stressing.{RunsOrFails, first_values, run_history, run_version}
 use Rattle.commands.specs.Inner.Stressing.{IsShownRun}

@@ -17,7 +17,7 @@ pub use Rattle.std.proofs.lemmas.Option.{cond_some, slice_get-get_or, slice_get_
 pub use Rattle.std.specs.List.{enumerate_from, list_any, position_or_len, range_with_len}
 pub use Rattle.event_records.specs.declared.event.Event.{Event}
 pub use Rattle.history_merge.specs.Complete.{AreComplete, IsCompleteHistory}
-pub use Rattle.history_merge.specs.Initial.{filled, HistoryView, later_by}
+pub use Rattle.history_merge.specs.Initial.{timeline, HistoryView, later_by}
 pub use Rattle.history_merge.specs.Operations.{Did, NoneDid, operations_of, Precedes}
 pub use Rattle.history_merge.specs.declared.operation.Operation.{Operation}
 pub use Rattle.history_merge.proofs.Completeness.{operations_are_complete}

@@ -2,7 +2,7 @@
 use Rattle.drawing.proofs.Common.{[], ◌&&◌, ◌*◌, ◌+◌, ◌∙◌, ◌∷◌, ◌≡◌, ap, arith, cond_some, Contains}
 use Rattle.drawing.proofs.Common.{Contains-append_cases, flat_map, inl, inr, length, List, map, MatchOption, nat_le}
 use Rattle.drawing.proofs.Common.{None, Option, option_to_list, refl, Some, subst, sym, ℕ, ClaimLine, contains_at}
-use Rattle.drawing.proofs.Common.{contains_cons, Did, filled, later_by, NoneDid, not_in_none, one_deeper, Op, Operation}
+use Rattle.drawing.proofs.Common.{contains_cons, Did, timeline, later_by, NoneDid, not_in_none, one_deeper, Op, Operation}
 use Rattle.drawing.proofs.Common.{Precedes}
 use Rattle.event_records.specs.declared.limits.TheConstants.{MAX_TICKET}
 use Rattle.history_merge.specs.declared.operation.OpKind.TheVariants.{Deq}
@@ -10,8 +10,8 @@ use Rattle.value_match.specs.declared.life.Life.{Life}
 use Rattle.value_match.specs.Lives.{IsLife, dequeue_of, enqueue_of, operations_of_life}
 use Rattle.value_match.specs.Violations.{FullViolation, fresh, repeat, order, witness, CoversFrom, IsViolationOf, lines_of}
 use Rattle.verdicts.specs.declared.verifying.ClaimLine.TheVariants.{Initial}
-use Rattle.verdicts.specs.Claims.{in_filled, stands_for}
-use Rattle.value_match.proofs.FilledLines.{called_late}
+use Rattle.verdicts.specs.Claims.{on_timeline, stands_for}
+use Rattle.value_match.proofs.TimelineLines.{called_late}
 use Rattle.drawing.specs.Laws.{LinesAreOfHistory}
 use Rattle.drawing.proofs.Numbers.{value_among}
 
@@ -96,7 +96,7 @@ stands initial (m ∷ lines) (x ∷ shown) l same among = elim (contains_cons m 
 ]
 
 -- an operation that stands for another is that, earlier
-stands_later : (n : ℕ) (o x : Operation) → in_filled n o ≡ Some x → later_by (2 * n) o ≡ x
+stands_later : (n : ℕ) (o x : Operation) → on_timeline n o ≡ Some x → later_by (2 * n) o ≡ x
 stands_later n o x is = (cond_some (nat_le o.call MAX_TICKET && nat_le o.ret MAX_TICKET) (later_by (2 * n) o) x is).1
 
 -- the lines of evidence are of the history
@@ -108,7 +108,7 @@ lines_are_of_history initial operations kind lines claim = (listed, held)
         let s = stands initial lines claim.0 (Op o) claim.1 among in
         let later = stands_later (length initial) o s.0 s.2 in
         let shown = subst (λ os. Contains os s.0) (sym claim.2.2) s.1 in
-        let there = full_lines (filled initial operations) s.0 claim.2.0 claim.2.3 shown in
+        let there = full_lines (timeline initial operations) s.0 claim.2.0 claim.2.3 shown in
         let called : o.call + 2 * length initial ≡ s.0.call = ap (λ (y : Operation). y.call) later in
         (called_late initial operations s.0 o (omega arith) later).1 there
 

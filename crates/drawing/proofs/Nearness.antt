@@ -1,9 +1,9 @@
 -- Which operations are drawn: those that overlap one of a `NO`, and with no distance no others.
-use Rattle.drawing.proofs.Common.{[], ◌&&◌, ◌++◌, ◌+◌, ◌-◌, ◌<◌, ◌||◌, ◌∙◌, ◌∷◌, ◌≡◌, ◌≤◌, ap, arith, Bool, cases_lt}
-use Rattle.drawing.proofs.Common.{cond, Contains, Contains-append_left, Contains-append_right, count_by, false, filter}
-use Rattle.drawing.proofs.Common.{filter_more, flat_map, get_or, inl, inr, IsPartitionedBy-ltb, length, List, list_any}
+use Rattle.drawing.proofs.Common.{[], ◌&&◌, ◌-◌, ◌<◌, ◌||◌, ◌∙◌, ◌∷◌, ◌≡◌, ◌≤◌, ap, arith, Bool, cases_lt}
+use Rattle.drawing.proofs.Common.{cond, Contains, Contains-append_left, Contains-append_right, count_by, false}
+use Rattle.drawing.proofs.Common.{flat_map, get_or, inl, inr, IsPartitionedBy-ltb, length, List, list_any}
 use Rattle.drawing.proofs.Common.{map, nat_le, nat_lt, nat_tests, None, Option, refl, slice_get-get_or, Some, subst}
-use Rattle.drawing.proofs.Common.{suc, sum_by-cons, sym, take, true, zero, ℕ, call_before_return, Claimed, ClaimLine}
+use Rattle.drawing.proofs.Common.{suc, sum_by-cons, sym, true, zero, ℕ, call_before_return, Claimed, ClaimLine}
 use Rattle.drawing.proofs.Common.{contains_at, contains_cons, drawn_operations, Event, events_before, HistoryView}
 use Rattle.drawing.proofs.Common.{is_near_any, No, not_in_none, one_deeper, Op, Operation, operation_in}
 use Rattle.drawing.proofs.Common.{operations_are_complete, operations_in, operations_of, pairs_at, passed_filter}
@@ -37,13 +37,6 @@ some_passes p xs is = let one = Any-from_list_any p xs is in (one.1, (one.0, one
 any_mapped : {X Y : Type 0} (p : Y → Bool) (f : X → Y) (xs : List X) → list_any p (map f xs) ≡ list_any (λ x. p (f x)) xs
 any_mapped p f [] = refl
 any_mapped p f (x ∷ xs) = ap (λ (b : Bool). p (f x) || b) (any_mapped p f xs)
-
--- one element more, if it passes
-pub filter_step : {X : Type 0} (p : X → Bool) (xs : List X) (i : ℕ) (d : X) (b : Bool) (old new : List X) → i < length xs → b ≡ p (get_or xs i d)
-    → old ≡ filter p (take i xs) → new ≡ old ++ cond b (get_or xs i d ∷ []) [] → new ≡ filter p (take (i + 1) xs)
-filter_step p xs i d b old new within tells before now =
-    now ∙ ap (λ (c : Bool). old ++ cond c (get_or xs i d ∷ []) []) tells ∙ ap (λ (l : List _). l ++ cond (p (get_or xs i d)) (get_or xs i d ∷ []) []) before
-    ∙ sym (filter_more p xs i d within)
 
 -- as many pass as stand before the first that fails, if none passes after it
 pub counted_up_to : {X : Type 0} (p : X → Bool) (xs : List X) (i : ℕ) → i ≤ length xs → ((k : ℕ) (d : X) → k < i → p (get_or xs k d) ≡ true)

@@ -8,8 +8,8 @@ use Rattle.std.proofs.lemmas.List.Folds.{find_at}
 use Rattle.std.proofs.lemmas.List.Quantifiers.{position-Some}
 use Rattle.std.proofs.lemmas.List.{length-map}
 use Rattle.verdicts.specs.declared.verifying.ClaimLine.TheVariants.{Initial}
-use Rattle.value_match.specs.Filling.{filling_at}
-use Rattle.verdicts.specs.Claims.{filling_of}
+use Rattle.value_match.specs.Timeline.{initial_enqueue}
+use Rattle.verdicts.specs.Claims.{initial_enqueue_of}
 use Rattle.drawing.specs.declared.scene.Row.TheVariants as row
 use Rattle.drawing.specs.Laws.{NumbersAreOfLines, LinesHaveNumbers, InitialNumbersAreOfLines, InitialLinesHaveNumbers}
 use Rattle.drawing.proofs.Bars.{found}
@@ -66,10 +66,10 @@ place_in_order order r = rw (order_place order r, length-map order Op) refl
 -- ---- evidence
 
 -- what stands for an enqueue before all else is an initial value
-pub value_among : (initial : List ℕ) (v : ℕ) (x : Operation) → filling_of initial v ≡ Some x → Contains initial v
+pub value_among : (initial : List ℕ) (v : ℕ) (x : Operation) → initial_enqueue_of initial v ≡ Some x → Contains initial v
 value_among initial v x stands = go (position (λ w. nat_eq w v) initial) refl stands
   where
-    go : (place : Option ℕ) → position (λ w. nat_eq w v) initial ≡ place → option_map (λ j. filling_at j v) place ≡ Some x → Contains initial v
+    go : (place : Option ℕ) → position (λ w. nat_eq w v) initial ≡ place → option_map (λ j. initial_enqueue j v) place ≡ Some x → Contains initial v
     go None is e = cc
     go (Some j) is e =
         let h = place_if 0 initial (λ w. nat_eq w v) j is in

@@ -8,7 +8,7 @@ ghost use Rattle.drawing.specs.Drawn.{is_away};
 
 use crate::columns::events_of;
 use event_records::Event;
-use history_merge::{History, Operation, PackedOperation, unpacked};
+use history_merge::{History, Operation, Operations};
 use std::alloc::{AllocError, Global};
 use verdicts::{ClaimLine, Claimed};
 
@@ -72,7 +72,7 @@ fn is_near_any(listed: &[Standing], standing: Standing, around: usize) -> bool
 fn near_operations(
     alloc: Global,
     events: &[Event],
-    operations: &[PackedOperation],
+    operations: &Operations<'_>,
     lines: &[ClaimLine],
     around: usize,
 ) -> Result<Vec<Operation>, AllocError>
@@ -81,8 +81,7 @@ fn near_operations(
 {
     let listed = standings_in(alloc, events, lines)?;
     let mut near = Vec::new(alloc);
-    for operation in operations {
-        let operation = operation.unpack();
+    for operation in operations.iter() {
         if is_near_any(listed.as_slice(), standing_of(events, operation), around) {
             near.push(operation)?;
         }
@@ -110,12 +109,12 @@ pub fn drawn_operations(
             near_operations(
                 alloc,
                 events.as_slice(),
-                history.operations(),
+                &history.operations(),
                 lines.as_slice(),
                 around,
             )
         }
-        _ => unpacked(alloc, history.operations()),
+        _ => history.operations().collect(alloc),
     }
 }
 

@@ -1,15 +1,15 @@
--- Gaps of a history, told by those of its filled history, say the same.
+-- Gaps of a history, told by those of its timeline, say the same.
 use Rattle.std.proofs.Common.{◌≡◌, ℕ, zero, ◌+◌, ◌*◌, ◌≤◌, List, [], ◌∷◌, length, map, refl, sym, ◌∙◌, ap, ap₂, subst, arith, inl, inr}
 use Rattle.std.specs.Prelude.{Contains, filter, option_map, slice_get}
 use Rattle.std.specs.List.{AllZip}
 use Rattle.history_merge.specs.declared.operation.Operation.{Operation}
 use Rattle.history_merge.specs.declared.operation.OpKind.TheVariants.{Enq, Empty}
-use Rattle.history_merge.specs.Initial.{filled, later_by}
+use Rattle.history_merge.specs.Initial.{timeline, later_by}
 use Rattle.history_merge.specs.Operations.{IsAt, IsInWindow}
 use Rattle.history_merge.proofs.Distinct.{place_of}
-use Rattle.value_match.specs.Filling.{behind, filled_gap}
+use Rattle.value_match.specs.Timeline.{behind, clock_of_gap}
 use Rattle.value_match.specs.Lives.{AreLeastFreeGaps, IsLeastFreeGap, is_empty_answer}
-use Rattle.value_match.proofs.FilledLines.{at_filled, filled_at}
+use Rattle.value_match.proofs.TimelineLines.{at_timeline, timeline_at}
 use Rattle.value_match.proofs.Lists.{one_deeper}
 use Rattle.empty_witness.specs.Answers.{IsEmptyAnswerAt}
 use Rattle.empty_witness.specs.Inner.ToldGaps.{told_gap}
@@ -20,11 +20,11 @@ module _ (initial : List ℕ) (operations : List Operation) where
   k = length initial
 
   abbrev all : List Operation
-  all = filled initial operations
+  all = timeline initial operations
 
-  -- an empty dequeue stands after the initial values in the filled history
+  -- an empty dequeue stands after the initial values on the timeline
   pub empty_behind : (place : ℕ) → IsEmptyAnswerAt operations place → IsEmptyAnswerAt all (behind k place)
-  empty_behind place empty = elim (at_filled initial operations (k + place)) [
+  empty_behind place empty = elim (at_timeline initial operations (k + place)) [
     | inl early ↦ absurd (omega (arith, early.0))
     | inr late ↦ (
       later_by (2 * k) empty.0,
@@ -35,22 +35,22 @@ module _ (initial : List ℕ) (operations : List Operation) where
 
   -- and is called after their enqueues
   called_behind : (p : ℕ) (o : Operation) → IsAt all p o → o.kind ≡ Empty → 2 * k ≤ o.call
-  called_behind p o at is = elim (filled_at initial operations p o at) [
+  called_behind p o at is = elim (timeline_at initial operations p o at) [
     | inl early ↦ let clash : Enq early.value ≡ Empty = ap (λ (x : Operation). x.kind) early.is ∙ is in absurd (cc)
     | inr late ↦ let call : late.operation.call + 2 * k ≡ o.call = ap (λ (x : Operation). x.call) late.is in omega arith
   ]
 
   -- so a ticket stands for each gap of its window
-  gap_back : (o : Operation) (c : ℕ) → 2 * k ≤ o.call → IsInWindow o c → filled_gap k (told_gap k c) ≡ c
+  gap_back : (o : Operation) (c : ℕ) → 2 * k ≤ o.call → IsInWindow o c → clock_of_gap k (told_gap k c) ≡ c
   gap_back o c late window = let from = window.0 in omega arith
 
   -- the least free gap of an empty answer
   pub gap_told : (p : ℕ) (o : Operation) (c : ℕ) → IsAt all p o → o.kind ≡ Empty → IsLeastFreeGap all o c
-      → IsLeastFreeGap all o (filled_gap k (told_gap k c))
+      → IsLeastFreeGap all o (clock_of_gap k (told_gap k c))
   gap_told p o c at is free = subst (IsLeastFreeGap all o) (sym (gap_back o c (called_behind p o at is) free.in_window)) free
 
   gaps_back : (listed : List Operation) (gaps : List ℕ) → ((o : Operation) → Contains listed o → 2 * k ≤ o.call)
-      → AllZip (λ o c. IsLeastFreeGap all o c) listed gaps → map (filled_gap k) (map (told_gap k) gaps) ≡ gaps
+      → AllZip (λ o c. IsLeastFreeGap all o c) listed gaps → map (clock_of_gap k) (map (told_gap k) gaps) ≡ gaps
   gaps_back [] [] late zip = refl
   gaps_back [] (c ∷ gaps) late zip = absurd zip
   gaps_back (o ∷ listed) [] late zip = absurd zip
@@ -59,7 +59,7 @@ module _ (initial : List ℕ) (operations : List Operation) where
       (gaps_back listed gaps (λ x among. late x (one_deeper o listed x among)) zip.1)
 
   -- those of all empty answers
-  pub gaps_told : (gaps : List ℕ) → AreLeastFreeGaps all gaps → AreLeastFreeGaps all (map (filled_gap k) (map (told_gap k) gaps))
+  pub gaps_told : (gaps : List ℕ) → AreLeastFreeGaps all gaps → AreLeastFreeGaps all (map (clock_of_gap k) (map (told_gap k) gaps))
   gaps_told gaps free = subst (AreLeastFreeGaps all) (sym (gaps_back (filter is_empty_answer all) gaps late free)) free
     where
       late : (o : Operation) → Contains (filter is_empty_answer all) o → 2 * k ≤ o.call

@@ -8,7 +8,7 @@ use Rattle.history_merge.specs.declared.operation.Operation.{Operation}
 use Rattle.history_merge.specs.declared.operation.OpKind.TheVariants.{Deq, Empty}
 use Rattle.history_merge.specs.Operations.{Did, NoneDid}
 use Rattle.history_merge.specs.Complete.{AreComplete}
-use Rattle.history_merge.specs.Initial.{filled}
+use Rattle.history_merge.specs.Initial.{timeline}
 use Rattle.history_merge.proofs.Distinct.{return_differs_from_call, return_in_range, call_before_return}
 use Rattle.value_match.specs.declared.life.Life.{Life}
 use Rattle.value_match.specs.declared.life.MatchedValue.{MatchedValue}
@@ -30,10 +30,10 @@ pub record IsCoverSoFar (initial : List ℕ) (operations : List Operation) (o : 
   pub lives : List Life
   pub named : NamesCover initial operations steps lives
   pub past_call : o.call ≤ frontier
-  pub no_return : (x : Operation) → Contains (filled initial operations) x → x.ret ≢ frontier
-  pub goes_on : frontier < o.ret → (rest : List Life) → IsChosenCoverFrom (filled initial operations) o frontier rest
-      → IsChosenCover (filled initial operations) o (lives ++ rest)
-  pub ends : o.ret < frontier → IsChosenCover (filled initial operations) o lives
+  pub no_return : (x : Operation) → Contains (timeline initial operations) x → x.ret ≢ frontier
+  pub goes_on : frontier < o.ret → (rest : List Life) → IsChosenCoverFrom (timeline initial operations) o frontier rest
+      → IsChosenCover (timeline initial operations) o (lives ++ rest)
+  pub ends : o.ret < frontier → IsChosenCover (timeline initial operations) o lives
 
 -- no operation returns when a value's dequeue is called, or at the ticket that stands for never
 no_return_at : (operations : List Operation) (v : ℕ) (dequeue : Option Operation) → AreComplete operations
@@ -42,11 +42,11 @@ no_return_at : (operations : List Operation) (v : ℕ) (dequeue : Option Operati
 no_return_at operations v None complete none x among same = let range = return_in_range operations x complete among in omega arith
 no_return_at operations v (Some d) complete did x among same = return_differs_from_call operations x d complete among did.0 same
 
-module _ (initial : List ℕ) (operations : List Operation) (values : List MatchedValue) (o : Operation) (clear : IsClear (filled initial operations))
-    (holds : HoldsLives (filled initial operations) values) (is_empty : Did (filled initial operations) o Empty)
-    (covered : IsCovered (filled initial operations) o) where
+module _ (initial : List ℕ) (operations : List Operation) (values : List MatchedValue) (o : Operation) (clear : IsClear (timeline initial operations))
+    (holds : HoldsLives (timeline initial operations) values) (is_empty : Did (timeline initial operations) o Empty)
+    (covered : IsCovered (timeline initial operations) o) where
   abbrev all : List Operation
-  all = filled initial operations
+  all = timeline initial operations
 
   abbrev k : ℕ
   k = length initial

@@ -1,7 +1,7 @@
 ghost use Rattle.std.specs.Prelude.{IfOk};
 ghost use Rattle.history_merge.specs.declared.operation.OpKind.TheVariants.{Empty};
 ghost use Rattle.history_merge.specs.Operations.{Did};
-ghost use Rattle.value_match.specs.Filling.{filled_operations};
+ghost use Rattle.value_match.specs.Timeline.{timeline_of};
 ghost use Rattle.value_match.specs.Lives.{IsCovered};
 ghost use Rattle.empty_witness.specs.Inner.Covered.{NamesChosenCover};
 
@@ -13,12 +13,12 @@ use value_match::{Cover, CoverStep, LongestTable, Matching, told_maybe, told_sou
 ///
 /// Time O(n log n) for n values: a table of them, and a look-up for each step.
 pub fn cover_of(alloc: Global, matching: &Matching, answer: &Operation) -> Result<Cover, AllocError>
-    requires is_empty { Did (filled_operations matching.now) answer.now Empty }
-    requires covered { IsCovered (filled_operations matching.now) answer.now }
+    requires is_empty { Did (timeline_of matching.now) answer.now Empty }
+    requires covered { IsCovered (timeline_of matching.now) answer.now }
     ensures { IfOk result (λ cover. NamesChosenCover matching.now.initial matching.now.operations answer.now cover) }
 {
     let initial_count = matching.initial().len();
-    let table = LongestTable::new(alloc, matching.filled().values())?;
+    let table = LongestTable::new(alloc, matching.values())?;
     let mut steps = Vec::new(alloc);
     let mut frontier = answer.call;
     while frontier < answer.ret {

@@ -1,7 +1,7 @@
 ghost use Rattle.std.specs.Prelude.{◌≡◌, ◌++◌, ℕ, List, All, IfOk};
 ghost use Rattle.history_merge.specs.declared.operation.OpKind.TheVariants.{Empty};
 ghost use Rattle.history_merge.specs.Operations.{Did, IsAt};
-ghost use Rattle.value_match.specs.Filling.{filled_operations};
+ghost use Rattle.value_match.specs.Timeline.{timeline_of};
 ghost use Rattle.empty_witness.specs.Answers.{IsEmptyAnswerAt, IsGapAnswer, IsWitnessAnswer};
 ghost use Rattle.empty_witness.specs.Covered.{AreAllWindows, AreWindowsAt, IsFirstCovered, IsSoonerOf};
 ghost use Rattle.empty_witness.specs.Spans.{AreSpansOf};
@@ -13,16 +13,16 @@ use crate::spans::{Span, spans_of};
 use crate::told_gaps::{told_gap, told_gaps};
 use history_merge::{OpId, Operation};
 use std::alloc::{AllocError, Global};
-use value_match::{FilledMatching, Matching, told_place};
+use value_match::{Matching, told_place};
 
-/// An empty dequeue of a filled history, with its place there.
+/// An empty dequeue of a timeline, with its place there.
 #[derive(Clone, Copy, Debug)]
 pub struct EmptyAnswer {
     pub place: OpId,
     pub operation: Operation,
 }
 
-/// What a search finds in the windows of some empty dequeues of a filled history, by its clocks.
+/// What a search finds in the windows of some empty dequeues of a timeline, by its clocks.
 #[derive(Debug, Drop)]
 pub enum WindowsAnswer {
     /// None is covered: the least free gap of each, in their order.
@@ -42,11 +42,10 @@ pub fn gap_for(alloc: Global, matching: &Matching, empty: OpId) -> Result<GapAns
     ensures { IfOk result (IsGapAnswer matching.now.initial matching.now.operations empty) }
 {
     let initial_count = matching.initial().len();
-    let filled = matching.filled();
     let place = initial_count + empty.number() as usize;
-    prove!(place < filled.operations().len());
-    let answer = answer_at(filled, OpId::new(place as u32));
-    let spans = spans_of(alloc, filled)?;
+    prove!(place < matching.timeline().len());
+    let answer = answer_at(matching, OpId::new(place as u32));
+    let spans = spans_of(alloc, matching)?;
     match least_free_gap(spans.as_slice(), &answer.operation) {
         Some(gap) => Ok(GapAnswer::Free(told_gap(initial_count, gap))),
         None => Ok(GapAnswer::Covered(cover_of(alloc, matching, &answer.operation)?)),
@@ -61,17 +60,16 @@ pub fn gap_for(alloc: Global, matching: &Matching, empty: OpId) -> Result<GapAns
 pub fn find_witness(alloc: Global, matching: &Matching) -> Result<WitnessAnswer, AllocError>
     ensures { IfOk result (IsWitnessAnswer matching.now.initial matching.now.operations) }
 {
-    let filled = matching.filled();
-    let empties = filled.empties();
+    let empties = matching.timeline_empties();
     if empties.is_empty() {
         return witness_of(alloc, matching, WindowsAnswer::Free(Vec::new(alloc)));
     }
-    let spans = spans_of(alloc, filled)?;
-    let windows = windows_at(alloc, filled, spans.as_slice(), empties)?;
+    let spans = spans_of(alloc, matching)?;
+    let windows = windows_at(alloc, matching, spans.as_slice(), empties)?;
     witness_of(alloc, matching, windows)
 }
 
-/// Returns the answer of `find_witness`, from what was found in the windows of all empty dequeues of the filled
+/// Returns the answer of `find_witness`, from what was found in the windows of all empty dequeues of the timeline
 /// history.
 ///
 /// Time O(n log n) for n values if a window is covered, for its cover. The only error is out of memory.
@@ -80,7 +78,7 @@ pub fn witness_of(
     matching: &Matching,
     windows: WindowsAnswer,
 ) -> Result<WitnessAnswer, AllocError>
-    requires { AreAllWindows (filled_operations matching.now) windows }
+    requires { AreAllWindows (timeline_of matching.now) windows }
     ensures { IfOk result (IsWitnessAnswer matching.now.initial matching.now.operations) }
 {
     let initial_count = matching.initial().len();
@@ -97,15 +95,15 @@ pub fn witness_of(
 }
 
 /// Returns the empty dequeue at this place.
-fn answer_at(matching: &FilledMatching, empty: OpId) -> EmptyAnswer
-    requires { IsEmptyAnswerAt matching.now empty }
+fn answer_at(matching: &Matching, empty: OpId) -> EmptyAnswer
+    requires { IsEmptyAnswerAt (timeline_of matching.now) empty }
     ensures place { result.place ≡ empty }
-    ensures at { IsAt matching.now empty result.operation }
-    ensures is_empty { Did matching.now result.operation Empty }
+    ensures at { IsAt (timeline_of matching.now) empty result.operation }
+    ensures is_empty { Did (timeline_of matching.now) result.operation Empty }
 {
     EmptyAnswer {
         place: empty,
-        operation: matching.operations()[empty.place()].unpack(),
+        operation: matching.timeline()[empty.place()].unpack(),
     }
 }
 
@@ -120,19 +118,19 @@ pub fn sooner_of(first: EmptyAnswer, second: EmptyAnswer) -> EmptyAnswer
     }
 }
 
-/// Searches the windows of the empty dequeues at these places of a filled history, by its spans: each window is one
+/// Searches the windows of the empty dequeues at these places of a timeline, by its spans: each window is one
 /// look-up.
 ///
 /// Time O(m log n) for m places and n spans. The only error is out of memory.
 pub fn windows_at(
     alloc: Global,
-    matching: &FilledMatching,
+    matching: &Matching,
     spans: &[Span],
     empties: &[OpId],
 ) -> Result<WindowsAnswer, AllocError>
-    requires empties { All (IsEmptyAnswerAt matching.now) empties.now }
-    requires spans { AreSpansOf matching.now spans.now }
-    ensures { IfOk result (λ windows. AreWindowsAt matching.now empties.now windows) }
+    requires empties { All (IsEmptyAnswerAt (timeline_of matching.now)) empties.now }
+    requires spans { AreSpansOf (timeline_of matching.now) spans.now }
+    ensures { IfOk result (λ windows. AreWindowsAt (timeline_of matching.now) empties.now windows) }
 {
     let mut gaps = Vec::with_capacity(alloc, empties.len())?;
     for (index, empty) in empties.iter().enumerate() {
@@ -150,14 +148,14 @@ pub fn windows_at(
 
 /// Returns the covered one that returned first, of an empty dequeue whose window is covered and others.
 fn first_covered(
-    matching: &FilledMatching,
+    matching: &Matching,
     spans: &[Span],
     covered: EmptyAnswer,
     others: &[OpId],
 ) -> EmptyAnswer
-    requires others { All (IsEmptyAnswerAt matching.now) others.now }
-    requires spans { AreSpansOf matching.now spans.now }
-    ensures { (seen : List ℕ) → IsFirstCovered matching.now seen covered → IsFirstCovered matching.now (seen ++ others.now) result }
+    requires others { All (IsEmptyAnswerAt (timeline_of matching.now)) others.now }
+    requires spans { AreSpansOf (timeline_of matching.now) spans.now }
+    ensures { (seen : List ℕ) → IsFirstCovered (timeline_of matching.now) seen covered → IsFirstCovered (timeline_of matching.now) (seen ++ others.now) result }
 {
     let mut first = covered;
     for empty in others {

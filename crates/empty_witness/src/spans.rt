@@ -1,9 +1,10 @@
 ghost use Rattle.std.specs.Prelude.{◌≡◌, ◌<◌, All, IfOk, filter, map};
 ghost use Rattle.std.specs.List.Sorted.{IsNonDecreasingBy};
+ghost use Rattle.value_match.specs.Timeline.{timeline_of};
 ghost use Rattle.empty_witness.specs.Spans.{AreJoined, AreSpansOf, holds_some, stay_of};
 
 use std::alloc::{AllocError, Global};
-use value_match::{FilledMatching, Life, Values, presort};
+use value_match::{Life, Matching, Values, presort};
 
 /// The gaps from the start to before the end.
 #[derive(Clone, Copy, Debug)]
@@ -15,8 +16,8 @@ pub struct Span {
 /// Returns the spans of the gaps at which some value is definitely in the queue, by rising start; no two touch.
 ///
 /// Time O(n log n) for n values.
-pub(crate) fn spans_of(alloc: Global, matching: &FilledMatching) -> Result<Vec<Span>, AllocError>
-    ensures { IfOk result (λ spans. AreSpansOf matching.now spans.items) }
+pub(crate) fn spans_of(alloc: Global, matching: &Matching) -> Result<Vec<Span>, AllocError>
+    ensures { IfOk result (λ spans. AreSpansOf (timeline_of matching.now) spans.items) }
 {
     let mut stays = stays_of(alloc, &matching.values())?;
     presort(&mut stays, &|stay: &Span| stay.start);

@@ -1,4 +1,4 @@
-//! Gaps of a history, told by those of its filled history.
+//! Gaps of a history, told by those of its timeline.
 ghost use Rattle.std.specs.Prelude.{◌≡◌, IfOk, map};
 ghost use Rattle.empty_witness.specs.Inner.ToldGaps.{told_gap};
 

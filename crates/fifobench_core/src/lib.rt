@@ -7,8 +7,8 @@
 pub use drawing::{MOST_DRAWN, count_of_lines, drawn_operations, scene_of, terminal_picture};
 pub use event_records::{Event, Kind, LEAST_INITIAL_NAME, MAX_RING, MAX_THREADS, What};
 pub use history_merge::{
-    History, HistoryBuilder, HistoryFault, OpId, OpKind, Operation, PackedOperation, history,
-    history_from, operation_at, unpacked,
+    History, HistoryBuilder, HistoryFault, OpId, OpKind, Operation, Operations, history,
+    history_from,
 };
 pub use history_text::{
     MemorySource, TextFault, TextReader, TextSink, TextSource, Version, Watched, WriteFault,

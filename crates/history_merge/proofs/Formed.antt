@@ -13,7 +13,7 @@ use Rattle.std.proofs.lemmas.Option.{slice_get_within, get_or_from_slice_get}
 use Rattle.event_records.specs.declared.event.Event.{Event}
 use Rattle.event_records.specs.declared.event.What.{What}
 use Rattle.event_records.specs.declared.event.What.TheVariants.{CallEnq, RetEnq, RetNot, CallDeq, RetDeq, RetEmpty}
-use Rattle.event_records.specs.declared.limits.TheConstants.{MAX_THREAD}
+use Rattle.event_records.specs.declared.limits.TheConstants.{MAX_EVENTS, MAX_INITIAL, MAX_THREAD}
 use Rattle.event_records.specs.Turns.{is_call, answers, TakesTurns}
 use Rattle.event_records.specs.Projection.{projection}
 use Rattle.history_merge.specs.declared.fault.HistoryFault.TheVariants.{CallWhilePending, DuplicateValue, ReturnWithoutCall, WrongReturn}
@@ -25,8 +25,9 @@ use Rattle.history_merge.specs.Faults.{answers_pending, breaks_ticket_order, cal
 use Rattle.history_merge.specs.Operations.{operations_of, operation_of, kind_of}
 use Rattle.history_merge.specs.Forming.{begun, answered, operation_so_far, operations_so_far, waiting}
 use Rattle.history_merge.specs.Events.{call_event, called_by, events_of}
+use Rattle.history_merge.specs.Initial.{IsCompleteFrom, timeline}
 use Rattle.history_merge.specs.Inner.Forming.{IsFormedOf}
-use Rattle.history_merge.specs.Inner.History.{IsRunOf, next_of}
+use Rattle.history_merge.specs.Inner.History.{IsKept, IsRunOf, next_of}
 use Rattle.history_merge.specs.Gathering.{HasFormed}
 use Rattle.history_merge.proofs.TheirEvents.{run_of, told_of_run}
 use Rattle.history_merge.proofs.Tracking.{last_or-push, pending_call-push_own, pending_call-push_other}
@@ -298,4 +299,16 @@ pub formed_of_complete : (events : List Event) (operations : List Operation) →
 formed_of_complete events operations complete so_far = record {
   formed = so_far ∙ all_formed events complete;
   told = ap events_of so_far ∙ told_of_run events (operations_so_far events) (run_of_complete events complete);
+}
+
+-- a history keeps them on its timeline
+pub kept_of_formed : (initial : List ℕ) (all : List Operation) (events : List Event) (operations : List Operation) → all ≡ timeline initial operations
+    → IsFormedOf events operations → IsCompleteFrom initial events → length events ≤ MAX_EVENTS → length initial ≤ MAX_INITIAL
+    → IsKept initial all operations
+kept_of_formed initial all events operations is formed complete few few_initial = record {
+  all_is = is;
+  complete = subst (IsCompleteFrom initial) (sym formed.told) complete;
+  formed = formed.formed ∙ ap operations_of (sym formed.told);
+  few_events = subst (λ es. length es ≤ MAX_EVENTS) (sym formed.told) few;
+  few_initial = few_initial;
 }

@@ -14,15 +14,12 @@ use Rattle.history_merge.specs.declared.operation.Operation.{Operation}
 use Rattle.history_merge.specs.declared.operation.OpKind.{OpKind}
 use Rattle.history_merge.specs.Complete.{called_value, called_values}
 use Rattle.history_merge.specs.Initial.{event_later_by, later_by}
+use Rattle.history_merge.specs.Inner.Timeline.{earlier_by}
 use Rattle.history_merge.specs.Legal.{IsLegalOrder}
 use Rattle.history_merge.specs.Operations.{Precedes, kind_of, operation_of, operations_of}
 use Rattle.history_merge.specs.Queue.{IsAccepted}
 
 -- ---- operations
-
--- the operation, this much earlier
-abbrev earlier_by : ℕ → Operation → Operation
-earlier_by n o = record { call = o.call - n; ret = o.ret - n; thread = o.thread; kind = o.kind }
 
 there_and_back : (n : ℕ) (o : Operation) → earlier_by n (later_by n o) ≡ o
 there_and_back n o =
@@ -34,7 +31,8 @@ pub map_map : {X Y Z : Type 0} (f : X → Y) (g : Y → Z) (xs : List X) → map
 map_map f g [] = refl
 map_map f g (x ∷ xs) = ap (λ zs. g (f x) ∷ zs) (map_map f g xs)
 
-all_back : (n : ℕ) (operations : List Operation) → map (earlier_by n) (map (later_by n) operations) ≡ operations
+-- what comes later and then earlier is as it was
+pub all_back : (n : ℕ) (operations : List Operation) → map (earlier_by n) (map (later_by n) operations) ≡ operations
 all_back n operations =
     map_map (later_by n) (earlier_by n) operations ∙ map_fixed (λ o. earlier_by n (later_by n o)) operations (λ k d below. there_and_back n _)
 

@@ -10,7 +10,8 @@
 -- Searching, Clashes: the first event with a property, and what contradicts what.
 -- OneFault: there is one first fault.
 -- Cancelling, Leading: enqueues that precede all other operations stand first in each linearization.
--- Later, Filled, Enqueued: a history whose initial values are enqueued before all else is complete, and has the same linearizations.
+-- Later, Timelines, Enqueued, TimelineOperations: a history whose initial values are enqueued before all else is complete, and has the
+-- same linearizations.
 -- Runs, Places: what a run of the sequential specification enqueued and dequeued, and where.
 -- DistinctValues: values that no two calls share.
 pub mod Gathered
@@ -36,5 +37,6 @@ pub mod InitialValues
 pub mod Cancelling
 pub mod Leading
 pub mod Later
-pub mod Filled
+pub mod Timelines
 pub mod Enqueued
+pub mod TimelineOperations

@@ -16,33 +16,33 @@ pub record HistoryView : Type 0 where
   pub initial : List ℕ
   pub events : List Event
 
--- ---- the filled history: the queue is empty first, and the initial values are enqueued before all else
+-- ---- the timeline: the queue is empty first, and the initial values are enqueued before all else
 
 -- from this clock on the values are enqueued, one after another
-abbrev pub filling_from : ℕ → List ℕ → List Operation
-filling_from clock [] = []
-filling_from clock (v ∷ rest) = record { call = clock; ret = clock + 1; thread = 0; kind = Enq v } ∷ filling_from (clock + 2) rest
+abbrev pub enqueues_from : ℕ → List ℕ → List Operation
+enqueues_from clock [] = []
+enqueues_from clock (v ∷ rest) = record { call = clock; ret = clock + 1; thread = 0; kind = Enq v } ∷ enqueues_from (clock + 2) rest
 
 -- the operation, this much later
 abbrev pub later_by : ℕ → Operation → Operation
 later_by n o = record { call = o.call + n; ret = o.ret + n; thread = o.thread; kind = o.kind }
 
 -- the initial values are enqueued one after another, and then come the operations
-abbrev pub filled : List ℕ → List Operation → List Operation
-filled initial operations = filling_from 0 initial ++ map (later_by (2 * length initial)) operations
+abbrev pub timeline : List ℕ → List Operation → List Operation
+timeline initial operations = enqueues_from 0 initial ++ map (later_by (2 * length initial)) operations
 
--- ---- the events of the filled history
+-- ---- the events of the timeline
 
 -- the calls and returns of these enqueues
-abbrev pub filling_events_from : ℕ → List ℕ → List Event
-filling_events_from clock [] = []
-filling_events_from clock (v ∷ rest) =
-    record { ticket = clock; thread = 0; what = CallEnq v } ∷ record { ticket = clock + 1; thread = 0; what = RetEnq } ∷ filling_events_from (clock + 2) rest
+abbrev pub enqueue_events_from : ℕ → List ℕ → List Event
+enqueue_events_from clock [] = []
+enqueue_events_from clock (v ∷ rest) =
+    record { ticket = clock; thread = 0; what = CallEnq v } ∷ record { ticket = clock + 1; thread = 0; what = RetEnq } ∷ enqueue_events_from (clock + 2) rest
 
 -- the event, this much later
 abbrev pub event_later_by : ℕ → Event → Event
 event_later_by n e = record { ticket = e.ticket + n; thread = e.thread; what = e.what }
 
--- the events of the filled history
-abbrev pub filled_events : List ℕ → List Event → List Event
-filled_events initial events = filling_events_from 0 initial ++ map (event_later_by (2 * length initial)) events
+-- the events of the timeline
+abbrev pub timeline_events : List ℕ → List Event → List Event
+timeline_events initial events = enqueue_events_from 0 initial ++ map (event_later_by (2 * length initial)) events

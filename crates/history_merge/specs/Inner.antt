@@ -4,3 +4,4 @@ pub mod Faults
 pub mod Forming
 pub mod History
 pub mod Packed
+pub mod Timeline

@@ -1,12 +1,14 @@
-ghost use Rattle.std.specs.Prelude.{◌≡◌, ◌≤◌, List, length};
+ghost use Rattle.std.specs.Prelude.{◌≡◌, ◌+◌, ◌≤◌, List, length};
 ghost use Rattle.event_records.specs.declared.event.Event.{Event};
 ghost use Rattle.event_records.specs.declared.limits.TheConstants.{MAX_EVENTS, MAX_INITIAL};
-ghost use Rattle.history_merge.specs.Complete.{IsCompleteHistory};
-ghost use Rattle.history_merge.specs.Initial.{IsCompleteFrom};
+ghost use Rattle.history_merge.specs.declared.operation.Operation.{Operation};
+ghost use Rattle.history_merge.specs.Complete.{AreComplete, IsCompleteHistory};
+ghost use Rattle.history_merge.specs.Initial.{IsCompleteFrom, timeline};
 ghost use Rattle.history_merge.specs.Inner.Forming.{IsFormedOf};
 ghost use Rattle.history_merge.specs.Operations.{operations_of};
 
 use crate::events::Events;
+use crate::operations::Operations;
 use crate::packed::PackedOperation;
 use event_records::{MAX_EVENTS, MAX_INITIAL};
 use std::marker::Model;
@@ -17,37 +19,41 @@ use std::marker::Model;
 /// Each value of this type is one: tickets rise, each thread's calls and returns alternate, each call has a return,
 /// no two calls enqueue one value, and the initial values are distinct and enqueued by no call.
 ///
-/// It keeps the initial values and the operations, from which it restores the events: 20 bytes for each operation.
+/// It keeps the initial values and its timeline, from which it restores operations and events. That takes 20 bytes for
+/// each operation, and 28 for each initial value.
 #[derive(Debug, Drop)]
 pub struct History {
     initial: Vec<u64>,
-    operations: Vec<PackedOperation>,
+    timeline: Vec<PackedOperation>,
 }
 
 impl Model for History {
+    ghost use Rattle.std.specs.Prelude.{length};
     ghost use Rattle.history_merge.specs.Initial.{HistoryView};
     ghost use Rattle.history_merge.specs.Events.{events_of};
     ghost use Rattle.history_merge.specs.Inner.History.{IsKept};
+    ghost use Rattle.history_merge.specs.Inner.Timeline.{operations_on};
 
     ghost Value = { HistoryView };
 
-    ghost view = { λ a. record { initial = a.initial.items; events = events_of a.operations.items } };
+    ghost view = { λ a. record { initial = a.initial.items; events = events_of (operations_on (length a.initial.items) a.timeline.items) } };
 
-    ghost invariant = { λ a. IsKept a.initial.items a.operations.items };
+    ghost invariant = { λ a. IsKept a.initial.items a.timeline.items (operations_on (length a.initial.items) a.timeline.items) };
 }
 
 impl History {
-    /// Makes the history of these initial values and these operations of its events.
-    pub(crate) fn new(initial: Vec<u64>, operations: Vec<PackedOperation>) -> History
-        requires formed { (events : List Event) × IsFormedOf events operations.items × IsCompleteFrom initial.items events
-            × (length events ≤ MAX_EVENTS) }
+    /// Makes the history of these initial values and this timeline.
+    pub(crate) fn new(initial: Vec<u64>, all: Vec<PackedOperation>) -> History
+        requires formed { (events : List Event) × (operations : List Operation) × (all.items ≡ timeline initial.items operations)
+            × IsFormedOf events operations × IsCompleteFrom initial.items events × (length events ≤ MAX_EVENTS) }
         requires few_initial { length initial.items ≤ MAX_INITIAL }
         ensures initial { result.initial ≡ initial.items }
-        ensures events { (events : List Event) → IsFormedOf events operations.items → result.events ≡ events }
+        ensures events { (events : List Event) (operations : List Operation) → all.items ≡ timeline initial.items operations
+            → IsFormedOf events operations → result.events ≡ events }
     {
         History {
             initial,
-            operations,
+            timeline: all,
         }
     }
 
@@ -68,17 +74,31 @@ impl History {
         ensures from { IsCompleteFrom self.now.initial self.now.events }
         ensures few { length self.now.events ≤ MAX_EVENTS }
     {
-        Events::new(self.operations.as_slice())
+        Events::new(self.operations())
     }
 
     /// Returns the operations, in the order of their calls. The place of one in this list is its [`crate::OpId`].
-    pub fn operations(&self) -> &[PackedOperation]
-        ensures operations { result.now ≡ operations_of self.now.events }
+    pub fn operations(&self) -> Operations<'_>
+        ensures operations { result ≡ operations_of self.now.events }
         ensures complete { IsCompleteHistory self.now.events }
         ensures from { IsCompleteFrom self.now.initial self.now.events }
-        ensures few { length result.now ≤ MAX_EVENTS }
+        ensures few { length result ≤ MAX_EVENTS }
         ensures few_events { length self.now.events ≤ MAX_EVENTS }
     {
-        self.operations.as_slice()
+        let initial_count = self.initial.len();
+        let (_, later) = self.timeline.as_slice().split_at(initial_count);
+        Operations::new(2 * initial_count as u64, later)
+    }
+
+    /// Returns the operations on one scale of time: the enqueues of the initial values, one after another, two ticks
+    /// each, and then the operations, later by all these ticks. They are those of a complete history of a queue that is
+    /// empty at first.
+    pub fn timeline(&self) -> &[PackedOperation]
+        ensures timeline { result.now ≡ timeline self.now.initial (operations_of self.now.events) }
+        ensures complete { AreComplete result.now }
+        ensures from { IsCompleteFrom self.now.initial self.now.events }
+        ensures few { length result.now ≤ MAX_EVENTS + MAX_INITIAL }
+    {
+        self.timeline.as_slice()
     }
 }

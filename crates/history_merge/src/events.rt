@@ -5,7 +5,7 @@ ghost use Rattle.history_merge.specs.Inner.History.{AreOfRun, IsFirstDue, comes_
 
 use crate::matching::no_events;
 use crate::operation::Operation;
-use crate::packed::PackedOperation;
+use crate::operations::Operations;
 use event_records::{Event, MAX_THREADS};
 use std::iter::{ExactSizeIterator, FusedIterator};
 use std::marker::Model;
@@ -17,7 +17,7 @@ use std::marker::Model;
 #[derive(Debug, Drop)]
 pub struct Events<'a> {
     // The operations whose calls are left.
-    by_call: &'a [PackedOperation],
+    by_call: Operations<'a>,
     // For each thread the return that comes before its next call.
     due: [Option<Event>; MAX_THREADS],
     // No thread from this one on has one.
@@ -35,25 +35,26 @@ impl<'a> Model for Events<'a> {
 
     ghost Value = { List Event };
 
-    ghost view = { λ it. put_each it.due (events_of it.by_call.now) };
+    ghost view = { λ it. put_each it.due (events_of it.by_call) };
 
-    ghost invariant = { λ it. (AreLeft (put_each it.due (events_of it.by_call.now)) it.by_call.now it.due)
+    ghost invariant = { λ it. (AreLeft (put_each it.due (events_of it.by_call)) it.by_call it.due)
         × (it.threads ≤ MAX_THREADS)
         × ((thread : ℕ) → it.threads ≤ thread → slice_index_or it.due thread None ≡ None)
-        × (it.left ≡ length (put_each it.due (events_of it.by_call.now))) };
+        × (it.left ≡ length (put_each it.due (events_of it.by_call))) };
 }
 
 impl<'a> Events<'a> {
     /// Makes the events of operations in the order of their calls, of which some may be pending. Time O(n).
-    pub(crate) fn new(operations: &'a [PackedOperation]) -> Events<'a>
-        requires { AreOfRun operations.now }
-        ensures { result ≡ events_of operations.now }
+    pub(crate) fn new(operations: Operations<'a>) -> Events<'a>
+        requires { AreOfRun operations }
+        ensures { result ≡ events_of operations.entry }
     {
+        let left = event_count(&operations);
         Events {
             by_call: operations,
             due: no_events(),
             threads: 0,
-            left: event_count(operations),
+            left,
         }
     }
 }
@@ -67,7 +68,7 @@ impl<'a> Iterator for Events<'a> {
 
     fn next(&mut self) -> Option<Event> {
         let due = first_due(&self.due[..self.threads]);
-        if let Some((operation, by_call)) = call_before(self.by_call, due) {
+        if let Some((operation, by_call)) = call_before(&self.by_call, due) {
             let thread = usize::from(operation.thread);
             self.by_call = by_call;
             self.due[thread] = maybe_return(operation);
@@ -95,12 +96,12 @@ impl<'a> ExactSizeIterator for Events<'a> {
 impl<'a> FusedIterator for Events<'a> {}
 
 /// How many events these operations have.
-fn event_count(operations: &[PackedOperation]) -> usize
+fn event_count(operations: &Operations<'_>) -> usize
     ensures { result ≡ length (events_of operations.now) }
 {
     let mut count = operations.len();
-    for operation in operations {
-        if operation.unpack().ret != 0 {
+    for operation in operations.iter() {
+        if operation.ret != 0 {
             count += 1;
         }
     }
@@ -137,15 +138,15 @@ fn first_due(due: &[Option<Event>]) -> Option<Event>
 
 /// The first operation and those after it, unless the return that is due comes before its call.
 #[inline(always)]
-fn call_before(
-    by_call: &[PackedOperation],
+fn call_before<'a>(
+    by_call: &Operations<'a>,
     due: Option<Event>,
-) -> Option<(Operation, &[PackedOperation])>
+) -> Option<(Operation, Operations<'a>)>
     ensures { MatchOption result ((o : Operation) (rest : List Operation) → by_call.now ≡ o ∷ rest → comes_by_ticket due o.call ≡ true)
-        (λ found. (by_call.now ≡ found.0 ∷ found.1.now) × (comes_by_ticket due found.0.call ≡ false)) }
+        (λ found. (by_call.now ≡ found.0 ∷ found.1) × (comes_by_ticket due found.0.call ≡ false)) }
 {
-    let (first, others) = by_call.split_first()?;
-    let operation = first.unpack();
+    let mut others = by_call.iter();
+    let operation = others.next()?;
     if due.is_some_and(|due| due.ticket <= operation.call) {
         return None;
     }

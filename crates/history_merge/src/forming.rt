@@ -13,6 +13,7 @@ use crate::events::Events;
 use crate::fault::HistoryFault;
 use crate::matching::{is_call, kind_of};
 use crate::operation::{OpId, OpKind, Operation};
+use crate::operations::Operations;
 use crate::packed::{PackedOperation, operation_at};
 use event_records::{Event, MAX_THREAD, MAX_THREADS, MAX_TICKET, What};
 use std::alloc::{AllocError, Global};
@@ -49,7 +50,7 @@ impl Forming {
         requires { AreOfRun self.now.operations.items }
         ensures { (events : List Event) → IsRunOf events self.now.operations.items → result ≡ events }
     {
-        Events::new(self.operations.as_slice())
+        Events::new(Operations::new(0, self.operations.as_slice()))
     }
 
     pub fn into_operations(self) -> Vec<PackedOperation>

@@ -15,12 +15,14 @@ use crate::fault::HistoryFault;
 use crate::forming::Forming;
 use crate::initial_values::InitialValues;
 use crate::packed::PackedOperation;
+use crate::timeline::timeline_of;
 use event_records::{Event, MAX_EVENTS, What};
 use std::alloc::{AllocError, Global};
 
 /// The initial values and the operations of the events so far, or the first fault and what contradicts what there.
 #[derive(Drop)]
 pub struct Gathering {
+    alloc: Global,
     initial: Vec<u64>,
     known: InitialValues,
     called: CalledValues,
@@ -46,6 +48,7 @@ impl Gathering {
             ),
         };
         Gathering {
+            alloc,
             initial,
             known,
             called: CalledValues::new(alloc),
@@ -132,6 +135,7 @@ impl Gathering {
         ensures kept { IsSome self.fault → IsErr result }
     {
         let Gathering {
+            alloc,
             initial,
             known: _known,
             called: _called,
@@ -143,10 +147,11 @@ impl Gathering {
         if let Some(fault) = fault {
             return Err(fault);
         }
-        match forming.least_pending() {
-            Some(ticket) => Err(HistoryFault::Pending(ticket)),
-            None => Ok(History::new(initial, forming.into_operations())),
+        if let Some(ticket) = forming.least_pending() {
+            return Err(HistoryFault::Pending(ticket));
         }
+        let timeline = timeline_of(alloc, initial.as_slice(), forming.into_operations())?;
+        Ok(History::new(initial, timeline))
     }
 }
 

@@ -1,10 +1,9 @@
 //! Operations as a history keeps them.
-ghost use Rattle.std.specs.Prelude.{◌≡◌, ◌<◌, IfOk, slice_get};
+ghost use Rattle.std.specs.Prelude.{◌≡◌, ◌<◌, slice_get};
 ghost use Rattle.history_merge.specs.declared.packed.TheConstants.{PACKED_LIMIT};
 ghost use Rattle.history_merge.specs.Inner.Packed.{tag_of, value_of};
 
 use crate::operation::{OpId, OpKind, Operation};
-use std::alloc::{AllocError, Global};
 use std::fmt::{Debug, Error, Formatter, Write};
 use std::marker::Model;
 
@@ -129,24 +128,13 @@ impl Debug for PackedOperation {
 
 /// Returns the operation at the place, if there is one.
 #[inline(always)]
-pub fn operation_at(operations: &[PackedOperation], place: OpId) -> Option<Operation>
+pub(crate) fn operation_at(operations: &[PackedOperation], place: OpId) -> Option<Operation>
     ensures { result ≡ slice_get operations.now place }
 {
     match operations.get(place.place()) {
         Some(operation) => Some(operation.unpack()),
         None => None,
     }
-}
-
-/// Returns the operations in their order, in five words each. Time O(n).
-pub fn unpacked(alloc: Global, operations: &[PackedOperation]) -> Result<Vec<Operation>, AllocError>
-    ensures { IfOk result (λ all. all.items ≡ operations.now) }
-{
-    let mut all = Vec::with_capacity(alloc, operations.len())?;
-    for operation in operations {
-        all.push(operation.unpack())?;
-    }
-    Ok(all)
 }
 
 #[inline(always)]

@@ -1,84 +1,74 @@
 -- What an operation overlaps: of the operations before it and of those after it.
-use Rattle.std.proofs.Common.{◌≡◌, ℕ, zero, suc, ◌+◌, ◌<◌, ◌≤◌, List, [], ◌∷◌, length, get_or, take, drop}
-use Rattle.std.proofs.Common.{Bool, true, false, refl, sym, ◌∙◌, ap, subst, arith}
-use Rattle.std.specs.Prelude.{All, AllPairs, nat_le, ◌||◌}
+use Rattle.std.proofs.Common.{◌≡◌, ℕ, zero, suc, ◌+◌, ◌<◌, max, List, [], ◌∷◌, ◌++◌, length, cond}
+use Rattle.std.proofs.Common.{Bool, true, false, refl, sym, ◌∙◌, ap, subst, arith, append_assoc, length-append}
+use Rattle.std.proofs.Math.Seq.{get_or-append_seam}
+use Rattle.std.specs.Prelude.{All, AllPairs, count_by, nat_le, nat_lt, ◌&&◌, ◌||◌}
 use Rattle.std.specs.List.{list_any}
 use Rattle.std.proofs.lemmas.Bool.Decides.{nat_tests}
-use Rattle.std.proofs.lemmas.List.{drop_more, get_or-drop, get_or-take, length-drop, length-take, take-append-drop}
-use Rattle.std.proofs.lemmas.List.Elements.{All-from_get_or, All-get_or, All-head, All-tail}
+use Rattle.std.proofs.lemmas.List.Elements.{All-from_get_or, All-head, All-tail}
 use Rattle.std.proofs.lemmas.List.Folds.{list_any-append}
+use Rattle.std.proofs.lemmas.List.Sums.{sum_by-append}
 use Rattle.history_merge.specs.declared.operation.Operation.{Operation}
 use Rattle.history_stats.specs.Counts.{overlap}
+use Rattle.history_stats.specs.Inner.AtOnce.{IsLastReturn}
 
--- tests that agree on each element find one alike
-pub any_alike : {X : Type 0} (p q : X → Bool) (xs : List X) → All (λ x. p x ≡ q x) xs → list_any p xs ≡ list_any q xs
-any_alike p q [] alike = refl
-any_alike p q (x ∷ xs) alike =
-    let here = All-head (λ x. p x ≡ q x) x xs alike in
-    let more = any_alike p q xs (All-tail (λ x. p x ≡ q x) x xs alike) in
-    λ i. here i || more i
+-- ---- the parts of a list
 
--- one is found before a place, at it, or after it
-pub any_around : {X : Type 0} (p : X → Bool) (xs : List X) (i : ℕ) (d : X) → i < length xs
-    → list_any p xs ≡ (list_any p (take i xs) || (p (get_or xs i d) || list_any p (drop (i + 1) xs)))
-any_around p xs i d within =
-    ap (list_any p) (sym (take-append-drop i xs)) ∙ list_any-append p (take i xs) (drop i xs)
-    ∙ ap (λ rest. list_any p (take i xs) || list_any p rest) (drop_more xs i d within)
+-- of the second of two lists all pairs are pairs of both together
+pairs_right : {X : Type 0} (R : X → X → Type 0) (xs ys : List X) → AllPairs R (xs ++ ys) → AllPairs R ys
+pairs_right R [] ys pairs = pairs
+pairs_right R (x ∷ xs) ys pairs = pairs_right R xs ys (λ i j d before below. pairs (suc i) (suc j) d (omega arith) (omega arith))
+
+-- what holds of all of two lists holds of all of the second
+all_right : {X : Type 0} (P : X → Type 0) (xs ys : List X) → All P (xs ++ ys) → All P ys
+all_right P [] ys each = each
+all_right P (x ∷ xs) ys each = all_right P xs ys (All-tail P x (xs ++ ys) each)
+
+-- those after the first
+behind_first : (x : Operation) (rest : List Operation) → AllPairs (λ a b. a.call < b.call) (x ∷ rest) → All (λ o. x.call < o.call) rest
+behind_first x rest rise = All-from_get_or (λ (o : Operation). x.call < o.call) rest x (λ k below. rise zero (suc k) x (omega arith) (omega arith))
+
+-- ---- one operation and another one
 
 -- an operation overlaps an earlier one that returns at its call or later
-pub overlaps_earlier : (x o : Operation) → o.call < x.call → x.call < x.ret → overlap x o ≡ nat_le x.call o.ret
+overlaps_earlier : (x o : Operation) → o.call < x.call → x.call < x.ret → overlap x o ≡ nat_le x.call o.ret
 overlaps_earlier x o before forward = grind (arith, nat_tests)
 
 -- a later one that is called by its return
-pub overlaps_later : (x o : Operation) → x.call < o.call → o.call < o.ret → overlap x o ≡ nat_le o.call x.ret
+overlaps_later : (x o : Operation) → x.call < o.call → o.call < o.ret → overlap x o ≡ nat_le o.call x.ret
 overlaps_later x o behind forward = grind (arith, nat_tests)
 
 -- and not itself
-pub not_itself : (x : Operation) → overlap x x ≡ false
+not_itself : (x : Operation) → overlap x x ≡ false
 not_itself x = grind (arith, nat_tests)
 
--- an operation overlaps another one if the last return before it comes at its call or later, or the next call by its return
-pub overlaps_one : (operations : List Operation) (i : ℕ) (x : Operation) → i < length operations → x ≡ get_or operations i x
-    → AllPairs (λ a b. a.call < b.call) operations → All (λ o. o.call < o.ret) operations
-    → list_any (overlap x) operations
-    ≡ (list_any (λ o. nat_le x.call o.ret) (take i operations) || list_any (λ o. nat_le o.call x.ret) (drop (i + 1) operations))
-overlaps_one operations i x within at rise forward =
-    any_around (overlap x) operations i x within
-    ∙ (λ k. earlier k || (itself k || later k))
-  where
-    goes_forward : x.call < x.ret
-    goes_forward = subst (λ (o : Operation). o.call < o.ret) (sym at) (All-get_or (λ (o : Operation). o.call < o.ret) operations i x within forward)
+-- if calls rise, an operation overlaps one of those before it if one of them returns at its call or later
+any_earlier : (earlier later : List Operation) (x : Operation) → AllPairs (λ a b. a.call < b.call) (earlier ++ x ∷ later) → x.call < x.ret
+    → list_any (overlap x) earlier ≡ list_any (λ o. nat_le x.call o.ret) earlier
+any_earlier [] later x rise forward = refl
+any_earlier (e ∷ earlier) later x rise forward =
+    let long = length-append earlier (x ∷ later) in
+    let before = subst (λ (o : Operation). e.call < o.call) (get_or-append_seam (e ∷ earlier) x later x)
+    (rise zero (suc (length earlier)) x (omega arith) (omega arith)) in
+    let here = overlaps_earlier x e before forward in
+    let more = any_earlier earlier later x (pairs_right (λ (a b : Operation). a.call < b.call) (e ∷ []) (earlier ++ x ∷ later) rise) forward in
+    λ i. here i || more i
 
-    earlier : list_any (overlap x) (take i operations) ≡ list_any (λ o. nat_le x.call o.ret) (take i operations)
-    earlier = any_alike (overlap x) (λ o. nat_le x.call o.ret) (take i operations)
-        (All-from_get_or (λ (o : Operation). overlap x o ≡ nat_le x.call o.ret) (take i operations) x one)
-      where
-        one : (k : ℕ) → k < length (take i operations) → overlap x (get_or (take i operations) k x) ≡ nat_le x.call (get_or (take i operations) k x).ret
-        one k below =
-            let short : k < i = omega (arith, length-take i operations) in
-            let same : get_or (take i operations) k x ≡ get_or operations k x = get_or-take i operations k x short in
-            let before = subst (λ (o : Operation). (get_or operations k x).call < o.call) (sym at) (rise k i x short within) in
-            overlaps_earlier x (get_or (take i operations) k x) (subst (λ (o : Operation). o.call < x.call) (sym same) before) goes_forward
+-- and one of those after it if one of them is called by its return
+any_later : (x : Operation) (later : List Operation) → All (λ o. x.call < o.call) later → All (λ o. o.call < o.ret) later
+    → list_any (overlap x) later ≡ list_any (λ o. nat_le o.call x.ret) later
+any_later x [] behind forward = refl
+any_later x (o ∷ later) behind forward =
+    let here = overlaps_later x o (All-head (λ (o : Operation). x.call < o.call) o later behind)
+    (All-head (λ (o : Operation). o.call < o.ret) o later forward) in
+    let more = any_later x later (All-tail (λ (o : Operation). x.call < o.call) o later behind)
+    (All-tail (λ (o : Operation). o.call < o.ret) o later forward) in
+    λ i. here i || more i
 
-    itself : overlap x (get_or operations i x) ≡ false
-    itself = ap (overlap x) (sym at) ∙ not_itself x
-
-    later : list_any (overlap x) (drop (i + 1) operations) ≡ list_any (λ o. nat_le o.call x.ret) (drop (i + 1) operations)
-    later = any_alike (overlap x) (λ o. nat_le o.call x.ret) (drop (i + 1) operations)
-        (All-from_get_or (λ (o : Operation). overlap x o ≡ nat_le o.call x.ret) (drop (i + 1) operations) x one)
-      where
-        one : (k : ℕ) → k < length (drop (i + 1) operations)
-            → overlap x (get_or (drop (i + 1) operations) k x) ≡ nat_le (get_or (drop (i + 1) operations) k x).call x.ret
-        one k below =
-            let there : i + 1 + k < length operations = omega (arith, length-drop (i + 1) operations) in
-            let same : get_or (drop (i + 1) operations) k x ≡ get_or operations (i + 1 + k) x = get_or-drop (i + 1) operations k x in
-            let behind = subst (λ (o : Operation). o.call < (get_or operations (i + 1 + k) x).call) (sym at) (rise i (i + 1 + k) x (omega arith) there) in
-            let on = All-get_or (λ (o : Operation). o.call < o.ret) operations (i + 1 + k) x there forward in
-            overlaps_later x (get_or (drop (i + 1) operations) k x) (subst (λ (o : Operation). x.call < o.call) (sym same) behind)
-            (subst (λ (o : Operation). o.call < o.ret) (sym same) on)
+-- ---- one of some operations
 
 -- if calls rise, one of them comes by a ticket if the first does
-pub first_decides : (ticket : ℕ) (x : Operation) (rest : List Operation) → All (λ o. x.call < o.call) rest
+first_decides : (ticket : ℕ) (x : Operation) (rest : List Operation) → All (λ o. x.call < o.call) rest
     → list_any (λ o. nat_le o.call ticket) (x ∷ rest) ≡ nat_le x.call ticket
 first_decides ticket x [] behind = grind (arith, nat_tests)
 first_decides ticket x (y ∷ rest) behind =
@@ -94,37 +84,82 @@ first_decides ticket x (y ∷ rest) behind =
     one false true c e h = let wrong = h refl in cc
     one false false c e h = e
 
--- those after the first
-pub behind_first : (x : Operation) (rest : List Operation) → AllPairs (λ a b. a.call < b.call) (x ∷ rest) → All (λ o. x.call < o.call) rest
-behind_first x rest rise = All-from_get_or (λ (o : Operation). x.call < o.call) rest x (λ k below. rise zero (suc k) x (omega arith) (omega arith))
-
--- if calls rise, one of some operations is called by a ticket if the first is
-pub first_called : (ticket : ℕ) (operations : List Operation) (d : Operation) → 1 ≤ length operations
-    → AllPairs (λ a b. a.call < b.call) operations
-    → nat_le (get_or operations 0 d).call ticket ≡ list_any (λ o. nat_le o.call ticket) operations
-first_called ticket [] d some rise = absurd (omega arith)
-first_called ticket (x ∷ rest) d some rise = sym (first_decides ticket x rest (behind_first x rest rise))
+-- the first of some operations, if there is one, decides whether one is called by a ticket
+pub called_by_first : (ticket : ℕ) (operations rest : List Operation) (x : Operation) → operations ≡ x ∷ rest
+    → AllPairs (λ a b. a.call < b.call) operations → nat_le x.call ticket ≡ list_any (λ o. nat_le o.call ticket) operations
+called_by_first ticket operations rest x is rise =
+    sym (first_decides ticket x rest (behind_first x rest (subst (AllPairs (λ (a b : Operation). a.call < b.call)) is rise)))
+    ∙ ap (list_any (λ (o : Operation). nat_le o.call ticket)) (sym is)
 
 -- both tests decide whether an operation overlaps another one
-pub overlap_told : (operations : List Operation) (i : ℕ) (d x : Operation) (earlier later : Bool) → i < length operations
-    → ((e : Operation) → get_or operations i e ≡ x) → AllPairs (λ a b. a.call < b.call) operations → All (λ o. o.call < o.ret) operations
-    → earlier ≡ list_any (λ o. nat_le x.call o.ret) (take i operations) → later ≡ list_any (λ o. nat_le o.call x.ret) (drop (i + 1) operations)
-    → (earlier || later) ≡ list_any (overlap (get_or operations i d)) operations
-overlap_told operations i d x earlier later within at rise forward is_earlier is_later =
-    (λ k. is_earlier k || is_later k) ∙ sym (overlaps_one operations i x within (sym (at x)) rise forward)
-    ∙ ap (λ o. list_any (overlap o) operations) (sym (at d))
+pub overlap_told : (earlier later : List Operation) (x : Operation) (is_earlier is_later : Bool)
+    → AllPairs (λ a b. a.call < b.call) (earlier ++ x ∷ later) → All (λ o. o.call < o.ret) (earlier ++ x ∷ later)
+    → is_earlier ≡ list_any (λ o. nat_le x.call o.ret) earlier
+    → is_later ≡ list_any (λ o. nat_le o.call x.ret) later
+    → (is_earlier || is_later) ≡ list_any (overlap x) (earlier ++ x ∷ later)
+overlap_told earlier later x is_earlier is_later rise forward tells_earlier tells_later =
+    let rises = pairs_right (λ (a b : Operation). a.call < b.call) earlier (x ∷ later) rise in
+    let goes = all_right (λ (o : Operation). o.call < o.ret) earlier (x ∷ later) forward in
+    let one = tells_earlier ∙ sym (any_earlier earlier later x rise (All-head (λ (o : Operation). o.call < o.ret) x later goes)) in
+    let other = tells_later ∙ sym (any_later x later (behind_first x later rises) (All-tail (λ (o : Operation). o.call < o.ret) x later goes)) in
+    (λ i. one i || (sym (not_itself x) i || other i)) ∙ sym (list_any-append (overlap x) earlier (x ∷ later))
 
-pub overlap_told_earlier : (operations : List Operation) (i : ℕ) (d x : Operation) (earlier : Bool) → i < length operations
-    → ((e : Operation) → get_or operations i e ≡ x) → AllPairs (λ a b. a.call < b.call) operations → All (λ o. o.call < o.ret) operations
-    → earlier ≡ list_any (λ o. nat_le x.call o.ret) (take i operations) → earlier ≡ true
-    → earlier ≡ list_any (overlap (get_or operations i d)) operations
-overlap_told_earlier operations i d x earlier within at rise forward is_earlier found =
-    let told = overlap_told operations i d x earlier (list_any (λ o. nat_le o.call x.ret) (drop (i + 1) operations)) within at rise forward is_earlier refl in
-    found ∙ ap (λ b. b || list_any (λ (o : Operation). nat_le o.call x.ret) (drop (i + 1) operations)) (sym found) ∙ told
+-- ---- one after another
 
-pub overlap_told_later : (operations : List Operation) (i : ℕ) (d x : Operation) (earlier later : Bool) → i < length operations
-    → ((e : Operation) → get_or operations i e ≡ x) → AllPairs (λ a b. a.call < b.call) operations → All (λ o. o.call < o.ret) operations
-    → earlier ≡ list_any (λ o. nat_le x.call o.ret) (take i operations) → earlier ≡ false
-    → later ≡ list_any (λ o. nat_le o.call x.ret) (drop (i + 1) operations) → later ≡ list_any (overlap (get_or operations i d)) operations
-overlap_told_later operations i d x earlier later within at rise forward is_earlier none is_later =
-    ap (λ b. b || later) (sym none) ∙ overlap_told operations i d x earlier later within at rise forward is_earlier is_later
+-- of all operations some were seen; this many of them overlap another one, and this is their last return
+pub record Counted (all left : List Operation) (count last_return : ℕ) : Type 0 where
+  pub seen : List Operation
+  pub parts : seen ++ left ≡ all
+  pub counted : count ≡ count_by (λ o. list_any (overlap o) all) seen
+  pub last : IsLastReturn seen last_return
+  pub none : length seen ≡ 0 → last_return ≡ 0
+
+-- if calls rise, so do those of the operations after the next
+pub left_rise : (all old left : List Operation) (x : Operation) (count last_return : ℕ) → old ≡ x ∷ left → AllPairs (λ a b. a.call < b.call) all
+    → Counted all old count last_return → AllPairs (λ a b. a.call < b.call) left
+left_rise all old left x count last_return is rise was =
+    pairs_right (λ (a b : Operation). a.call < b.call) (x ∷ []) left (subst (AllPairs (λ (a b : Operation). a.call < b.call)) is
+    (pairs_right (λ (a b : Operation). a.call < b.call) was.seen old (subst (AllPairs (λ (a b : Operation). a.call < b.call)) (sym was.parts) rise)))
+
+-- one more has a return that may be the last
+last_more : (seen : List Operation) (x : Operation) (last next : ℕ) → IsLastReturn seen last → (length seen ≡ 0 → last ≡ 0) → next ≡ max last x.ret
+    → IsLastReturn (seen ++ x ∷ []) next
+last_more seen x last next is none new = λ ticket.
+    list_any-append (λ (o : Operation). nat_le ticket o.ret) seen (x ∷ []) ∙ ap (λ b. b || (nat_le ticket x.ret || false)) (is ticket)
+    ∙ both ticket (length seen) (length (seen ++ x ∷ [])) none (length-append seen (x ∷ []))
+  where
+    both : (ticket n m : ℕ) → (n ≡ 0 → last ≡ 0) → m ≡ n + 1
+        → ((nat_lt 0 n && nat_le ticket last) || (nat_le ticket x.ret || false)) ≡ (nat_lt 0 m && nat_le ticket next)
+    both ticket zero m first size = let no = first refl in grind (arith, nat_tests)
+    both ticket (suc n) m first size = grind (arith, nat_tests)
+
+-- one more, which overlaps another one or doesn't, as those before it and those after it show
+pub counted_more : (all old left : List Operation) (x : Operation) (count last next count' : ℕ) (has_earlier told : Bool) → old ≡ x ∷ left
+    → AllPairs (λ a b. a.call < b.call) all → All (λ o. o.call < o.ret) all → has_earlier ≡ nat_lt (length left + 1) (length all)
+    → ((earlier : List Operation) → AllPairs (λ a b. a.call < b.call) (earlier ++ x ∷ left) → All (λ o. o.call < o.ret) (earlier ++ x ∷ left)
+    → has_earlier ≡ nat_lt 0 (length earlier) → IsLastReturn earlier last → told ≡ list_any (overlap x) (earlier ++ x ∷ left))
+    → count' ≡ count + cond told 1 0 → next ≡ max last x.ret → Counted all old count last → Counted all left count' next
+counted_more all old left x count last next count' has_earlier told is rise forward has tells counts new was = record {
+  seen = was.seen ++ x ∷ [];
+  parts = append_assoc was.seen (x ∷ []) left ∙ whole;
+  counted = omega (
+    arith,
+    counts,
+    was.counted,
+    sum_by-append (λ o. cond (list_any (overlap o) all) 1 0) was.seen (x ∷ []),
+    ap {B = ℕ}
+        (λ b. cond b 1 0) overlaps,
+  );
+  last = last_more was.seen x last next was.last was.none new;
+  none = λ no. absurd (omega (arith, length-append was.seen (x ∷ []), no));
+}
+  where
+    whole : was.seen ++ x ∷ left ≡ all
+    whole = ap (λ (os : List Operation). was.seen ++ os) (sym is) ∙ was.parts
+
+    some : nat_lt (length left + 1) (length all) ≡ nat_lt 0 (length was.seen)
+    some = let long = length-append was.seen (x ∷ left) in let size : length (was.seen ++ x ∷ left) ≡ length all = ap length whole in grind (arith, nat_tests)
+
+    overlaps : told ≡ list_any (overlap x) all
+    overlaps = tells was.seen (subst (AllPairs (λ (a b : Operation). a.call < b.call)) (sym whole) rise)
+        (subst (All (λ (o : Operation). o.call < o.ret)) (sym whole) forward) (has ∙ some) was.last ∙ ap (list_any (overlap x)) whole

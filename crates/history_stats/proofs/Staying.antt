@@ -1,11 +1,9 @@
--- Values that come and go: one value more, one operation more, and the most that stayed.
-use Rattle.std.proofs.Common.{◌≡◌, ℕ, ◌+◌, ◌<◌, List, [], ◌∷◌, ◌++◌, length, get_or, take, Bool, true, false, cond, not, refl, ◌∙◌, ap, arith}
+-- Values that come and go: one value more, and the most that stayed.
+use Rattle.std.proofs.Common.{◌≡◌, ℕ, ◌+◌, ◌<◌, List, [], ◌++◌, length, get_or, take, Bool, true, false, cond, not, refl, arith}
 use Rattle.std.specs.Prelude.{count_by}
-use Rattle.std.proofs.lemmas.List.{take_more}
-use Rattle.std.proofs.lemmas.List.Elements.{filter_map-append}
 use Rattle.std.proofs.lemmas.List.Sums.{sum_by-append, sum_by_more}
 use Rattle.history_merge.specs.declared.operation.Operation.{Operation}
-use Rattle.history_stats.specs.AtOnce.{IsMost, is_taken_before, stay_count, value_put_before, values_put_before}
+use Rattle.history_stats.specs.AtOnce.{IsMost, is_taken_before, stay_count, values_put_before}
 use Rattle.history_stats.specs.Inner.AtOnce.{count_before}
 use Rattle.history_stats.proofs.AtOnce.{same_most, there_at}
 
@@ -20,27 +18,6 @@ pub value_more : (departures : ℕ → Bool) (values : List ℕ) (i gone new_gon
     → count_by (λ v. not (departures v)) (take (i + 1) values) + new_gone ≡ i + 1 + base
 value_more departures values i gone new_gone base d within so_far is =
     omega (arith, so_far, is, sum_by_more (λ v. cond (not (departures v)) 1 0) values i d within, one_goes (departures (get_or values i d)))
-
--- one operation more puts its value, if it puts one
-pub put_more : (gap : ℕ) (stays : ℕ → Bool) (operations : List Operation) (i : ℕ) (d : Operation) → i < length operations
-    → count_by stays (values_put_before gap (take (i + 1) operations))
-    ≡ count_by stays (values_put_before gap (take i operations)) + count_by stays (values_put_before gap (get_or operations i d ∷ []))
-put_more gap stays operations i d within =
-    ap (λ (xs : List Operation). count_by stays (values_put_before gap xs)) (take_more operations i d within)
-    ∙ ap (count_by stays) (filter_map-append (value_put_before gap) (take i operations) (get_or operations i d ∷ []))
-    ∙ sum_by-append (λ v. cond (stays v) 1 0) (values_put_before gap (take i operations)) (values_put_before gap (get_or operations i d ∷ []))
-
--- what comes and goes with it
-pub stay_more : (gap : ℕ) (stays : ℕ → Bool) (operations : List Operation) (i : ℕ) (d : Operation) (departures departures' arrivals arrivals' first_goes first_comes : List ℕ)
-    → i < length operations
-    → count_by stays (values_put_before gap (take i operations)) + count_before gap departures + count_before gap first_comes
-    ≡ count_before gap arrivals + count_before gap first_goes
-    → count_by stays (values_put_before gap (get_or operations i d ∷ [])) + count_before gap departures' + count_before gap arrivals
-    ≡ count_before gap arrivals' + count_before gap departures
-    → count_by stays (values_put_before gap (take (i + 1) operations)) + count_before gap departures' + count_before gap first_comes
-    ≡ count_before gap arrivals' + count_before gap first_goes
-stay_more gap stays operations i d departures departures' arrivals arrivals' first_goes first_comes within so_far step =
-    omega (arith, so_far, step, put_more gap stays operations i d within)
 
 -- the most that stayed is the most that is there of what comes and goes
 pub most_queued_is : (initial : List ℕ) (operations : List Operation) (goes_before : ℕ → ℕ → Bool) (arrivals first_goes departures : List ℕ) (most : ℕ)

@@ -5,7 +5,7 @@ ghost use Rattle.event_records.specs.declared.limits.TheConstants.{MAX_THREAD, M
 ghost use Rattle.history_stats.specs.Counts.{change_count, has_event, is_dequeued, is_empty, is_enqueued, is_refused, kind_count, thread_count};
 
 use event_records::{Event, MAX_THREADS};
-use history_merge::{OpKind, PackedOperation};
+use history_merge::{OpKind, Operations};
 
 /// Counts the threads that have an event.
 pub(crate) fn thread_count(events: &[Event]) -> usize
@@ -57,42 +57,42 @@ fn change_count_with(events: &[Event], later: &[Event]) -> usize
 }
 
 /// Counts the successful enqueues.
-pub(crate) fn enqueued_count(operations: &[PackedOperation]) -> usize
+pub(crate) fn enqueued_count(operations: &Operations<'_>) -> usize
     ensures { result ≡ kind_count is_enqueued operations.now }
 {
     operations
         .iter()
-        .filter(|operation| is_enqueued(operation.unpack().kind))
+        .filter(|operation| is_enqueued(operation.kind))
         .count()
 }
 
 /// Counts the failed enqueues.
-pub(crate) fn refused_count(operations: &[PackedOperation]) -> usize
+pub(crate) fn refused_count(operations: &Operations<'_>) -> usize
     ensures { result ≡ kind_count is_refused operations.now }
 {
     operations
         .iter()
-        .filter(|operation| is_refused(operation.unpack().kind))
+        .filter(|operation| is_refused(operation.kind))
         .count()
 }
 
 /// Counts the dequeues that gave a value.
-pub(crate) fn dequeued_count(operations: &[PackedOperation]) -> usize
+pub(crate) fn dequeued_count(operations: &Operations<'_>) -> usize
     ensures { result ≡ kind_count is_dequeued operations.now }
 {
     operations
         .iter()
-        .filter(|operation| is_dequeued(operation.unpack().kind))
+        .filter(|operation| is_dequeued(operation.kind))
         .count()
 }
 
 /// Counts the dequeues that found the queue empty.
-pub(crate) fn empty_count(operations: &[PackedOperation]) -> usize
+pub(crate) fn empty_count(operations: &Operations<'_>) -> usize
     ensures { result ≡ kind_count is_empty operations.now }
 {
     operations
         .iter()
-        .filter(|operation| is_empty(operation.unpack().kind))
+        .filter(|operation| is_empty(operation.kind))
         .count()
 }
 

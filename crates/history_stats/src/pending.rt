@@ -5,16 +5,13 @@ ghost use Rattle.history_merge.specs.declared.operation.Operation.{Operation};
 ghost use Rattle.history_stats.specs.AtOnce.{IsMost, pending_at};
 
 use crate::at_once::most_of;
-use history_merge::PackedOperation;
+use history_merge::Operations;
 use std::alloc::{AllocError, Global};
 
 /// Returns the most operations that were pending at one gap.
 ///
 /// Takes time O(n log n) for n operations, and memory for two tickets of each.
-pub(crate) fn most_pending(
-    alloc: Global,
-    operations: &[PackedOperation],
-) -> Result<usize, AllocError>
+pub(crate) fn most_pending(alloc: Global, operations: &Operations<'_>) -> Result<usize, AllocError>
     requires forward { All (λ o. o.call < o.ret) operations.now }
     requires few { length operations.now ≤ MAX_EVENTS }
     ensures { IfOk result (IsMost (pending_at operations.now)) }
@@ -25,21 +22,21 @@ pub(crate) fn most_pending(
 }
 
 /// Returns the tickets of the calls.
-fn calls_of(alloc: Global, operations: &[PackedOperation]) -> Result<Vec<u64>, AllocError>
+fn calls_of(alloc: Global, operations: &Operations<'_>) -> Result<Vec<u64>, AllocError>
     ensures { IfOk result (λ v. v.items ≡ map (λ o. o.call) operations.now) }
 {
     operations
         .iter()
-        .map(|operation| operation.unpack().call)
+        .map(|operation| operation.call)
         .collect(alloc)
 }
 
 /// Returns the tickets of the returns.
-fn returns_of(alloc: Global, operations: &[PackedOperation]) -> Result<Vec<u64>, AllocError>
+fn returns_of(alloc: Global, operations: &Operations<'_>) -> Result<Vec<u64>, AllocError>
     ensures { IfOk result (λ v. v.items ≡ map (λ o. o.ret) operations.now) }
 {
     operations
         .iter()
-        .map(|operation| operation.unpack().ret)
+        .map(|operation| operation.ret)
         .collect(alloc)
 }

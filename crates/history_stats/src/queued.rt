@@ -8,7 +8,7 @@ ghost use Rattle.history_stats.specs.AtOnce.{IsMost, is_taken_before, stay_count
 ghost use Rattle.history_stats.specs.Inner.AtOnce.{count_before, is_kept_before};
 
 use crate::at_once::most_of;
-use history_merge::{OpKind, Operation, PackedOperation};
+use history_merge::{OpKind, Operation, Operations};
 use std::alloc::{AllocError, Global};
 use std::collections::BTreeMap;
 
@@ -18,7 +18,7 @@ use std::collections::BTreeMap;
 pub(crate) fn most_queued(
     alloc: Global,
     initial: &[u64],
-    operations: &[PackedOperation],
+    operations: &Operations<'_>,
 ) -> Result<usize, AllocError>
     requires few_initial { length initial.now ≤ MAX_INITIAL }
     requires few { length operations.now ≤ MAX_EVENTS }
@@ -33,15 +33,11 @@ pub(crate) fn most_queued(
 }
 
 /// Returns for each value that a dequeue gave the ticket at which the first such dequeue was called.
-fn first_takes(
-    alloc: Global,
-    operations: &[PackedOperation],
-) -> Result<BTreeMap<u64, u64>, AllocError>
+fn first_takes(alloc: Global, operations: &Operations<'_>) -> Result<BTreeMap<u64, u64>, AllocError>
     ensures { IfOk result (λ takes. (gap v : ℕ) → is_kept_before gap takes v ≡ is_taken_before gap operations.now v) }
 {
     let mut takes = BTreeMap::new(alloc);
-    for operation in operations {
-        let operation = operation.unpack();
+    for operation in operations.iter() {
         if let OpKind::Deq(value) = operation.kind {
             keep_least(&mut takes, value, operation.call)?;
         }
@@ -98,15 +94,15 @@ fn add_go(departures: &mut Vec<u64>, take: Option<u64>) -> Result<(), AllocError
 fn add_enqueued(
     arrivals: &mut Vec<u64>,
     departures: &mut Vec<u64>,
-    operations: &[PackedOperation],
+    operations: &Operations<'_>,
     takes: &BTreeMap<u64, u64>,
 ) -> Result<(), AllocError>
     ensures stays { OnOk result ((gap : ℕ) → count_by (λ v. not (is_kept_before gap takes.now v)) (values_put_before gap operations.now)
         + count_before gap departures.new.items + count_before gap arrivals.old.items ≡ count_before gap arrivals.new.items + count_before gap departures.old.items) }
     ensures few { OnOk result (vec_len arrivals.new ≤ vec_len arrivals.old + length operations.now) }
 {
-    for operation in operations {
-        add_one(arrivals, departures, operation.unpack(), takes)?;
+    for operation in operations.iter() {
+        add_one(arrivals, departures, operation, takes)?;
     }
     Ok(())
 }

@@ -61,17 +61,17 @@ pub fn statistics_of(alloc: Global, history: &History) -> Result<Statistics, All
     let events = listed_events(alloc, history)?;
     let operations = history.operations();
     let initial = history.initial();
-    let most_pending = most_pending(alloc, operations)?;
-    let most_queued = most_queued(alloc, initial, operations)?;
-    let overlapping = overlapping_count(operations);
+    let most_pending = most_pending(alloc, &operations)?;
+    let most_queued = most_queued(alloc, initial, &operations)?;
+    let overlapping = overlapping_count(&operations);
     Ok(Statistics {
         events: events.len(),
         operations: operations.len(),
         threads: thread_count(events.as_slice()),
-        enqueued: enqueued_count(operations),
-        refused: refused_count(operations),
-        dequeued: dequeued_count(operations),
-        empty: empty_count(operations),
+        enqueued: enqueued_count(&operations),
+        refused: refused_count(&operations),
+        dequeued: dequeued_count(&operations),
+        empty: empty_count(&operations),
         initial: initial.len(),
         thread_changes: change_count(events.as_slice()),
         overlapping,

@@ -12,7 +12,7 @@ ghost use Rattle.verdicts.specs.declared.shown.LinePlace.TheVariants as place;
 ghost use Rattle.text_lines.specs.Writing.{Puts, Writes, PutsText};
 
 use crate::lines::{WritesLine, put_each};
-use history_merge::{History, OpId, OpKind, Operation, PackedOperation, operation_at};
+use history_merge::{History, OpId, OpKind, Operation, Operations};
 use text_lines::{TextSink, WriteBuffer, WriteFault, write_piece};
 use value_match::{CoverStep, Violation};
 use verdicts::{ClaimLine, LinePlace, Verdict};
@@ -68,10 +68,10 @@ fn push_line(kept: &mut WriteBuffer, shown: &ClaimLine)
 }
 
 /// Returns the line of the operation at the place.
-fn order_line_at(operations: &[PackedOperation], place: OpId) -> Option<ClaimLine>
+fn order_line_at(operations: &Operations<'_>, place: OpId) -> Option<ClaimLine>
     ensures { result ≡ option_map Op (slice_get operations.now place) }
 {
-    operation_at(operations, place).map(ClaimLine::Op)
+    operations.get(place).map(ClaimLine::Op)
 }
 
 /// Puts a line, if there is one.
@@ -89,7 +89,7 @@ fn push_if_shown(kept: &mut WriteBuffer, shown: Option<ClaimLine>)
 #[derive(Clone, Copy)]
 struct PlaceLines<'a> {
     initial: &'a [u64],
-    operations: &'a [PackedOperation],
+    operations: &'a Operations<'a>,
 }
 
 impl<'a> WritesLine<OpId> for PlaceLines<'a> {
@@ -238,7 +238,7 @@ fn put_violation<W: TextSink>(
 /// Puts the whole text, and may hold back its end.
 fn put_verdict<W: TextSink>(
     initial: &[u64],
-    operations: &[PackedOperation],
+    operations: &Operations<'_>,
     verdict: &Verdict,
     kept: &mut WriteBuffer,
     writer: &mut W,
@@ -293,7 +293,7 @@ pub fn write_verdict<W: TextSink>(
     let mut kept = WriteBuffer::new();
     put_verdict(
         history.initial(),
-        history.operations(),
+        &history.operations(),
         verdict,
         &mut kept,
         writer,

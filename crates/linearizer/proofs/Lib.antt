@@ -7,7 +7,7 @@
 -- Runs, LegalOrder, OneOrder: by their positions the operations are a run that the queue accepts, the one chosen order.
 -- PlacedValues, Additions, Sorting, Merging, Keys, ChosenPlaces: the lists of placed operations, merged, are that order.
 -- NoneTwice, Partition: each operation stands in one of these lists, once.
--- Told: the order of a filled history, by the places of the history, and from gaps by tickets.
+-- Told: the order of a timeline, by the places of the history, and from gaps by tickets.
 pub mod Choices
 pub mod Times
 pub mod Opposites

@@ -1,4 +1,4 @@
--- The order of a filled history, told by the places and tickets of the history.
+-- The order of a timeline, told by the places and tickets of the history.
 use Rattle.std.proofs.Common.{◌≡◌, ℕ, ◌≤◌, List, [], ◌∷◌, length, map, ◌∙◌, ap, subst, arith}
 use Rattle.std.specs.Prelude.{All, filter, filter_map}
 use Rattle.std.specs.List.{AllZip}
@@ -6,11 +6,11 @@ use Rattle.std.proofs.lemmas.List.Elements.{All-cons, All-filter, All-head, All-
 use Rattle.std.proofs.lemmas.List.Folds.{map_fixed}
 use Rattle.event_records.specs.declared.limits.TheConstants.{MAX_CLOCK}
 use Rattle.history_merge.specs.declared.operation.Operation.{Operation}
-use Rattle.history_merge.specs.Initial.{filled}
+use Rattle.history_merge.specs.Initial.{timeline}
 use Rattle.history_merge.specs.Legal.{ArePlacesOf}
 use Rattle.history_merge.proofs.Distinct.{return_in_range}
-use Rattle.history_merge.proofs.Filled.{all_filled_orders}
-use Rattle.value_match.specs.Filling.{filled_gap}
+use Rattle.history_merge.proofs.Timelines.{all_timeline_orders}
+use Rattle.value_match.specs.Timeline.{clock_of_gap}
 use Rattle.value_match.specs.Lives.{AreLeastFreeGaps, IsLeastFreeGap, is_empty_answer}
 use Rattle.value_match.specs.Told.{place_behind}
 use Rattle.value_match.specs.Violations.{IsClear}
@@ -20,22 +20,22 @@ use Rattle.linearizer.specs.Inner.Merging.{IsWholeOrder}
 
 -- gaps in windows of operations that return in range are in range
 below_returns : (operations listed : List Operation) (k : ℕ) (gaps : List ℕ) → All (λ o. o.ret ≤ MAX_CLOCK) listed
-    → AllZip (λ o c. IsLeastFreeGap operations o c) listed (map (filled_gap k) gaps) → All (λ gap. filled_gap k gap ≤ MAX_CLOCK) gaps
-below_returns operations listed k [] returns zip = All-nil (λ gap. filled_gap k gap ≤ MAX_CLOCK)
+    → AllZip (λ o c. IsLeastFreeGap operations o c) listed (map (clock_of_gap k) gaps) → All (λ gap. clock_of_gap k gap ≤ MAX_CLOCK) gaps
+below_returns operations listed k [] returns zip = All-nil (λ gap. clock_of_gap k gap ≤ MAX_CLOCK)
 below_returns operations [] k (gap ∷ gaps) returns zip = absurd zip
 below_returns operations (o ∷ listed) k (gap ∷ gaps) returns zip =
     let returned = All-head (λ (x : Operation). x.ret ≤ MAX_CLOCK) o listed returns in
     let below = zip.0.in_window.1 in
-    All-cons (λ g. filled_gap k g ≤ MAX_CLOCK) gap gaps (omega (arith, returned, below))
+    All-cons (λ g. clock_of_gap k g ≤ MAX_CLOCK) gap gaps (omega (arith, returned, below))
     (below_returns operations listed k gaps (All-tail (λ (x : Operation). x.ret ≤ MAX_CLOCK) o listed returns) zip.1)
 
 module _ (initial : List ℕ) (operations : List Operation) where
   abbrev all : List Operation
-  all = filled initial operations
+  all = timeline initial operations
 
   -- each least free gap is before a return, so its clock is in range
-  pub gaps_in_range : (gaps : List ℕ) → IsClear all → AreLeastFreeGaps all (map (filled_gap (length initial)) gaps)
-      → All (λ gap. filled_gap (length initial) gap ≤ MAX_CLOCK) gaps
+  pub gaps_in_range : (gaps : List ℕ) → IsClear all → AreLeastFreeGaps all (map (clock_of_gap (length initial)) gaps)
+      → All (λ gap. clock_of_gap (length initial) gap ≤ MAX_CLOCK) gaps
   gaps_in_range gaps clear free =
       below_returns all (filter is_empty_answer all) (length initial) gaps
       (All-filter is_empty_answer (λ o. o.ret ≤ MAX_CLOCK) all
@@ -45,7 +45,7 @@ module _ (initial : List ℕ) (operations : List Operation) where
   pub order_told : (places : List ℕ) → IsWholeOrder all places
       → AreChosenAndLegal initial operations (filter_map (place_behind (length initial)) places)
   order_told places is =
-      let legal = all_filled_orders initial operations is.0 is.3 in (
+      let legal = all_timeline_orders initial operations is.0 is.3 in (
         legal.0,
         order_back initial operations places legal.0 (subst (ArePlacesOf all places) legal.1 is.1),
         subst (IsChosenOrder all) legal.1 is.2,
@@ -53,9 +53,9 @@ module _ (initial : List ℕ) (operations : List Operation) where
       )
 
   -- with no initial values the gaps are as they stand
-  pub gaps_of_none : (gaps : List ℕ) → length initial ≡ 0 → AreLeastFreeGaps all (map (filled_gap (length initial)) gaps) → AreLeastFreeGaps all gaps
+  pub gaps_of_none : (gaps : List ℕ) → length initial ≡ 0 → AreLeastFreeGaps all (map (clock_of_gap (length initial)) gaps) → AreLeastFreeGaps all gaps
   gaps_of_none gaps none free =
-      let same = map_fixed (filled_gap (length initial)) gaps (λ i d below. omega (arith, none)) in
+      let same = map_fixed (clock_of_gap (length initial)) gaps (λ i d below. omega (arith, none)) in
       subst (AreLeastFreeGaps all) same free
 
   -- and so are the places

@@ -4,7 +4,7 @@ use Rattle.std.specs.List.{AllZip}
 use Rattle.history_merge.specs.declared.operation.Operation.{Operation}
 use Rattle.history_merge.specs.declared.operation.OpKind.{OpKind}
 use Rattle.history_merge.specs.declared.operation.OpKind.TheVariants.{Enq, Deq, Empty, Not}
-use Rattle.history_merge.specs.Initial.{filled}
+use Rattle.history_merge.specs.Initial.{timeline}
 use Rattle.history_merge.specs.Legal.{IsLegalOrder, ArePlacesOf}
 use Rattle.value_match.specs.declared.life.Life.{Life}
 use Rattle.value_match.specs.Lives.{IsLeastFreeGap, dequeue_of, enqueue_of}
@@ -72,8 +72,8 @@ pub record IsChosenOrder (operations order : List Operation) : Type 0 where
   pub positions_rise : AllPairs StandsBefore positions
 
 -- the places are those of an order that is legal for a queue that holds these values first, and that, behind the enqueues of these
--- values, is the chosen one of the filled history
+-- values, is the chosen one of the timeline
 abbrev pub AreChosenAndLegal : List ℕ → List Operation → List ℕ → Type 0
 AreChosenAndLegal initial operations places =
-    (order : List Operation) × ArePlacesOf operations places order × IsChosenOrder (filled initial operations) (filled initial order)
+    (order : List Operation) × ArePlacesOf operations places order × IsChosenOrder (timeline initial operations) (timeline initial order)
     × IsLegalOrder initial operations order

@@ -4,6 +4,7 @@ ghost use Rattle.history_merge.specs.declared.packed.TheConstants.{PACKED_LIMIT}
 ghost use Rattle.history_merge.specs.declared.operation.Operation.{Operation};
 ghost use Rattle.history_merge.specs.Operations.{IsAt};
 ghost use Rattle.value_match.specs.Lives.{AreLeastFreeGaps, is_empty_answer, is_refused};
+ghost use Rattle.value_match.specs.Timeline.{timeline_of};
 ghost use Rattle.value_match.specs.Violations.{IsClear};
 ghost use Rattle.value_match.specs.declared.matching.TheConstants.{MAX_MATCHED};
 ghost use Rattle.linearizer.specs.Inner.Placement.{Adds, HoldsNoops, noop_at};
@@ -13,7 +14,7 @@ use crate::timed::{PackedTimed, Timed};
 use history_merge::{OpId, PackedOperation};
 use std::alloc::{AllocError, Global};
 use std::marker::Model;
-use value_match::FilledMatching;
+use value_match::Matching;
 
 /// The empty answers and the refused enqueues by rising position, seen as the list of them with their positions.
 ///
@@ -69,14 +70,14 @@ impl<'a> Noops<'a> {
 /// calls, which is that of their places.
 pub(crate) fn noops_of<'a>(
     alloc: Global,
-    matching: &'a FilledMatching,
+    matching: &'a Matching,
     gaps: &[u64],
 ) -> Result<Noops<'a>, AllocError>
-    requires { AreLeastFreeGaps matching.now gaps.now }
-    ensures { IfOk result (λ noops. HoldsNoops matching.now noops) }
+    requires { AreLeastFreeGaps (timeline_of matching.now) gaps.now }
+    ensures { IfOk result (λ noops. HoldsNoops (timeline_of matching.now) noops) }
 {
-    let operations = matching.operations();
-    let count = gaps.len().saturating_add(matching.refused().len());
+    let operations = matching.timeline();
+    let count = gaps.len().saturating_add(matching.timeline_refused().len());
     let mut noops = Vec::with_capacity(alloc, count)?;
     add_empties(&mut noops, matching, gaps)?;
     add_refused(&mut noops, matching)?;
@@ -88,15 +89,15 @@ pub(crate) fn noops_of<'a>(
 #[tactic(auto, using(crate::proofs::Additions::adds_none))]
 fn add_empties(
     noops: &mut Vec<PackedTimed>,
-    matching: &FilledMatching,
+    matching: &Matching,
     gaps: &[u64],
 ) -> Result<(), AllocError>
-    requires few { length matching.now ≤ MAX_MATCHED }
-    requires clear { IsClear matching.now }
-    requires gaps { AreLeastFreeGaps matching.now gaps.now }
-    ensures { OnOk result (Adds matching.now (filter is_empty_answer matching.now) noops.old.items noops.new.items) }
+    requires few { length (timeline_of matching.now) ≤ MAX_MATCHED }
+    requires clear { IsClear (timeline_of matching.now) }
+    requires gaps { AreLeastFreeGaps (timeline_of matching.now) gaps.now }
+    ensures { OnOk result (Adds (timeline_of matching.now) (filter is_empty_answer (timeline_of matching.now)) noops.old.items noops.new.items) }
 {
-    for (id, gap) in matching.empties().iter().zip(gaps) {
+    for (id, gap) in matching.timeline_empties().iter().zip(gaps) {
         noops.push(PackedTimed::new(Timed {
             time: *gap,
             place: id.place(),
@@ -107,11 +108,11 @@ fn add_empties(
 
 /// Adds the refused enqueues, each at its call.
 #[tactic(auto, using(crate::proofs::Additions::adds_none))]
-fn add_refused(noops: &mut Vec<PackedTimed>, matching: &FilledMatching) -> Result<(), AllocError>
-    ensures { OnOk result (Adds matching.now (filter is_refused matching.now) noops.old.items noops.new.items) }
+fn add_refused(noops: &mut Vec<PackedTimed>, matching: &Matching) -> Result<(), AllocError>
+    ensures { OnOk result (Adds (timeline_of matching.now) (filter is_refused (timeline_of matching.now)) noops.old.items noops.new.items) }
 {
-    let operations = matching.operations();
-    for id in matching.refused() {
+    let operations = matching.timeline();
+    for id in matching.timeline_refused() {
         noops.push(PackedTimed::new(Timed {
             time: call_at(operations, *id),
             place: id.place(),

@@ -1,6 +1,6 @@
 ghost use Rattle.std.specs.Prelude.{◌≡◌, ◌≤◌, All, IfOk, filter_map, length, map};
 ghost use Rattle.event_records.specs.declared.limits.TheConstants.{MAX_CLOCK};
-ghost use Rattle.value_match.specs.Filling.{filled_gap, filled_operations};
+ghost use Rattle.value_match.specs.Timeline.{clock_of_gap, timeline_of};
 ghost use Rattle.value_match.specs.Lives.{AreLeastFreeGaps};
 ghost use Rattle.value_match.specs.Told.{place_behind};
 ghost use Rattle.value_match.specs.Violations.{NoOrderViolation};
@@ -12,7 +12,7 @@ use crate::ordered_values::OrderedValues;
 use crate::placing::merge;
 use history_merge::OpId;
 use std::alloc::{AllocError, Global};
-use value_match::{FilledMatching, Matching, told_place};
+use value_match::{Matching, told_place};
 
 /// Returns the chosen linearization of a history without violations (Herlihy and Wing 1990), by the order of its values:
 /// the operations' places in `matching.operations()`. The queue holds the initial values first.
@@ -29,40 +29,40 @@ pub fn linearize(
     values: &OrderedValues,
     gaps: &[u64],
 ) -> Result<Vec<OpId>, AllocError>
-    requires values { values.now ≡ filled_operations matching.now }
-    requires no_order_violation { NoOrderViolation (filled_operations matching.now) }
-    requires least_free_gaps { AreLeastFreeGaps (filled_operations matching.now) (map (filled_gap (length matching.now.initial)) gaps.now) }
+    requires values { values.now ≡ timeline_of matching.now }
+    requires no_order_violation { NoOrderViolation (timeline_of matching.now) }
+    requires least_free_gaps { AreLeastFreeGaps (timeline_of matching.now) (map (clock_of_gap (length matching.now.initial)) gaps.now) }
     ensures { IfOk result (λ places. AreChosenAndLegal matching.now.initial matching.now.operations places.items) }
 {
     let initial_count = matching.initial().len();
     if initial_count == 0 {
-        return order_in_filled(alloc, matching.filled(), values, gaps);
+        return order_on_timeline(alloc, matching, values, gaps);
     }
-    let clocks = filled_gaps(alloc, initial_count, gaps)?;
-    let places = order_in_filled(alloc, matching.filled(), values, clocks.as_slice())?;
-    unfilled(alloc, initial_count, places.as_slice())
+    let clocks = timeline_gaps(alloc, initial_count, gaps)?;
+    let places = order_on_timeline(alloc, matching, values, clocks.as_slice())?;
+    told(alloc, initial_count, places.as_slice())
 }
 
-/// The same of a filled history.
-fn order_in_filled(
+/// The places on the timeline, by the gaps there.
+fn order_on_timeline(
     alloc: Global,
-    matching: &FilledMatching,
+    matching: &Matching,
     values: &OrderedValues,
     gaps: &[u64],
 ) -> Result<Vec<OpId>, AllocError>
-    requires values { values.now ≡ matching.now }
-    requires no_order_violation { NoOrderViolation matching.now }
-    requires least_free_gaps { AreLeastFreeGaps matching.now gaps.now }
-    ensures { IfOk result (λ places. IsWholeOrder matching.now places.items) }
+    requires values { values.now ≡ timeline_of matching.now }
+    requires no_order_violation { NoOrderViolation (timeline_of matching.now) }
+    requires least_free_gaps { AreLeastFreeGaps (timeline_of matching.now) gaps.now }
+    ensures { IfOk result (λ places. IsWholeOrder (timeline_of matching.now) places.items) }
 {
     let noops = noops_of(alloc, matching, gaps)?;
     merge(alloc, matching, values, &noops)
 }
 
-/// The gaps by the clocks of the filled history.
-fn filled_gaps(alloc: Global, initial_count: usize, gaps: &[u64]) -> Result<Vec<u64>, AllocError>
-    requires { All (λ gap. filled_gap initial_count gap ≤ MAX_CLOCK) gaps.now }
-    ensures { IfOk result (λ clocks. clocks.items ≡ map (filled_gap initial_count) gaps.now) }
+/// The gaps by the clocks of the timeline.
+fn timeline_gaps(alloc: Global, initial_count: usize, gaps: &[u64]) -> Result<Vec<u64>, AllocError>
+    requires { All (λ gap. clock_of_gap initial_count gap ≤ MAX_CLOCK) gaps.now }
+    ensures { IfOk result (λ clocks. clocks.items ≡ map (clock_of_gap initial_count) gaps.now) }
 {
     let mut clocks = Vec::with_capacity(alloc, gaps.len())?;
     for gap in gaps {
@@ -72,7 +72,7 @@ fn filled_gaps(alloc: Global, initial_count: usize, gaps: &[u64]) -> Result<Vec<
 }
 
 /// The places of an order without the enqueues of the initial values.
-fn unfilled(alloc: Global, initial_count: usize, places: &[OpId]) -> Result<Vec<OpId>, AllocError>
+fn told(alloc: Global, initial_count: usize, places: &[OpId]) -> Result<Vec<OpId>, AllocError>
     ensures { IfOk result (λ told. told.items ≡ filter_map (place_behind initial_count) places.now) }
 {
     places

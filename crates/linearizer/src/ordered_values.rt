@@ -1,5 +1,5 @@
 ghost use Rattle.std.specs.Prelude.{◌≡◌, IfOk, MatchOption};
-ghost use Rattle.value_match.specs.Filling.{filled_operations};
+ghost use Rattle.value_match.specs.Timeline.{timeline_of};
 ghost use Rattle.value_match.specs.Violations.{NoOrderViolation};
 ghost use Rattle.linearizer.specs.Inner.Placement.{AreEnqueueGaps, IsOrderOfPlaces, gaps_in, lives_at, places_in};
 
@@ -8,7 +8,7 @@ use crate::timed::PackedTimed;
 use history_merge::PackedOperation;
 use std::alloc::{AllocError, Global};
 use std::marker::Model;
-use value_match::{FilledMatching, Matching};
+use value_match::Matching;
 
 /// The accepted values of a matching in their chosen order, with the gap of each enqueue; seen as the operations that they are of.
 ///
@@ -42,21 +42,10 @@ pub fn order_values<'a>(
     alloc: Global,
     matching: &'a Matching,
 ) -> Result<Option<OrderedValues<'a>>, AllocError>
-    ensures { IfOk result (λ found. MatchOption found (¬ (NoOrderViolation (filled_operations matching.now)))
-        (λ order. (order ≡ filled_operations matching.now) × NoOrderViolation (filled_operations matching.now))) }
+    ensures { IfOk result (λ found. MatchOption found (¬ (NoOrderViolation (timeline_of matching.now)))
+        (λ order. (order ≡ timeline_of matching.now) × NoOrderViolation (timeline_of matching.now))) }
 {
-    order_of(alloc, matching.filled())
-}
-
-/// The same of a filled history.
-fn order_of<'a>(
-    alloc: Global,
-    matching: &'a FilledMatching,
-) -> Result<Option<OrderedValues<'a>>, AllocError>
-    ensures { IfOk result (λ found. MatchOption found (¬ (NoOrderViolation matching.now))
-        (λ order. (order ≡ matching.now) × NoOrderViolation matching.now)) }
-{
-    let operations = matching.operations();
+    let operations = matching.timeline();
     let Some(order) = put_in_order(alloc, &matching.values())? else {
         return Ok(None);
     };

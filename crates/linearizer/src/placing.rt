@@ -1,6 +1,7 @@
 ghost use Rattle.std.specs.Prelude.{◌≡◌, ◌↔◌, ℕ, [], IfOk, IsTrue, List, MatchOption, OnOk, false, length};
 ghost use Rattle.history_merge.specs.declared.operation.Operation.{Operation};
 ghost use Rattle.value_match.specs.declared.life.Life.{Life};
+ghost use Rattle.value_match.specs.Timeline.{timeline_of};
 ghost use Rattle.value_match.specs.Violations.{IsClear};
 ghost use Rattle.linearizer.specs.Order.{StandsBefore};
 ghost use Rattle.linearizer.specs.Inner.Placement.{AreEnqueueGaps, IsOrderOfPlaces, NeverFall, gaps_in, lives_at, places_in, position_of};
@@ -12,24 +13,24 @@ use crate::position::{Placed, Position};
 use crate::timed::PackedTimed;
 use history_merge::OpId;
 use std::alloc::{AllocError, Global};
-use value_match::FilledMatching;
+use value_match::Matching;
 
 /// The operations by rising position.
 ///
 /// The enqueues rise, the dequeues do, and the no-ops are sorted: the three lists are merged.
 pub(crate) fn merge(
     alloc: Global,
-    matching: &FilledMatching,
+    matching: &Matching,
     values: &OrderedValues,
     noops: &Noops,
 ) -> Result<Vec<OpId>, AllocError>
-    requires values { values.now ≡ matching.now }
+    requires values { values.now ≡ timeline_of matching.now }
     requires noops { NeverFall noops.now }
-    ensures clear { IsClear matching.now }
-    ensures merged { IfOk result (λ places. IsMerge matching.now noops.now places.items) }
+    ensures clear { IsClear (timeline_of matching.now) }
+    ensures merged { IfOk result (λ places. IsMerge (timeline_of matching.now) noops.now places.items) }
 {
     let order = values.order();
-    let mut places = Vec::with_capacity(alloc, matching.operations().len())?;
+    let mut places = Vec::with_capacity(alloc, matching.timeline().len())?;
     let mut so_far = place_enqueues(&mut places, matching, order, noops)?;
     place_dequeues(&mut places, &mut so_far, matching, order, noops, None)?;
     place_noops(&mut places, &mut so_far.noops, noops, None)?;
@@ -48,16 +49,16 @@ pub(crate) struct Merged {
 /// Adds the enqueues in the order of the values, each after the other operations that stand before it.
 fn place_enqueues(
     places: &mut Vec<OpId>,
-    matching: &FilledMatching,
+    matching: &Matching,
     order: &[PackedTimed],
     noops: &Noops,
 ) -> Result<Merged, AllocError>
     requires none { places.old.items ≡ [] }
-    requires order { IsOrderOfPlaces matching.now (places_in order.now) }
-    requires gaps { AreEnqueueGaps (lives_at matching.now (places_in order.now)) (gaps_in order.now) }
+    requires order { IsOrderOfPlaces (timeline_of matching.now) (places_in order.now) }
+    requires gaps { AreEnqueueGaps (lives_at (timeline_of matching.now) (places_in order.now)) (gaps_in order.now) }
     requires noops { NeverFall noops.now }
-    ensures { IfOk result (λ so_far. IsMergedUpTo matching.now (lives_at matching.now (places_in order.now)) noops.now (length order.now)
-        so_far.dequeues so_far.left so_far.noops places.new.items) }
+    ensures { IfOk result (λ so_far. IsMergedUpTo (timeline_of matching.now) (lives_at (timeline_of matching.now) (places_in order.now))
+        noops.now (length order.now) so_far.dequeues so_far.left so_far.noops places.new.items) }
 {
     let values = matching.values();
     let mut so_far = Merged {
@@ -81,20 +82,23 @@ fn place_enqueues(
 fn place_dequeues(
     places: &mut Vec<OpId>,
     so_far: &mut Merged,
-    matching: &FilledMatching,
+    matching: &Matching,
     order: &[PackedTimed],
     noops: &Noops,
     before: Option<Position>,
 ) -> Result<(), AllocError>
-    requires order { IsOrderOfPlaces matching.now (places_in order.now) }
-    requires gaps { AreEnqueueGaps (lives_at matching.now (places_in order.now)) (gaps_in order.now) }
+    requires order { IsOrderOfPlaces (timeline_of matching.now) (places_in order.now) }
+    requires gaps { AreEnqueueGaps (lives_at (timeline_of matching.now) (places_in order.now)) (gaps_in order.now) }
     requires noops { NeverFall noops.now }
-    ensures adds { OnOk result ((i : ℕ) → NoneBelow (IsEnqueueFrom (lives_at matching.now (places_in order.now)) i) before
-        → IsMergedUpTo matching.now (lives_at matching.now (places_in order.now)) noops.now i so_far.old.dequeues so_far.old.left so_far.old.noops places.old.items
-        → IsMergedUpTo matching.now (lives_at matching.now (places_in order.now)) noops.now i so_far.new.dequeues so_far.new.left so_far.new.noops places.new.items) }
-    ensures up_to { OnOk result ((i : ℕ) → NoneBelow (IsEnqueueFrom (lives_at matching.now (places_in order.now)) i) before
-        → IsMergedUpTo matching.now (lives_at matching.now (places_in order.now)) noops.now i so_far.old.dequeues so_far.old.left so_far.old.noops places.old.items
-        → NoneBelow (IsDequeueFrom (lives_at matching.now (places_in order.now)) so_far.new.dequeues) before) }
+    ensures adds { OnOk result ((i : ℕ) → NoneBelow (IsEnqueueFrom (lives_at (timeline_of matching.now) (places_in order.now)) i) before
+        → IsMergedUpTo (timeline_of matching.now) (lives_at (timeline_of matching.now) (places_in order.now)) noops.now i
+        so_far.old.dequeues so_far.old.left so_far.old.noops places.old.items
+        → IsMergedUpTo (timeline_of matching.now) (lives_at (timeline_of matching.now) (places_in order.now)) noops.now i
+        so_far.new.dequeues so_far.new.left so_far.new.noops places.new.items) }
+    ensures up_to { OnOk result ((i : ℕ) → NoneBelow (IsEnqueueFrom (lives_at (timeline_of matching.now) (places_in order.now)) i) before
+        → IsMergedUpTo (timeline_of matching.now) (lives_at (timeline_of matching.now) (places_in order.now)) noops.now i
+        so_far.old.dequeues so_far.old.left so_far.old.noops places.old.items
+        → NoneBelow (IsDequeueFrom (lives_at (timeline_of matching.now) (places_in order.now)) so_far.new.dequeues) before) }
 {
     let values = matching.values();
     while so_far.dequeues < order.len() {

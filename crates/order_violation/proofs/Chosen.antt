@@ -8,10 +8,10 @@ use Rattle.history_merge.specs.declared.operation.Operation.{Operation}
 use Rattle.history_merge.specs.declared.operation.OpKind.TheVariants.{Deq}
 use Rattle.history_merge.specs.Operations.{Did, NoneDid, Precedes, IsAt}
 use Rattle.history_merge.specs.Complete.{AreComplete}
-use Rattle.history_merge.specs.Initial.{filled}
+use Rattle.history_merge.specs.Initial.{timeline}
 use Rattle.history_merge.proofs.Distinct.{return_in_range, call_before_return}
 use Rattle.value_match.specs.declared.life.TheConstants.{NEVER}
-use Rattle.value_match.specs.Filling.{behind}
+use Rattle.value_match.specs.Timeline.{behind}
 use Rattle.value_match.specs.Told.{told_place, told_source}
 use Rattle.value_match.specs.Violations.{IsClear, IsOrderViolation, NoOrderViolation}
 use Rattle.order_violation.specs.Pairs.{IsChosenPair}
@@ -126,10 +126,11 @@ place_missing operations None None d at is missing = cc
 place_missing operations None (Some e) d at is missing = at
 place_missing operations (Some q) o d at is missing = cc
 
-module _ (initial : List ℕ) (operations : List Operation) (values : List MatchedValue) (clear : IsClear (filled initial operations))
-    (holds : HoldsLives (filled initial operations) values) (a b : MatchedValue) (first : IsFirstOvertaking values values b) (longest : IsLongestOf (Overtakes b.life) values a) where
+module _ (initial : List ℕ) (operations : List Operation) (values : List MatchedValue) (clear : IsClear (timeline initial operations))
+    (holds : HoldsLives (timeline initial operations) values) (a b : MatchedValue) (first : IsFirstOvertaking values values b)
+    (longest : IsLongestOf (Overtakes b.life) values a) where
   abbrev all : List Operation
-  all = filled initial operations
+  all = timeline initial operations
 
   abbrev k : ℕ
   k = length initial

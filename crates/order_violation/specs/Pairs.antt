@@ -1,7 +1,7 @@
 -- A pair of values dequeued against the order of their enqueues.
 use Rattle.std.specs.Prelude.{ℕ, Option, None, Some, List}
 use Rattle.history_merge.specs.declared.operation.Operation.{Operation}
-use Rattle.history_merge.specs.Initial.{filled}
+use Rattle.history_merge.specs.Initial.{timeline}
 use Rattle.value_match.specs.Outcome.{IsMaybeOperation, IsOperation, IsSource}
 use Rattle.value_match.specs.Violations.{NoOrderViolation}
 use Rattle.value_match.specs.Choice.{IsChosenOrderViolation}
@@ -17,9 +17,9 @@ pub record IsChosenPair (initial : List ℕ) (operations : List Operation) (pair
   pub at_b : IsSource initial operations pair.enq_b enq_b
   pub dequeued_b : IsOperation initial operations pair.deq_b deq_b
   pub dequeued_a : IsMaybeOperation initial operations pair.deq_a deq_a
-  pub is_chosen : IsChosenOrderViolation (filled initial operations) enq_a enq_b deq_b deq_a
+  pub is_chosen : IsChosenOrderViolation (timeline initial operations) enq_a enq_b deq_b deq_a
 
 -- the chosen pair, or none if no values are dequeued against the order of their enqueues
 abbrev pub IsOrderAnswer : List ℕ → List Operation → Option OrderPair → Type 0
-IsOrderAnswer initial operations None = NoOrderViolation (filled initial operations)
+IsOrderAnswer initial operations None = NoOrderViolation (timeline initial operations)
 IsOrderAnswer initial operations (Some pair) = IsChosenPair initial operations pair

@@ -1,7 +1,7 @@
 ghost use Rattle.std.specs.Prelude.{IfOk};
 ghost use Rattle.value_match.specs.Lives.{HoldsLives};
 ghost use Rattle.order_violation.specs.Overtaking.{FindsFirst};
-ghost use Rattle.value_match.specs.Filling.{filled_operations};
+ghost use Rattle.value_match.specs.Timeline.{timeline_of};
 ghost use Rattle.order_violation.specs.Pairs.{IsOrderAnswer};
 
 use crate::overtaking::{first_overtaking, longest_overtaken};
@@ -17,7 +17,7 @@ use value_match::{LongestTable, MatchedValue, Matching, told_maybe, told_place, 
 pub fn find_order(alloc: Global, matching: &Matching) -> Result<Option<OrderPair>, AllocError>
     ensures { IfOk result (IsOrderAnswer matching.now.initial matching.now.operations) }
 {
-    let table = LongestTable::new(alloc, matching.filled().values())?;
+    let table = LongestTable::new(alloc, matching.values())?;
     let first = first_overtaking(&table, table.values());
     Ok(chosen_pair(matching, &table, first))
 }
@@ -31,7 +31,7 @@ pub fn chosen_pair(
     table: &LongestTable,
     first: Option<MatchedValue>,
 ) -> Option<OrderPair>
-    requires lives { HoldsLives (filled_operations matching.now) table.now }
+    requires lives { HoldsLives (timeline_of matching.now) table.now }
     requires first { FindsFirst table.now table.now first }
     ensures { IsOrderAnswer matching.now.initial matching.now.operations result }
 {

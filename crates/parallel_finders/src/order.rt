@@ -25,7 +25,7 @@ pub fn find_order_par<R: Threads + Sync>(
     requires { (1 ≤ pieces) × (pieces ≤ MAX_PIECES) }
     ensures { IfOk result (IsOrderAnswer matching.now.initial matching.now.operations) }
 {
-    if matching.filled().values().len() < MIN_ITEMS {
+    if matching.values().len() < MIN_ITEMS {
         find_order(alloc, matching)
     } else {
         order_in_pieces(rt, alloc, matching, pieces)
@@ -41,7 +41,7 @@ pub fn order_in_pieces<R: Threads + Sync>(
 ) -> Result<Option<OrderPair>, AllocError>
     ensures { IfOk result (IsOrderAnswer matching.now.initial matching.now.operations) }
 {
-    let table = table_of(rt, alloc, matching.filled().values())?;
+    let table = table_of(rt, alloc, matching.values())?;
     let first = first_overtaking_par(rt, &table, table.values(), pieces);
     Ok(chosen_pair(matching, &table, first))
 }

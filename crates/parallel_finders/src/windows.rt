@@ -1,5 +1,6 @@
 ghost use Rattle.std.specs.Prelude.{◌≡◌, ◌++◌, All, IfOk};
 ghost use Rattle.std.specs.Thread.{IsSync};
+ghost use Rattle.value_match.specs.Timeline.{timeline_of};
 ghost use Rattle.empty_witness.specs.Answers.{IsEmptyAnswerAt};
 ghost use Rattle.empty_witness.specs.Covered.{AreWindowsAt};
 ghost use Rattle.empty_witness.specs.Spans.{AreSpansOf};
@@ -10,21 +11,21 @@ use empty_witness::{EmptyAnswer, Span, WindowsAnswer, sooner_of, windows_at};
 use history_merge::OpId;
 use std::alloc::{AllocError, Global};
 use std::thread::{Threads, join};
-use value_match::FilledMatching;
+use value_match::Matching;
 
 /// Searches the windows of the empty dequeues at these places, in pieces.
 #[cycle(halves)]
 pub fn windows_at_par<R: Threads + Sync>(
     rt: &R,
     alloc: Global,
-    matching: &FilledMatching,
+    matching: &Matching,
     spans: &[Span],
     empties: &[OpId],
     pieces: usize,
 ) -> Result<WindowsAnswer, AllocError>
-    requires empties { All (IsEmptyAnswerAt matching.now) empties.now }
-    requires spans { AreSpansOf matching.now spans.now }
-    ensures { IfOk result (λ windows. AreWindowsAt matching.now empties.now windows) }
+    requires empties { All (IsEmptyAnswerAt (timeline_of matching.now)) empties.now }
+    requires spans { AreSpansOf (timeline_of matching.now) spans.now }
+    ensures { IfOk result (λ windows. AreWindowsAt (timeline_of matching.now) empties.now windows) }
 {
     if pieces < 2 || empties.len() < 2 {
         return windows_at(alloc, matching, spans, empties);
@@ -33,12 +34,12 @@ pub fn windows_at_par<R: Threads + Sync>(
     let some = pieces / 2;
     let others = pieces - some;
     let left = || -> Result<WindowsAnswer, AllocError>
-        requires { IsSync R.row × All (IsEmptyAnswerAt matching.now) low.now × AreSpansOf matching.now spans.now }
-        ensures { IfOk result (λ windows. AreWindowsAt matching.entry.now low.entry.now windows) }
+        requires { IsSync R.row × All (IsEmptyAnswerAt (timeline_of matching.now)) low.now × AreSpansOf (timeline_of matching.now) spans.now }
+        ensures { IfOk result (λ windows. AreWindowsAt (timeline_of matching.entry.now) low.entry.now windows) }
     { windows_at_par(rt, alloc, matching, spans, low, some) };
     let right = || -> Result<WindowsAnswer, AllocError>
-        requires { IsSync R.row × All (IsEmptyAnswerAt matching.now) high.now × AreSpansOf matching.now spans.now }
-        ensures { IfOk result (λ windows. AreWindowsAt matching.entry.now high.entry.now windows) }
+        requires { IsSync R.row × All (IsEmptyAnswerAt (timeline_of matching.now)) high.now × AreSpansOf (timeline_of matching.now) spans.now }
+        ensures { IfOk result (λ windows. AreWindowsAt (timeline_of matching.entry.now) high.entry.now windows) }
     { windows_at_par(rt, alloc, matching, spans, high, others) };
     let (first, second) = join(rt, left, right);
     windows_of_both(first?, second?)

@@ -1,6 +1,7 @@
 ghost use Rattle.std.specs.Prelude.{◌≤◌, IfOk};
 ghost use Rattle.empty_witness.specs.Answers.{IsWitnessAnswer};
 ghost use Rattle.parallel_finders.specs.declared.TheConstants.{MAX_PIECES};
+ghost use Rattle.value_match.specs.Timeline.{timeline_of};
 ghost use Rattle.empty_witness.specs.Spans.{AreSpansOf};
 
 use crate::MIN_ITEMS;
@@ -9,7 +10,7 @@ use crate::windows::windows_at_par;
 use empty_witness::{Span, WitnessAnswer, find_witness, join_spans, stays_of, witness_of};
 use std::alloc::{AllocError, Global};
 use std::thread::Threads;
-use value_match::{FilledMatching, Matching};
+use value_match::Matching;
 
 /// Finds what `find_witness` finds, by a search in pieces that may run at once.
 ///
@@ -27,10 +28,10 @@ pub fn find_witness_par<R: Threads + Sync>(
     requires { (1 ≤ pieces) × (pieces ≤ MAX_PIECES) }
     ensures { IfOk result (IsWitnessAnswer matching.now.initial matching.now.operations) }
 {
-    if matching.filled().values().len() < MIN_ITEMS || matching.filled().empties().is_empty() {
+    if matching.values().len() < MIN_ITEMS || matching.timeline_empties().is_empty() {
         return find_witness(alloc, matching);
     }
-    let few = matching.filled().empties().len() < MIN_ITEMS;
+    let few = matching.timeline_empties().len() < MIN_ITEMS;
     witness_in_pieces(rt, alloc, matching, if few { 1 } else { pieces })
 }
 
@@ -43,16 +44,9 @@ pub fn witness_in_pieces<R: Threads + Sync>(
 ) -> Result<WitnessAnswer, AllocError>
     ensures { IfOk result (IsWitnessAnswer matching.now.initial matching.now.operations) }
 {
-    let filled = matching.filled();
-    let spans = spans_of_par(rt, alloc, filled)?;
-    let windows = windows_at_par(
-        rt,
-        alloc,
-        filled,
-        spans.as_slice(),
-        filled.empties(),
-        pieces,
-    )?;
+    let spans = spans_of_par(rt, alloc, matching)?;
+    let empties = matching.timeline_empties();
+    let windows = windows_at_par(rt, alloc, matching, spans.as_slice(), empties, pieces)?;
     witness_of(alloc, matching, windows)
 }
 
@@ -60,9 +54,9 @@ pub fn witness_in_pieces<R: Threads + Sync>(
 fn spans_of_par<R: Threads + Sync>(
     rt: &R,
     alloc: Global,
-    matching: &FilledMatching,
+    matching: &Matching,
 ) -> Result<Vec<Span>, AllocError>
-    ensures { IfOk result (λ spans. AreSpansOf matching.now spans.items) }
+    ensures { IfOk result (λ spans. AreSpansOf (timeline_of matching.now) spans.items) }
 {
     let mut stays = stays_of(alloc, &matching.values())?;
     sort_stays(rt, &mut stays);

@@ -7,7 +7,7 @@ ghost use Rattle.verdicts.specs.Verdicts.{IsVerdict};
 
 use crate::histories::{by, history_of};
 use history_merge::OpKind::{Deq, Empty, Enq};
-use history_merge::{History, Operation, unpacked};
+use history_merge::{History, Operation};
 use std::alloc::{AllocError, Global};
 use std::process::Abort;
 use std::test::Fail;
@@ -195,8 +195,8 @@ fn shrunk(alloc: Global, history: &History, violation: &Violation) -> Result<His
 
 /// The operations that a smaller history keeps.
 fn kept(alloc: Global, history: &History) -> Result<Vec<Operation>, AllocError> {
-    match unpacked(alloc, history.operations()) {
+    match history.operations().collect(alloc) {
         Ok(operations) => Ok(operations),
-        Err(_) => unpacked(alloc, history.operations()),
+        Err(_) => history.operations().collect(alloc),
     }
 }

@@ -3,13 +3,11 @@
 -- CallPlaces, FreshDequeues: each dequeue's source, or the chosen dequeue of a value that was not there.
 -- RepeatedDequeues: the one dequeue of each source, or the chosen pair of one source.
 -- MatchedDequeues, Lives: the one dequeue of each accepted value; the lives that there are, each once.
--- FilledOperations: those of a filled history, which are matched where there are initial values.
--- FilledLines, ToldPlaces: what is found at places of a filled history, told by places of the history.
+-- TimelineLines, ToldPlaces: what is found at places of a timeline, told by places of the history.
 -- CoverLives: what a cover's lives are.
 -- SortedOut: all operations sorted out into values, empty answers and refused enqueues.
 -- Longest, Fronts: of the values whose enqueues returned before a ticket the one that stays longest.
 pub mod Lists
-pub mod FilledOperations
 pub mod Lives
 pub mod Longest
 pub mod CallPlaces
@@ -18,6 +16,6 @@ pub mod RepeatedDequeues
 pub mod MatchedDequeues
 pub mod SortedOut
 pub mod Fronts
-pub mod FilledLines
+pub mod TimelineLines
 pub mod CoverLives
 pub mod ToldPlaces

@@ -1,4 +1,4 @@
--- What is found at places of a filled history, told by places of the history.
+-- What is found at places of a timeline, told by places of the history.
 use Rattle.std.proofs.Common.{◌≡◌, ℕ, ◌+◌, ◌-◌, ◌*◌, ◌<◌, ◌≤◌, Bool, true, false, List, [], ◌∷◌, ◌++◌, length, map, Option, Some, None}
 use Rattle.std.proofs.Common.{refl, sym, ◌∙◌, ap, ap₂, subst, arith, inl, inr, nat_lt}
 use Rattle.std.specs.Prelude.{MatchOption, filter, filter_map, if◌then◌else◌, option_map, slice_get, ⊤}
@@ -7,7 +7,7 @@ use Rattle.std.proofs.lemmas.List.Elements.{filter-append}
 use Rattle.std.proofs.lemmas.Bool.{le-ltb, lt-ltb, ltb-false, ltb-true}
 use Rattle.history_merge.specs.declared.operation.Operation.{Operation}
 use Rattle.history_merge.specs.declared.operation.OpKind.TheVariants.{Enq, Deq, Empty, Not}
-use Rattle.history_merge.specs.Initial.{filled, filling_from, later_by}
+use Rattle.history_merge.specs.Initial.{timeline, enqueues_from, later_by}
 use Rattle.history_merge.specs.Legal.{ArePlacesOf}
 use Rattle.history_merge.specs.Operations.{Did, IsAt, NoneDid}
 use Rattle.value_match.specs.declared.fresh.FreshPlaces.{FreshPlaces}
@@ -15,15 +15,15 @@ use Rattle.value_match.specs.declared.life.MatchedValue.{MatchedValue}
 use Rattle.value_match.specs.declared.takers.RepeatPlaces.{RepeatPlaces}
 use Rattle.value_match.specs.declared.violation.Source.TheVariants as source
 use Rattle.value_match.specs.declared.violation.Violation.TheVariants as violation
-use Rattle.value_match.specs.Filling.{behind}
+use Rattle.value_match.specs.Timeline.{behind}
 use Rattle.value_match.specs.Lives.{HasPlaces, HoldsPlaces, IsLife, IsMaybeAt, dequeue_of, enqueue_of, is_empty_answer, is_refused}
 use Rattle.value_match.specs.Outcome.{IsMaybeOperation, IsOperation, IsSource, NamesChosenFresh, NamesChosenRepeat, NamesStep}
 use Rattle.value_match.specs.Told.{place_behind, told_place, told_source}
 use Rattle.value_match.specs.Violations.{IsFreshViolation}
 use Rattle.value_match.specs.Inner.MatchOutcome.{AreChosenFresh, AreChosenRepeat}
-use Rattle.value_match.proofs.FilledLines.{earlier, earlier_later, earlier_none, filled_at, filled_earlier, one_later}
+use Rattle.value_match.proofs.TimelineLines.{earlier, earlier_later, earlier_none, timeline_at, timeline_earlier, one_later}
 
--- ---- what stands at a place of the filled history
+-- ---- what stands at a place of the timeline
 
 -- the dequeue of a value that was not there is a dequeue
 pub fresh_dequeues : (operations : List Operation) (deq : Operation) (enq : Option Operation) → IsFreshViolation operations deq enq
@@ -36,11 +36,11 @@ module _ (initial : List ℕ) (operations : List Operation) where
   k = length initial
 
   abbrev all : List Operation
-  all = filled initial operations
+  all = timeline initial operations
 
   -- what isn't the enqueue of an initial value stands behind these
   pub stands_behind : (p : ℕ) (o : Operation) → IsAt all p o → ((v : ℕ) → o.kind ≡ Enq v → o.call < 2 * k → ⊥) → k ≤ p
-  stands_behind p o at other = elim (filled_at initial operations p o at) [
+  stands_behind p o at other = elim (timeline_at initial operations p o at) [
     | inl early ↦
         let call : 2 * p ≡ o.call = ap (λ (x : Operation). x.call) early.is in
         let within = early.within in
@@ -48,7 +48,7 @@ module _ (initial : List ℕ) (operations : List Operation) where
     | inr late ↦ late.behind
   ]
 
-  -- the operation at a place of the filled history, where it stands behind the initial values
+  -- the operation at a place of the timeline, where it stands behind the initial values
   operation_told : (p : ℕ) (o : Operation) → IsAt all p o → k ≤ p → IsOperation initial operations (told_place k p) o
   operation_told p o at after = let back : p ≡ behind k (told_place k p) = omega arith in subst (λ q. IsAt all q o) back at
 
@@ -96,7 +96,7 @@ module _ (initial : List ℕ) (operations : List Operation) where
   call_told deq d (Some p) (Some e) at_d at_e is = operation_told p e at_e (stands_behind p e at_e too_late)
     where
       late : 2 * k ≤ d.ret
-      late = elim (filled_at initial operations deq d at_d) [
+      late = elim (timeline_at initial operations deq d at_d) [
         | inl early ↦ let clash : Enq early.value ≡ Deq is.value = ap (λ (x : Operation). x.kind) early.is ∙ is.dequeues.1 in absurd (cc)
         | inr later ↦ let ret : later.operation.ret + 2 * k ≡ d.ret = ap (λ (x : Operation). x.ret) later.is in omega arith
       ]
@@ -139,7 +139,7 @@ module _ (initial : List ℕ) (operations : List Operation) where
 
   -- ---- lists of places
 
-  -- what stands at places of the filled history, and was called at a ticket of the history, stands at the places told
+  -- what stands at places of the timeline, and was called at a ticket of the history, stands at the places told
   places_told : (places : List ℕ) (listed : List Operation) → ArePlacesOf all places (map (later_by (2 * length initial)) listed)
       → ArePlacesOf operations (map (told_place k) places) listed
   places_told [] [] at = refl
@@ -151,7 +151,7 @@ module _ (initial : List ℕ) (operations : List Operation) where
       ap₂ (λ (x : Option Operation) (xs : List (Option Operation)). x ∷ xs) (one_told p o first) (places_told places listed later)
     where
       one_told : (p : ℕ) (o : Operation) → slice_get all p ≡ Some (later_by (2 * length initial) o) → slice_get operations (p - k) ≡ Some o
-      one_told p o at' = elim (filled_at initial operations p (later_by (2 * length initial) o) at') [
+      one_told p o at' = elim (timeline_at initial operations p (later_by (2 * length initial) o) at') [
         | inl early ↦
             let call : 2 * p ≡ o.call + 2 * length initial = ap (λ (x : Operation). x.call) early.is in
             let within = early.within in
@@ -160,17 +160,17 @@ module _ (initial : List ℕ) (operations : List Operation) where
       ]
 
   -- an operation that no enqueue is, by a test, is one of the history, later
-  filter_filled : (test : Operation → Bool) → ((o : Operation) (v : ℕ) → o.kind ≡ Enq v → test o ≡ false)
+  filter_timeline : (test : Operation → Bool) → ((o : Operation) (v : ℕ) → o.kind ≡ Enq v → test o ≡ false)
       → ((o : Operation) → test (later_by (2 * length initial) o) ≡ test o)
       → filter test all ≡ map (later_by (2 * length initial)) (filter test operations)
-  filter_filled test none same =
-      filter-append test (filling_from 0 initial) (map (later_by (2 * length initial)) operations)
-      ∙ ap (λ xs. xs ++ filter test (map (later_by (2 * length initial)) operations)) (no_filling 0 initial)
+  filter_timeline test none same =
+      filter-append test (enqueues_from 0 initial) (map (later_by (2 * length initial)) operations)
+      ∙ ap (λ xs. xs ++ filter test (map (later_by (2 * length initial)) operations)) (no_enqueue 0 initial)
       ∙ later_passes operations
     where
-      no_filling : (clock : ℕ) (values : List ℕ) → filter test (filling_from clock values) ≡ []
-      no_filling clock [] = refl
-      no_filling clock (v ∷ values) = rw (none (record { call = clock; ret = clock + 1; thread = 0; kind = Enq v }) v refl) (no_filling (clock + 2) values)
+      no_enqueue : (clock : ℕ) (values : List ℕ) → filter test (enqueues_from clock values) ≡ []
+      no_enqueue clock [] = refl
+      no_enqueue clock (v ∷ values) = rw (none (record { call = clock; ret = clock + 1; thread = 0; kind = Enq v }) v refl) (no_enqueue (clock + 2) values)
 
       later_passes : (os : List Operation) → filter test (map (later_by (2 * length initial)) os) ≡ map (later_by (2 * length initial)) (filter test os)
       later_passes [] = refl
@@ -186,12 +186,12 @@ module _ (initial : List ℕ) (operations : List Operation) where
   pub empties_told : (places : List ℕ) → HoldsPlaces all is_empty_answer places
       → HoldsPlaces operations is_empty_answer (map (told_place k) places)
   empties_told places holds = places_told places (filter is_empty_answer operations)
-      (subst (ArePlacesOf all places) (filter_filled is_empty_answer (λ o v is. rw is refl) (λ o. refl)) holds)
+      (subst (ArePlacesOf all places) (filter_timeline is_empty_answer (λ o v is. rw is refl) (λ o. refl)) holds)
 
   -- the places of failed enqueues are the history's
   pub refused_told : (places : List ℕ) → HoldsPlaces all is_refused places → HoldsPlaces operations is_refused (map (told_place k) places)
   refused_told places holds = places_told places (filter is_refused operations)
-      (subst (ArePlacesOf all places) (filter_filled is_refused (λ o v is. rw is refl) (λ o. refl)) holds)
+      (subst (ArePlacesOf all places) (filter_timeline is_refused (λ o v is. rw is refl) (λ o. refl)) holds)
 
   -- ---- the places of a `YES`
 
@@ -209,7 +209,7 @@ module _ (initial : List ℕ) (operations : List Operation) where
           → ArePlacesOf operations (filter_map (place_behind k) places) (filter_map (earlier (2 * length initial)) listed)
           → ArePlacesOf operations (cons_option (place_behind k p) (filter_map (place_behind k) places))
           (cons_option (earlier (2 * length initial) o) (filter_map (earlier (2 * length initial)) listed))
-      one_more p o at' rest = elim (filled_at initial operations p o at') [
+      one_more p o at' rest = elim (timeline_at initial operations p o at') [
         | inl early ↦
             let call : 2 * p ≡ o.call = ap (λ (x : Operation). x.call) early.is in
             let within = early.within in
@@ -220,10 +220,10 @@ module _ (initial : List ℕ) (operations : List Operation) where
       ]
 
   -- the order of a `YES`, after the enqueues of the initial values
-  pub order_back : (places : List ℕ) (listed : List Operation) → ArePlacesOf all places (filled initial listed)
+  pub order_back : (places : List ℕ) (listed : List Operation) → ArePlacesOf all places (timeline initial listed)
       → ArePlacesOf operations (filter_map (place_behind k) places) listed
-  order_back places listed at = subst (ArePlacesOf operations (filter_map (place_behind k) places)) (filled_earlier initial listed)
-      (places_back places (filled initial listed) at)
+  order_back places listed at = subst (ArePlacesOf operations (filter_map (place_behind k) places)) (timeline_earlier initial listed)
+      (places_back places (timeline initial listed) at)
 
 -- ---- with no initial values it is so as it stands
 

@@ -2,5 +2,5 @@
 pub mod MaybePlaces
 pub mod Others
 pub mod Sources
-pub mod Matchable
+pub mod SortedOut
 pub mod MatchOutcome

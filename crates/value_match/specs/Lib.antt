@@ -5,6 +5,6 @@ pub mod Accepted
 pub mod Outcome
 pub mod Longest
 pub mod Fronts
-pub mod Filling
+pub mod Timeline
 pub mod Told
 pub mod Inner

@@ -1,4 +1,4 @@
--- Places of a history, told by those of its filled history.
+-- Places of a history, told by those of its timeline.
 use Rattle.std.specs.Prelude.{ℕ, ◌-◌, nat_lt, Option, Some, None, if◌then◌else◌}
 use Rattle.value_match.specs.declared.violation.Source.{Source}
 use Rattle.value_match.specs.declared.violation.Source.TheVariants.{Enq, Initial}

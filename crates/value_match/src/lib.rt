@@ -19,7 +19,7 @@ mod violation;
 
 pub use accepted::Values;
 pub use life::{Life, MatchedValue, NEVER};
-pub use matching::{FilledMatching, MAX_MATCHED, Matched, Matching};
+pub use matching::{MAX_MATCHED, Matched, Matching};
 pub use places::Places;
 pub use presorting::presort;
 pub use table::{Front, LongestTable, fronts_of};

@@ -7,11 +7,11 @@ use std::marker::Model;
 
 /// Places of operations of a history, seen as the list of them.
 ///
-/// It borrows those of the filled history.
+/// It borrows those of the timeline.
 #[derive(Debug, Drop)]
 pub struct Places<'a> {
     initial_count: usize,
-    filled: &'a [OpId],
+    timeline: &'a [OpId],
 }
 
 impl<'a> Model for Places<'a> {
@@ -20,17 +20,17 @@ impl<'a> Model for Places<'a> {
 
     ghost Value = { List ℕ };
 
-    ghost view = { λ a. map (told_place a.initial_count) a.filled.now };
+    ghost view = { λ a. map (told_place a.initial_count) a.timeline.now };
 }
 
 impl<'a> Places<'a> {
     /// Makes the places after this many initial values.
-    pub(crate) fn new(initial_count: usize, filled: &'a [OpId]) -> Places<'a>
-        ensures { result ≡ map (told_place initial_count) filled.now }
+    pub(crate) fn new(initial_count: usize, timeline: &'a [OpId]) -> Places<'a>
+        ensures { result ≡ map (told_place initial_count) timeline.now }
     {
         Places {
             initial_count,
-            filled,
+            timeline,
         }
     }
 
@@ -38,7 +38,7 @@ impl<'a> Places<'a> {
     pub fn len(&self) -> usize
         ensures { result ≡ length self.now }
     {
-        self.filled.len()
+        self.timeline.len()
     }
 
     /// The one at this place of the list.
@@ -46,6 +46,6 @@ impl<'a> Places<'a> {
         requires { place < length self.now }
         ensures { result ≡ slice_index_or self.now place result }
     {
-        told_place(self.initial_count, self.filled[place])
+        told_place(self.initial_count, self.timeline[place])
     }
 }

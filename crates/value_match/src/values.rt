@@ -1,21 +1,21 @@
 ghost use Rattle.std.specs.Prelude.{◌≡◌, ◌<◌, ◌≤◌, ◌^◌, IfOk, IfSome, length};
 ghost use Rattle.history_merge.specs.Complete.{AreComplete};
-ghost use Rattle.history_merge.specs.Initial.{filled};
+ghost use Rattle.history_merge.specs.Initial.{timeline};
 ghost use Rattle.history_merge.specs.Operations.{operations_of};
 ghost use Rattle.value_match.specs.Outcome.{IsMatched};
 ghost use Rattle.value_match.specs.Inner.MatchOutcome.{IsMatchOutcomeOf};
-ghost use Rattle.value_match.specs.Inner.Matchable.{IsSortedOutOf, operations_in};
+ghost use Rattle.value_match.specs.Inner.SortedOut.{IsSortedOutOf};
 ghost use Rattle.value_match.specs.Inner.Sources.{HoldsDequeues};
 ghost use Rattle.value_match.specs.Violations.{IsClear};
 
 use crate::accepted::Pair;
 use crate::fresh::{FreshPlaces, first_fresh};
-use crate::matching::{FilledMatching, MAX_MATCHED, Matchable, Matched, Matching, SortedOut};
+use crate::matching::{MAX_MATCHED, Matched, Matching, SortedOut};
 use crate::maybe_place::MaybePlace;
 use crate::sources::sources_of;
 use crate::takers::{RepeatPlaces, Takers, takers_of};
 use crate::told::{told_fresh, told_repeat};
-use history_merge::{History, OpId, OpKind, PackedOperation, fill};
+use history_merge::{History, OpId, OpKind, PackedOperation};
 use std::alloc::{AllocError, Global};
 
 /// What is found of operations: the three sorts of them, or the violation that rules a matching out.
@@ -32,47 +32,22 @@ pub(crate) enum MatchOutcome {
 /// where a value was dequeued twice: the value whose second dequeue returns first, with its first two dequeues by
 /// return. Otherwise `Clear`. The only error is out of memory.
 ///
-/// Initial values count as enqueued before all else: what is matched are the operations of the filled history, as `fill` of
-/// `history_merge` gives them. A violation names the history's own operations and initial values.
+/// Initial values count as enqueued before all else: what is matched is the history's timeline. A violation names the
+/// history's own operations and initial values.
 ///
-/// Time O(n) for n operations of values that leave nearly in the order of their calls, or by recorder's names nearly in that of
-/// their threads' calls; else the calls of the others are sorted by value, O(n log n). The answer borrows the operations and takes a word for each accepted value; beside it the
-/// work takes some two words for each operation, and a few more for each call or dequeue that is sorted. Where there are
-/// initial values the answer holds the filled history's operations.
+/// Time O(n) for n operations of values that leave nearly in the order of their calls, or by recorder's names nearly in that
+/// of their threads' calls; else the calls of the others are sorted by value, O(n log n). The answer borrows the history and
+/// takes a word for each accepted value; beside it the work takes some two words for each operation, and a few more for each
+/// call or dequeue that is sorted.
 pub fn match_values(alloc: Global, history: &History) -> Result<Matched<'_>, AllocError>
     ensures matched { IfOk result (IsMatched history.now.initial (operations_of history.now.events)) }
-    ensures complete { AreComplete (filled history.now.initial (operations_of history.now.events)) }
+    ensures complete { AreComplete (timeline history.now.initial (operations_of history.now.events)) }
 {
-    let initial = history.initial();
-    let operations = history.operations();
-    if initial.is_empty() {
-        let found = find(alloc, operations)?;
-        let all = Matchable::Lent(operations);
-        return Ok(matched(initial, operations, all, found));
-    }
-    let filled = fill(alloc, initial, operations)?;
-    let found = find(alloc, filled.as_slice())?;
-    Ok(matched(initial, operations, Matchable::Own(filled), found))
-}
-
-/// What is found of a history, by what is found of its filled history.
-fn matched<'a>(
-    initial: &'a [u64],
-    operations: &'a [PackedOperation],
-    all: Matchable<'a>,
-    found: MatchOutcome,
-) -> Matched<'a>
-    requires all { operations_in all ≡ filled initial.now operations.now }
-    requires found { IsMatchOutcomeOf (operations_in all) found }
-    ensures { IsMatched initial.now operations.now result }
-{
-    match found {
-        MatchOutcome::Clear(sorted) => {
-            let matching = FilledMatching::new(all, sorted);
-            Matched::Clear(Matching::new(initial, operations, matching))
-        }
-        MatchOutcome::Fresh(places) => Matched::Fresh(told_fresh(initial.len(), places)),
-        MatchOutcome::Repeat(places) => Matched::Repeat(told_repeat(initial.len(), places)),
+    let initial_count = history.initial().len();
+    match find(alloc, history.timeline())? {
+        MatchOutcome::Clear(sorted) => Ok(Matched::Clear(Matching::new(history, sorted))),
+        MatchOutcome::Fresh(places) => Ok(Matched::Fresh(told_fresh(initial_count, places))),
+        MatchOutcome::Repeat(places) => Ok(Matched::Repeat(told_repeat(initial_count, places))),
     }
 }
 

@@ -2,7 +2,7 @@
 use Rattle.verdicts.proofs.Common.{[], ◌∷◌, ◌≡◌, ap, arith, Bool, Contains, false, filter, length, List, MatchBool}
 use Rattle.verdicts.proofs.Common.{nat_lt, None, Option, option_map, refl, Some, subst, true, zero, ℕ, AreComplete}
 use Rattle.verdicts.proofs.Common.{behind, chosen_cover_is_shortest, CoverStep, dequeue_call, dequeue_of, Empty}
-use Rattle.verdicts.proofs.Common.{enqueue_of, filled, fresh, FullViolation, IsChosenCoverFrom, IsChosenFullViolation}
+use Rattle.verdicts.proofs.Common.{enqueue_of, timeline, fresh, FullViolation, IsChosenCoverFrom, IsChosenFullViolation}
 use Rattle.verdicts.proofs.Common.{IsChosenViolation, IsClear, IsCovered, IsLife, IsMaybeAt, IsMaybeOperation}
 use Rattle.verdicts.proofs.Common.{IsShortestCover, IsSource, IsViolationOf, Life, lines_of, Names, NamesCover}
 use Rattle.verdicts.proofs.Common.{NamesStep, one_at, one_deeper, Operation, order, repeat, selects, Source, Violation}
@@ -29,7 +29,7 @@ module _ (initial : List ℕ) (operations : List Operation) where
   k = length initial
 
   abbrev all : List Operation
-  all = filled initial operations
+  all = timeline initial operations
 
   maybe_one : (place : Option ℕ) (x y : Option Operation) → IsMaybeOperation initial operations place x → IsMaybeOperation initial operations place y → x ≡ y
   maybe_one place x y at_x at_y = one_maybe_at all (option_map (behind k) place) x y at_x at_y
@@ -149,9 +149,9 @@ shortest operations (witness empty cover) complete chosen =
     (record { complete = complete; no_fresh = chosen.0; no_repeat = chosen.1 }) chosen.3.cover_is_chosen is
 
 -- the chosen violation has a shortest cover
-pub has_shortest_cover : (initial : List ℕ) (operations : List Operation) (named : Violation) → AreComplete (filled initial operations)
+pub has_shortest_cover : (initial : List ℕ) (operations : List Operation) (named : Violation) → AreComplete (timeline initial operations)
     → IsChosenViolation initial operations named
-    → (full : FullViolation) → Names initial operations named full → IsShortestCover (filled initial operations) full
+    → (full : FullViolation) → Names initial operations named full → IsShortestCover (timeline initial operations) full
 has_shortest_cover initial operations named complete chosen full names =
-    subst (IsShortestCover (filled initial operations)) (names_one initial operations named chosen.0 full chosen.1 names)
-    (shortest (filled initial operations) chosen.0 complete chosen.2)
+    subst (IsShortestCover (timeline initial operations)) (names_one initial operations named chosen.0 full chosen.1 names)
+    (shortest (timeline initial operations) chosen.0 complete chosen.2)

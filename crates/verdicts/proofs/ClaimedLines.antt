@@ -1,11 +1,11 @@
 -- The lines of a claim by the operations that they stand for.
 use Rattle.verdicts.proofs.Common.{[], ◌<◌, ◌↔◌, ◌∙◌, ◌∷◌, ◌≡◌, ◌≤◌, ap, ap₂, arith, drop, get_or, length, length-drop}
-use Rattle.verdicts.proofs.Common.{List, map, None, Option, refl, Some, subst, suc, sym, zero, ℕ, all_of, ClaimLine}
+use Rattle.verdicts.proofs.Common.{List, map, None, Option, refl, Some, subst, suc, sym, zero, ℕ, ClaimLine}
 use Rattle.verdicts.proofs.Common.{Did, Empty, fresh, FullViolation, IsEnqueuedTooLate, IsLife, IsNeverEnqueued}
 use Rattle.verdicts.proofs.Common.{IsOrderViolation, IsRepeatViolation, lines_of, Operation, order, Precedes, repeat}
 use Rattle.verdicts.proofs.Common.{ShowsCover, ShowsKind, ShowsViolation, StandFor, StandForCover, StandForLife}
 use Rattle.verdicts.proofs.Common.{stands_for, VFresh, ViolationKind, VOrd, VRepeat, VWit, witness}
-use Rattle.verdicts.specs.declared.lookup.Filled.{Filled}
+use Rattle.verdicts.specs.declared.lookup.Lookup.{Lookup}
 use Rattle.verdicts.specs.Claims.{kind_of}
 use Rattle.verdicts.proofs.ClaimedViolations.{through, one_line_fresh, two_lines_fresh, three_lines_repeat, three_lines_order, four_lines_order}
 use Rattle.verdicts.proofs.ClaimedViolations.{lines_of_witness}
@@ -21,7 +21,7 @@ same_shown (x ∷ xs) (y ∷ ys) same =
     let later : map (λ o. Some o) xs ≡ map (λ o. Some o) ys = cc in
     ap (λ o. o ∷ xs) first ∙ ap (λ os. y ∷ os) (same_shown xs ys later)
 
-module _ (f : Filled) where
+module _ (f : Lookup) where
   -- what a line stands for
   abbrev pub stands : ClaimLine → Option Operation
   stands line = stands_for f.initial.now line
@@ -36,10 +36,10 @@ module _ (f : Filled) where
 
   -- the lines of a `NO` stand for some operations: these show the violation
   pub shown_by_all : (kind : ViolationKind) (lines : List ClaimLine) (shown : List Operation) → StandFor f.initial.now lines shown
-      → ShowsViolation (all_of f) kind shown ↔ ShowsKind f kind lines
+      → ShowsViolation f.timeline.now kind shown ↔ ShowsKind f kind lines
   shown_by_all kind lines shown are = (
     λ shows. (shown, are, shows),
-    λ shows. subst (ShowsViolation (all_of f) kind) (same_shown shows.0 shown (sym shows.1 ∙ are)) shows.2,
+    λ shows. subst (ShowsViolation f.timeline.now kind) (same_shown shows.0 shown (sym shows.1 ∙ are)) shows.2,
   )
 
   -- a line that stands for nothing shows nothing
@@ -93,40 +93,40 @@ module _ (f : Filled) where
   -- ---- lines that show a violation, by what they stand for
 
   -- one line shows a fresh value if and only if nobody enqueued it
-  pub one_line_fresh_is : (line : ClaimLine) (x : Operation) → stands line ≡ Some x → IsNeverEnqueued (all_of f) x ↔ ShowsKind f VFresh (line ∷ [])
-  one_line_fresh_is line x at = through (one_line_fresh (all_of f) x) (shown_by_all VFresh (line ∷ []) (x ∷ []) (ap (λ o. o ∷ []) at))
+  pub one_line_fresh_is : (line : ClaimLine) (x : Operation) → stands line ≡ Some x → IsNeverEnqueued f.timeline.now x ↔ ShowsKind f VFresh (line ∷ [])
+  one_line_fresh_is line x at = through (one_line_fresh f.timeline.now x) (shown_by_all VFresh (line ∷ []) (x ∷ []) (ap (λ o. o ∷ []) at))
 
   -- two lines show a fresh value if and only if its enqueue came too late or was refused
   pub two_lines_fresh_are : (line later : ClaimLine) (x y : Operation) → stands line ≡ Some x → stands later ≡ Some y
-      → IsEnqueuedTooLate (all_of f) x y ↔ ShowsKind f VFresh (line ∷ later ∷ [])
+      → IsEnqueuedTooLate f.timeline.now x y ↔ ShowsKind f VFresh (line ∷ later ∷ [])
   two_lines_fresh_are line later x y a b =
-      through (two_lines_fresh (all_of f) x y)
+      through (two_lines_fresh f.timeline.now x y)
       (shown_by_all VFresh (line ∷ later ∷ []) (x ∷ y ∷ []) (ap₂ (λ (o : Option Operation) (p : Option Operation). o ∷ p ∷ []) a b))
 
   -- three lines show a repeated value if and only if the two dequeues are of the enqueue's value
   pub three_lines_repeat_are : (lines : List ClaimLine) (d : ClaimLine) (x y z : Operation) → 3 ≤ length lines → length lines < 4
       → stands (get_or lines 0 d) ≡ Some x → stands (get_or lines 1 d) ≡ Some y → stands (get_or lines 2 d) ≡ Some z
-      → IsRepeatViolation (all_of f) x y z ↔ ShowsKind f VRepeat lines
+      → IsRepeatViolation f.timeline.now x y z ↔ ShowsKind f VRepeat lines
   three_lines_repeat_are lines d x y z long short a b c =
-      through (three_lines_repeat (all_of f) x y z)
+      through (three_lines_repeat f.timeline.now x y z)
       (shown_by_all VRepeat lines (x ∷ y ∷ z ∷ [])
       (three_stand lines d x y z [] long a b c (none_left (drop 3 lines) (none_after 3 lines (omega arith)))))
 
   -- three lines show two values out of order if and only if the first is never dequeued
   pub three_lines_order_are : (lines : List ClaimLine) (d : ClaimLine) (x y z : Operation) → 3 ≤ length lines → length (drop 3 lines) < 1
       → stands (get_or lines 0 d) ≡ Some x → stands (get_or lines 1 d) ≡ Some y → stands (get_or lines 2 d) ≡ Some z
-      → IsOrderViolation (all_of f) x y z None ↔ ShowsKind f VOrd lines
+      → IsOrderViolation f.timeline.now x y z None ↔ ShowsKind f VOrd lines
   three_lines_order_are lines d x y z long short a b c =
-      through (three_lines_order (all_of f) x y z)
+      through (three_lines_order f.timeline.now x y z)
       (shown_by_all VOrd lines (x ∷ y ∷ z ∷ []) (three_stand lines d x y z [] long a b c (none_left (drop 3 lines) short)))
 
   -- four lines show two values out of order if and only if the first is dequeued later
   pub four_lines_order_are : (lines : List ClaimLine) (d e : ClaimLine) (x y z v : Operation) → 3 ≤ length lines → 1 ≤ length (drop 3 lines)
       → length (drop 3 lines) < 2
       → stands (get_or lines 0 d) ≡ Some x → stands (get_or lines 1 d) ≡ Some y → stands (get_or lines 2 d) ≡ Some z
-      → stands (get_or (drop 3 lines) 0 e) ≡ Some v → IsOrderViolation (all_of f) x y z (Some v) ↔ ShowsKind f VOrd lines
+      → stands (get_or (drop 3 lines) 0 e) ≡ Some v → IsOrderViolation f.timeline.now x y z (Some v) ↔ ShowsKind f VOrd lines
   four_lines_order_are lines d e x y z v long more short a b c last =
-      through (four_lines_order (all_of f) x y z v)
+      through (four_lines_order f.timeline.now x y z v)
       (shown_by_all VOrd lines (x ∷ y ∷ z ∷ v ∷ []) (three_stand lines d x y z (v ∷ []) long a b c (one_stands (drop 3 lines) e v more short last)))
 
   -- as many lines as what they stand for
@@ -170,45 +170,45 @@ module _ (f : Filled) where
 
   -- the first line is the empty answer, the others stand for its cover
   pub witness_lines_are : (lines : List ClaimLine) (d : ClaimLine) (x : Operation) → 1 ≤ length lines → stands (get_or lines 0 d) ≡ Some x
-      → (Did (all_of f) x Empty × StandForCover f x x (drop 1 lines)) ↔ ShowsKind f VWit lines
+      → (Did f.timeline.now x Empty × StandForCover f x x (drop 1 lines)) ↔ ShowsKind f VWit lines
   witness_lines_are [] d x long at = absurd (omega arith)
   witness_lines_are (l ∷ lines) d x long at = (
     λ (did, (shown, are, covers)).
-        (x ∷ shown, more_stand (l ∷ lines) d x shown long at are, (lines_of_witness (all_of f) x shown).0 (did, covers)),
+        (x ∷ shown, more_stand (l ∷ lines) d x shown long at are, (lines_of_witness f.timeline.now x shown).0 (did, covers)),
     λ (shown, are, shows). back shown are shows,
   )
     where
-      back : (shown : List Operation) → StandFor f.initial.now (l ∷ lines) shown → ShowsViolation (all_of f) VWit shown
-          → Did (all_of f) x Empty × StandForCover f x x lines
+      back : (shown : List Operation) → StandFor f.initial.now (l ∷ lines) shown → ShowsViolation f.timeline.now VWit shown
+          → Did f.timeline.now x Empty × StandForCover f x x lines
       back [] are shows = cc
       back (o ∷ shown) are shows =
           let first : Some x ≡ Some o = sym at ∙ (cc) in
           let same : o ≡ x = cc in
           let later : map stands lines ≡ map (λ y. Some y) shown = cc in
-          let parts = (lines_of_witness (all_of f) o shown).1 shows in
-          (subst (λ y. Did (all_of f) y Empty) same parts.0, (shown, later, subst (λ y. ShowsCover (all_of f) y y shown) same parts.1))
+          let parts = (lines_of_witness f.timeline.now o shown).1 shows in
+          (subst (λ y. Did f.timeline.now y Empty) same parts.0, (shown, later, subst (λ y. ShowsCover f.timeline.now y y shown) same parts.1))
 
   -- ---- lines of a cover
 
   cover_by_all : (empty before : Operation) (lines : List ClaimLine) (shown : List Operation) → StandFor f.initial.now lines shown
-      → ShowsCover (all_of f) empty before shown ↔ StandForCover f empty before lines
+      → ShowsCover f.timeline.now empty before shown ↔ StandForCover f empty before lines
   cover_by_all empty before lines shown are = (
     λ shows. (shown, are, shows),
-    λ shows. subst (ShowsCover (all_of f) empty before) (same_shown shows.0 shown (sym shows.1 ∙ are)) shows.2,
+    λ shows. subst (ShowsCover f.timeline.now empty before) (same_shown shows.0 shown (sym shows.1 ∙ are)) shows.2,
   )
 
   -- no lines stand for no cover
   pub no_lines_cover : (empty before : Operation) (lines : List ClaimLine) → length lines < 1 → ¬ (StandForCover f empty before lines)
   no_lines_cover empty before lines short covers =
-      let same = as_many lines covers.0 covers.1 in none_shown (all_of f) empty before covers.0 (omega arith) covers.2
+      let same = as_many lines covers.0 covers.1 in none_shown f.timeline.now empty before covers.0 (omega arith) covers.2
 
   -- one line stands for a cover if and only if its value is never dequeued and was in before
   pub one_line_covers : (empty before : Operation) (lines : List ClaimLine) (d : ClaimLine) (x : Operation) → 1 ≤ length lines → length lines < 2
       → stands (get_or lines 0 d) ≡ Some x
-      → (IsLife (all_of f) (record { enqueue = x; dequeue = None }) × Precedes x before) ↔ StandForCover f empty before lines
+      → (IsLife f.timeline.now (record { enqueue = x; dequeue = None }) × Precedes x before) ↔ StandForCover f empty before lines
   one_line_covers empty before lines d x long short at =
       let are = one_stands lines d x long short at in
-      through (shown_by_one (all_of f) empty before (x ∷ []) x (omega arith) (omega arith)) (cover_by_all empty before lines (x ∷ []) are)
+      through (shown_by_one f.timeline.now empty before (x ∷ []) x (omega arith) (omega arith)) (cover_by_all empty before lines (x ∷ []) are)
 
   -- a first line that stands for nothing stands for no cover
   pub none_stands_for_cover : (empty before : Operation) (lines : List ClaimLine) (d : ClaimLine) → 1 ≤ length lines → stands (get_or lines 0 d) ≡ None
@@ -222,16 +222,16 @@ module _ (f : Filled) where
   no_life_covers empty before (l ∷ []) d long none covers = absurd (omega arith)
   no_life_covers empty before (l ∷ m ∷ lines) d long none covers = go covers.0 covers.1 covers.2
     where
-      go : (shown : List Operation) → StandFor f.initial.now (l ∷ m ∷ lines) shown → ShowsCover (all_of f) empty before shown → ⊥
+      go : (shown : List Operation) → StandFor f.initial.now (l ∷ m ∷ lines) shown → ShowsCover f.timeline.now empty before shown → ⊥
       go [] are shows = cc
       go (e ∷ []) are shows = cc
       go (e ∷ x ∷ []) are shows =
-          let begins = ((shown_by_two (all_of f) empty before (e ∷ x ∷ []) e (omega arith) (omega arith)).1 shows).0 in
+          let begins = ((shown_by_two f.timeline.now empty before (e ∷ x ∷ []) e (omega arith) (omega arith)).1 shows).0 in
           let first : stands l ≡ Some e = cc in
           let second : stands m ≡ Some x = cc in
           none e x (first, second, begins.0, begins.1)
       go (e ∷ x ∷ y ∷ shown) are shows =
-          let begins = ((shown_by_more (all_of f) empty before (e ∷ x ∷ y ∷ shown) e (omega arith)).1 shows).0 in
+          let begins = ((shown_by_more f.timeline.now empty before (e ∷ x ∷ y ∷ shown) e (omega arith)).1 shows).0 in
           let first : stands l ≡ Some e = cc in
           let second : stands m ≡ Some x = cc in
           none e x (first, second, begins.0, begins.1)
@@ -241,7 +241,7 @@ module _ (f : Filled) where
       → StandForLife f before (get_or lines 0 d) (get_or lines 1 d) e x → Precedes empty x ↔ StandForCover f empty before lines
   two_lines_cover empty before lines d e x long short life =
       let are = two_stand lines d e x [] long life.0 life.1 (none_left (drop 2 lines) (none_after 2 lines (omega arith))) in
-      let two = shown_by_two (all_of f) empty before (e ∷ x ∷ []) e (omega arith) (omega arith) in
+      let two = shown_by_two f.timeline.now empty before (e ∷ x ∷ []) e (omega arith) (omega arith) in
       through (λ past. two.0 ((life.2, life.3), past), λ shows. (two.1 shows).1) (cover_by_all empty before lines (e ∷ x ∷ []) are)
 
   -- more lines that begin with a life stand for a cover where the later ones do, from its dequeue on
@@ -252,16 +252,16 @@ module _ (f : Filled) where
   more_lines_cover empty before (l ∷ m ∷ []) d e x long life = absurd (omega arith)
   more_lines_cover empty before (l ∷ m ∷ n ∷ lines) d e x long life = (λ covers. forth covers.0 covers.1 covers.2, λ covers. back covers.0 covers.1 covers.2)
     where
-      forth : (shown : List Operation) → StandFor f.initial.now (n ∷ lines) shown → ShowsCover (all_of f) empty x shown
+      forth : (shown : List Operation) → StandFor f.initial.now (n ∷ lines) shown → ShowsCover f.timeline.now empty x shown
           → StandForCover f empty before (l ∷ m ∷ n ∷ lines)
       forth [] are shows = cc
       forth (o ∷ shown) are shows = (
         e ∷ x ∷ o ∷ shown,
         two_stand (l ∷ m ∷ n ∷ lines) d e x (o ∷ shown) (omega arith) life.0 life.1 are,
-        (shown_by_more (all_of f) empty before (e ∷ x ∷ o ∷ shown) e (omega arith)).0 ((life.2, life.3), shows),
+        (shown_by_more f.timeline.now empty before (e ∷ x ∷ o ∷ shown) e (omega arith)).0 ((life.2, life.3), shows),
       )
 
-      back : (shown : List Operation) → StandFor f.initial.now (l ∷ m ∷ n ∷ lines) shown → ShowsCover (all_of f) empty before shown
+      back : (shown : List Operation) → StandFor f.initial.now (l ∷ m ∷ n ∷ lines) shown → ShowsCover f.timeline.now empty before shown
           → StandForCover f empty x (n ∷ lines)
       back [] are shows = cc
       back (e' ∷ []) are shows = cc
@@ -271,8 +271,8 @@ module _ (f : Filled) where
           let both : Some x ≡ Some x' = sym life.1 ∙ second in
           let same : x' ≡ x = cc in
           let later : map stands (n ∷ lines) ≡ map (λ y. Some y) (o ∷ shown) = cc in
-          let covers = ((shown_by_more (all_of f) empty before (e' ∷ x' ∷ o ∷ shown) e' (omega arith)).1 shows).1 in
-          (o ∷ shown, later, subst (λ y. ShowsCover (all_of f) empty y (o ∷ shown)) same covers)
+          let covers = ((shown_by_more f.timeline.now empty before (e' ∷ x' ∷ o ∷ shown) e' (omega arith)).1 shows).1 in
+          (o ∷ shown, later, subst (λ y. ShowsCover f.timeline.now empty y (o ∷ shown)) same covers)
 
 -- a list of one line, and one of two, by their elements
 pub one_line : (lines : List ClaimLine) (d : ClaimLine) → 1 ≤ length lines → length lines < 2 → get_or lines 0 d ∷ [] ≡ lines

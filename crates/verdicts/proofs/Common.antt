@@ -39,7 +39,7 @@ pub use Rattle.event_records.specs.declared.limits.TheConstants.{MAX_CLOCK, MAX_
 pub use Rattle.event_records.specs.declared.limits.TheConstants.{MAX_THREAD, MAX_TICKET}
 pub use Rattle.history_merge.specs.Complete.{AreComplete, AreDistinct, called_value, called_values, IsCompleteHistory}
 pub use Rattle.history_merge.specs.Complete.{IsCompleteUpTo}
-pub use Rattle.history_merge.specs.Initial.{event_later_by, filled, filled_events, filling_events_from, filling_from}
+pub use Rattle.history_merge.specs.Initial.{event_later_by, timeline, timeline_events, enqueue_events_from, enqueues_from}
 pub use Rattle.history_merge.specs.Initial.{HistoryView, IsCompleteFrom, later_by}
 pub use Rattle.history_merge.specs.Legal.{ArePlacesOf, IsLegalOrder, IsLinearizable}
 pub use Rattle.history_merge.specs.Operations.{Did, IsAt, NoneDid, operation_of, operations_of, Precedes}
@@ -51,13 +51,13 @@ pub use Rattle.history_merge.proofs.Distinct.{call_before_return, calls_rise, Ca
 pub use Rattle.history_merge.proofs.Distinct.{IsTraced, not_in_none, one_at, operation_within, pairs_at, place_of}
 pub use Rattle.history_merge.proofs.Distinct.{return_differs_from_call, return_in_range, same_call, same_enqueue}
 pub use Rattle.history_merge.proofs.Distinct.{same_event, same_return, same_value_call, traced}
-pub use Rattle.history_merge.proofs.Filled.{filled_are_complete, filled_is_complete, filled_operations}
-pub use Rattle.history_merge.proofs.Filled.{linearizable_from_exactly}
+pub use Rattle.history_merge.proofs.Timelines.{timeline_is_of_complete, timeline_is_complete, timeline_operations}
+pub use Rattle.history_merge.proofs.Timelines.{linearizable_from_exactly}
 pub use Rattle.history_merge.proofs.Later.{later_injective, legal_moved, map_map, not_later}
 pub use Rattle.value_match.specs.Choice.{IsChosenCover, IsChosenCoverFrom, IsChosenFresh, IsChosenFullViolation}
 pub use Rattle.value_match.specs.Choice.{IsChosenOrderViolation, IsChosenRepeat, IsChosenWitness, IsNextOfCover}
 pub use Rattle.value_match.specs.Choice.{StaysAtLeast}
-pub use Rattle.value_match.specs.Filling.{behind, filled_gap, filling_at}
+pub use Rattle.value_match.specs.Timeline.{behind, clock_of_gap, initial_enqueue}
 pub use Rattle.value_match.specs.Lives.{AreLeastFreeGaps, call_or_never, Covers, dequeue_call, dequeue_of}
 pub use Rattle.value_match.specs.Lives.{dequeue_return, enqueue_of, enqueue_return, is_empty_answer, IsCovered}
 pub use Rattle.value_match.specs.Lives.{IsLeastFreeGap, IsLife, IsMaybeAt, leaves_from, lives_of, operations_of_life}
@@ -73,8 +73,7 @@ pub use Rattle.value_match.specs.declared.violation.CoverStep.{CoverStep}
 pub use Rattle.value_match.specs.declared.violation.Source.{Source}
 pub use Rattle.value_match.specs.declared.violation.Violation.{Violation}
 pub use Rattle.value_match.proofs.CoverLives.{AreLives, covers_are_lives}
-pub use Rattle.value_match.proofs.FilledLines.{called_early, called_late, filled_at, filling_place, filling_stands}
-pub use Rattle.value_match.proofs.FilledLines.{none_fills_from_cases, none_in_filled, returned_early, same_operation}
+pub use Rattle.value_match.proofs.TimelineLines.{enqueue_place, enqueue_stands, same_operation, timeline_at}
 pub use Rattle.value_match.proofs.Lists.{keeps, kept, mapped_from, mapped_to, one_deeper, passed_filter, passes_filter}
 pub use Rattle.value_match.proofs.Lives.{dequeued_if_called, one_life_of_enqueue}
 pub use Rattle.order_violation.specs.declared.pair.OrderPair.{OrderPair}
@@ -87,12 +86,12 @@ pub use Rattle.verdicts.specs.Claiming.{is_operation, IsPlaceWithin, line_at, li
 pub use Rattle.verdicts.specs.Claiming.{operations_named, verdict_places, violation_kind}
 pub use Rattle.verdicts.specs.Claims.{ShowsViolation, StandFor, stands_for}
 pub use Rattle.verdicts.specs.Decided.{IsDecided}
-pub use Rattle.verdicts.specs.Inner.Claims.{all_of, CallsRise, ShowsCover, ShowsKind, StandForCover, StandForLife}
+pub use Rattle.verdicts.specs.Inner.Claims.{CallsRise, ShowsCover, ShowsKind, StandForCover, StandForLife}
 pub use Rattle.verdicts.specs.Inner.Selecting.{call_in, holds_ticket, SelectsNamed, value_in}
 pub use Rattle.verdicts.specs.Selection.{AreLinearizable, ArePartOf, Contents, contents_of, IsMinimal, IsShortestCover}
 pub use Rattle.verdicts.specs.Selection.{KeepsViolation, select, selects, StaysChosen, value_of, violation_lines}
 pub use Rattle.verdicts.specs.Shown.{maybe_place, place_of_source, places_of_step, violation_places}
-pub use Rattle.verdicts.specs.Verdicts.{filled_of, IsVerdict}
+pub use Rattle.verdicts.specs.Verdicts.{timeline_of_history, IsVerdict}
 pub use Rattle.verdicts.specs.declared.shown.LinePlace.{LinePlace}
 pub use Rattle.verdicts.specs.declared.verdict.Verdict.TheVariants.{No, Yes}
 pub use Rattle.verdicts.specs.declared.verifying.ClaimLine.{ClaimLine}

@@ -1,6 +1,6 @@
 -- A chosen violation decides a history, and so does a chosen order that is legal.
 use Rattle.verdicts.proofs.Common.{◌<◌, ◌≡◌, ◌⊎◌, All, All-map, inl, inr, length, List, map, subst, ℕ, AreComplete}
-use Rattle.verdicts.proofs.Common.{CoverStep, filled, filled_are_complete, fresh, IsChosenViolation, IsClear, IsDecided}
+use Rattle.verdicts.proofs.Common.{CoverStep, timeline, timeline_is_of_complete, fresh, IsChosenViolation, IsClear, IsDecided}
 use Rattle.verdicts.proofs.Common.{IsMatched, IsPlaceWithin, IsWitnessAnswer, linearizable_from_exactly, lines_of, No}
 use Rattle.verdicts.proofs.Common.{NoOrderViolation, Operation, operations_of, order, OrderPair, repeat, Violation}
 use Rattle.verdicts.proofs.Common.{violation_places, witness, Yes}
@@ -18,10 +18,10 @@ use Rattle.verdicts.proofs.Chosen.{chosen_is_violation}
 use Rattle.verdicts.proofs.NamedPlaces.{all_within, each_shown, in_range}
 
 -- a chosen violation decides
-pub no_is_decided : (initial : List ℕ) (operations : List Operation) (violation : Violation) → AreComplete (filled initial operations)
+pub no_is_decided : (initial : List ℕ) (operations : List Operation) (violation : Violation) → AreComplete (timeline initial operations)
     → IsChosenViolation initial operations violation → IsDecided initial operations (No violation)
 no_is_decided initial operations violation complete chosen =
-    let all = filled initial operations in
+    let all = timeline initial operations in
     let full = chosen_is_violation all chosen.0 complete chosen.2 in
     record {
       chosen = chosen;
@@ -46,14 +46,14 @@ yes_is_decided initial operations places chosen = record {
 }
 
 -- the chosen pair is the chosen violation where the first two kinds are absent
-pub pair_is_chosen : (initial : List ℕ) (operations : List Operation) (pair : OrderPair) → IsClear (filled initial operations)
+pub pair_is_chosen : (initial : List ℕ) (operations : List Operation) (pair : OrderPair) → IsClear (timeline initial operations)
     → IsChosenPair initial operations pair → IsChosenViolation initial operations (violation.Order pair.enq_a pair.enq_b pair.deq_b pair.deq_a)
 pair_is_chosen initial operations pair clear is =
     (order is.enq_a is.enq_b is.deq_b is.deq_a, (is.at_a, is.at_b, is.dequeued_b, is.dequeued_a), (clear.no_fresh, clear.no_repeat, is.is_chosen))
 
 -- the chosen empty answer with its cover is the chosen violation where the first three kinds are absent
-pub witness_is_chosen : (initial : List ℕ) (operations : List Operation) (empty : ℕ) (cover : List CoverStep) → IsClear (filled initial operations)
-    → NoOrderViolation (filled initial operations) → IsWitnessAnswer initial operations (found.Covered empty cover)
+pub witness_is_chosen : (initial : List ℕ) (operations : List Operation) (empty : ℕ) (cover : List CoverStep) → IsClear (timeline initial operations)
+    → NoOrderViolation (timeline initial operations) → IsWitnessAnswer initial operations (found.Covered empty cover)
     → IsChosenViolation initial operations (violation.Witness empty cover)
 witness_is_chosen initial operations empty cover clear none is = (witness is.0 is.1, (is.2, is.3), (clear.no_fresh, clear.no_repeat, none, is.4))
 
@@ -68,7 +68,7 @@ refused_is_chosen initial operations answer violation is (inr same) =
 
 -- so the `NO` is decided
 pub refused_is_decided : (initial : List ℕ) (operations : List Operation) (answer : Matched) (violation : Violation)
-    → AreComplete (filled initial operations) → IsMatched initial operations answer
+    → AreComplete (timeline initial operations) → IsMatched initial operations answer
     → (answer ≡ matched.Fresh violation) ⊎ (answer ≡ matched.Repeat violation) → IsDecided initial operations (No violation)
 refused_is_decided initial operations answer violation complete is refused =
     no_is_decided initial operations violation complete (refused_is_chosen initial operations answer violation is refused)
@@ -79,5 +79,5 @@ true_claim_decides initial events (claimed.Yes lines) complete few legal = (line
 true_claim_decides initial events (claimed.No kind lines) complete few shows =
     let operations = operations_of events in
     let full = shows.2.0 in
-    λ exists. violation_excludes_order (filled initial operations) full (filled_are_complete initial events complete few) shows.2.3
+    λ exists. violation_excludes_order (timeline initial operations) full (timeline_is_of_complete initial events complete few) shows.2.3
     ((linearizable_from_exactly initial operations).0 exists)

@@ -6,9 +6,9 @@ use Rattle.verdicts.proofs.Common.{length_permutation, List, ltb-false, map, Mat
 use Rattle.verdicts.proofs.Common.{not-true, Option, option_map, option_to_list, refl, slice_get, slice_get_within}
 use Rattle.verdicts.proofs.Common.{Some, subst, suc, sym, true, zero, ℕ, AllPairs-tail, AreComplete, ArePlacesOf}
 use Rattle.verdicts.proofs.Common.{call_before_return, call_or_never, ClaimLine, contains_at, contains_cons, Deq}
-use Rattle.verdicts.proofs.Common.{dequeue_call, dequeue_of, Did, Empty, Enq, enqueue_of, Event, event_later_by, filled}
-use Rattle.verdicts.proofs.Common.{filled_events, filled_is_complete, filled_operations, filling_events_from}
-use Rattle.verdicts.proofs.Common.{filling_from, filling_place, fresh, FullViolation, is_operation, IsChosenCoverFrom}
+use Rattle.verdicts.proofs.Common.{dequeue_call, dequeue_of, Did, Empty, Enq, enqueue_of, Event, event_later_by, timeline}
+use Rattle.verdicts.proofs.Common.{timeline_events, timeline_is_complete, timeline_operations, enqueue_events_from}
+use Rattle.verdicts.proofs.Common.{enqueues_from, enqueue_place, fresh, FullViolation, is_operation, IsChosenCoverFrom}
 use Rattle.verdicts.proofs.Common.{IsChosenFullViolation, IsClear, IsCompleteFrom, IsCompleteUpTo, IsCovered, IsLife}
 use Rattle.verdicts.proofs.Common.{IsVerdict, later_by, Life, line_at, LinePlace, lines_of, mapped_to, MAX_CLOCK}
 use Rattle.verdicts.proofs.Common.{MAX_EVENTS, MAX_INITIAL, MAX_OPERATIONS, No, NoneDid, not_in_none, one_deeper}
@@ -26,7 +26,7 @@ use Rattle.verdicts.specs.declared.shown.LinePlace.TheVariants as place
 use Rattle.verdicts.specs.declared.verifying.ClaimLine.TheVariants as line
 use Rattle.verdicts.specs.declared.verdict.Verdict.{Verdict}
 use Rattle.verdicts.proofs.CoverGaps.{IsCalledInside, chosen_are_lives, handover, all_stay}
-use Rattle.value_match.proofs.FilledOperations.{length_filled, length_filling}
+use Rattle.history_merge.proofs.TimelineOperations.{length_timeline, length_enqueues}
 use Rattle.verdicts.proofs.NamedPlaces.{IsShownAt, each_shown, zip_lengths}
 use Rattle.verdicts.proofs.ShownLines.{accepted_value, line_of}
 
@@ -277,10 +277,10 @@ module _ (events : List Event) (complete : IsCompleteUpTo MAX_CLOCK events) (mos
 as_many : (operations : List Operation) (places : List ℕ) (listed : List Operation) → ArePlacesOf operations places listed → length places ≡ length listed
 as_many operations places listed at = simp length-map at (ap length at)
 
-length_filling_events : (clock : ℕ) (values : List ℕ) (later : List Event)
-    → length (filling_events_from clock values ++ later) ≡ 2 * length values + length later
-length_filling_events clock [] later = omega arith
-length_filling_events clock (v ∷ values) later = let rest = length_filling_events (clock + 2) values later in omega arith
+length_enqueue_events : (clock : ℕ) (values : List ℕ) (later : List Event)
+    → length (enqueue_events_from clock values ++ later) ≡ 2 * length values + length later
+length_enqueue_events clock [] later = omega arith
+length_enqueue_events clock (v ∷ values) later = let rest = length_enqueue_events (clock + 2) values later in omega arith
 
 -- ---- the operations among the lines
 
@@ -358,50 +358,50 @@ module _ (initial : List ℕ) (events : List Event) (whole : IsCompleteFrom init
   abbrev n : ℕ
   n = 2 * length initial
 
-  abbrev filling : List Operation
-  filling = filling_from 0 initial
+  abbrev initial_enqueues : List Operation
+  initial_enqueues = enqueues_from 0 initial
 
-  -- of operations of the filled history, each once, at most half as many are the history's own as it has events
-  few_own : (listed : List Operation) → ((o : Operation) → Contains listed o → Contains (operations_of (filled_events initial events)) o) → Apart listed
+  -- of operations of the timeline, each once, at most half as many are the history's own as it has events
+  few_own : (listed : List Operation) → ((o : Operation) → Contains listed o → Contains (operations_of (timeline_events initial events)) o) → Apart listed
       → length (filter (is_own n) listed) ≤ MAX_OPERATIONS
   few_own listed among apart =
-      let complete = filled_is_complete initial events whole few_initial in
-      let both = few_apart (filled_events initial events) (filling ++ own) complete in_all
-      (apart_both filling own (filling_apart complete) (apart_filter (is_own n) listed apart) none_filling) in
-      let parts = length-append filling own in
-      let front = length_filling 0 initial in
-      let many = length_filling_events 0 initial (map (event_later_by n) events) in
+      let complete = timeline_is_complete initial events whole few_initial in
+      let both = few_apart (timeline_events initial events) (initial_enqueues ++ own) complete in_all
+      (apart_both initial_enqueues own (enqueues_apart complete) (apart_filter (is_own n) listed apart) none_enqueued) in
+      let parts = length-append initial_enqueues own in
+      let front = length_enqueues 0 initial in
+      let many = length_enqueue_events 0 initial (map (event_later_by n) events) in
       let same : length (map (event_later_by n) events) ≡ length events = simp length-map in
       omega (arith, both, parts, front, many, same, few_events)
     where
       own : List Operation
       own = filter (is_own n) listed
 
-      in_filled : (o : Operation) → Contains filling o → Contains (operations_of (filled_events initial events)) o
-      in_filled o here = subst (λ os. Contains os o) (sym (filled_operations initial events))
-          (Contains-append_left filling (map (later_by n) (operations_of events)) o here)
+      on_timeline : (o : Operation) → Contains initial_enqueues o → Contains (operations_of (timeline_events initial events)) o
+      on_timeline o here = subst (λ os. Contains os o) (sym (timeline_operations initial events))
+          (Contains-append_left initial_enqueues (map (later_by n) (operations_of events)) o here)
 
-      in_all : (o : Operation) → Contains (filling ++ filter (is_own n) listed) o → Contains (operations_of (filled_events initial events)) o
-      in_all o both = elim (Contains-append_cases filling (filter (is_own n) listed) o both) [
-        | inl here ↦ in_filled o here
+      in_all : (o : Operation) → Contains (initial_enqueues ++ filter (is_own n) listed) o → Contains (operations_of (timeline_events initial events)) o
+      in_all o both = elim (Contains-append_cases initial_enqueues (filter (is_own n) listed) o both) [
+        | inl here ↦ on_timeline o here
         | inr there ↦ among o (passed_filter (is_own n) listed o there).0
       ]
 
-      filling_apart : IsCompleteUpTo MAX_CLOCK (filled_events initial events) → Apart filling
-      filling_apart complete = apart_front filling (map (later_by n) (operations_of events))
-          (subst Apart (filled_operations initial events) (apart_from_rise (operations_of (filled_events initial events))
-          (operations_rise (operations_of (filled_events initial events)) (filled_events initial events, complete, refl))))
+      enqueues_apart : IsCompleteUpTo MAX_CLOCK (timeline_events initial events) → Apart initial_enqueues
+      enqueues_apart complete = apart_front initial_enqueues (map (later_by n) (operations_of events))
+          (subst Apart (timeline_operations initial events) (apart_from_rise (operations_of (timeline_events initial events))
+          (operations_rise (operations_of (timeline_events initial events)) (timeline_events initial events, complete, refl))))
 
-      none_filling : (o : Operation) → Contains filling o → Contains (filter (is_own n) listed) o → ⊥
-      none_filling o here there =
-          let found = filling_place initial o here in
+      none_enqueued : (o : Operation) → Contains initial_enqueues o → Contains (filter (is_own n) listed) o → ⊥
+      none_enqueued o here there =
+          let found = enqueue_place initial o here in
           let call : 2 * found.0 ≡ o.call = ap (λ (x : Operation). x.call) found.3 in
           let within = slice_get_within initial found.0 found.1 found.2 in
           let late = ltb-false o.call n (not-true (nat_lt o.call n) (passed_filter (is_own n) listed o there).1) in
           absurd (omega (arith, call, within, late))
 
   -- a chosen violation shows few operations of the history
-  few_own_shown : (full : FullViolation) → IsChosenFullViolation (operations_of (filled_events initial events)) full
+  few_own_shown : (full : FullViolation) → IsChosenFullViolation (operations_of (timeline_events initial events)) full
       → length (filter (is_own n) (lines_of full)) ≤ MAX_OPERATIONS
   few_own_shown (fresh deq None) chosen = let few = shorter (is_own n) (lines_of (fresh deq None)) in omega arith
   few_own_shown (fresh deq (Some enq)) chosen = let few = shorter (is_own n) (lines_of (fresh deq (Some enq))) in omega arith
@@ -409,7 +409,7 @@ module _ (initial : List ℕ) (events : List Event) (whole : IsCompleteFrom init
   few_own_shown (order a b d None) chosen = let few = shorter (is_own n) (lines_of (order a b d None)) in omega arith
   few_own_shown (order a b d (Some e)) chosen = let few = shorter (is_own n) (lines_of (order a b d (Some e))) in omega arith
   few_own_shown (witness empty cover) chosen =
-      let lines = witness_apart (filled_events initial events) (filled_is_complete initial events whole few_initial) empty cover chosen in
+      let lines = witness_apart (timeline_events initial events) (timeline_is_complete initial events whole few_initial) empty cover chosen in
       few_own (lines_of (witness empty cover)) lines.0 lines.1
 
 -- the chosen verdict on a history names few operations, and has few lines
@@ -419,29 +419,29 @@ verdict_has_few_lines initial events verdict whole few_initial few_events chosen
     most : ℕ
     most = MAX_OPERATIONS + length initial
 
-    few : length (filled_events initial events) ≤ most + most
+    few : length (timeline_events initial events) ≤ most + most
     few =
-        let many = length_filling_events 0 initial (map (event_later_by (2 * length initial)) events) in
+        let many = length_enqueue_events 0 initial (map (event_later_by (2 * length initial)) events) in
         let same : length (map (event_later_by (2 * length initial)) events) ≡ length events = simp length-map in
         omega (arith, few_events)
 
-    in_filled : (listed : List Operation) → length (filled initial listed) ≡ length initial + length listed
-    in_filled listed = length_filled initial listed
+    on_timeline : (listed : List Operation) → length (timeline initial listed) ≡ length initial + length listed
+    on_timeline listed = length_timeline initial listed
 
     by_verdict : (verdict : Verdict) → IsVerdict initial (operations_of events) verdict
         → (length (operations_named verdict) ≤ MAX_OPERATIONS) × (length (verdict_places verdict) ≤ most)
     by_verdict (Yes places) is =
-        let shorter_order = few_in_order (filled_events initial events) (filled_is_complete initial events whole few_initial) most (omega arith) few
-        (filled initial is.0)
-        (subst (λ os. IsChosenOrder os (filled initial is.0)) (sym (filled_operations initial events)) is.2) in
-        let long = in_filled is.0 in
+        let shorter_order = few_in_order (timeline_events initial events) (timeline_is_complete initial events whole few_initial) most (omega arith) few
+        (timeline initial is.0)
+        (subst (λ os. IsChosenOrder os (timeline initial is.0)) (sym (timeline_operations initial events)) is.2) in
+        let long = on_timeline is.0 in
         let many = as_many (operations_of events) places is.0 is.1 in
         let shown : length (map (λ p. place.Op p) places) ≡ length places = simp length-map in
         let named = shorter is_operation (map (λ p. place.Op p) places) in
         (omega (arith, named, shown, many, long, shorter_order), omega arith)
     by_verdict (No violation) is =
-        let chosen_there = subst (λ os. IsChosenFullViolation os is.0) (sym (filled_operations initial events)) is.2 in
-        let lines = few_chosen (filled_events initial events) (filled_is_complete initial events whole few_initial) most (omega arith) few is.0
+        let chosen_there = subst (λ os. IsChosenFullViolation os is.0) (sym (timeline_operations initial events)) is.2 in
+        let lines = few_chosen (timeline_events initial events) (timeline_is_complete initial events whole few_initial) most (omega arith) few is.0
         chosen_there in
         let shown = each_shown initial (operations_of events) violation is.0 is.1 in
         let many = zip_lengths (IsShownAt initial (operations_of events)) (violation_places violation) (lines_of is.0) shown in

@@ -5,7 +5,7 @@
 -- FoundLines, NamedLines, NamedPlaces, TrueClaims, FewLines: what a verdict claims, and that this is true.
 -- SameLists, CollectedSets, Selections, ChosenSelections, CoverGaps: what stays of the violations in a selection of the operations.
 -- Minimal: nothing can be left out of the selection by the violation's lines.
--- Carried, Retiming, FilledSelections: a selection of a filled history is the filled history of a selection, at other tickets.
+-- Carried, Retiming, TimelineSelections: a selection of a timeline is the timeline of a selection, at other tickets.
 -- ShownLines, ViolationPlaces, LinesTell: the lines of a violation as they are shown, and what they tell.
 -- HeldTickets, EventsHeld, KeptTickets, KeptEvents, ShrunkEvents: the selected operations with their events are a complete history.
 -- ShrunkHistories, OneSelection: so the small history is minimal, has the violation, and is the only one.
@@ -31,7 +31,7 @@ pub mod Selections
 pub mod CoverGaps
 pub mod Carried
 pub mod Retiming
-pub mod FilledSelections
+pub mod TimelineSelections
 pub mod FoundLines
 pub mod ShownLines
 pub mod NamedLines

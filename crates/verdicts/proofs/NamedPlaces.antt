@@ -1,9 +1,9 @@
--- What a violation names stands at places of the history, and its lines are those of the filled history's operations.
+-- What a violation names stands at places of the history, and its lines are those of the timeline's operations.
 use Rattle.verdicts.proofs.Common.{[], ◌*◌, ◌++◌, ◌+◌, ◌-◌, ◌<◌, ◌∙◌, ◌∷◌, ◌≡◌, All, All-cons, All-nil, AllZip, ap}
 use Rattle.verdicts.proofs.Common.{arith, cons_option, Contains, Contains-append_left, Contains-append_right, flat_map}
 use Rattle.verdicts.proofs.Common.{inl, inr, length, List, map, None, Option, option_map, option_to_list, refl}
 use Rattle.verdicts.proofs.Common.{slice_get, slice_get_within, Some, subst, sym, ℕ, ArePlacesOf, ClaimLine}
-use Rattle.verdicts.proofs.Common.{contains_at, CoverStep, dequeue_of, enqueue_of, filled, filled_at, fresh}
+use Rattle.verdicts.proofs.Common.{contains_at, CoverStep, dequeue_of, enqueue_of, timeline, timeline_at, fresh}
 use Rattle.verdicts.proofs.Common.{FullViolation, IsAt, IsMaybeOperation, IsOperation, IsPlaceWithin, IsSource, Life}
 use Rattle.verdicts.proofs.Common.{line_at, LinePlace, lines_at, lines_of, lines_of_history, mapped_to, maybe_place}
 use Rattle.verdicts.proofs.Common.{Names, NamesCover, Operation, operations_of_life, order, place_of_source}
@@ -45,14 +45,14 @@ module _ (initial : List ℕ) (operations : List Operation) where
   k = length initial
 
   abbrev all : List Operation
-  all = filled initial operations
+  all = timeline initial operations
 
-  -- the line at this place is that of this operation of the filled history
+  -- the line at this place is that of this operation of the timeline
   abbrev pub IsShownAt : LinePlace → Operation → Type 0
-  IsShownAt place o = (line_at initial operations place ≡ Some (line_of (2 * length initial) o)) × Contains (filled initial operations) o
+  IsShownAt place o = (line_at initial operations place ≡ Some (line_of (2 * length initial) o)) × Contains (timeline initial operations) o
 
   shown_at : (p : ℕ) (o : Operation) → IsOperation initial operations p o → IsShownAt (Op p) o
-  shown_at p o at = elim (filled_at initial operations (k + p) o at) [
+  shown_at p o at = elim (timeline_at initial operations (k + p) o at) [
     | inl early ↦ let within = early.within in absurd (omega arith)
     | inr late ↦
         let place : k + p - k ≡ p = omega arith in
@@ -63,7 +63,7 @@ module _ (initial : List ℕ) (operations : List Operation) where
 
   -- the place of an initial value
   initial_shown : (p : ℕ) (o : Operation) → p < k → IsAt all p o → IsShownAt (Initial p) o
-  initial_shown p o within at = elim (filled_at initial operations p o at) [
+  initial_shown p o within at = elim (timeline_at initial operations p o at) [
     | inl early ↦
         let call : 2 * p ≡ o.call = ap (λ (x : Operation). x.call) early.is in
         let value : early.value ≡ accepted_value o.kind = ap (λ (x : Operation). accepted_value x.kind) early.is in

@@ -1,8 +1,8 @@
 -- Two minimal selections that keep one violation, the chosen one of both, are one.
 use Rattle.verdicts.proofs.Common.{[], ◌*◌, ◌∙◌, ◌∷◌, ◌≡◌, ◌≢◌, ◌⊎◌, ap, Bool, cases_lt, cond, Contains}
 use Rattle.verdicts.proofs.Common.{Contains-append_cases, false, filter, inl, inr, length, List, map, refl, subst, sym}
-use Rattle.verdicts.proofs.Common.{true, ℕ, AreComplete, AreLinearizable, ClaimLine, Contents, contents_of, filled}
-use Rattle.verdicts.proofs.Common.{filled_of, FullViolation, HistoryView, IsLinearizable, IsMinimal, IsViolationOf}
+use Rattle.verdicts.proofs.Common.{true, ℕ, AreComplete, AreLinearizable, ClaimLine, Contents, contents_of, timeline}
+use Rattle.verdicts.proofs.Common.{timeline_of_history, FullViolation, HistoryView, IsLinearizable, IsMinimal, IsViolationOf}
 use Rattle.verdicts.proofs.Common.{KeepsViolation, linearizable_from_exactly, lines_of, lines_of_history, mapped_from}
 use Rattle.verdicts.proofs.Common.{mapped_to, Operation, operations_of, passed_filter, select, selects, StaysChosen}
 use Rattle.verdicts.proofs.Common.{Violation, violation_lines, violation_places, ViolationKind}
@@ -11,7 +11,7 @@ use Rattle.verdicts.specs.declared.verifying.Claimed.{Claimed}
 use Rattle.verdicts.specs.declared.verifying.Claimed.TheVariants as claimed
 use Rattle.verdicts.proofs.Chosen.{chosen_is_violation}
 use Rattle.verdicts.proofs.Excludes.{violation_excludes_order}
-use Rattle.verdicts.proofs.FilledSelections.{lifted, lifted_rises}
+use Rattle.verdicts.proofs.TimelineSelections.{lifted, lifted_rises}
 use Rattle.verdicts.proofs.KeptTickets.{selected_are_complete}
 use Rattle.verdicts.proofs.Minimal.{all_or_one}
 use Rattle.verdicts.proofs.NamedLines.{lines_are_operations}
@@ -19,7 +19,7 @@ use Rattle.verdicts.proofs.NamedPlaces.{each_shown, shown_lines}
 use Rattle.verdicts.proofs.Retiming.{linearizable_there}
 use Rattle.verdicts.proofs.Selections.{violation_in_selected}
 use Rattle.verdicts.proofs.ShownLines.{accepted_value, early_line, late_line, line_of}
-use Rattle.verdicts.proofs.ShrunkHistories.{IsWhole, calls_behind, enqueued_in_filling, filled_is_whole, selection_filled}
+use Rattle.verdicts.proofs.ShrunkHistories.{IsWhole, calls_behind, among_enqueues, timeline_is_whole, selection_timeline}
 
 -- claims of a `NO` that are one have the same lines
 one_list_of_lines : (k l : ViolationKind) (xs ys : List ClaimLine) → claimed.No k xs ≡ claimed.No l ys → xs ≡ ys
@@ -41,7 +41,7 @@ filters_swap {X} p q (x ∷ xs) = pick (p x) (q x) refl refl (filters_swap p q x
     pick false true is_p is_q more = rw (is_p) more
     pick false false is_p is_q more = more
 
--- a line of a selection is of an operation that is selected, in a filled history
+-- a line of a selection is of an operation that is selected, on a timeline
 module _ (values empties : ℕ → Bool) (initial : List ℕ) (operations : List Operation) where
   abbrev value_lines : List ClaimLine
   value_lines = map Initial (filter values initial)
@@ -96,11 +96,11 @@ module _ (whole x : HistoryView) (violation : Violation) (is_x : IsWhole x) (sta
   abbrev passes : Operation → Bool
   passes = selects values (calls_behind (contents_of x) empties)
 
-  complete : AreComplete (filled_of x)
-  complete = filled_is_whole x is_x
+  complete : AreComplete (timeline_of_history x)
+  complete = timeline_is_whole x is_x
 
-  is_violation : IsViolationOf (filled_of x) full
-  is_violation = chosen_is_violation (filled_of x) full complete stays.1.2
+  is_violation : IsViolationOf (timeline_of_history x) full
+  is_violation = chosen_is_violation (timeline_of_history x) full complete stays.1.2
 
   same_lines : violation_lines whole violation ≡ map (line_of n) (lines_of full)
   same_lines = sym (one_list_of_lines _ _ (violation_lines x stays.0) (violation_lines whole violation) stays.2)
@@ -110,7 +110,7 @@ module _ (whole x : HistoryView) (violation : Violation) (is_x : IsWhole x) (sta
   line_passes : (o : Operation) → Contains (lines_of full) o → passes o ≡ true
   line_passes o among = elim (cases_lt o.call n) [
     | inl early ↦
-        let found = enqueued_in_filling x o (lines_are_operations (filled_of x) full is_violation stays.1.2 o among) early in
+        let found = among_enqueues x o (lines_are_operations (timeline_of_history x) full is_violation stays.1.2 o among) early in
         let line = early_line n o early ∙ ap (λ k. Initial (accepted_value k)) found.1 in
         let passed = value_passes values empties whole.initial (operations_of whole.events) found.0
         (subst (Contains selected_lines) line here) in
@@ -123,11 +123,11 @@ module _ (whole x : HistoryView) (violation : Violation) (is_x : IsWhole x) (sta
 
   not_linearizable : AreLinearizable part → ⊥
   not_linearizable linear =
-      let filled_linear = (linearizable_from_exactly part.initial part.operations).0 linear in
-      let moved = linearizable_there (lifted values x.initial) (lifted_rises values x.initial) (filled part.initial part.operations) filled_linear in
-      violation_excludes_order (filter passes (filled_of x)) full (selected_are_complete passes (filled_of x) complete)
-      (violation_in_selected (filled_of x) values (calls_behind (contents_of x) empties) full is_violation line_passes)
-      (subst (IsLinearizable []) (sym (selection_filled (contents_of x) values empties)) moved)
+      let timeline_linear = (linearizable_from_exactly part.initial part.operations).0 linear in
+      let moved = linearizable_there (lifted values x.initial) (lifted_rises values x.initial) (timeline part.initial part.operations) timeline_linear in
+      violation_excludes_order (filter passes (timeline_of_history x)) full (selected_are_complete passes (timeline_of_history x) complete)
+      (violation_in_selected (timeline_of_history x) values (calls_behind (contents_of x) empties) full is_violation line_passes)
+      (subst (IsLinearizable []) (sym (selection_timeline (contents_of x) values empties)) moved)
 
   none_differs : part ≢ contents_of x → ⊥
   none_differs differs = not_linearizable (minimal.1 part (values, empties, refl) differs)

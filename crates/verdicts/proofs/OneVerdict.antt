@@ -2,8 +2,8 @@
 use Rattle.verdicts.proofs.Common.{[], ◌*◌, ◌<◌, ◌∙◌, ◌∷◌, ◌≡◌, ◌≤◌, AllZip, ap, append_cancel_left, ap₂, arith}
 use Rattle.verdicts.proofs.Common.{cases_order, filter, inl, inr, length, List, map, None, Option, refl, slice_get}
 use Rattle.verdicts.proofs.Common.{Some, subst, sym, true, ℕ, AreComplete, ArePlacesOf, behind, chosen_order_is_one}
-use Rattle.verdicts.proofs.Common.{CoverStep, dequeue_of, Did, Empty, enqueue_of, Event, filled, filled_are_complete}
-use Rattle.verdicts.proofs.Common.{filled_gap, filling_from, fresh, FullViolation, is_empty_answer, IsAt, IsChosenCover}
+use Rattle.verdicts.proofs.Common.{CoverStep, dequeue_of, Did, Empty, enqueue_of, Event, timeline, timeline_is_of_complete}
+use Rattle.verdicts.proofs.Common.{clock_of_gap, enqueues_from, fresh, FullViolation, is_empty_answer, IsAt, IsChosenCover}
 use Rattle.verdicts.proofs.Common.{IsChosenViolation, IsClear, IsCompleteFrom, IsCovered, IsGapAnswer, IsLeastFreeGap}
 use Rattle.verdicts.proofs.Common.{IsMaybeOperation, IsOperation, IsSource, IsViolationOf, later_by, later_injective}
 use Rattle.verdicts.proofs.Common.{Life, linearizable_from_exactly, MAX_INITIAL, Names, NamesChosenFresh}
@@ -51,12 +51,12 @@ one_list_of_places operations (p ∷ ps) (q ∷ qs) (o ∷ listed) complete at_p
     ap₂ (λ (x : ℕ) (xs : List ℕ). x ∷ xs) (one_place_at operations p q o complete here_p here_q)
     (one_list_of_places operations ps qs listed complete later_p later_q)
 
-module _ (initial : List ℕ) (operations : List Operation) (complete : AreComplete (filled initial operations)) where
+module _ (initial : List ℕ) (operations : List Operation) (complete : AreComplete (timeline initial operations)) where
   abbrev k : ℕ
   k = length initial
 
   abbrev all : List Operation
-  all = filled initial operations
+  all = timeline initial operations
 
   one_place : (p q : ℕ) (o : Operation) → IsOperation initial operations p o → IsOperation initial operations q o → p ≡ q
   one_place p q o at_p at_q = let same = one_place_at all (behind k p) (behind k q) o complete at_p at_q in omega (arith, same)
@@ -130,22 +130,22 @@ module _ (initial : List ℕ) (operations : List Operation) (complete : AreCompl
 pub chosen_violation_is_one : (initial : List ℕ) (events : List Event) (x y : Violation) → IsCompleteFrom initial events → length initial ≤ MAX_INITIAL
     → IsChosenViolation initial (operations_of events) x → IsChosenViolation initial (operations_of events) y → x ≡ y
 chosen_violation_is_one initial events x y complete few chosen_x chosen_y =
-    let all_complete = filled_are_complete initial events complete few in
+    let all_complete = timeline_is_of_complete initial events complete few in
     one_violation initial (operations_of events) all_complete x y chosen_x.0 chosen_y.0
-    (one_chosen_violation (filled initial (operations_of events)) chosen_x.0 chosen_y.0 all_complete chosen_x.2 chosen_y.2) chosen_x.1 chosen_y.1
+    (one_chosen_violation (timeline initial (operations_of events)) chosen_x.0 chosen_y.0 all_complete chosen_x.2 chosen_y.2) chosen_x.1 chosen_y.1
 
 -- what stands behind the same enqueues is the same
-one_behind : (initial : List ℕ) (xs ys : List Operation) → filled initial xs ≡ filled initial ys → xs ≡ ys
+one_behind : (initial : List ℕ) (xs ys : List Operation) → timeline initial xs ≡ timeline initial ys → xs ≡ ys
 one_behind initial xs ys same =
     let n = 2 * length initial in
-    later_injective n xs ys (append_cancel_left (filling_from 0 initial) (map (later_by n) xs) (map (later_by n) ys) same)
+    later_injective n xs ys (append_cancel_left (enqueues_from 0 initial) (map (later_by n) xs) (map (later_by n) ys) same)
 
 -- a history has one verdict
 pub verdict_is_one : VerdictIsOne
 verdict_is_one initial events (Yes ps) (Yes qs) complete few x exact_x y exact_y =
     let operations = operations_of events in
-    let all = filled initial operations in
-    let all_complete = filled_are_complete initial events complete few in
+    let all = timeline initial operations in
+    let all_complete = timeline_is_of_complete initial events complete few in
     let linear = (linearizable_from_exactly initial operations).0 exact_x in
     let none = λ (b : FullViolation) (violates : IsViolationOf all b). violation_excludes_order all b all_complete violates linear in
     let clear : IsClear all = record {
@@ -154,8 +154,8 @@ verdict_is_one initial events (Yes ps) (Yes qs) complete few x exact_x y exact_y
       no_repeat =
           λ enq first second. none (repeat enq first second);
     } in
-    let filled_orders = chosen_order_is_one all (filled initial x.0) (filled initial y.0) clear x.2 y.2 in
-    let orders = one_behind initial x.0 y.0 filled_orders in
+    let timeline_orders = chosen_order_is_one all (timeline initial x.0) (timeline initial y.0) clear x.2 y.2 in
+    let orders = one_behind initial x.0 y.0 timeline_orders in
     ap (λ places. Yes places) (one_list_of_places operations ps qs y.0 (operations_are_complete events complete.complete)
     (subst (ArePlacesOf operations ps) orders x.1) y.1)
 verdict_is_one initial events (Yes ps) (No v) complete few x exact_x y exact_y = absurd (exact_y exact_x)
@@ -164,11 +164,11 @@ verdict_is_one initial events (No v) (No w) complete few x exact_x y exact_y =
     ap (λ named. No named) (chosen_violation_is_one initial events v w complete few x y)
 
 -- a matching excludes the violations that matching finds
-not_clear : (initial : List ℕ) (operations : List Operation) (v : Violation) → IsClear (filled initial operations)
+not_clear : (initial : List ℕ) (operations : List Operation) (v : Violation) → IsClear (timeline initial operations)
     → NamesChosenFresh initial operations v → ⊥
 not_clear initial operations v clear is = clear.no_fresh is.0 is.1 is.3.violates
 
-not_repeated : (initial : List ℕ) (operations : List Operation) (v : Violation) → IsClear (filled initial operations)
+not_repeated : (initial : List ℕ) (operations : List Operation) (v : Violation) → IsClear (timeline initial operations)
     → NamesChosenRepeat initial operations v → ⊥
 not_repeated initial operations v clear is = clear.no_repeat is.0 is.1 is.2 is.4.1.violates
 
@@ -185,12 +185,12 @@ matched_is_one initial operations (matched.Fresh v) (matched.Fresh w) complete x
     let b : FullViolation = fresh x.0 x.1 in
     let c : FullViolation = fresh y.0 y.1 in
     ap (λ named. matched.Fresh named)
-    (one_violation initial operations complete v w b c (one_chosen_violation (filled initial operations) b c complete x.3 y.3) x.2 y.2)
+    (one_violation initial operations complete v w b c (one_chosen_violation (timeline initial operations) b c complete x.3 y.3) x.2 y.2)
 matched_is_one initial operations (matched.Repeat v) (matched.Repeat w) complete x y =
     let b : FullViolation = repeat x.0 x.1 x.2 in
     let c : FullViolation = repeat y.0 y.1 y.2 in
     ap (λ named. matched.Repeat named)
-    (one_violation initial operations complete v w b c (one_chosen_violation (filled initial operations) b c complete x.4 y.4) x.3 y.3)
+    (one_violation initial operations complete v w b c (one_chosen_violation (timeline initial operations) b c complete x.4 y.4) x.3 y.3)
 
 -- the pair that an order violation names
 abbrev pair_of : Violation → OrderPair
@@ -207,7 +207,7 @@ pair_is_one initial operations None None complete x y = refl
 pair_is_one initial operations None (Some q) complete x y = absurd (x y.enq_a y.enq_b y.deq_b y.deq_a y.is_chosen.violates)
 pair_is_one initial operations (Some p) None complete x y = absurd (y x.enq_a x.enq_b x.deq_b x.deq_a x.is_chosen.violates)
 pair_is_one initial operations (Some p) (Some q) complete x y =
-    let all = filled initial operations in
+    let all = timeline initial operations in
     let b : FullViolation = order x.enq_a x.enq_b x.deq_b x.deq_a in
     let c : FullViolation = order y.enq_a y.enq_b y.deq_b y.deq_a in
     let violations : b ≡ c = one_order all x.enq_a x.enq_b x.deq_b y.enq_a y.enq_b y.deq_b x.deq_a y.deq_a complete x.is_chosen y.is_chosen in
@@ -223,7 +223,7 @@ free_or_covered : (operations : List Operation) (o : Operation) (c : ℕ) → Is
 free_or_covered operations o c free covered = let stays = covered c free.in_window in free.is_free stays.0 stays.1 stays.2
 
 -- gaps that are one by the clocks are one
-gap_told : (k c d : ℕ) → filled_gap k c ≡ filled_gap k d → c ≡ d
+gap_told : (k c d : ℕ) → clock_of_gap k c ≡ clock_of_gap k d → c ≡ d
 gap_told k c d same = omega (arith, same)
 
 -- one gap is found
@@ -234,32 +234,32 @@ gap_is_one initial operations place = one
     k = length initial
 
     all : List Operation
-    all = filled initial operations
+    all = timeline initial operations
 
     one : (x y : GapAnswer) → IsClear all → IsGapAnswer initial operations place x → IsGapAnswer initial operations place y → x ≡ y
     one (gap.Free c) (gap.Free d) clear x y =
         let same = one_at all (behind k place) x.0 y.0 x.1 y.1 in
-        let gaps = one_least_gap all y.0 (filled_gap k c) (filled_gap k d) (subst (λ o. IsLeastFreeGap all o (filled_gap k c)) same x.2) y.2 in
+        let gaps = one_least_gap all y.0 (clock_of_gap k c) (clock_of_gap k d) (subst (λ o. IsLeastFreeGap all o (clock_of_gap k c)) same x.2) y.2 in
         ap (λ c. gap.Free c) (gap_told k c d gaps)
     one (gap.Free c) (gap.Covered cover) clear x y =
         let same = one_at all (behind k place) x.0 y.0 x.1 y.2 in
-        absurd (free_or_covered all y.0 (filled_gap k c) (subst (λ o. IsLeastFreeGap all o (filled_gap k c)) same x.2) y.4)
+        absurd (free_or_covered all y.0 (clock_of_gap k c) (subst (λ o. IsLeastFreeGap all o (clock_of_gap k c)) same x.2) y.4)
     one (gap.Covered cover) (gap.Free c) clear x y =
         let same = one_at all (behind k place) y.0 x.0 y.1 x.2 in
-        absurd (free_or_covered all x.0 (filled_gap k c) (subst (λ o. IsLeastFreeGap all o (filled_gap k c)) same y.2) x.4)
+        absurd (free_or_covered all x.0 (clock_of_gap k c) (subst (λ o. IsLeastFreeGap all o (clock_of_gap k c)) same y.2) x.4)
     one (gap.Covered steps) (gap.Covered steps') clear x y =
         let same = one_at all (behind k place) x.0 y.0 x.2 y.2 in
         let lives = one_cover all y.0 y.0.call x.1 y.1 clear (subst (λ o. IsChosenCover all o x.1) same x.5) y.5 in
         ap (λ steps. gap.Covered steps) (one_named_cover initial operations clear.complete steps steps' y.1
         (subst (NamesCover initial operations steps) lives x.3) y.3)
 
-gaps_told : (k : ℕ) (cs ds : List ℕ) → map (filled_gap k) cs ≡ map (filled_gap k) ds → cs ≡ ds
+gaps_told : (k : ℕ) (cs ds : List ℕ) → map (clock_of_gap k) cs ≡ map (clock_of_gap k) ds → cs ≡ ds
 gaps_told k [] [] same = refl
 gaps_told k [] (d ∷ ds) same = cc
 gaps_told k (c ∷ cs) [] same = cc
 gaps_told k (c ∷ cs) (d ∷ ds) same =
-    let first : filled_gap k c ≡ filled_gap k d = cc in
-    let rest : map (filled_gap k) cs ≡ map (filled_gap k) ds = cc in
+    let first : clock_of_gap k c ≡ clock_of_gap k d = cc in
+    let rest : map (clock_of_gap k) cs ≡ map (clock_of_gap k) ds = cc in
     ap₂ (λ (n : ℕ) (ns : List ℕ). n ∷ ns) (gap_told k c d first) (gaps_told k cs ds rest)
 
 -- where each empty answer has a free gap, none is covered
@@ -275,17 +275,18 @@ none_covered operations gaps o each did covered =
 pub witness_is_one : WitnessIsOne
 witness_is_one initial operations (found.Gaps cs) (found.Gaps ds) clear x y =
     let k = length initial in
-    let all = filled initial operations in
-    let clocks = one_beside (λ o c. IsLeastFreeGap all o c) (one_least_gap all) (filter is_empty_answer all) (map (filled_gap k) cs) (map (filled_gap k) ds) x y in
+    let all = timeline initial operations in
+    let clocks = one_beside (λ o c. IsLeastFreeGap all o c) (one_least_gap all) (filter is_empty_answer all) (map (clock_of_gap k) cs)
+    (map (clock_of_gap k) ds) x y in
     ap (λ gaps. found.Gaps gaps) (gaps_told k cs ds clocks)
 witness_is_one initial operations (found.Gaps cs) (found.Covered place cover) clear x y =
-    absurd (none_covered (filled initial operations) (map (filled_gap (length initial)) cs) y.0 x y.4.answers_empty y.4.is_covered)
+    absurd (none_covered (timeline initial operations) (map (clock_of_gap (length initial)) cs) y.0 x y.4.answers_empty y.4.is_covered)
 witness_is_one initial operations (found.Covered place cover) (found.Gaps cs) clear x y =
-    absurd (none_covered (filled initial operations) (map (filled_gap (length initial)) cs) x.0 y x.4.answers_empty x.4.is_covered)
+    absurd (none_covered (timeline initial operations) (map (clock_of_gap (length initial)) cs) x.0 y x.4.answers_empty x.4.is_covered)
 witness_is_one initial operations (found.Covered p steps) (found.Covered q steps') clear x y =
     let b : FullViolation = witness x.0 x.1 in
     let c : FullViolation = witness y.0 y.1 in
-    let violations : b ≡ c = one_witness (filled initial operations) x.0 y.0 x.1 y.1 clear x.4 y.4 in
+    let violations : b ≡ c = one_witness (timeline initial operations) x.0 y.0 x.1 y.1 clear x.4 y.4 in
     let v : Violation = violation.Witness p steps in
     let w : Violation = violation.Witness q steps' in
     covered (one_violation initial operations clear.complete v w b c violations (x.2, x.3) (y.2, y.3))

@@ -1,5 +1,10 @@
--- Lists of which the keys rise, with the same elements, are one list; so are lists of what stands beside the same elements.
-use Rattle.verdicts.proofs.Common.{[], ◌<◌, ◌↔◌, ◌∷◌, ◌≡◌, ◌⊎◌, AllPairs, AllZip, ap, ap₂, arith, cases_order, Contains}
+-- Lists of which the keys rise, with the same elements, are one list; so are lists of what stands beside the same elements, and lists
+-- that are the same one by one.
+use Rattle.verdicts.proofs.Common.{[], ◌+◌, ◌++◌, ◌<◌, ◌↔◌, ◌∙◌, ◌∷◌, ◌≡◌, ◌≤◌, ◌⊎◌, AllPairs, AllZip, ap, ap₂, append-nil, append_assoc, arith}
+use Rattle.verdicts.proofs.Common.{cases_order, Contains, length, length-append, take, take_all, take_more}
+use Rattle.std.proofs.Common.{length-take-le}
+use Rattle.std.proofs.Math.Seq.{get_or-append_seam}
+use Rattle.std.proofs.lemmas.List.{nil_from_length}
 use Rattle.verdicts.proofs.Common.{Contains-permutation, get_or, inl, inr, IsNonDecreasingBy, IsPermutation}
 use Rattle.verdicts.proofs.Common.{IsPermutation-sym, IsPermutation-trans, List, refl, slice_get-get_or, subst, suc}
 use Rattle.verdicts.proofs.Common.{sym, zero, ℕ, AllPairs-tail, contains_cons, not_in_none, one_place, pairs_at}
@@ -79,3 +84,39 @@ one_beside R one (x ∷ xs) [] zs first second = absurd first
 one_beside R one (x ∷ xs) (y ∷ ys) [] first second = absurd second
 one_beside {X} {Y} R one (x ∷ xs) (y ∷ ys) (z ∷ zs) first second =
     ap₂ (λ (w : Y) (ws : List Y). w ∷ ws) (one x y z first.0 second.0) (one_beside R one xs ys zs first.1 second.1)
+
+-- ---- one by one: the first elements of a list, followed by the others of another list
+
+-- one more element is the same
+pub same_more : {X : Type 0} (xs ys others rest : List X) (i : ℕ) (x d : X) → i < length xs → x ≡ get_or xs i d → others ≡ x ∷ rest
+    → take i xs ++ others ≡ ys → take (i + 1) xs ++ rest ≡ ys
+same_more xs ys others rest i x d within here first is =
+    ap (λ zs. zs ++ rest) (take_more xs i d within) ∙ append_assoc (take i xs) (get_or xs i d ∷ []) rest
+    ∙ ap (λ z. take i xs ++ z ∷ rest) (sym here) ∙ ap (λ zs. take i xs ++ zs) (sym first) ∙ is
+
+-- the element at the place is that of the same list
+pub same_here : {X : Type 0} (xs ys others rest : List X) (i : ℕ) (x d : X) → i < length xs → others ≡ x ∷ rest → take i xs ++ others ≡ ys
+    → xs ≡ ys → x ≡ get_or xs i d
+same_here xs ys others rest i x d within first is same =
+    let long = length-take-le i xs (omega (arith, within)) in
+    sym (get_or-append_seam (take i xs) x rest d) ∙ ap (λ zs. get_or (take i xs ++ zs) (length (take i xs)) d) (sym first)
+    ∙ ap (λ zs. get_or zs (length (take i xs)) d) (is ∙ sym same) ∙ ap (λ n. get_or xs n d) long
+
+-- a list as long has another element
+pub never_short : {X : Type 0} (xs ys others : List X) (i : ℕ) → i < length xs → length xs ≡ length ys → others ≡ [] → take i xs ++ others ≡ ys → ⊥
+never_short xs ys others i within long none is =
+    let front = length-take-le i xs (omega (arith, within)) in
+    let both = length-append (take i xs) others in
+    let all = ap length is in
+    let nothing = ap length none in
+    omega (arith, within, long, front, both, all, nothing)
+
+-- at the end the lists are the same
+pub same_all : {X : Type 0} (xs ys others : List X) (i : ℕ) → length xs ≤ i → length xs ≡ length ys → take i xs ++ others ≡ ys → xs ≡ ys
+same_all xs ys others i end long is =
+    let whole = take_all i xs end in
+    let all = ap length is in
+    let both = length-append (take i xs) others in
+    let front = ap length whole in
+    let none = nil_from_length others (omega (arith, long, all, both, front)) in
+    sym (ap (λ zs. take i xs ++ zs) none ∙ append-nil (take i xs) ∙ whole) ∙ is

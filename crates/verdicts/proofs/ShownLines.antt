@@ -1,4 +1,4 @@
--- The lines of a violation of a filled history, as they are shown.
+-- The lines of a violation of a timeline, as they are shown.
 use Rattle.verdicts.proofs.Common.{◌+◌, ◌-◌, ◌<◌, ◌∙◌, ◌≡◌, ◌≤◌, ap, arith, Bool, cond, false, le-ltb, lt-ltb}
 use Rattle.verdicts.proofs.Common.{ltb-false, ltb-true, nat_lt, refl, Some, sym, true, ℕ, call_in, ClaimLine, Enq}
 use Rattle.verdicts.proofs.Common.{later_by, Operation, OpKind, same_operation, value_in, value_of}
@@ -10,7 +10,7 @@ abbrev pub accepted_value : OpKind → ℕ
 accepted_value (Enq v) = v
 accepted_value _ = 0
 
--- the line of an operation of a filled history, whose initial values are enqueued before this clock
+-- the line of an operation of a timeline, whose initial values are enqueued before this clock
 abbrev pub line_of : ℕ → Operation → ClaimLine
 line_of n o = cond (nat_lt o.call n) (Initial (accepted_value o.kind))
     (Op (record { call = o.call - n; ret = o.ret - n; thread = o.thread; kind = o.kind }))

@@ -2,8 +2,8 @@
 use Rattle.verdicts.proofs.Common.{[], ◌++◌, ◌∙◌, ◌∷◌, ◌≡◌, ◌≢◌, ◌≤◌, AllPairs-cons, arith, Bool, cond, Contains}
 use Rattle.verdicts.proofs.Common.{Contains-append_cases, Contains-append_left, Contains-append_right, Contains-get_or}
 use Rattle.verdicts.proofs.Common.{false, filter, get_or, inl, inr, length, List, not, refl, subst, suc, sym, true}
-use Rattle.verdicts.proofs.Common.{zero, ℕ, AreComplete, AreDistinct, called_value, called_values, Event, filled}
-use Rattle.verdicts.proofs.Common.{filled_are_complete, IsCompleteFrom, keeps, kept, MAX_INITIAL, Operation}
+use Rattle.verdicts.proofs.Common.{zero, ℕ, AreComplete, AreDistinct, called_value, called_values, Event, timeline}
+use Rattle.verdicts.proofs.Common.{timeline_is_of_complete, IsCompleteFrom, keeps, kept, MAX_INITIAL, Operation}
 use Rattle.verdicts.proofs.Common.{operations_of, passed_filter}
 use Rattle.std.proofs.lemmas.List.Filters.{length-filter_both}
 use Rattle.verdicts.proofs.KeptTickets.{events_at_tickets_of, operations_of_selected, selected_events_are_complete}
@@ -59,9 +59,9 @@ module _ (initial : List ℕ) (events : List Event) (whole : IsCompleteFrom init
           let passed = passed_filter _ events found.0 found.1 in
           keeps (λ (e : Event). called_value e.what) events found.0 v passed.0 found.2
 
-  -- what is filled with the selected values is complete
-  pub kept_filled_are_complete : length initial ≤ MAX_INITIAL → AreComplete (filled (filter values initial) (filter test (operations_of events)))
-  kept_filled_are_complete few =
+  -- what is timeline with the selected values is complete
+  pub kept_timeline_are_complete : length initial ≤ MAX_INITIAL → AreComplete (timeline (filter values initial) (filter test (operations_of events)))
+  kept_timeline_are_complete few =
       let shorter = no_longer values initial in
-      subst (λ os. AreComplete (filled (filter values initial) os)) operations_kept
-      (filled_are_complete (filter values initial) events_kept kept_is_complete_from (omega arith))
+      subst (λ os. AreComplete (timeline (filter values initial) os)) operations_kept
+      (timeline_is_of_complete (filter values initial) events_kept kept_is_complete_from (omega arith))

@@ -4,9 +4,9 @@ use Rattle.verdicts.proofs.Common.{Bool, Contains, Contains-append_cases, Contai
 use Rattle.verdicts.proofs.Common.{eq-eqb, eqb-true, false, filter, filter_agree, filter_map, inl, inr, IsTrue, length}
 use Rattle.verdicts.proofs.Common.{List, list_any, list_any-from_Any, map, nat_eq, None, Option, option_map_or, refl}
 use Rattle.verdicts.proofs.Common.{Some, subst, sym, true, ℕ, AreComplete, AreLinearizable, ArePartOf}
-use Rattle.verdicts.proofs.Common.{call_before_return, call_in, ClaimLine, Contents, contents_of, Enq, Event, filled}
-use Rattle.verdicts.proofs.Common.{filled_are_complete, filled_of, filling_at, filling_from, filling_place}
-use Rattle.verdicts.proofs.Common.{filling_stands, FullViolation, HistoryView, holds_ticket, IsChosenFullViolation}
+use Rattle.verdicts.proofs.Common.{call_before_return, call_in, ClaimLine, Contents, contents_of, Enq, Event, timeline}
+use Rattle.verdicts.proofs.Common.{timeline_is_of_complete, timeline_of_history, initial_enqueue, enqueues_from, enqueue_place}
+use Rattle.verdicts.proofs.Common.{enqueue_stands, FullViolation, HistoryView, holds_ticket, IsChosenFullViolation}
 use Rattle.verdicts.proofs.Common.{IsChosenViolation, IsCompleteFrom, IsLinearizable, IsMinimal, keeps, KeepsViolation}
 use Rattle.verdicts.proofs.Common.{kept, later_by, line_at, linearizable_from_exactly, lines_of, mapped_from, mapped_to}
 use Rattle.verdicts.proofs.Common.{MAX_EVENTS, MAX_INITIAL, Names, one_deeper, Operation, operations_of, passed_filter}
@@ -16,14 +16,14 @@ use Rattle.verdicts.specs.declared.verifying.Claimed.TheVariants as claimed
 use Rattle.verdicts.specs.Claims.{kind_of}
 use Rattle.verdicts.proofs.Chosen.{chosen_is_violation}
 use Rattle.verdicts.proofs.ChosenSelections.{stays_chosen}
-use Rattle.verdicts.proofs.FilledSelections.{lifted, lifted_late, lifted_rises, selected_behind, selected_of_filled}
+use Rattle.verdicts.proofs.TimelineSelections.{lifted, lifted_late, lifted_rises, selected_behind, selected_of_timeline}
 use Rattle.verdicts.proofs.KeptTickets.{selected_are_complete}
 use Rattle.verdicts.proofs.Minimal.{AreMinimal, all_or_one, selection_is_minimal, stays_violation}
 use Rattle.verdicts.proofs.NamedLines.{SelectsLines, lines_are_operations, selects_as_call, selects_as_value}
 use Rattle.verdicts.proofs.NamedPlaces.{each_shown, line_there, shown_lines}
 use Rattle.verdicts.proofs.Retiming.{violation_from, chosen_back, linearizable_back, retimed, retimed_violation, same_back}
 use Rattle.verdicts.proofs.ShownLines.{call_of_line, line_of, line_of_call, same_line, value_of_line}
-use Rattle.verdicts.proofs.ShrunkEvents.{kept_filled_are_complete, kept_is_complete_from, no_longer, operations_kept}
+use Rattle.verdicts.proofs.ShrunkEvents.{kept_timeline_are_complete, kept_is_complete_from, no_longer, operations_kept}
 use Rattle.verdicts.proofs.TrueClaims.{same_kind}
 use Rattle.verdicts.proofs.ViolationPlaces.{retimed_kind, retimed_lines, violation_at}
 
@@ -64,42 +64,42 @@ map_agree_among f g (x ∷ xs) same =
     let more = map_agree_among f g xs (λ y among. same y (one_deeper x xs y among)) in
     cc
 
--- ---- selections of a history and of its filled history
+-- ---- selections of a history and of its timeline
 
 module _ (whole : Contents) where
-  abbrev in_filled : List Operation
-  in_filled = filled whole.initial whole.operations
+  abbrev on_timeline : List Operation
+  on_timeline = timeline whole.initial whole.operations
 
-  -- the empty answers of a selection, by their calls in the filled history
+  -- the empty answers of a selection, by their calls on the timeline
   abbrev pub calls_behind : (ℕ → Bool) → ℕ → Bool
   calls_behind empties call = empties (call - 2 * length whole.initial)
 
-  -- what is selected of the filled history is filled with what is selected, at other clocks
-  pub selection_filled : (values empties : ℕ → Bool) → filter (selects values (calls_behind empties)) in_filled
-      ≡ map (retimed (lifted values whole.initial)) (filled (select values empties whole).initial (select values empties whole).operations)
-  selection_filled values empties =
-      selected_of_filled values (calls_behind empties) whole.initial whole.operations
-      ∙ ap (λ os. map (retimed (lifted values whole.initial)) (filled (filter values whole.initial) os))
+  -- what is selected of the timeline is the timeline of what is selected, at other clocks
+  pub selection_timeline : (values empties : ℕ → Bool) → filter (selects values (calls_behind empties)) on_timeline
+      ≡ map (retimed (lifted values whole.initial)) (timeline (select values empties whole).initial (select values empties whole).operations)
+  selection_timeline values empties =
+      selected_of_timeline values (calls_behind empties) whole.initial whole.operations
+      ∙ ap (λ os. map (retimed (lifted values whole.initial)) (timeline (filter values whole.initial) os))
       (filter_agree (selects values (λ call. calls_behind empties (call + 2 * length whole.initial))) (selects values empties)
       (λ o. ap (λ call. option_map_or values (value_of o.kind) (empties call))
       (let e : o.call + 2 * length whole.initial - 2 * length whole.initial ≡ o.call = omega arith in e)) whole.operations)
 
-  -- where all of the filled history passes, the selection is the whole
-  pub whole_passes : (values empties : ℕ → Bool) → ((o : Operation) → Contains in_filled o → selects values (calls_behind empties) o ≡ true)
+  -- where all of the timeline passes, the selection is the whole
+  pub whole_passes : (values empties : ℕ → Bool) → ((o : Operation) → Contains on_timeline o → selects values (calls_behind empties) o ≡ true)
       → select values empties whole ≡ whole
   whole_passes values empties each = λ i. record { initial = all_values i; operations = all_operations i }
     where
       initial_passes : (v : ℕ) → Contains whole.initial v → values v ≡ true
       initial_passes v among =
           let at = place_of whole.initial v among in
-          each (filling_at at.0 v) (Contains-append_left (filling_from 0 whole.initial) (map (later_by (2 * length whole.initial)) whole.operations)
-          (filling_at at.0 v) (filling_stands whole.initial at.0 v at.1))
+          each (initial_enqueue at.0 v) (Contains-append_left (enqueues_from 0 whole.initial) (map (later_by (2 * length whole.initial)) whole.operations)
+          (initial_enqueue at.0 v) (enqueue_stands whole.initial at.0 v at.1))
 
       operation_passes : (o : Operation) → Contains whole.operations o → selects values empties o ≡ true
       operation_passes o among =
           sym (ap (λ call. option_map_or values (value_of o.kind) (empties call))
           (let e : o.call + 2 * length whole.initial - 2 * length whole.initial ≡ o.call = omega arith in e))
-          ∙ each (later_by (2 * length whole.initial) o) (Contains-append_right (filling_from 0 whole.initial)
+          ∙ each (later_by (2 * length whole.initial) o) (Contains-append_right (enqueues_from 0 whole.initial)
           (map (later_by (2 * length whole.initial)) whole.operations) (later_by (2 * length whole.initial) o)
           (mapped_to (later_by (2 * length whole.initial)) whole.operations o among))
 
@@ -127,16 +127,16 @@ pub record IsWhole (history : HistoryView) : Type 0 where
   pub complete : IsCompleteFrom history.initial history.events
   pub few : length history.initial ≤ MAX_INITIAL
 
--- the filled history of a complete one is complete
-pub filled_is_whole : (history : HistoryView) → IsWhole history → AreComplete (filled_of history)
-filled_is_whole history is = filled_are_complete history.initial history.events is.complete is.few
+-- the timeline of a complete one is complete
+pub timeline_is_whole : (history : HistoryView) → IsWhole history → AreComplete (timeline_of_history history)
+timeline_is_whole history is = timeline_is_of_complete history.initial history.events is.complete is.few
 
 -- what is called before the first ticket's clock is a successful enqueue
-pub enqueued_in_filling : (whole : HistoryView) (o : Operation) → Contains (filled_of whole) o → o.call < 2 * length whole.initial
+pub among_enqueues : (whole : HistoryView) (o : Operation) → Contains (timeline_of_history whole) o → o.call < 2 * length whole.initial
     → (v : ℕ) × (o.kind ≡ Enq v)
-enqueued_in_filling whole o among early =
-    elim (Contains-append_cases (filling_from 0 whole.initial) (map (later_by (2 * length whole.initial)) (operations_of whole.events)) o among) [
-      | inl here ↦ let found = filling_place whole.initial o here in (found.1, sym (ap (λ (x : Operation). x.kind) found.3))
+among_enqueues whole o among early =
+    elim (Contains-append_cases (enqueues_from 0 whole.initial) (map (later_by (2 * length whole.initial)) (operations_of whole.events)) o among) [
+      | inl here ↦ let found = enqueue_place whole.initial o here in (found.1, sym (ap (λ (x : Operation). x.kind) found.3))
       | inr there ↦
           let found = mapped_from (later_by (2 * length whole.initial)) (operations_of whole.events) o there in
           let calls : found.0.call + 2 * length whole.initial ≡ o.call = ap (λ (x : Operation). x.call) found.2 in
@@ -153,14 +153,14 @@ module _ (whole : HistoryView) (violation : Violation) (is_whole : IsWhole whole
   abbrev full : FullViolation
   full = chosen.0
 
-  complete : AreComplete (filled_of whole)
-  complete = filled_is_whole whole is_whole
+  complete : AreComplete (timeline_of_history whole)
+  complete = timeline_is_whole whole is_whole
 
-  complete' : AreComplete (filled_of small)
-  complete' = filled_is_whole small is_small
+  complete' : AreComplete (timeline_of_history small)
+  complete' = timeline_is_whole small is_small
 
-  in_whole : (o : Operation) → Contains (lines_of full) o → Contains (filled_of whole) o
-  in_whole = lines_are_operations (filled_of whole) full (chosen_is_violation (filled_of whole) full complete chosen.2) chosen.2
+  in_whole : (o : Operation) → Contains (lines_of full) o → Contains (timeline_of_history whole) o
+  in_whole = lines_are_operations (timeline_of_history whole) full (chosen_is_violation (timeline_of_history whole) full complete chosen.2) chosen.2
 
   -- ---- the lines of the violation
 
@@ -175,7 +175,7 @@ module _ (whole : HistoryView) (violation : Violation) (is_whole : IsWhole whole
   shown_for line among = mapped_from (line_of n) (lines_of full) line (subst (λ ls. Contains ls line) lines_shown among)
 
   value_shown : (o : Operation) → Contains (lines_of full) o → value_in (line_of n o) ≡ value_of o.kind
-  value_shown o among = value_of_line n o (enqueued_in_filling whole o (in_whole o among))
+  value_shown o among = value_of_line n o (among_enqueues whole o (in_whole o among))
 
   values_named : (v : ℕ) → IsTrue (values v) ↔ Contains (filter_map (λ o. value_of o.kind) (lines_of full)) v
   values_named v = (
@@ -213,48 +213,50 @@ module _ (whole : HistoryView) (violation : Violation) (is_whole : IsWhole whole
   by_lines = record { values_named = values_named; calls_named = calls_are_named (lines_of full) }
 
   abbrev by_lines_of : List Operation
-  by_lines_of = filter (selects values (calls_at (lines_of full))) (filled_of whole)
+  by_lines_of = filter (selects values (calls_at (lines_of full))) (timeline_of_history whole)
 
   small_behind : operations_of small.events ≡ selected_behind values (calls_at (lines_of full)) whole.initial (operations_of whole.events)
   small_behind = selected.operations ∙ filter_agree (selects values calls) (selects values (λ call. calls_at (lines_of full) (call + n)))
       (λ o. ap (option_map_or values (value_of o.kind)) (calls_named o.call)) (operations_of whole.events)
 
-  moved : by_lines_of ≡ map (retimed h) (filled_of small)
-  moved = selected_of_filled values (calls_at (lines_of full)) whole.initial (operations_of whole.events)
-      ∙ ap (map (retimed h)) (sym (λ i. filled (selected.initial i) (small_behind i)))
+  moved : by_lines_of ≡ map (retimed h) (timeline_of_history small)
+  moved = selected_of_timeline values (calls_at (lines_of full)) whole.initial (operations_of whole.events)
+      ∙ ap (map (retimed h)) (sym (λ i. timeline (selected.initial i) (small_behind i)))
 
   rises : (a b : ℕ) → a < b → h a < h b
   rises = lifted_rises values whole.initial
 
-  moved_complete : AreComplete (map (retimed h) (filled_of small))
-  moved_complete = subst AreComplete moved (selected_are_complete (selects values (calls_at (lines_of full))) (filled_of whole) complete)
+  moved_complete : AreComplete (map (retimed h) (timeline_of_history small))
+  moved_complete = subst AreComplete moved (selected_are_complete (selects values (calls_at (lines_of full))) (timeline_of_history whole) complete)
 
-  moved_chosen : IsChosenFullViolation (map (retimed h) (filled_of small)) full
+  moved_chosen : IsChosenFullViolation (map (retimed h) (timeline_of_history small)) full
   moved_chosen = subst (λ os. IsChosenFullViolation os full) moved
-      (stays_chosen (filled_of whole) complete values (calls_at (lines_of full)) full chosen.2 by_lines
-      (stays_violation (filled_of whole) complete full chosen.2 values (calls_at (lines_of full)) by_lines))
+      (stays_chosen (timeline_of_history whole) complete values (calls_at (lines_of full)) full chosen.2 by_lines
+      (stays_violation (timeline_of_history whole) complete full chosen.2 values (calls_at (lines_of full)) by_lines))
 
   before : (x : FullViolation) × (retimed_violation h x ≡ full)
-  before = violation_from h rises (filled_of small) complete' moved_complete full moved_chosen
+  before = violation_from h rises (timeline_of_history small) complete' moved_complete full moved_chosen
 
   abbrev small_full : FullViolation
   small_full = before.0
 
-  small_chosen : IsChosenFullViolation (filled_of small) small_full
-  small_chosen = chosen_back h rises (filled_of small) complete' moved_complete small_full
-      (subst (IsChosenFullViolation (map (retimed h) (filled_of small))) (sym before.1) moved_chosen)
+  small_chosen : IsChosenFullViolation (timeline_of_history small) small_full
+  small_chosen = chosen_back h rises (timeline_of_history small) complete' moved_complete small_full
+      (subst (IsChosenFullViolation (map (retimed h) (timeline_of_history small))) (sym before.1) moved_chosen)
 
   small_lines : map (retimed h) (lines_of small_full) ≡ lines_of full
   small_lines = sym (retimed_lines h small_full) ∙ ap lines_of before.1
 
-  in_small : (o : Operation) → Contains (lines_of small_full) o → Contains (filled_of small) o
-  in_small = lines_are_operations (filled_of small) small_full (chosen_is_violation (filled_of small) small_full complete' small_chosen) small_chosen
+  in_small : (o : Operation) → Contains (lines_of small_full) o → Contains (timeline_of_history small) o
+  in_small = lines_are_operations (timeline_of_history small) small_full
+      (chosen_is_violation (timeline_of_history small) small_full complete' small_chosen) small_chosen
 
   -- ---- its claim
 
   small_named : (found : Violation) × Names small.initial (operations_of small.events) found small_full
   small_named =
-      violation_at small.initial (operations_of small.events) small_full (chosen_is_violation (filled_of small) small_full complete' small_chosen) in_small
+      violation_at small.initial (operations_of small.events) small_full
+      (chosen_is_violation (timeline_of_history small) small_full complete' small_chosen) in_small
 
   same_lines : violation_lines small small_named.0 ≡ violation_lines whole violation
   same_lines =
@@ -272,7 +274,7 @@ module _ (whole : HistoryView) (violation : Violation) (is_whole : IsWhole whole
 
       one_line : (o : Operation) → Contains (lines_of small_full) o → line_of n (retimed h o) ≡ line_of (2 * length small.initial) o
       one_line o among =
-          let called = call_before_return (filled_of small) o complete' (in_small o among) in
+          let called = call_before_return (timeline_of_history small) o complete' (in_small o among) in
           same_line h (2 * length small.initial) n o rises behind (omega arith)
 
   -- the chosen violation of the small history has the same claim
@@ -316,12 +318,12 @@ module _ (whole : HistoryView) (violation : Violation) (is_whole : IsWhole whole
     calls_named = calls_are_named (lines_of small_full);
   }
 
-  all_selected : (o : Operation) → Contains (filled_of small) o → selects values (calls_at (lines_of small_full)) o ≡ true
+  all_selected : (o : Operation) → Contains (timeline_of_history small) o → selects values (calls_at (lines_of small_full)) o ≡ true
   all_selected o among = by_value (value_of o.kind) refl
     where
       passed : selects values (calls_at (lines_of full)) (retimed h o) ≡ true
-      passed = (passed_filter (selects values (calls_at (lines_of full))) (filled_of whole) (retimed h o)
-          (subst (λ os. Contains os (retimed h o)) (sym moved) (mapped_to (retimed h) (filled_of small) o among))).1
+      passed = (passed_filter (selects values (calls_at (lines_of full))) (timeline_of_history whole) (retimed h o)
+          (subst (λ os. Contains os (retimed h o)) (sym moved) (mapped_to (retimed h) (timeline_of_history small) o among))).1
 
       by_value : (w : Option ℕ) → value_of o.kind ≡ w → selects values (calls_at (lines_of small_full)) o ≡ true
       by_value (Some v) is = selects_as_value values (calls_at (lines_of small_full)) o v is
@@ -333,17 +335,17 @@ module _ (whole : HistoryView) (violation : Violation) (is_whole : IsWhole whole
           let same = same_back h rises line.0.call o.call (ap (λ (x : Operation). x.call) line.2 ∙ found.2) in
           selects_as_call values (calls_at (lines_of small_full)) o is ∙ calls_at_call (lines_of small_full) line.0 o.call line.1 same
 
-  filled_is_minimal : AreMinimal (filled_of small)
-  filled_is_minimal = elim (all_or_one (selects values (calls_at (lines_of small_full))) (filled_of small)) [
+  timeline_is_minimal : AreMinimal (timeline_of_history small)
+  timeline_is_minimal = elim (all_or_one (selects values (calls_at (lines_of small_full))) (timeline_of_history small)) [
     | inl all ↦ subst AreMinimal all
-        (selection_is_minimal (filled_of small) complete' small_full small_chosen values (calls_at (lines_of small_full)) by_small_lines)
+        (selection_is_minimal (timeline_of_history small) complete' small_full small_chosen values (calls_at (lines_of small_full)) by_small_lines)
     | inr one ↦ let clash : true ≡ false = sym (all_selected one.0 one.1) ∙ one.2 in cc
   ]
 
   -- from the small history nothing can be left out
   pub is_minimal : IsMinimal (contents_of small)
   is_minimal = (
-    λ linear. filled_is_minimal.0 ((linearizable_from_exactly small.initial (operations_of small.events)).0 linear),
+    λ linear. timeline_is_minimal.0 ((linearizable_from_exactly small.initial (operations_of small.events)).0 linear),
     λ part closed differs. subst AreLinearizable (sym closed.2) (part_is_linearizable closed.0 closed.1 (λ same. differs (closed.2 ∙ same))),
   )
     where
@@ -352,14 +354,14 @@ module _ (whole : HistoryView) (violation : Violation) (is_whole : IsWhole whole
       part_is_linearizable values' empties' differs =
           let part = select values' empties' (contents_of small) in
           let passes = selects values' (calls_behind (contents_of small) empties') in
-          let same = selection_filled (contents_of small) values' empties' in
-          let linear = filled_is_minimal.1 values' (calls_behind (contents_of small) empties')
+          let same = selection_timeline (contents_of small) values' empties' in
+          let linear = timeline_is_minimal.1 values' (calls_behind (contents_of small) empties')
           (λ all. differs (whole_passes (contents_of small) values' empties'
-          (λ o among. (passed_filter passes (filled_of small) o (subst (λ os. Contains os o) (sym all) among)).1))) in
+          (λ o among. (passed_filter passes (timeline_of_history small) o (subst (λ os. Contains os o) (sym all) among)).1))) in
           (linearizable_from_exactly part.initial part.operations).1
-          (linearizable_back (lifted values' small.initial) (lifted_rises values' small.initial) (filled part.initial part.operations)
-          (kept_filled_are_complete small.initial small.events is_small.complete values' (selects values' empties') is_small.few)
-          (subst AreComplete same (selected_are_complete passes (filled_of small) complete')) (subst (IsLinearizable []) same linear))
+          (linearizable_back (lifted values' small.initial) (lifted_rises values' small.initial) (timeline part.initial part.operations)
+          (kept_timeline_are_complete small.initial small.events is_small.complete values' (selects values' empties') is_small.few)
+          (subst AreComplete same (selected_are_complete passes (timeline_of_history small) complete')) (subst (IsLinearizable []) same linear))
 
 -- ---- what is ensured of the small history
 

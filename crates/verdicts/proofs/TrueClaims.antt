@@ -4,7 +4,7 @@ use Rattle.verdicts.proofs.Common.{cons_option, Contains, eq-eqb, get_or_append_
 use Rattle.verdicts.proofs.Common.{length-append, List, lt-ltb, map, nat_eq, nat_lt, ne_eqb, None, not, Option}
 use Rattle.verdicts.proofs.Common.{option_map, position, prefix_len, refl, slice_get, slice_get_within, Some, subst}
 use Rattle.verdicts.proofs.Common.{suc, sym, zero, ℕ, AllPairs-tail, ArePlacesOf, called_values, contains_at}
-use Rattle.verdicts.proofs.Common.{contains_cons, Event, filled, filled_at, filling_at, fresh, FullViolation}
+use Rattle.verdicts.proofs.Common.{contains_cons, Event, timeline, timeline_at, initial_enqueue, fresh, FullViolation}
 use Rattle.verdicts.proofs.Common.{IsCompleteFrom, IsLegalOrder, LinePlace, lines_of, MAX_TICKET, Names, not_in_none}
 use Rattle.verdicts.proofs.Common.{one_deeper, Operation, operation_within, operations_at, operations_of, order}
 use Rattle.verdicts.proofs.Common.{pairs_at, place_of, repeat, stands_for, Violation, violation_kind, violation_places}
@@ -49,15 +49,15 @@ place_of_value values j v apart at =
     pick n same within = rw same (rw (lt-ltb j (length values) within) refl)
 
 module _ (initial : List ℕ) (events : List Event) (whole : IsCompleteFrom initial events) where
-  line_stands : (p : ℕ) (x : Operation) → slice_get (filled initial (operations_of events)) p ≡ Some x
+  line_stands : (p : ℕ) (x : Operation) → slice_get (timeline initial (operations_of events)) p ≡ Some x
       → stands_for initial (line_of (2 * length initial) x) ≡ Some x
-  line_stands p x at = elim (filled_at initial (operations_of events) p x at) [
+  line_stands p x at = elim (timeline_at initial (operations_of events) p x at) [
     | inl early ↦
         let call : 2 * p ≡ x.call = ap (λ (o : Operation). o.call) early.is in
         let within = early.within in
         let value : accepted_value x.kind ≡ early.value = ap (λ (o : Operation). accepted_value o.kind) (sym early.is) in
         ap (stands_for initial) (early_line (2 * length initial) x (omega arith) ∙ ap (λ v. Initial v) value)
-        ∙ ap (option_map (λ j. filling_at j early.value)) (place_of_value initial p early.value apart early.stands) ∙ ap (λ o. Some o) early.is
+        ∙ ap (option_map (λ j. initial_enqueue j early.value)) (place_of_value initial p early.value apart early.stands) ∙ ap (λ o. Some o) early.is
     | inr late ↦
         let among = contains_at (operations_of events) (p - length initial) late.operation late.stands in
         let within = operation_within events late.operation whole.complete among in
@@ -74,22 +74,22 @@ module _ (initial : List ℕ) (events : List Event) (whole : IsCompleteFrom init
           let pair = whole.values_are_distinct i j d below (rw length-append (omega arith)) in
           rw (get_or_append_left initial (called_values events) d i (omega arith), get_or_append_left initial (called_values events) d j within) at pair
 
-  lines_stand : (listed : List Operation) → ((o : Operation) → Contains listed o → Contains (filled initial (operations_of events)) o)
+  lines_stand : (listed : List Operation) → ((o : Operation) → Contains listed o → Contains (timeline initial (operations_of events)) o)
       → map (stands_for initial) (map (line_of (2 * length initial)) listed) ≡ map (λ o. Some o) listed
   lines_stand [] among = refl
   lines_stand (o ∷ listed) among =
-      let at = place_of (filled initial (operations_of events)) o (among o (zero, omega arith, refl)) in
+      let at = place_of (timeline initial (operations_of events)) o (among o (zero, omega arith, refl)) in
       let first = line_stands at.0 o at.1 in
       let rest = lines_stand listed (λ x later. among x (one_deeper o listed x later)) in
       λ i. first i ∷ rest i
 
--- what is shown is among the operations of the filled history
+-- what is shown is among the operations of the timeline
 shown_among : (initial : List ℕ) (operations : List Operation) (places : List LinePlace) (listed : List Operation)
-    → AllZip (IsShownAt initial operations) places listed → (o : Operation) → Contains listed o → Contains (filled initial operations) o
+    → AllZip (IsShownAt initial operations) places listed → (o : Operation) → Contains listed o → Contains (timeline initial operations) o
 shown_among initial operations places [] each o among = absurd (not_in_none o among)
 shown_among initial operations [] (x ∷ listed) each o among = absurd each
 shown_among initial operations (p ∷ places) (x ∷ listed) each o among = elim (contains_cons x listed o among) [
-  | inl same ↦ subst (Contains (filled initial operations)) same each.0.1
+  | inl same ↦ subst (Contains (timeline initial operations)) same each.0.1
   | inr later ↦ shown_among initial operations places listed each.1 o later
 ]
 

@@ -2,7 +2,7 @@
 use Rattle.verdicts.proofs.Common.{[], ⊤, ◌++◌, ◌∙◌, ◌∷◌, ◌≡◌, ap, arith, Contains, Contains-append_left}
 use Rattle.verdicts.proofs.Common.{Contains-append_right, flat_map, length, List, map, map-append, MatchOption, None}
 use Rattle.verdicts.proofs.Common.{Option, option_map, option_to_list, refl, Some, sym, zero, ℕ, AreLives}
-use Rattle.verdicts.proofs.Common.{covers_are_lives, CoverStep, Deq, dequeue_of, Did, enqueue_of, filled, fresh}
+use Rattle.verdicts.proofs.Common.{covers_are_lives, CoverStep, Deq, dequeue_of, Did, enqueue_of, timeline, fresh}
 use Rattle.verdicts.proofs.Common.{FullViolation, IsMaybeAt, IsViolationOf, Life, lines_of, Names, NamesCover, NoneDid}
 use Rattle.verdicts.proofs.Common.{one_deeper, Operation, operations_of_life, order, place_of, Precedes, repeat}
 use Rattle.verdicts.proofs.Common.{Violation, witness}
@@ -19,11 +19,11 @@ module _ (initial : List ℕ) (operations : List Operation) where
   k = length initial
 
   abbrev all : List Operation
-  all = filled initial operations
+  all = timeline initial operations
 
   -- all of these are operations
   abbrev pub AreAmong : List Operation → Type 0
-  AreAmong listed = (o : Operation) → Contains listed o → Contains (filled initial operations) o
+  AreAmong listed = (o : Operation) → Contains listed o → Contains (timeline initial operations) o
 
   maybe_at : (d : Option Operation) → AreAmong (option_to_list d) → (place : Option ℕ) × IsMaybeAt all place d
   maybe_at None among = (None, tt)
@@ -49,7 +49,7 @@ module _ (initial : List ℕ) (operations : List Operation) where
       )
 
   -- a violation has places
-  pub violation_at : (full : FullViolation) → IsViolationOf (filled initial operations) full → AreAmong (lines_of full)
+  pub violation_at : (full : FullViolation) → IsViolationOf (timeline initial operations) full → AreAmong (lines_of full)
       → (found : Violation) × Names initial operations found full
   violation_at (fresh deq enq) is among =
       let d = place_of all deq (among deq (zero, omega arith, refl)) in

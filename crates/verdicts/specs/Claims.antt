@@ -2,9 +2,9 @@
 use Rattle.std.specs.Prelude.{◌≡◌, ℕ, ◌*◌, ◌&&◌, nat_le, nat_eq, List, length, map, position, Option, Some, None, option_map, if◌then◌else◌}
 use Rattle.event_records.specs.declared.limits.TheConstants.{MAX_TICKET}
 use Rattle.history_merge.specs.declared.operation.Operation.{Operation}
-use Rattle.history_merge.specs.Initial.{filled, later_by}
+use Rattle.history_merge.specs.Initial.{timeline, later_by}
 use Rattle.history_merge.specs.Legal.{IsLegalOrder}
-use Rattle.value_match.specs.Filling.{filling_at}
+use Rattle.value_match.specs.Timeline.{initial_enqueue}
 use Rattle.value_match.specs.Violations.{FullViolation, fresh, repeat, order, witness, IsViolationOf, lines_of}
 use Rattle.verdicts.specs.declared.verifying.ClaimLine.{ClaimLine}
 use Rattle.verdicts.specs.declared.verifying.ClaimLine.TheVariants.{Op, Initial}
@@ -24,28 +24,29 @@ kind_of (witness empty cover) = VWit
 abbrev pub ShowsViolation : List Operation → ViolationKind → List Operation → Type 0
 ShowsViolation operations kind shown = (full : FullViolation) × (kind_of full ≡ kind) × (lines_of full ≡ shown) × IsViolationOf operations full
 
--- in the filled history, the enqueue of this value where it is an initial one
-abbrev pub filling_of : List ℕ → ℕ → Option Operation
-filling_of initial v = option_map (λ j. filling_at j v) (position (λ w. nat_eq w v) initial)
+-- on the timeline, the enqueue of this value where it is an initial one
+abbrev pub initial_enqueue_of : List ℕ → ℕ → Option Operation
+initial_enqueue_of initial v = option_map (λ j. initial_enqueue j v) (position (λ w. nat_eq w v) initial)
 
--- the operation in the filled history, where its tickets are in their range
-abbrev pub in_filled : ℕ → Operation → Option Operation
-in_filled initial_count o = if nat_le o.call MAX_TICKET && nat_le o.ret MAX_TICKET then Some (later_by (2 * initial_count) o) else None
+-- the operation on the timeline, where its tickets are in their range
+abbrev pub on_timeline : ℕ → Operation → Option Operation
+on_timeline initial_count o = if nat_le o.call MAX_TICKET && nat_le o.ret MAX_TICKET then Some (later_by (2 * initial_count) o) else None
 
--- what a line of a claim stands for in the filled history: an operation, or the enqueue of an initial value
+-- what a line of a claim stands for on the timeline: an operation, or the enqueue of an initial value
 abbrev pub stands_for : List ℕ → ClaimLine → Option Operation
-stands_for initial (Op o) = in_filled (length initial) o
-stands_for initial (Initial v) = filling_of initial v
+stands_for initial (Op o) = on_timeline (length initial) o
+stands_for initial (Initial v) = initial_enqueue_of initial v
 
 -- the lines stand for these operations, one by one
 abbrev pub StandFor : List ℕ → List ClaimLine → List Operation → Type 0
 StandFor initial lines shown = map (stands_for initial) lines ≡ map Some shown
 
--- the lines are those of a violation of this kind in the filled history
-abbrev pub ShowsInFilled : List ℕ → List Operation → ViolationKind → List ClaimLine → Type 0
-ShowsInFilled initial operations kind lines = (shown : List Operation) × StandFor initial lines shown × ShowsViolation (filled initial operations) kind shown
+-- the lines are those of a violation of this kind on the timeline
+abbrev pub ShowsOnTimeline : List ℕ → List Operation → ViolationKind → List ClaimLine → Type 0
+ShowsOnTimeline initial operations kind lines = (shown : List Operation) × StandFor initial lines shown × ShowsViolation
+    (timeline initial operations) kind shown
 
 -- the lines are a linearization of the operations, or those of a violation of this kind
 abbrev pub IsTrueClaim : List ℕ → List Operation → Claimed → Type 0
 IsTrueClaim initial operations (Yes lines) = IsLegalOrder initial operations lines
-IsTrueClaim initial operations (No kind lines) = ShowsInFilled initial operations kind lines
+IsTrueClaim initial operations (No kind lines) = ShowsOnTimeline initial operations kind lines

@@ -15,7 +15,7 @@ use Rattle.verdicts.specs.declared.verdict.Verdict.TheVariants.{No}
 use Rattle.verdicts.specs.declared.verifying.ClaimLine.{ClaimLine}
 use Rattle.verdicts.specs.Claiming.{claim_of, lines_at, lines_of_history}
 use Rattle.verdicts.specs.Shown.{violation_places}
-use Rattle.verdicts.specs.Verdicts.{filled_of}
+use Rattle.verdicts.specs.Verdicts.{timeline_of_history}
 
 -- the value of an operation; an empty answer has none
 abbrev pub value_of : OpKind → Option ℕ
@@ -79,4 +79,4 @@ IsShortestCover operations _ = ⊤
 -- the same of the violation that the places name
 abbrev pub HasShortestCover : HistoryView → Violation → Type 0
 HasShortestCover history violation = (full : FullViolation) → Names history.initial (operations_of history.events) violation full
-    → IsShortestCover (filled_of history) full
+    → IsShortestCover (timeline_of_history history) full

@@ -2,33 +2,32 @@
 use Rattle.std.specs.Prelude.{ℕ, List}
 use Rattle.history_merge.specs.declared.operation.Operation.{Operation}
 use Rattle.history_merge.specs.Legal.{IsLegalOrder, IsLinearizable, ArePlacesOf}
-use Rattle.history_merge.specs.Initial.{HistoryView, filled}
+use Rattle.history_merge.specs.Initial.{HistoryView, timeline}
 use Rattle.history_merge.specs.Operations.{operations_of}
-use Rattle.value_match.specs.declared.violation.Violation.{Violation}
 use Rattle.value_match.specs.Violations.{FullViolation, IsViolationOf}
 use Rattle.value_match.specs.Outcome.{Names, IsChosenViolation}
 use Rattle.linearizer.specs.Order.{IsChosenOrder}
 use Rattle.verdicts.specs.declared.verdict.Verdict.{Verdict}
 use Rattle.verdicts.specs.declared.verdict.Verdict.TheVariants.{Yes, No}
 
--- yes with the order that, behind the enqueues of the initial values, is the chosen one of the filled history; or no with the
+-- yes with the order that, behind the enqueues of the initial values, is the chosen one of the timeline; or no with the
 -- chosen violation
 abbrev pub IsVerdict : List ℕ → List Operation → Verdict → Type 0
 IsVerdict initial operations (Yes places) =
-    (order : List Operation) × ArePlacesOf operations places order × IsChosenOrder (filled initial operations) (filled initial order)
+    (order : List Operation) × ArePlacesOf operations places order × IsChosenOrder (timeline initial operations) (timeline initial order)
 IsVerdict initial operations (No violation) = IsChosenViolation initial operations violation
 
--- a `YES` lists a linearization for a queue that holds these values first; a `NO` names what violates in the filled history
+-- a `YES` lists a linearization for a queue that holds these values first; a `NO` names what violates on the timeline
 abbrev pub IsEvidence : List ℕ → List Operation → Verdict → Type 0
 IsEvidence initial operations (Yes places) = (order : List Operation) × ArePlacesOf operations places order × IsLegalOrder initial operations order
 IsEvidence initial operations (No violation) =
-    (full : FullViolation) × Names initial operations violation full × IsViolationOf (filled initial operations) full
+    (full : FullViolation) × Names initial operations violation full × IsViolationOf (timeline initial operations) full
 
 -- `YES` if a linearization exists for a queue that holds these values first, `NO` if none does
 abbrev pub IsExact : List ℕ → List Operation → Verdict → Type 0
 IsExact initial operations (Yes places) = IsLinearizable initial operations
 IsExact initial operations (No violation) = ¬ (IsLinearizable initial operations)
 
--- the operations of a history's filled history
-abbrev pub filled_of : HistoryView → List Operation
-filled_of history = filled history.initial (operations_of history.events)
+-- the operations of a history's timeline
+abbrev pub timeline_of_history : HistoryView → List Operation
+timeline_of_history history = timeline history.initial (operations_of history.events)

@@ -2,35 +2,35 @@ ghost use Rattle.std.specs.Prelude.{◌≡◌, ◌↔◌, IsTrue, IfOk, IsPermut
 ghost use Rattle.history_merge.specs.Operations.{Precedes};
 ghost use Rattle.history_merge.specs.Queue.{IsAccepted, accept};
 ghost use Rattle.history_merge.specs.Legal.{IsLegalOrder};
-ghost use Rattle.verdicts.specs.Inner.Claims.{CallsRise, IsLookedUp};
+ghost use Rattle.history_merge.specs.Operations.{operations_of};
+ghost use Rattle.verdicts.specs.Inner.Claims.{CallsRise};
 
-use crate::lookup::{Filled, is_at};
-use history_merge::{OpKind, Operation, PackedOperation};
+use history_merge::{History, OpKind, Operation, Operations};
 use std::alloc::{AllocError, Global};
 use std::collections::VecDeque;
 
-/// Returns whether the lines are a linearization of the operations, for a queue that holds the initial values first.
+/// Returns whether the lines are a linearization of the history's operations, for a queue that holds its initial values
+/// first.
 pub fn is_legal_order(
     alloc: Global,
-    filled: &Filled,
+    history: &History,
     lines: &[Operation],
 ) -> Result<bool, AllocError>
-    requires { IsLookedUp filled.now }
-    ensures { IfOk result (λ legal. IsTrue legal ↔ IsLegalOrder filled.now.initial.now filled.now.operations.now lines.now) }
+    ensures { IfOk result (λ legal. IsTrue legal ↔ IsLegalOrder history.now.initial (operations_of history.now.events) lines.now) }
 {
     if !extends_precedence(lines) {
         return Ok(false);
     }
-    if !holds_each_once(alloc, filled.operations, lines)? {
+    if !holds_each_once(alloc, &history.operations(), lines)? {
         return Ok(false);
     }
-    is_accepted(alloc, filled.initial, lines)
+    is_accepted(alloc, history.initial(), lines)
 }
 
 /// Whether the lines are the operations, each once: sorted by call, they are the same list.
 fn holds_each_once(
     alloc: Global,
-    operations: &[PackedOperation],
+    operations: &Operations<'_>,
     lines: &[Operation],
 ) -> Result<bool, AllocError>
     requires { CallsRise operations.now }
@@ -45,16 +45,26 @@ fn holds_each_once(
 }
 
 /// Whether the lines are the operations, one by one; there are as many.
-fn are_same(lines: &[Operation], operations: &[PackedOperation]) -> bool
+fn are_same(lines: &[Operation], operations: &Operations<'_>) -> bool
     requires { length lines.now ≡ length operations.now }
     ensures { IsTrue result ↔ (lines.now ≡ operations.now) }
 {
-    for (place, line) in lines.iter().enumerate() {
-        if !is_at(operations, place, line) {
+    let mut others = operations.iter();
+    for line in lines {
+        let Some(operation) = others.next() else {
+            return false;
+        };
+        if !is_same(&operation, line) {
             return false;
         }
     }
     true
+}
+
+fn is_same(operation: &Operation, line: &Operation) -> bool
+    ensures { IsTrue result ↔ (operation.now ≡ line.now) }
+{
+    *operation == *line
 }
 
 /// Whether no line returned before an earlier one was called: each return is past the greatest call before it.

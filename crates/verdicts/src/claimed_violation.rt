@@ -2,14 +2,14 @@ ghost use Rattle.std.specs.Prelude.{◌↔◌, IsTrue, MatchOption, [], ◌∷�
 ghost use Rattle.history_merge.specs.Operations.{Did, NoneDid, Precedes};
 ghost use Rattle.value_match.specs.Lives.{IsLife};
 ghost use Rattle.value_match.specs.Violations.{IsNeverEnqueued, IsEnqueuedTooLate, IsRepeatViolation, IsOrderViolation};
-ghost use Rattle.verdicts.specs.Inner.Claims.{IsDequeueFrom, IsLookedUp, ShowsKind, StandForCover, all_of};
+ghost use Rattle.verdicts.specs.Inner.Claims.{IsDequeueFrom, IsLookedUp, ShowsKind, StandForCover};
 
-use crate::lookup::Filled;
+use crate::lookup::Lookup;
 use crate::verifying::{ClaimLine, ViolationKind};
 use history_merge::{OpKind, Operation};
 
 /// Whether the lines are those of a violation of this kind.
-pub fn shows_violation(operations: &Filled, kind: ViolationKind, lines: &[ClaimLine]) -> bool
+pub fn shows_violation(operations: &Lookup, kind: ViolationKind, lines: &[ClaimLine]) -> bool
     requires { IsLookedUp operations.now }
     ensures { IsTrue result ↔ ShowsKind operations.now kind lines.now }
 {
@@ -22,7 +22,7 @@ pub fn shows_violation(operations: &Filled, kind: ViolationKind, lines: &[ClaimL
 }
 
 /// A dequeue alone, or with an enqueue of its value.
-fn shows_fresh(operations: &Filled, lines: &[ClaimLine]) -> bool
+fn shows_fresh(operations: &Lookup, lines: &[ClaimLine]) -> bool
     requires { IsLookedUp operations.now }
     ensures { IsTrue result ↔ ShowsKind operations.now ViolationKind.VFresh lines.now }
 {
@@ -33,7 +33,7 @@ fn shows_fresh(operations: &Filled, lines: &[ClaimLine]) -> bool
     }
 }
 
-fn shows_never_enqueued(operations: &Filled, deq: ClaimLine) -> bool
+fn shows_never_enqueued(operations: &Lookup, deq: ClaimLine) -> bool
     requires { IsLookedUp operations.now }
     ensures { IsTrue result ↔ ShowsKind operations.now ViolationKind.VFresh (deq ∷ []) }
 {
@@ -43,7 +43,7 @@ fn shows_never_enqueued(operations: &Filled, deq: ClaimLine) -> bool
     }
 }
 
-fn shows_enqueued_too_late(operations: &Filled, deq: ClaimLine, enq: ClaimLine) -> bool
+fn shows_enqueued_too_late(operations: &Lookup, deq: ClaimLine, enq: ClaimLine) -> bool
     requires { IsLookedUp operations.now }
     ensures { IsTrue result ↔ ShowsKind operations.now ViolationKind.VFresh (deq ∷ enq ∷ []) }
 {
@@ -53,9 +53,9 @@ fn shows_enqueued_too_late(operations: &Filled, deq: ClaimLine, enq: ClaimLine) 
     }
 }
 
-fn is_never_enqueued(operations: &Filled, deq: Operation) -> bool
+fn is_never_enqueued(operations: &Lookup, deq: Operation) -> bool
     requires { IsLookedUp operations.now }
-    ensures { IsTrue result ↔ IsNeverEnqueued (all_of operations.now) deq }
+    ensures { IsTrue result ↔ IsNeverEnqueued operations.now.timeline.now deq }
 {
     let OpKind::Deq(value) = deq.kind else {
         return false;
@@ -65,9 +65,9 @@ fn is_never_enqueued(operations: &Filled, deq: Operation) -> bool
         && operations.none_did(OpKind::Not(value))
 }
 
-fn is_enqueued_too_late(operations: &Filled, deq: Operation, enq: Operation) -> bool
+fn is_enqueued_too_late(operations: &Lookup, deq: Operation, enq: Operation) -> bool
     requires { IsLookedUp operations.now }
-    ensures { IsTrue result ↔ IsEnqueuedTooLate (all_of operations.now) deq enq }
+    ensures { IsTrue result ↔ IsEnqueuedTooLate operations.now.timeline.now deq enq }
 {
     let OpKind::Deq(value) = deq.kind else {
         return false;
@@ -78,7 +78,7 @@ fn is_enqueued_too_late(operations: &Filled, deq: Operation, enq: Operation) -> 
 }
 
 /// An enqueue and two dequeues of its value.
-fn shows_repeat(operations: &Filled, lines: &[ClaimLine]) -> bool
+fn shows_repeat(operations: &Lookup, lines: &[ClaimLine]) -> bool
     requires { IsLookedUp operations.now }
     ensures { IsTrue result ↔ ShowsKind operations.now ViolationKind.VRepeat lines.now }
 {
@@ -96,9 +96,9 @@ fn shows_repeat(operations: &Filled, lines: &[ClaimLine]) -> bool
     is_repeat(operations, enq, first, second)
 }
 
-fn is_repeat(operations: &Filled, enq: Operation, first: Operation, second: Operation) -> bool
+fn is_repeat(operations: &Lookup, enq: Operation, first: Operation, second: Operation) -> bool
     requires { IsLookedUp operations.now }
-    ensures { IsTrue result ↔ IsRepeatViolation (all_of operations.now) enq first second }
+    ensures { IsTrue result ↔ IsRepeatViolation operations.now.timeline.now enq first second }
 {
     let OpKind::Enq(value) = enq.kind else {
         return false;
@@ -110,7 +110,7 @@ fn is_repeat(operations: &Filled, enq: Operation, first: Operation, second: Oper
 }
 
 /// The enqueues of a and b, the dequeue of b, and one of a if the history has any.
-fn shows_order(operations: &Filled, lines: &[ClaimLine]) -> bool
+fn shows_order(operations: &Lookup, lines: &[ClaimLine]) -> bool
     requires { IsLookedUp operations.now }
     ensures { IsTrue result ↔ ShowsKind operations.now ViolationKind.VOrd lines.now }
 {
@@ -135,14 +135,14 @@ fn shows_order(operations: &Filled, lines: &[ClaimLine]) -> bool
 }
 
 fn is_order(
-    operations: &Filled,
+    operations: &Lookup,
     enq_a: Operation,
     enq_b: Operation,
     deq_b: Operation,
     deq_a: Option<Operation>,
 ) -> bool
     requires { IsLookedUp operations.now }
-    ensures { IsTrue result ↔ IsOrderViolation (all_of operations.now) enq_a enq_b deq_b deq_a }
+    ensures { IsTrue result ↔ IsOrderViolation operations.now.timeline.now enq_a enq_b deq_b deq_a }
 {
     let (OpKind::Enq(a), OpKind::Enq(b)) = (enq_a.kind, enq_b.kind) else {
         return false;
@@ -154,7 +154,7 @@ fn is_order(
 
 /// Whether these are enqueues of the values a and b, one after the other.
 fn are_enqueued_in_turn(
-    operations: &Filled,
+    operations: &Lookup,
     enq_a: Operation,
     a: u64,
     enq_b: Operation,
@@ -162,7 +162,7 @@ fn are_enqueued_in_turn(
 ) -> bool
     requires { IsLookedUp operations.now }
     ensures { IsTrue result
-        ↔ (Did (all_of operations.now) enq_a (OpKind.Enq a) × Did (all_of operations.now) enq_b (OpKind.Enq b) × Precedes enq_a enq_b) }
+        ↔ (Did operations.now.timeline.now enq_a (OpKind.Enq a) × Did operations.now.timeline.now enq_b (OpKind.Enq b) × Precedes enq_a enq_b) }
 {
     operations.did(enq_a, OpKind::Enq(a))
         && operations.did(enq_b, OpKind::Enq(b))
@@ -171,14 +171,14 @@ fn are_enqueued_in_turn(
 
 /// Whether this dequeue of a was called after the dequeue of b had returned, or there is none.
 fn is_dequeued_later(
-    operations: &Filled,
+    operations: &Lookup,
     deq_b: Operation,
     a: u64,
     deq_a: Option<Operation>,
 ) -> bool
     requires { IsLookedUp operations.now }
     ensures { IsTrue result
-        ↔ MatchOption deq_a (NoneDid (all_of operations.now) (OpKind.Deq a)) (λ d. Did (all_of operations.now) d (OpKind.Deq a) × Precedes deq_b d) }
+        ↔ MatchOption deq_a (NoneDid operations.now.timeline.now (OpKind.Deq a)) (λ d. Did operations.now.timeline.now d (OpKind.Deq a) × Precedes deq_b d) }
 {
     match deq_a {
         None => operations.none_did(OpKind::Deq(a)),
@@ -187,7 +187,7 @@ fn is_dequeued_later(
 }
 
 /// An empty answer and the values of a cover.
-fn shows_witness(operations: &Filled, lines: &[ClaimLine]) -> bool
+fn shows_witness(operations: &Lookup, lines: &[ClaimLine]) -> bool
     requires { IsLookedUp operations.now }
     ensures { IsTrue result ↔ ShowsKind operations.now ViolationKind.VWit lines.now }
 {
@@ -202,7 +202,7 @@ fn shows_witness(operations: &Filled, lines: &[ClaimLine]) -> bool
 }
 
 /// The enqueue and the dequeue of each value of a cover in turn; the last value may lack a dequeue.
-fn shows_cover(operations: &Filled, empty: Operation, lines: &[ClaimLine]) -> bool
+fn shows_cover(operations: &Lookup, empty: Operation, lines: &[ClaimLine]) -> bool
     requires { IsLookedUp operations.now }
     ensures { IsTrue result ↔ StandForCover operations.now empty empty lines.now }
 {
@@ -231,7 +231,7 @@ fn shows_cover(operations: &Filled, empty: Operation, lines: &[ClaimLine]) -> bo
 /// The dequeue of a value, where the lines stand for its enqueue and its dequeue, and it was enqueued before the operation
 /// given was called.
 fn dequeue_from(
-    operations: &Filled,
+    operations: &Lookup,
     before: Operation,
     enqueue: ClaimLine,
     dequeue: ClaimLine,
@@ -249,14 +249,14 @@ fn dequeue_from(
 
 /// Whether a value was enqueued before the operation given was called, and this is its dequeue, or it has none.
 fn is_life_from(
-    operations: &Filled,
+    operations: &Lookup,
     before: Operation,
     enqueue: Operation,
     dequeue: Option<Operation>,
 ) -> bool
     requires { IsLookedUp operations.now }
     ensures { IsTrue result
-        ↔ (IsLife (all_of operations.now) (record { enqueue = enqueue; dequeue = dequeue }) × Precedes enqueue before) }
+        ↔ (IsLife operations.now.timeline.now (record { enqueue = enqueue; dequeue = dequeue }) × Precedes enqueue before) }
 {
     let OpKind::Enq(value) = enqueue.kind else {
         return false;
@@ -267,10 +267,10 @@ fn is_life_from(
 }
 
 /// Whether this is a dequeue of the value, or there is none.
-fn has_dequeue(operations: &Filled, value: u64, dequeue: Option<Operation>) -> bool
+fn has_dequeue(operations: &Lookup, value: u64, dequeue: Option<Operation>) -> bool
     requires { IsLookedUp operations.now }
     ensures { IsTrue result
-        ↔ MatchOption dequeue (NoneDid (all_of operations.now) (OpKind.Deq value)) (λ d. Did (all_of operations.now) d (OpKind.Deq value)) }
+        ↔ MatchOption dequeue (NoneDid operations.now.timeline.now (OpKind.Deq value)) (λ d. Did operations.now.timeline.now d (OpKind.Deq value)) }
 {
     match dequeue {
         None => operations.none_did(OpKind::Deq(value)),

@@ -6,7 +6,7 @@ ghost use Rattle.verdicts.specs.Selection.{violation_lines};
 use crate::shown::{LinePlace, violation_places};
 use crate::verdict::Verdict;
 use crate::verifying::{ClaimLine, ClaimLines, Claimed, Lines, ViolationKind};
-use history_merge::{History, OpId, Operation, PackedOperation, operation_at};
+use history_merge::{History, OpId, Operation, Operations};
 use std::alloc::{AllocError, Global};
 use value_match::Violation;
 
@@ -21,7 +21,7 @@ pub fn claim(alloc: Global, history: &History, verdict: &Verdict) -> Result<Clai
 {
     match verdict {
         Verdict::Yes(order) => {
-            let lines = operations_at(alloc, history.operations(), order.as_slice())?;
+            let lines = operations_at(alloc, &history.operations(), order.as_slice())?;
             Ok(Claimed::Yes(Lines::from_vec(lines)))
         }
         Verdict::No(violation) => {
@@ -34,14 +34,14 @@ pub fn claim(alloc: Global, history: &History, verdict: &Verdict) -> Result<Clai
 /// The operations at these places.
 fn operations_at(
     alloc: Global,
-    operations: &[PackedOperation],
+    operations: &Operations<'_>,
     places: &[OpId],
 ) -> Result<Vec<Operation>, AllocError>
     ensures { IfOk result (λ listed. listed.items ≡ operations_at operations.now places.now) }
 {
     let mut listed = Vec::new(alloc);
     for place in places {
-        if let Some(operation) = operation_at(operations, *place) {
+        if let Some(operation) = operations.get(*place) {
             listed.push(operation)?;
         }
     }
@@ -60,7 +60,7 @@ pub fn violation_lines(
     lines_at(
         alloc,
         history.initial(),
-        history.operations(),
+        &history.operations(),
         places.as_slice(),
     )
 }
@@ -69,7 +69,7 @@ pub fn violation_lines(
 fn lines_at(
     alloc: Global,
     initial: &[u64],
-    operations: &[PackedOperation],
+    operations: &Operations<'_>,
     places: &[LinePlace],
 ) -> Result<Vec<ClaimLine>, AllocError>
     ensures { IfOk result (λ listed. listed.items ≡ lines_at initial.now operations.now places.now) }

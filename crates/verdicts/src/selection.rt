@@ -8,7 +8,7 @@ ghost use Rattle.verdicts.specs.Inner.Selecting.{call_in, holds_ticket, value_in
 
 use crate::verifying::ClaimLine;
 use event_records::{Event, MAX_EVENTS};
-use history_merge::{Events, History, OpKind, Operation, PackedOperation};
+use history_merge::{Events, History, OpKind, Operation, Operations};
 use std::alloc::{AllocError, Global};
 use std::collections::BTreeSet;
 
@@ -46,7 +46,7 @@ impl Selection {
             (contains nat_cmp self.now.calls)) (operations_of history.now.events)) e.ticket) history.now.events) }
         ensures few { length history.now.events ≤ MAX_EVENTS }
     {
-        let tickets = self.tickets(alloc, history.operations())?;
+        let tickets = self.tickets(alloc, &history.operations())?;
         events_at(alloc, history.events(), &tickets)
     }
 
@@ -54,14 +54,13 @@ impl Selection {
     fn tickets(
         &self,
         alloc: Global,
-        operations: &[PackedOperation],
+        operations: &Operations<'_>,
     ) -> Result<BTreeSet<u64>, AllocError>
         ensures { IfOk result (λ tickets. (t : ℕ) → contains nat_cmp tickets t
             ≡ holds_ticket (filter (selects (contains nat_cmp self.now.values) (contains nat_cmp self.now.calls)) operations.now) t) }
     {
         let mut tickets = BTreeSet::new(alloc);
-        for operation in operations {
-            let operation = operation.unpack();
+        for operation in operations.iter() {
             if self.selects(&operation) {
                 tickets.insert(operation.call)?;
                 tickets.insert(operation.ret)?;

@@ -4,7 +4,7 @@ ghost use Rattle.verdicts.specs.Shown.{maybe_place, violation_places, places_of_
 ghost use Rattle.verdicts.specs.Inner.Shown.{first_places, later_places};
 
 use crate::verifying::ClaimLine;
-use history_merge::{OpId, PackedOperation, operation_at};
+use history_merge::{OpId, Operations};
 use std::alloc::{AllocError, Global};
 use value_match::{Cover, Source, Violation};
 
@@ -33,11 +33,11 @@ impl From<Source> for LinePlace {
 
 impl LinePlace {
     /// The line at this place of these initial values and operations, if there is one.
-    pub fn line(self, initial: &[u64], operations: &[PackedOperation]) -> Option<ClaimLine>
+    pub fn line(self, initial: &[u64], operations: &Operations<'_>) -> Option<ClaimLine>
         ensures { result ≡ line_at initial.now operations.now self }
     {
         match self {
-            LinePlace::Op(place) => operation_at(operations, place).map(ClaimLine::Op),
+            LinePlace::Op(place) => operations.get(place).map(ClaimLine::Op),
             LinePlace::Initial(place) => initial.get(place).copied().map(ClaimLine::Initial),
         }
     }

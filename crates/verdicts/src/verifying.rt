@@ -5,7 +5,7 @@ ghost use Rattle.verdicts.specs.Claims.{IsTrueClaim};
 
 use crate::claimed_order::is_legal_order;
 use crate::claimed_violation::shows_violation;
-use crate::lookup::Filled;
+use crate::lookup::Lookup;
 use event_records::OwnedSlice;
 use history_merge::{History, Operation};
 use std::alloc::{AllocError, Global};
@@ -73,9 +73,12 @@ pub fn verify(alloc: Global, history: &History, claimed: &Claimed) -> Result<boo
     ensures exact { IfOk result (λ valid. IsTrue valid ↔ IsTrueClaim history.now.initial (operations_of history.now.events) claimed.now) }
     ensures no { (kind : ViolationKind) (lines : List ClaimLine) → claimed.now ≡ Claimed.No kind lines → IsOk result }
 {
-    let filled = Filled::of(history);
     match claimed {
-        Claimed::Yes(lines) => is_legal_order(alloc, &filled, lines.as_slice()),
-        Claimed::No(kind, lines) => Ok(shows_violation(&filled, *kind, lines.as_slice())),
+        Claimed::Yes(lines) => is_legal_order(alloc, history, lines.as_slice()),
+        Claimed::No(kind, lines) => Ok(shows_violation(
+            &Lookup::of(history),
+            *kind,
+            lines.as_slice(),
+        )),
     }
 }

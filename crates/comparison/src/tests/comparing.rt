@@ -1,6 +1,6 @@
-//! The answers about one history beside those of plain scans of its filled history, told by the history's own places.
+//! The answers about one history beside those of plain scans of its timeline, told by the history's own places.
 
-use crate::tests::plain_gaps::{PlainWitness, operation_at, plain_cover, plain_gap, plain_witness};
+use crate::tests::plain_gaps::{PlainWitness, clocks_at, plain_cover, plain_gap, plain_witness};
 use crate::tests::plain_order::plain_linearization;
 use crate::tests::plain_pairs::plain_pair;
 use empty_witness::{GapAnswer, WitnessAnswer, find_witness, gap_for};
@@ -75,7 +75,7 @@ fn compare_clear(
     let values = listed(alloc, matching)?;
     let pair = told_pair_of(first, &values);
     assert_eq!(rt; find_order(alloc, matching)?, pair);
-    let witness = plain_witness(alloc, matching.filled(), &values)?;
+    let witness = plain_witness(alloc, matching, &values)?;
     let found = find_witness(alloc, matching)?;
     assert!(rt; is_same_witness(&found, &told_witness(alloc, first, &witness)?));
     compare_gaps(rt, alloc, matching, &values)?;
@@ -84,12 +84,12 @@ fn compare_clear(
     Ok(())
 }
 
-/// Returns the operation at a place of the filled history, which begins with this many enqueues of initial values.
+/// Returns the operation at a place of the timeline, which begins with this many enqueues of initial values.
 fn told_id(first: usize, id: OpId) -> OpId {
     OpId::new((id.place().saturating_sub(first) & 0xffff_ffff) as u32)
 }
 
-/// The initial value or the enqueue at a place of the filled history.
+/// The initial value or the enqueue at a place of the timeline.
 fn told_enqueue(first: usize, id: OpId) -> Source {
     if id.place() < first {
         Source::Initial(id.place())
@@ -98,7 +98,7 @@ fn told_enqueue(first: usize, id: OpId) -> Source {
     }
 }
 
-/// The source of a value of the filled history, in which all are enqueues.
+/// The source of a value of the timeline, in which all are enqueues.
 fn told_source(first: usize, source: Source) -> Source {
     match source {
         Source::Enq(id) => told_enqueue(first, id),
@@ -106,7 +106,7 @@ fn told_source(first: usize, source: Source) -> Source {
     }
 }
 
-/// The pair of a filled history.
+/// The pair of a timeline.
 fn told_pair(first: usize, pair: OrderPair) -> OrderPair {
     OrderPair {
         enq_a: told_source(first, pair.enq_a),
@@ -116,7 +116,7 @@ fn told_pair(first: usize, pair: OrderPair) -> OrderPair {
     }
 }
 
-/// The pair that a plain scan finds among the values of a filled history.
+/// The pair that a plain scan finds among the values of a timeline.
 fn told_pair_of(first: usize, values: &[MatchedValue]) -> Option<OrderPair> {
     match plain_pair(values) {
         Some(pair) => Some(told_pair(first, pair)),
@@ -124,7 +124,7 @@ fn told_pair_of(first: usize, values: &[MatchedValue]) -> Option<OrderPair> {
     }
 }
 
-/// The cover of a filled history.
+/// The cover of a timeline.
 fn told_cover(
     alloc: Global,
     first: usize,
@@ -140,12 +140,12 @@ fn told_cover(
     Ok(told)
 }
 
-/// The ticket of a gap of the filled history, whose first tickets are those of the initial values.
+/// The ticket of a gap of the timeline, whose first tickets are those of the initial values.
 fn told_gap(first: usize, gap: u64) -> u64 {
     gap.saturating_sub((first as u64).saturating_mul(2))
 }
 
-/// What plain scans of a filled history find of all empty answers.
+/// What plain scans of a timeline find of all empty answers.
 fn told_witness(
     alloc: Global,
     first: usize,
@@ -174,7 +174,7 @@ fn value_at(values: &Values, place: usize) -> Option<MatchedValue> {
 
 /// The accepted values.
 fn listed(alloc: Global, matching: &Matching) -> Result<Vec<MatchedValue>, AllocError> {
-    let values = matching.filled().values();
+    let values = matching.values();
     (0..values.len())
         .filter_map(|place| value_at(&values, place))
         .collect(alloc)
@@ -198,7 +198,7 @@ fn plain_answer(
             Ok(Plain::Witness(told_id(first, empty), told))
         }
         PlainWitness::Gaps(gaps) => {
-            let order = plain_linearization(alloc, matching.filled(), values, &gaps)?;
+            let order = plain_linearization(alloc, matching, values, &gaps)?;
             let own = order.iter().filter(|id| id.place() >= first);
             Ok(Plain::Legal(own.map(|id| told_id(first, *id)).collect(alloc)?))
         }
@@ -251,14 +251,14 @@ fn compare_gaps(
     values: &[MatchedValue],
 ) -> Result<(), Fail> {
     let first = matching.initial().len();
-    let filled = matching.filled();
+    let timeline = matching.timeline();
     let empties = matching.empties();
     for index in 0..empties.len() {
         let empty = empties.get(index);
         let found = gap_for(alloc, matching, empty)?;
         let place = first.saturating_add(empty.place()) & 0xffff_ffff;
-        let answer = operation_at(filled, OpId::new(place as u32))?;
-        let plain = plain_gap(filled.operations(), values, &answer);
+        let answer = clocks_at(timeline, OpId::new(place as u32))?;
+        let plain = plain_gap(timeline, values, &answer);
         match found {
             GapAnswer::Free(gap) => {
                 assert_eq!(rt; plain.map(|clock| told_gap(first, clock)), Some(gap));

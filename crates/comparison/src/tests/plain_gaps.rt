@@ -3,7 +3,7 @@
 use history_merge::{OpId, Operation, PackedOperation};
 use std::alloc::{AllocError, Global};
 use std::test::Fail;
-use value_match::{CoverStep, FilledMatching, Life, MatchedValue, Source};
+use value_match::{CoverStep, Life, MatchedValue, Matching, Source};
 
 /// Whether the value is definitely in the queue at this gap.
 fn covers(life: &Life, gap: u64) -> bool {
@@ -15,14 +15,14 @@ fn is_free(values: &[MatchedValue], gap: u64) -> bool {
     !values.iter().any(|value| covers(&value.life, gap))
 }
 
-/// The least free gap of a window, looked for at its call and at each ticket in it.
+/// The least free gap of a window, looked for at its call and at each clock of the timeline in it.
 pub(crate) fn plain_gap(
-    operations: &[PackedOperation],
+    timeline: &[PackedOperation],
     values: &[MatchedValue],
     answer: &Operation,
 ) -> Option<u64> {
     let mut least: Option<u64> = None;
-    for operation in operations {
+    for operation in timeline {
         let operation = operation.unpack();
         for gap in [answer.call, operation.call, operation.ret] {
             let is_in = answer.call <= gap && gap < answer.ret;
@@ -100,22 +100,24 @@ pub enum PlainWitness {
     Covered(OpId, Vec<CoverStep>),
 }
 
-/// The operation at a place of a history.
-pub(crate) fn operation_at(matching: &FilledMatching, id: OpId) -> Result<Operation, Fail> {
-    Ok(history_merge::operation_at(matching.operations(), id).ok_or("no operation")?)
+/// The operation at a place of a timeline, by its clocks.
+pub(crate) fn clocks_at(timeline: &[PackedOperation], id: OpId) -> Result<Operation, Fail> {
+    let operation = timeline.get(id.place()).ok_or("no operation")?;
+    Ok(operation.unpack())
 }
 
-/// The least free gap of each empty answer, or the covered one that returned first with its cover.
+/// The least free gap of each empty answer on the timeline, or the covered one that returned first with its cover.
 pub(crate) fn plain_witness(
     alloc: Global,
-    matching: &FilledMatching,
+    matching: &Matching,
     values: &[MatchedValue],
 ) -> Result<PlainWitness, Fail> {
     let mut gaps = Vec::new(alloc);
     let mut first: Option<(OpId, Operation)> = None;
-    for empty in matching.empties() {
-        let answer = operation_at(matching, *empty)?;
-        match plain_gap(matching.operations(), values, &answer) {
+    let timeline = matching.timeline();
+    for empty in matching.timeline_empties() {
+        let answer = clocks_at(timeline, *empty)?;
+        match plain_gap(timeline, values, &answer) {
             Some(gap) => gaps.push(gap)?,
             None if first.is_none_or(|so_far| answer.ret < so_far.1.ret) => {
                 first = Some((*empty, answer));

@@ -1,8 +1,8 @@
 //! The chosen order of all operations: the choice among all remaining values at each step, and a sort by position.
 
-use history_merge::{OpId, operation_at};
+use history_merge::OpId;
 use std::alloc::{AllocError, Global};
-use value_match::{FilledMatching, Life, MatchedValue};
+use value_match::{Life, MatchedValue, Matching};
 
 /// Where an operation stands: its gap, the class within the gap, and the rank within the class.
 type Position = (u64, u8, u64);
@@ -109,23 +109,25 @@ fn value_positions(
     Ok(placed)
 }
 
-/// The chosen order of all operations, if each empty dequeue has its gap.
+/// The chosen order of all operations on the timeline, if each empty dequeue has its gap.
 pub(crate) fn plain_linearization(
     alloc: Global,
-    matching: &FilledMatching,
+    matching: &Matching,
     values: &[MatchedValue],
     gaps: &[u64],
 ) -> Result<Vec<OpId>, AllocError> {
     let order = ordered(alloc, values)?;
     let mut placed = value_positions(alloc, &order)?;
-    for (id, gap) in matching.empties().iter().zip(gaps) {
-        if let Some(operation) = operation_at(matching.operations(), *id) {
-            placed.push(((*gap, 1, operation.call), *id))?;
+    let timeline = matching.timeline();
+    for (id, gap) in matching.timeline_empties().iter().zip(gaps) {
+        if let Some(operation) = timeline.get(id.place()) {
+            placed.push(((*gap, 1, operation.unpack().call), *id))?;
         }
     }
-    for id in matching.refused() {
-        if let Some(operation) = operation_at(matching.operations(), *id) {
-            placed.push(((operation.call, 1, operation.call), *id))?;
+    for id in matching.timeline_refused() {
+        if let Some(operation) = timeline.get(id.place()) {
+            let call = operation.unpack().call;
+            placed.push(((call, 1, call), *id))?;
         }
     }
     placed.sort_by_key(|placed| placed.0)?;

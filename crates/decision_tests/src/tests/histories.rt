@@ -2,7 +2,7 @@ ghost use Rattle.std.specs.Prelude.{◌≤◌, length};
 
 use super::small_histories::{at, by, hidden, history_of, overlapping};
 use event_records::{Event, Lists, MAX_EVENTS, What};
-use history_merge::{History, HistoryFault, OpKind, Operation, history, merge, unpacked};
+use history_merge::{History, HistoryFault, OpId, OpKind, Operation, history, merge};
 use std::alloc::{AllocError, Global};
 use std::test::Fail;
 
@@ -44,7 +44,8 @@ fn names_the_first_fault(rt: HostRuntime) -> Result<(), Fail> {
 /// Whether the history of these operations shows them.
 fn shows(alloc: Global, operations: &[Operation]) -> Result<bool, Fail> {
     let history = history_of(alloc, operations)?;
-    Ok(unpacked(alloc, history.operations())?.as_slice() == operations)
+    let shown: Vec<Operation> = history.operations().collect(alloc)?;
+    Ok(shown.as_slice() == operations)
 }
 
 #[test]
@@ -82,7 +83,7 @@ fn takes_two_hundred_thousand_events(rt: HostRuntime) -> Result<(), Fail> {
     let operations = history.operations();
     assert_eq!(rt; operations.len(), 100_000);
     let last = by(63, 199_998, 199_999, OpKind::Deq(49_999));
-    assert_eq!(rt; operations.last().map(|packed| packed.unpack()), Some(last));
+    assert_eq!(rt; operations.get(OpId::new(99_999)), Some(last));
     Ok(())
 }
 

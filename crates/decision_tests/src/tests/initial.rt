@@ -1,11 +1,9 @@
 //! Histories of a queue that starts with some values.
 ghost use Rattle.std.specs.Prelude.{◌≤◌, length};
 
-use super::small_histories::{at, by};
+use super::small_histories::{at, by, history_behind};
 use event_records::{Event, MAX_EVENTS, MAX_INITIAL, What};
-use history_merge::{
-    History, HistoryBuilder, HistoryFault, OpKind, Operation, fill, history_from, unpacked,
-};
+use history_merge::{History, HistoryBuilder, HistoryFault, OpId, OpKind, Operation, history_from};
 use std::alloc::{AllocError, Global};
 use std::test::Fail;
 
@@ -72,7 +70,7 @@ fn shows(
     operations: &[Operation],
 ) -> Result<bool, AllocError> {
     let shown: Vec<Event> = history.events().collect(alloc)?;
-    let shown_operations = unpacked(alloc, history.operations())?;
+    let shown_operations: Vec<Operation> = history.operations().collect(alloc)?;
     Ok(
         history.initial() == initial
             && shown.as_slice() == events
@@ -115,13 +113,21 @@ fn gives_its_parts_back(rt: HostRuntime) -> Result<(), Fail> {
     Ok(())
 }
 
+/// The operations on the timeline of a history.
+fn on_timeline(alloc: Global, history: &History) -> Result<Vec<Operation>, AllocError> {
+    history
+        .timeline()
+        .iter()
+        .map(|packed| packed.unpack())
+        .collect(alloc)
+}
+
 #[test]
 fn enqueues_initial_values_before_all_else(rt: HostRuntime) -> Result<(), Fail> {
     let events = [at(0, 1, What::CallDeq), at(7, 1, What::RetDeq(5))];
     let history = history_or_fault(rt.alloc(), &[5, 6], &events)?.expect(&rt, "a complete history");
-    let filled = fill(rt.alloc(), history.initial(), history.operations())?;
     assert_eq!(rt;
-        unpacked(rt.alloc(), filled.as_slice())?.as_slice(),
+        on_timeline(rt.alloc(), &history)?.as_slice(),
         [
             by(0, 0, 1, OpKind::Enq(5)),
             by(0, 2, 3, OpKind::Enq(6)),
@@ -129,5 +135,55 @@ fn enqueues_initial_values_before_all_else(rt: HostRuntime) -> Result<(), Fail> 
         ]
         .as_slice()
     );
+    Ok(())
+}
+
+/// Four operations after the initial values 5 and 6, of which the first two overlap.
+fn behind_two() -> [Operation; 4] {
+    [
+        by(1, 0, 4, OpKind::Deq(5)),
+        by(2, 3, 7, OpKind::Enq(8)),
+        by(1, 9, 10, OpKind::Not(9)),
+        by(63, 20, 999_999_999_999, OpKind::Empty),
+    ]
+}
+
+/// The operations of a history, how many it says there are, and those that it has at these places.
+type Listed = (Vec<Operation>, usize, Vec<Option<Operation>>);
+
+fn listed(alloc: Global, history: &History, places: &[u32]) -> Result<Listed, AllocError> {
+    let operations = history.operations();
+    let mut found = Vec::new(alloc);
+    for place in places {
+        found.push(operations.get(OpId::new(*place)))?;
+    }
+    Ok((operations.iter().collect(alloc)?, operations.len(), found))
+}
+
+#[test]
+fn operations_behind_initial_values_keep_their_tickets(rt: HostRuntime) -> Result<(), Fail> {
+    let history = history_behind(rt.alloc(), &[5, 6], &behind_two())?;
+    let (operations, count, found) = listed(rt.alloc(), &history, &[0, 3, 4, 5, u32::MAX])?;
+    let timeline = on_timeline(rt.alloc(), &history)?;
+    let last = by(63, 20, 999_999_999_999, OpKind::Empty);
+    let at_places = [
+        Some(by(1, 0, 4, OpKind::Deq(5))),
+        Some(last),
+        None,
+        None,
+        None,
+    ];
+    let four_later = [
+        by(0, 0, 1, OpKind::Enq(5)),
+        by(0, 2, 3, OpKind::Enq(6)),
+        by(1, 4, 8, OpKind::Deq(5)),
+        by(2, 7, 11, OpKind::Enq(8)),
+        by(1, 13, 14, OpKind::Not(9)),
+        by(63, 24, 1_000_000_000_003, OpKind::Empty),
+    ];
+    assert_eq!(rt; operations.as_slice(), behind_two().as_slice());
+    assert_eq!(rt; count, 4);
+    assert_eq!(rt; found.as_slice(), at_places.as_slice());
+    assert_eq!(rt; timeline.as_slice(), four_later.as_slice());
     Ok(())
 }

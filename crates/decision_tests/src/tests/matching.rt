@@ -96,15 +96,15 @@ fn accepts(
 ) -> Result<bool, Fail> {
     let history = history_of(alloc, operations)?;
     let matching = matching_of(alloc, &history)?;
-    Ok(are(&matching.filled().values(), expected))
+    Ok(are(&matching.values(), expected))
 }
 
 /// How many operations the matching of these has, the places of the empty answers, and those of the refused enqueues.
 fn others(alloc: Global, operations: &[Operation]) -> Result<(usize, [Vec<OpId>; 2]), Fail> {
     let history = history_of(alloc, operations)?;
     let matching = matching_of(alloc, &history)?;
-    let empties = matching.filled().empties().to_vec(alloc)?;
-    let refused = matching.filled().refused().to_vec(alloc)?;
+    let empties = matching.timeline_empties().to_vec(alloc)?;
+    let refused = matching.timeline_refused().to_vec(alloc)?;
     Ok((matching.operations().len(), [empties, refused]))
 }
 
@@ -177,7 +177,7 @@ fn longest_among(
 ) -> Result<(usize, Vec<Option<u64>>), Fail> {
     let history = history_of(alloc, operations)?;
     let matching = matching_of(alloc, &history)?;
-    Ok(longest_of(alloc, matching.filled().values(), limits)?)
+    Ok(longest_of(alloc, matching.values(), limits)?)
 }
 
 #[test]

@@ -4,7 +4,7 @@ use super::places::first_answer;
 use super::small_histories::{by, history_behind, matching_of, op};
 use empty_witness::{GapAnswer, WitnessAnswer, find_witness};
 use history_merge::OpKind::{Deq, Empty};
-use history_merge::{OpId, OpKind, Operation, unpacked};
+use history_merge::{OpId, OpKind, Operation};
 use order_violation::{OrderPair, find_order};
 use std::alloc::{AllocError, Global};
 use std::test::Fail;
@@ -191,7 +191,7 @@ fn left_empty() -> [Operation; 3] {
 /// The initial values and the operations that a matching shows.
 fn parts_of(alloc: Global, matching: &Matching) -> Result<(Vec<u64>, Vec<Operation>), AllocError> {
     let initial = matching.initial().to_vec(alloc)?;
-    Ok((initial, unpacked(alloc, matching.operations())?))
+    Ok((initial, matching.operations().collect(alloc)?))
 }
 
 /// Those of the matching of the history after 5.
@@ -209,22 +209,21 @@ fn a_matching_shows_the_history(rt: HostRuntime) -> Result<(), Fail> {
     Ok(())
 }
 
-/// The first operation of the filled history after 5, how many values it has, and its empty dequeues.
-fn filled(alloc: Global) -> Result<(Option<Operation>, usize, Vec<OpId>), Fail> {
+/// The first operation on the timeline after 5, how many values it has, and its empty dequeues.
+fn timeline(alloc: Global) -> Result<(Option<Operation>, usize, Vec<OpId>), Fail> {
     let history = history_behind(alloc, &[5], &left_empty())?;
     let matching = matching_of(alloc, &history)?;
-    let filled = matching.filled();
-    let empties = filled.empties().to_vec(alloc)?;
+    let empties = matching.timeline_empties().to_vec(alloc)?;
     Ok((
-        filled.operations().first().map(|packed| packed.unpack()),
-        filled.values().len(),
+        matching.timeline().first().map(|packed| packed.unpack()),
+        matching.values().len(),
         empties,
     ))
 }
 
 #[test]
-fn a_matching_shows_the_filled_history(rt: HostRuntime) -> Result<(), Fail> {
-    let (first, values, empties) = filled(rt.alloc())?;
+fn a_matching_shows_the_timeline(rt: HostRuntime) -> Result<(), Fail> {
+    let (first, values, empties) = timeline(rt.alloc())?;
     assert_eq!(rt; first, Some(op(0, 1, enqueued(5))));
     assert_eq!(rt; values, 1);
     assert_eq!(rt; empties.as_slice(), [id(2)].as_slice());

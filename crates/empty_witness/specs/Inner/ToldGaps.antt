@@ -1,4 +1,4 @@
--- Gaps of a history, told by those of its filled history.
+-- Gaps of a history, told by those of its timeline.
 use Rattle.std.specs.Prelude.{ℕ, ◌-◌, ◌*◌}
 
 -- the gap of the history, for one that comes after the enqueues of the initial values, of two clocks each

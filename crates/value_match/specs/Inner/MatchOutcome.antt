@@ -12,7 +12,7 @@ use Rattle.value_match.specs.Choice.{IsChosenFresh, IsChosenRepeat}
 use Rattle.value_match.specs.Lives.{IsMaybeAt}
 use Rattle.value_match.specs.Violations.{NoFreshViolation}
 use Rattle.value_match.specs.Inner.Sources.{HoldsTakers}
-use Rattle.value_match.specs.Inner.Matchable.{IsSortedOutOf}
+use Rattle.value_match.specs.Inner.SortedOut.{IsSortedOutOf}
 
 -- the places are those of the chosen dequeue of a value that was not there, and of the call for this value
 abbrev pub AreChosenFresh : List Operation → FreshPlaces → Type 0

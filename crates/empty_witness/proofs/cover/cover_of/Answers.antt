@@ -1,29 +1,23 @@
-use Rattle.std.proofs.Common.{ℕ, List, ◌≡◌, ◌<◌, ap, arith, length, sym, subst}
-use Rattle.history_merge.specs.declared.operation.Operation.{Operation}
-use Rattle.value_match.specs.declared.life.MatchedValue.{MatchedValue}
-use Rattle.value_match.specs.Lives.{HoldsLives, dequeue_call}
+use Rattle.std.proofs.Common.{ℕ, List, ◌<◌, ap, arith, length, sym, subst}
+use Rattle.value_match.specs.Lives.{dequeue_call}
 use Rattle.value_match.specs.Longest.{EntersBefore, FindsLongest, IsLongestOf}
 use Rattle.empty_witness.specs.Inner.Covered.{NamesChosenCover}
 use Rattle.empty_witness.proofs.Walks.{no_steps_yet, next_is_found, found_longest, frontier_rises, one_more_step, cover_is_whole}
 use Rattle.empty_witness.proofs.cover.cover_of.Goals as goal
 use Rattle.empty_witness.proofs.cover.cover_of.Goals.{After-unwrap-value}
 
--- the lives of the values
-lives : {all filled : List Operation} (values : List MatchedValue) → filled ≡ all → HoldsLives filled values → HoldsLives all values
-lives values same holds = subst (λ os. HoldsLives os values) same holds
-
 pub loop-frontier-init : goal.loop-frontier-init
 loop-frontier-init c =
     rw c.new-steps.ensures.items
     (no_steps_yet c.args.matching.now.initial c.args.matching.now.operations c.values.result c.args.answer.now
-    c.initial-initial_count.ensures.clear (lives c.values.result c.filled.ensures c.values.ensures.values) c.requires.is_empty c.requires.covered)
+    c.initial-initial_count.ensures.clear c.values.ensures.values c.requires.is_empty c.requires.covered)
 
 pub unwrap-value-requires : goal.unwrap-value-requires
 unwrap-value-requires c =
     let finds = subst (λ values. FindsLongest (EntersBefore c.loop-frontier.frontier) values c.longest_before.result) c.in_ok-table.ensures
     c.longest_before.ensures in
     next_is_found c.args.matching.now.initial c.args.matching.now.operations c.values.result c.args.answer.now
-    c.initial-initial_count.ensures.clear (lives c.values.result c.filled.ensures c.values.ensures.values) c.requires.is_empty c.requires.covered
+    c.initial-initial_count.ensures.clear c.values.ensures.values c.requires.is_empty c.requires.covered
     c.loop-frontier.steps.items c.loop-frontier.frontier c.longest_before.result c.loop-frontier.invariant c.loop-frontier-test.true finds
 
 -- the value of this turn
@@ -38,7 +32,7 @@ loop-frontier-smaller c =
     let value = c.unwrap-value.result in
     let rises : c.loop-frontier.frontier < dequeue_call value.life =
     frontier_rises c.args.matching.now.initial c.args.matching.now.operations c.values.result c.args.answer.now
-    c.initial-initial_count.ensures.clear (lives c.values.result c.filled.ensures c.values.ensures.values) c.requires.is_empty c.requires.covered
+    c.initial-initial_count.ensures.clear c.values.ensures.values c.requires.is_empty c.requires.covered
     c.loop-frontier.steps.items c.loop-frontier.frontier value c.loop-frontier.invariant c.loop-frontier-test.true
     (longest (goal.at.loop-frontier-smaller c).After-unwrap-value) in
     omega (arith, c.dequeue_call-frontier.ensures)
@@ -48,7 +42,7 @@ loop-frontier-preserved c =
     let count = ap (λ (l : List ℕ). length l) c.initial-initial_count.ensures.initial in
     rw (c.in_ok-push.ensures.items, c.dequeue_call-frontier.ensures, c.told_source.ensures, c.told_maybe.ensures, count)
     (one_more_step c.args.matching.now.initial c.args.matching.now.operations c.values.result c.args.answer.now c.initial-initial_count.ensures.clear
-    (lives c.values.result c.filled.ensures c.values.ensures.values) c.requires.is_empty c.requires.covered c.loop-frontier.steps.items
+    c.values.ensures.values c.requires.is_empty c.requires.covered c.loop-frontier.steps.items
     c.loop-frontier.frontier c.unwrap-value.result c.loop-frontier.invariant c.loop-frontier-test.true
     (longest (goal.at.loop-frontier-preserved c).After-unwrap-value))
 
@@ -56,5 +50,5 @@ pub returns : goal.returns
 returns c =
     subst (NamesChosenCover c.args.matching.now.initial c.args.matching.now.operations c.args.answer.now) (sym c.from_vec.ensures)
     (cover_is_whole c.args.matching.now.initial c.args.matching.now.operations c.values.result c.args.answer.now
-    c.initial-initial_count.ensures.clear (lives c.values.result c.filled.ensures c.values.ensures.values) c.requires.is_empty c.requires.covered
+    c.initial-initial_count.ensures.clear c.values.ensures.values c.requires.is_empty c.requires.covered
     c.loop-frontier.steps.items c.loop-frontier.frontier c.loop-frontier.invariant c.loop-frontier-test.false)

@@ -3,19 +3,20 @@ use Rattle.std.proofs.lemmas.List.{append-nil, take_all}
 use Rattle.history_merge.specs.Operations.{IsAt}
 use Rattle.empty_witness.specs.Covered.{IsFirstCovered}
 use Rattle.empty_witness.proofs.Answers.{answer_is_empty, covered_if_none, gap_if_some, one_more_covered, one_more_free}
+use Rattle.value_match.specs.Timeline.{timeline_of}
 use Rattle.empty_witness.proofs.search.first_covered.Goals as goal
 use Rattle.empty_witness.proofs.search.first_covered.Goals.{then-is_none, else-is_none}
 
 pub answer_at-answer-requires : goal.answer_at-answer-requires
-answer_at-answer-requires c = answer_is_empty c.args.matching.now c.args.others.now c.loop-empty.empty-index c.empty-item.result c.requires.others
+answer_at-answer-requires c = answer_is_empty (timeline_of c.args.matching.now) c.args.others.now c.loop-empty.empty-index c.empty-item.result c.requires.others
     c.loop-empty-test.true c.empty-item.is
 
 pub loop-empty-init : goal.loop-empty-init
-loop-empty-init c = λ seen first. subst (λ ps. IsFirstCovered c.args.matching.now ps c.args.covered) (sym (append-nil seen)) first
+loop-empty-init c = λ seen first. subst (λ ps. IsFirstCovered (timeline_of c.args.matching.now) ps c.args.covered) (sym (append-nil seen)) first
 
 pub loop-empty-preserved : goal.loop-empty-preserved
 loop-empty-preserved c = λ seen first.
-    let operations = c.args.matching.now in
+    let operations = timeline_of c.args.matching.now in
     let others = c.args.others.now in
     let answer = c.answer_at-answer in
     let i = c.loop-empty.empty-index in
@@ -40,5 +41,5 @@ loop-empty-preserved c = λ seen first.
     ]
 
 pub returns : goal.returns
-returns c = λ seen first. subst (λ ps. IsFirstCovered c.args.matching.now (seen ++ ps) c.loop-empty.first)
+returns c = λ seen first. subst (λ ps. IsFirstCovered (timeline_of c.args.matching.now) (seen ++ ps) c.loop-empty.first)
     (take_all c.loop-empty.empty-index c.args.others.now c.loop-empty-test.false) (c.loop-empty.invariant seen first)

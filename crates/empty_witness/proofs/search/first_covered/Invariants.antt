@@ -1,6 +1,8 @@
 use Rattle.std.proofs.Common.{ℕ, List, ◌++◌, take}
 use Rattle.empty_witness.specs.Covered.{IsFirstCovered}
+use Rattle.value_match.specs.Timeline.{timeline_of}
 use Rattle.empty_witness.proofs.search.first_covered.Given as goal
 
 abbrev pub invariant-loop-empty : goal.invariant-loop-empty
-invariant-loop-empty l = (seen : List ℕ) → IsFirstCovered l.matching seen l.fn.covered → IsFirstCovered l.matching (seen ++ take l.empty-index l.others) l.first
+invariant-loop-empty l = (seen : List ℕ) → IsFirstCovered (timeline_of l.matching) seen l.fn.covered → IsFirstCovered (timeline_of l.matching)
+    (seen ++ take l.empty-index l.others) l.first

@@ -1,9 +1,8 @@
-use Rattle.std.proofs.Common.{◌≡◌, ◌∙◌, ℕ, List, ap, arith, length, subst, sym}
+use Rattle.std.proofs.Common.{◌≡◌, ℕ, List, ap, arith, length, subst, sym}
 use Rattle.std.proofs.lemmas.Option.{slice_get_within}
 use Rattle.history_merge.specs.declared.operation.Operation.{Operation}
 use Rattle.history_merge.specs.Operations.{IsAt}
-use Rattle.value_match.specs.Filling.{behind, filled_operations}
-use Rattle.value_match.specs.Lives.{IsCovered, IsLeastFreeGap}
+use Rattle.value_match.specs.Timeline.{behind, timeline_of}
 use Rattle.empty_witness.specs.Answers.{IsEmptyAnswerAt}
 use Rattle.empty_witness.specs.Spans.{AreSpansOf}
 use Rattle.empty_witness.proofs.ToldGaps.{empty_behind, gap_told}
@@ -14,8 +13,8 @@ pub prove-unreachable-requires : goal.prove-unreachable-requires
 prove-unreachable-requires c =
     let matching = c.args.matching.now in
     let empty = empty_behind matching.initial matching.operations c.args.empty c.requires in
-    let within = slice_get_within (filled_operations matching) (behind (length matching.initial) c.args.empty) empty.0 empty.1 in
-    let long = ap (λ (l : List Operation). length l) (c.operations.ensures.operations ∙ c.filled-filled.ensures) in
+    let within = slice_get_within (timeline_of matching) (behind (length matching.initial) c.args.empty) empty.0 empty.1 in
+    let long = ap (λ (l : List Operation). length l) c.timeline.ensures.timeline in
     let many = ap (λ (l : List ℕ). length l) c.initial-initial_count.ensures.initial in
     omega (arith, c.if-prove.true, c.number.ensures, within, long, many)
 
@@ -24,25 +23,23 @@ answer_at-answer-requires c =
     let matching = c.args.matching.now in
     let many = ap (λ (l : List ℕ). length l) c.initial-initial_count.ensures.initial in
     let place : behind (length matching.initial) c.args.empty ≡ c.new.result = omega (arith, c.new.ensures, c.number.ensures, many) in
-    rw c.filled-filled.ensures
-    (subst (IsEmptyAnswerAt (filled_operations matching)) place (empty_behind matching.initial matching.operations c.args.empty c.requires))
+    subst (IsEmptyAnswerAt (timeline_of matching)) place (empty_behind matching.initial matching.operations c.args.empty c.requires)
 
 -- where the answer stands, and what it is
-answer_at_place : (c : After-answer_at-answer) → IsAt (filled_operations c.args.matching.now) (behind (length c.args.matching.now.initial) c.args.empty)
+answer_at_place : (c : After-answer_at-answer) → IsAt (timeline_of c.args.matching.now) (behind (length c.args.matching.now.initial) c.args.empty)
     c.answer_at-answer.result.operation
 answer_at_place c =
-    let at = subst (λ (all : List Operation). IsAt all c.new.result c.answer_at-answer.result.operation) c.filled-filled.ensures c.answer_at-answer.ensures.at in
     let many = ap (λ (l : List ℕ). length l) c.initial-initial_count.ensures.initial in
     let place : behind (length c.args.matching.now.initial) c.args.empty ≡ c.new.result = omega (arith, c.new.ensures, c.number.ensures, many) in
-    subst (λ p. IsAt (filled_operations c.args.matching.now) p c.answer_at-answer.result.operation) (sym place) at
+    subst (λ p. IsAt (timeline_of c.args.matching.now) p c.answer_at-answer.result.operation) (sym place) c.answer_at-answer.ensures.at
 
 pub returns-in-Some : goal.returns-in-Some
 returns-in-Some c =
     let matching = c.args.matching.now in
     let o = c.answer_at-answer.result.operation in
     let count = ap (λ (l : List ℕ). length l) c.initial-initial_count.ensures.initial in
-    let are = subst (AreSpansOf c.filled-filled.result.now) (sym c.as_slice.ensures.value) c.in_ok-spans.ensures in
-    let free = subst (λ (all : List Operation). IsLeastFreeGap all o c.in-Some.gap) c.filled-filled.ensures (c.in-Some.ensures c.filled-filled.result.now are) in
+    let are = subst (AreSpansOf (timeline_of matching)) (sym c.as_slice.ensures.value) c.in_ok-spans.ensures in
+    let free = c.in-Some.ensures (timeline_of matching) are in
     let at = answer_at_place ((goal.at.returns-in-Some c).After-answer_at-answer) in
     rw (c.told_gap.ensures, count) (o, at, gap_told matching.initial matching.operations _ o c.in-Some.gap at c.answer_at-answer.ensures.is_empty.1 free)
 
@@ -50,7 +47,7 @@ pub returns : goal.returns
 returns c =
     let matching = c.args.matching.now in
     let o = c.answer_at-answer.result.operation in
-    let are = subst (AreSpansOf c.filled-filled.result.now) (sym c.as_slice.ensures.value) c.in_ok-spans.ensures in
-    let covered = subst (λ (all : List Operation). IsCovered all o) c.filled-filled.ensures (c.in-None.ensures c.filled-filled.result.now are) in
+    let are = subst (AreSpansOf (timeline_of matching)) (sym c.as_slice.ensures.value) c.in_ok-spans.ensures in
+    let covered = c.in-None.ensures (timeline_of matching) are in
     let cover = c.in_ok-cover_of-in-None.ensures in
     (o, cover.0, answer_at_place ((goal.at.returns c).After-answer_at-answer), cover.1, covered, cover.2, cover.3)

@@ -1,6 +1,7 @@
 use Rattle.std.proofs.Common.{take}
 use Rattle.empty_witness.specs.Answers.{AreGapsAt}
+use Rattle.value_match.specs.Timeline.{timeline_of}
 use Rattle.empty_witness.proofs.search.windows_at.Given as goal
 
 abbrev pub invariant-loop-index : goal.invariant-loop-index
-invariant-loop-index l = AreGapsAt l.matching (take l.index l.empties) l.gaps.items
+invariant-loop-index l = AreGapsAt (timeline_of l.matching) (take l.index l.empties) l.gaps.items

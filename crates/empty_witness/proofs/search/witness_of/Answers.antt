@@ -1,5 +1,5 @@
 use Rattle.std.proofs.Common.{ℕ, List, ap, length, subst}
-use Rattle.value_match.specs.Filling.{filled_operations}
+use Rattle.value_match.specs.Timeline.{timeline_of}
 use Rattle.value_match.proofs.ToldPlaces.{empty_told}
 use Rattle.empty_witness.specs.Covered.{AreAllWindows}
 use Rattle.empty_witness.proofs.Answers.{first_is_chosen, gaps_are_all}
@@ -8,26 +8,26 @@ use Rattle.empty_witness.proofs.search.witness_of.Goals as goal
 
 pub cover_of-requires-clause-is_empty : goal.cover_of-requires-clause-is_empty
 cover_of-requires-clause-is_empty c =
-    let all = subst (AreAllWindows (filled_operations c.args.matching.now)) c.in-Covered.is c.requires in
+    let all = subst (AreAllWindows (timeline_of c.args.matching.now)) c.in-Covered.is c.requires in
     all.2.is_empty
 
 pub cover_of-requires-clause-covered : goal.cover_of-requires-clause-covered
 cover_of-requires-clause-covered c =
-    let all = subst (AreAllWindows (filled_operations c.args.matching.now)) c.in-Covered.is c.requires in
+    let all = subst (AreAllWindows (timeline_of c.args.matching.now)) c.in-Covered.is c.requires in
     all.2.is_covered
 
 pub returns-in_ok-told-in-Free : goal.returns-in_ok-told-in-Free
 returns-in_ok-told-in-Free c =
     let matching = c.args.matching.now in
-    let all = subst (AreAllWindows (filled_operations matching)) c.in-Free.is c.requires in
+    let all = subst (AreAllWindows (timeline_of matching)) c.in-Free.is c.requires in
     let count = ap (λ (l : List ℕ). length l) c.initial-initial_count.ensures.initial in
     rw (c.from_vec.ensures, c.in_ok-told-in-Free.ensures, count)
-    (gaps_told matching.initial matching.operations c.in-Free.gaps.items (gaps_are_all (filled_operations matching) all.0 c.in-Free.gaps.items all.1 all.2))
+    (gaps_told matching.initial matching.operations c.in-Free.gaps.items (gaps_are_all (timeline_of matching) all.0 c.in-Free.gaps.items all.1 all.2))
 
 pub returns-in_ok-cover_of-in-Covered : goal.returns-in_ok-cover_of-in-Covered
 returns-in_ok-cover_of-in-Covered c =
     let matching = c.args.matching.now in
-    let all = subst (AreAllWindows (filled_operations matching)) c.in-Covered.is c.requires in
+    let all = subst (AreAllWindows (timeline_of matching)) c.in-Covered.is c.requires in
     let cover = c.in_ok-cover_of-in-Covered.ensures in
     let count = ap (λ (l : List ℕ). length l) c.initial-initial_count.ensures.initial in
     rw (c.told_place.ensures, count) (
@@ -35,6 +35,6 @@ returns-in_ok-cover_of-in-Covered c =
       cover.0,
       empty_told matching.initial matching.operations c.in-Covered.first.place c.in-Covered.first.operation all.2.at all.2.is_empty.1,
       cover.1,
-      first_is_chosen (filled_operations matching) all.0 c.in-Covered.first cover.0 all.1 all.2 cover.2,
+      first_is_chosen (timeline_of matching) all.0 c.in-Covered.first cover.0 all.1 all.2 cover.2,
       cover.3,
     )

@@ -5,6 +5,7 @@ use Rattle.std.proofs.lemmas.List.Sorted.{IsNonDecreasingBy-from_sort_by_key, Is
 use Rattle.std.proofs.lemmas.Result.{IfOk-weaker}
 use Rattle.empty_witness.specs.Spans.{AreJoined, AreSpansOf}
 use Rattle.empty_witness.proofs.ValueSpans.{stays_hold_some, are_spans}
+use Rattle.value_match.specs.Timeline.{timeline_of}
 use Rattle.empty_witness.proofs.spans.spans_of.Goals as goal
 
 pub join_spans-requires-clause-hold_some : goal.join_spans-requires-clause-hold_some
@@ -22,6 +23,6 @@ pub returns : goal.returns
 returns c =
     let moved = subst (IsPermutation c.in_ok-stays.stays.items) (sym c.as_slice.ensures.value)
     (IsPermutation-trans _ _ _ c.presort.ensures c.sort_unstable_by_key.ensures.permutation) in
-    IfOk-weaker c.join_spans.result (λ spans. AreJoined c.as_slice.result.now spans.items) (λ spans. AreSpansOf c.args.matching.now spans.items)
-    (λ spans joined. are_spans c.args.matching.now c.values.result c.values.ensures.clear c.values.ensures.values c.in_ok-stays.stays.items _
+    IfOk-weaker c.join_spans.result (λ spans. AreJoined c.as_slice.result.now spans.items) (λ spans. AreSpansOf (timeline_of c.args.matching.now) spans.items)
+    (λ spans joined. are_spans (timeline_of c.args.matching.now) c.values.result c.values.ensures.clear c.values.ensures.values c.in_ok-stays.stays.items _
     spans.items c.in_ok-stays.ensures moved joined) c.join_spans.ensures

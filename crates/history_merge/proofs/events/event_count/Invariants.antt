@@ -1,10 +1,10 @@
-use Rattle.std.proofs.Common.{◌≡◌, ◌+◌, ◌≤◌, length, take}
+use Rattle.std.proofs.Common.{◌≡◌, ◌+◌, ◌≤◌, length}
 use Rattle.std.specs.Prelude.{count_by}
 use Rattle.history_merge.proofs.TheirEvents.{has_returned}
 use Rattle.history_merge.proofs.events.event_count.Given as goal
 
 abbrev pub invariant-loop-operation : goal.invariant-loop-operation
 invariant-loop-operation l = record {
-  counted : l.count ≡ length l.operations + count_by has_returned (take l.operation-index l.operations);
-  few : l.count ≤ length l.operations + l.operation-index;
+  counted : l.count + count_by has_returned l.operation-iterator ≡ length l.operations + count_by has_returned l.operations;
+  few : l.count + length l.operation-iterator ≤ length l.operations + length l.operations;
 }

@@ -1,13 +1,5 @@
-use Rattle.std.proofs.Common.{◌≡◌, ◌≤◌, take, count_by}
-use Rattle.std.specs.List.{list_any}
-use Rattle.history_stats.specs.Counts.{overlap}
-use Rattle.history_stats.specs.Inner.AtOnce.{IsLastReturn}
+use Rattle.history_stats.proofs.Overlaps.{Counted}
 use Rattle.history_stats.proofs.overlapping.overlapping_count.Given as goal
 
-abbrev pub invariant-loop-place : goal.invariant-loop-place
-invariant-loop-place l = record {
-  counted : l.count ≡ count_by (λ o. list_any (overlap o) l.operations) (take l.place l.operations);
-  few : l.count ≤ l.place;
-  last : IsLastReturn (take l.place l.operations) l.last_return;
-  none : l.place ≡ 0 → l.last_return ≡ 0;
-}
+abbrev pub invariant-loop-operation : goal.invariant-loop-operation
+invariant-loop-operation l = Counted l.operations l.later l.count l.last_return

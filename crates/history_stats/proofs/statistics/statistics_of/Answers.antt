@@ -30,7 +30,7 @@ returns c =
     c.in_ok-most_queued.most_queued) operations c.in_ok-most_queued.ensures in
     record {
       events = omega (arith, c.len.ensures, c.in_ok-events.events.ok.0, ap length c.in_ok-events.ensures.listed);
-      operations = ap length operations;
+      operations = c.len-2.ensures.exact ∙ ap length operations;
       threads = c.thread_count.ensures ∙ ap thread_count (c.as_slice.ensures.value ∙ c.in_ok-events.ensures.listed);
       enqueued = c.enqueued_count.ensures ∙ ap (kind_count is_enqueued) operations;
       refused = c.refused_count.ensures ∙ ap (kind_count is_refused) operations;
@@ -39,7 +39,7 @@ returns c =
       initial = ap length initial;
       thread_changes = c.change_count.ensures ∙ ap change_count (c.as_slice-2.ensures.value ∙ c.in_ok-events.ensures.listed);
       overlapping = overlapping;
-      overlapping_tenths = c.tenths_of_percent.ensures ∙ (λ i. tenths_of_percent (overlapping i) (length (operations i)));
+      overlapping_tenths = c.tenths_of_percent.ensures ∙ (λ i. tenths_of_percent (overlapping i) ((c.len-3.ensures.exact ∙ ap length operations) i));
       most_pending = subst (λ (os : List Operation). IsMost (pending_at os) c.in_ok-most_pending.most_pending) operations c.in_ok-most_pending.ensures;
       most_queued = subst (λ (values : List ℕ). IsMost (λ gap. stay_count gap (operations_of c.args.history.now.events)
           (values ++ values_put_before gap (operations_of c.args.history.now.events))) c.in_ok-most_queued.most_queued) initial queued;

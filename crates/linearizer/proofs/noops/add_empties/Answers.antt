@@ -5,18 +5,20 @@ use Rattle.std.proofs.lemmas.Option.{slice_get_read}
 use Rattle.std.proofs.lemmas.Slice.Zip.{zip_end, zip_turn}
 use Rattle.value_match.specs.Lives.{is_empty_answer}
 use Rattle.linearizer.proofs.Additions.{IsNamed, adds_all, adds_empty, gap_beside, named, named_early, named_few}
+use Rattle.value_match.specs.Timeline.{timeline_of}
 use Rattle.linearizer.proofs.noops.add_empties.Goals as goal
 use Rattle.linearizer.proofs.noops.add_empties.Goals.{After-place}
 
 -- the place and the gap of this turn
-pair : (c : After-place) → (length c.loop-id.yielded < length c.empties.result.now) × (length c.loop-id.yielded < length c.args.gaps.now)
-    × ((d : ℕ) → c.in-Some.id.now ≡ get_or c.empties.result.now (length c.loop-id.yielded) d)
+pair : (c : After-place) → (length c.loop-id.yielded < length c.timeline_empties.result.now) × (length c.loop-id.yielded < length c.args.gaps.now)
+    × ((d : ℕ) → c.in-Some.id.now ≡ get_or c.timeline_empties.result.now (length c.loop-id.yielded) d)
     × ((d : ℕ) → c.in-Some.gap.now ≡ get_or c.args.gaps.now (length c.loop-id.yielded) d)
-pair c = zip_turn c.empties.result.now c.args.gaps.now c.loop-id.yielded c.into_iter-id-iterator.result c.loop-id.id-iterator c.next.new.self
+pair c = zip_turn c.timeline_empties.result.now c.args.gaps.now c.loop-id.yielded c.into_iter-id-iterator.result c.loop-id.id-iterator c.next.new.self
     c.next.result (search rules) (search rules) c.loop-id.yielded_by (c.in-Some.id, c.in-Some.gap) c.in-Some.is c.next.ensures.steps
 
-turn : (c : After-place) → IsNamed c.args.matching.now (filter is_empty_answer c.args.matching.now) (length c.loop-id.yielded) c.place.result
-turn c = named _ _ c.empties.result.now _ _ c.empties.ensures
+turn : (c : After-place) → IsNamed (timeline_of c.args.matching.now) (filter is_empty_answer (timeline_of c.args.matching.now))
+    (length c.loop-id.yielded) c.place.result
+turn c = named _ _ c.timeline_empties.result.now _ _ c.timeline_empties.ensures
     (slice_get_read _ _ _ _ refl (pair c).0 ((pair c).2 c.in-Some.id.now) ∙ ap Some (sym c.place.ensures))
 
 pub new-requires-clause-place : goal.new-requires-clause-place
@@ -37,6 +39,6 @@ loop-id-preserved c =
 
 pub returns : goal.returns
 returns c =
-    let long = zip_end c.empties.result.now c.args.gaps.now c.loop-id.yielded c.into_iter-id-iterator.result c.loop-id.id-iterator c.next.new.self
+    let long = zip_end c.timeline_empties.result.now c.args.gaps.now c.loop-id.yielded c.into_iter-id-iterator.result c.loop-id.id-iterator c.next.new.self
     c.next.result (search rules) (search rules) c.loop-id.yielded_by c.in-None.is c.next.ensures.steps in
-    adds_all _ _ _ _ _ _ _ c.empties.ensures c.requires.gaps long c.loop-id.invariant
+    adds_all _ _ _ _ _ _ _ c.timeline_empties.ensures c.requires.gaps long c.loop-id.invariant

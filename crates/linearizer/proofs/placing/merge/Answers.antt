@@ -1,13 +1,19 @@
 use Rattle.std.proofs.Common.{arith, inl, inr, length, None, subst}
 use Rattle.std.proofs.lemmas.List.{length-map}
-use Rattle.linearizer.specs.Inner.Placement.{IsOrderOfPlaces, lives_at, places_in}
+use Rattle.linearizer.specs.Inner.Placement.{AreEnqueueGaps, IsOrderOfPlaces, gaps_in, lives_at, places_in}
 use Rattle.linearizer.proofs.Merging.{all_merged, no_enqueue}
 use Rattle.linearizer.proofs.OrderedPlaces.{lives_long}
+use Rattle.value_match.specs.Timeline.{timeline_of}
 use Rattle.linearizer.proofs.placing.merge.Goals as goal
+
+pub place_enqueues-requires-clause-gaps : goal.place_enqueues-requires-clause-gaps
+place_enqueues-requires-clause-gaps c =
+    let timed = c.order-order.result.now in
+    subst (λ all. AreEnqueueGaps (lives_at all (places_in timed)) (gaps_in timed)) c.requires.values c.order-order.ensures.gaps
 
 pub returns-clause-merged : goal.returns-clause-merged
 returns-clause-merged c =
-    let operations = c.args.matching.now in
+    let operations = timeline_of c.args.matching.now in
     let timed = c.order-order.result.now in
     let order = places_in timed in
     let long = length-map timed (λ t. t.place) in

@@ -9,29 +9,33 @@ use Rattle.linearizer.specs.Inner.Merging.{IsDequeueFrom, IsMergedUpTo}
 use Rattle.linearizer.proofs.Merging.{below_limit, below_next, dequeue_added, next_dequeue, no_dequeue, none_of_values, passed, stands_after, stands_not_after}
 use Rattle.linearizer.proofs.OrderedPlaces.{lives_long}
 use Rattle.linearizer.proofs.PlacedValues.{IsTurn, dequeue_stands, left_more, turn_alone, turn_is, turn_with_dequeue, turn_within}
+use Rattle.value_match.specs.Timeline.{timeline_of}
 use Rattle.linearizer.proofs.placing.place_dequeues.Goals as goal
 use Rattle.linearizer.proofs.placing.place_dequeues.Goals.{After-max-left, in-Some+else-stands_after+in_ok-place_noops+in_ok-push, in_default}
 
 pub get-value-requires : goal.get-value-requires
-get-value-requires c = turn_within c.args.matching.now c.values-values.result c.args.order.now _ _ c.values-values.ensures.values c.requires.order
+get-value-requires c = turn_within (timeline_of c.args.matching.now) c.values-values.result c.args.order.now _ _ c.values-values.ensures.values c.requires.order
     (slice_get_read _ _ _ _ refl c.loop-so_far-test.true c.index-order-rank.is ∙ ap Some (sym c.unpack-entered.ensures))
 
-turn : (c : After-max-left) → IsTurn c.args.matching.now (lives_at c.args.matching.now (places_in c.args.order.now)) c.loop-so_far.so_far.dequeues
+turn : (c : After-max-left) → IsTurn (timeline_of c.args.matching.now) (lives_at (timeline_of c.args.matching.now) (places_in c.args.order.now))
+    c.loop-so_far.so_far.dequeues
     c.get-value.result c.unpack-entered.result.time
-turn c = turn_is c.args.matching.now c.values-values.result c.args.order.now c.loop-so_far.so_far.dequeues c.unpack-entered.result c.get-value.result
+turn c = turn_is (timeline_of c.args.matching.now) c.values-values.result c.args.order.now c.loop-so_far.so_far.dequeues c.unpack-entered.result
+    c.get-value.result
     c.values-values.ensures.values c.requires.order c.requires.gaps (slice_get_read _ _ _ _ refl c.loop-so_far-test.true c.index-order-rank.is ∙ ap Some (sym c.unpack-entered.ensures)) c.get-value.ensures
 
 left_is : (c : After-max-left) → c.max-left.result ≡ max (leaves_from c.get-value.result.life) c.loop-so_far.so_far.left
 left_is c = c.max-left.ensures ∙ ap (λ n. max n c.loop-so_far.so_far.left) c.leaves_from.ensures
 
-within : (c : After-max-left) → c.loop-so_far.so_far.dequeues < length (lives_at c.args.matching.now (places_in c.args.order.now))
+within : (c : After-max-left) → c.loop-so_far.so_far.dequeues < length (lives_at (timeline_of c.args.matching.now) (places_in c.args.order.now))
 within c = slice_get_within _ _ _ (turn c).at
 
 -- the time from which all values up to this one can have left, where those before it are merged
-left_so_far : (c : After-max-left) (i : ℕ) → IsMergedUpTo c.args.matching.now
-    (lives_at c.args.matching.now (places_in c.args.order.now)) c.args.noops.now i c.loop-so_far.so_far.dequeues c.loop-so_far.so_far.left
+left_so_far : (c : After-max-left) (i : ℕ) → IsMergedUpTo (timeline_of c.args.matching.now)
+    (lives_at (timeline_of c.args.matching.now) (places_in c.args.order.now)) c.args.noops.now i c.loop-so_far.so_far.dequeues c.loop-so_far.so_far.left
     c.loop-so_far.so_far.noops c.loop-so_far.places.items
-    → c.max-left.result ≡ greatest_leaves_from (take (c.loop-so_far.so_far.dequeues + 1) (lives_at c.args.matching.now (places_in c.args.order.now)))
+    → c.max-left.result ≡ greatest_leaves_from (take (c.loop-so_far.so_far.dequeues + 1)
+    (lives_at (timeline_of c.args.matching.now) (places_in c.args.order.now)))
 left_so_far c i merged = left_more _ _ _ _ _ _ _ (turn c) (left_is c) i _ merged.held
 
 pub returns-then-stands_after-clause-up_to : goal.returns-then-stands_after-clause-up_to
@@ -39,7 +43,7 @@ returns-then-stands_after-clause-up_to c = λ i none before.
     let here = (goal.at.returns-then-stands_after-clause-up_to c).After-max-left in
     let stands = dequeue_stands _ _ _ _ _ c.dequeue-dequeue.result (turn here).gap_is
     (left_so_far here i (c.loop-so_far.invariant i none before)) c.max.ensures c.dequeue-dequeue.ensures.position in
-    below_limit (IsDequeueFrom (lives_at c.args.matching.now (places_in c.args.order.now)) c.loop-so_far.so_far.dequeues) c.args.before
+    below_limit (IsDequeueFrom (lives_at (timeline_of c.args.matching.now) (places_in c.args.order.now)) c.loop-so_far.so_far.dequeues) c.args.before
     (position_of c.dequeue-dequeue.result.position)
     (λ p is. subst (λ q. ¬ (StandsBefore p q)) (sym stands) (next_dequeue _ _ p (within here) is))
     (stands_after c.args.before c.dequeue-dequeue.result c.stands_after.result c.stands_after.ensures c.if-stands_after.true)
@@ -66,10 +70,11 @@ loop-so_far-preserved c = λ i none before.
     ]
 
 pub returns-clause-up_to : goal.returns-clause-up_to
-returns-clause-up_to c = λ i none before. no_dequeue (lives_at c.args.matching.now (places_in c.args.order.now)) c.loop-so_far.so_far.dequeues c.args.before
+returns-clause-up_to c = λ i none before. no_dequeue (lives_at (timeline_of c.args.matching.now) (places_in c.args.order.now))
+    c.loop-so_far.so_far.dequeues c.args.before
     (omega (
       arith,
       c.loop-so_far-test.false,
-      lives_long c.args.matching.now (places_in c.args.order.now) c.requires.order,
+      lives_long (timeline_of c.args.matching.now) (places_in c.args.order.now) c.requires.order,
       length-map c.args.order.now (λ timed. timed.place),
     ))

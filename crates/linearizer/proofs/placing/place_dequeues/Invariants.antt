@@ -1,13 +1,16 @@
 use Rattle.std.proofs.Common.{ℕ, ◌-◌, length}
 use Rattle.linearizer.specs.Inner.Merging.{IsEnqueueFrom, IsMergedUpTo, NoneBelow}
 use Rattle.linearizer.specs.Inner.Placement.{lives_at, places_in}
+use Rattle.value_match.specs.Timeline.{timeline_of}
 use Rattle.linearizer.proofs.placing.place_dequeues.Given as goal
 
 abbrev pub invariant-loop-so_far : goal.invariant-loop-so_far
-invariant-loop-so_far l = (i : ℕ) → NoneBelow (IsEnqueueFrom (lives_at l.matching (places_in l.order)) i) l.before
-    → IsMergedUpTo l.matching (lives_at l.matching (places_in l.order)) l.noops i l.initial.so_far.dequeues l.initial.so_far.left l.initial.so_far.noops
+invariant-loop-so_far l = (i : ℕ) → NoneBelow (IsEnqueueFrom (lives_at (timeline_of l.matching) (places_in l.order)) i) l.before
+    → IsMergedUpTo (timeline_of l.matching) (lives_at (timeline_of l.matching) (places_in l.order)) l.noops i l.initial.so_far.dequeues
+    l.initial.so_far.left l.initial.so_far.noops
     l.initial.places.items
-    → IsMergedUpTo l.matching (lives_at l.matching (places_in l.order)) l.noops i l.so_far.dequeues l.so_far.left l.so_far.noops l.places.items
+    → IsMergedUpTo (timeline_of l.matching) (lives_at (timeline_of l.matching) (places_in l.order)) l.noops i l.so_far.dequeues l.so_far.left
+    l.so_far.noops l.places.items
 
 abbrev pub decreases-loop-so_far : goal.decreases-loop-so_far
 decreases-loop-so_far l = length l.order - l.so_far.dequeues

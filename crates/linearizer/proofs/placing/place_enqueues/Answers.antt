@@ -5,22 +5,25 @@ use Rattle.linearizer.specs.Inner.Placement.{lives_at, places_in, position_of}
 use Rattle.linearizer.specs.Inner.Merging.{IsEnqueueFrom, IsMergedUpTo, IsValueFrom, NoneBelow}
 use Rattle.linearizer.proofs.Merging.{enqueue_added, next_enqueue, nothing_merged}
 use Rattle.linearizer.proofs.PlacedValues.{enqueue_more, turn_is, turn_within}
+use Rattle.value_match.specs.Timeline.{timeline_of}
 use Rattle.linearizer.proofs.placing.place_enqueues.Goals as goal
 
 pub get-requires : goal.get-requires
-get-requires c = turn_within c.args.matching.now c.values-values.result c.args.order.now _ _ c.values-values.ensures.values c.requires.order
+get-requires c = turn_within (timeline_of c.args.matching.now) c.values-values.result c.args.order.now _ _ c.values-values.ensures.values c.requires.order
     (slice_get_read _ _ _ _ refl c.loop-rank-test.true c.index-order-rank.is ∙ ap Some (sym c.unpack-entered.ensures))
 
 pub loop-rank-init : goal.loop-rank-init
-loop-rank-init c = rw c.requires.none (nothing_merged c.args.matching.now (lives_at c.args.matching.now (places_in c.args.order.now)) c.args.noops.now)
+loop-rank-init c = rw c.requires.none (nothing_merged (timeline_of c.args.matching.now)
+    (lives_at (timeline_of c.args.matching.now) (places_in c.args.order.now)) c.args.noops.now)
 
 pub loop-rank-preserved : goal.loop-rank-preserved
 loop-rank-preserved c =
-    let lives = lives_at c.args.matching.now (places_in c.args.order.now) in
+    let lives = lives_at (timeline_of c.args.matching.now) (places_in c.args.order.now) in
     let i = c.loop-rank.rank in
     let x = c.enqueue-enqueue.result in
     let names : x.operation ≡ c.get.result.enqueue = search rules in
-    let turn = turn_is c.args.matching.now c.values-values.result c.args.order.now i c.unpack-entered.result c.get.result c.values-values.ensures.values
+    let turn = turn_is (timeline_of c.args.matching.now) c.values-values.result c.args.order.now i c.unpack-entered.result c.get.result
+    c.values-values.ensures.values
     c.requires.order c.requires.gaps (slice_get_read _ _ _ _ refl c.loop-rank-test.true c.index-order-rank.is ∙ ap Some (sym c.unpack-entered.ensures)) c.get.ensures in
     let within = slice_get_within lives i c.get.result.life turn.at in
     let stands : position_of x.position ≡ enqueue_position lives i =
@@ -30,15 +33,17 @@ loop-rank-preserved c =
     let past = c.in_ok-place_dequeues.ensures.up_to i none c.loop-rank.invariant in
     let values : NoneBelow (IsValueFrom lives i c.place_dequeues.new.so_far.dequeues) (Some x.position) =
     (λ p is. elim is [ inl enqueue ↦ none p enqueue | inr dequeue ↦ past p dequeue ]) in
-    let merged = c.in_ok-place_noops.ensures.adds c.args.matching.now lives i _ _ values (c.in_ok-place_dequeues.ensures.adds i none c.loop-rank.invariant) in
+    let merged = c.in_ok-place_noops.ensures.adds (timeline_of c.args.matching.now) lives i _ _ values
+    (c.in_ok-place_dequeues.ensures.adds i none c.loop-rank.invariant) in
     rw c.in_ok-push.ensures.items
-    (enqueue_added c.args.matching.now lives c.args.noops.now i _ _ _ _ merged x
-    (enqueue_more c.args.matching.now lives i c.get.result c.unpack-entered.result.time turn _ _ merged.values x merged.held names
+    (enqueue_added (timeline_of c.args.matching.now) lives c.args.noops.now i _ _ _ _ merged x
+    (enqueue_more (timeline_of c.args.matching.now) lives i c.get.result c.unpack-entered.result.time turn _ _ merged.values x merged.held names
     c.enqueue-enqueue.ensures.position) within stands past
     c.in_ok-place_noops.ensures.up_to)
 
 pub returns : goal.returns
 returns c =
     let all : c.loop-rank.rank ≡ length c.args.order.now = omega (arith, c.loop-rank-test.false, c.loop-rank.auto.rank-end) in
-    subst (λ n. IsMergedUpTo c.args.matching.now (lives_at c.args.matching.now (places_in c.args.order.now)) c.args.noops.now n c.loop-rank.so_far.dequeues
+    subst (λ n. IsMergedUpTo (timeline_of c.args.matching.now) (lives_at (timeline_of c.args.matching.now) (places_in c.args.order.now))
+    c.args.noops.now n c.loop-rank.so_far.dequeues
     c.loop-rank.so_far.left c.loop-rank.so_far.noops c.loop-rank.places.items) all c.loop-rank.invariant

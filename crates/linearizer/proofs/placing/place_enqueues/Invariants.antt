@@ -1,6 +1,8 @@
 use Rattle.linearizer.specs.Inner.Merging.{IsMergedUpTo}
 use Rattle.linearizer.specs.Inner.Placement.{lives_at, places_in}
+use Rattle.value_match.specs.Timeline.{timeline_of}
 use Rattle.linearizer.proofs.placing.place_enqueues.Given as goal
 
 abbrev pub invariant-loop-rank : goal.invariant-loop-rank
-invariant-loop-rank l = IsMergedUpTo l.matching (lives_at l.matching (places_in l.order)) l.noops l.rank l.so_far.dequeues l.so_far.left l.so_far.noops l.places.items
+invariant-loop-rank l = IsMergedUpTo (timeline_of l.matching) (lives_at (timeline_of l.matching) (places_in l.order)) l.noops l.rank
+    l.so_far.dequeues l.so_far.left l.so_far.noops l.places.items

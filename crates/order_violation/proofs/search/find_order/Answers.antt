@@ -3,5 +3,4 @@ use Rattle.order_violation.proofs.search.find_order.Goals as goal
 
 pub chosen_pair-requires-clause-lives : goal.chosen_pair-requires-clause-lives
 chosen_pair-requires-clause-lives c =
-    let lives = subst (λ all. HoldsLives all c.values.result) c.filled.ensures c.values.ensures.values in
-    subst (HoldsLives _) (sym c.in_ok-table.ensures) lives
+    subst (HoldsLives _) (sym c.in_ok-table.ensures) c.values.ensures.values

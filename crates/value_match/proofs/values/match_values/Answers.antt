@@ -1,30 +1,21 @@
-use Rattle.std.proofs.Common.{◌∙◌, ap, arith, length, sym}
-use Rattle.history_merge.proofs.Filled.{filled_are_complete}
-use Rattle.value_match.proofs.FilledOperations.{length_filled, no_elements, none_filled}
+use Rattle.std.proofs.Common.{subst}
+use Rattle.history_merge.specs.Operations.{operations_of}
+use Rattle.value_match.specs.Inner.MatchOutcome.{AreChosenFresh, AreChosenRepeat, IsMatchOutcomeOf}
+use Rattle.value_match.proofs.ToldPlaces.{fresh_told, repeat_told}
 use Rattle.value_match.proofs.values.match_values.Goals as goal
 
-pub matched-requires-clause-all : goal.matched-requires-clause-all
-matched-requires-clause-all c =
-    sym (none_filled c.initial-initial.result.now c.operations-operations.result.now (no_elements c.initial-initial.result.now c.if-is_empty.ensures))
+pub returns-in-Fresh-clause-matched : goal.returns-in-Fresh-clause-matched
+returns-in-Fresh-clause-matched c =
+    let history = c.args.history.now in
+    let found = subst (IsMatchOutcomeOf _) c.in-Fresh.is c.in_ok-sorted.ensures in
+    let chosen = subst (λ all. AreChosenFresh all c.in-Fresh.places) c.timeline.ensures.timeline found in
+    rw (c.told_fresh.ensures, c.initial-initial_count.ensures.initial)
+    (fresh_told history.initial (operations_of history.events) c.in-Fresh.places chosen)
 
-pub find-requires-2-clause-few : goal.find-requires-2-clause-few
-find-requires-2-clause-few c =
-    let all = ap length (c.as_slice.ensures.value ∙ c.in_ok-filled.ensures.filled) in
-    let long = length_filled c.initial-initial.result.now c.operations-operations.result.now in
-    omega (arith, all, long, ap length c.initial-initial.ensures.initial, c.initial-initial.ensures.few, c.operations-operations.ensures.few)
-
-pub returns-clause-complete : goal.returns-clause-complete
-returns-clause-complete c =
-    filled_are_complete c.args.history.now.initial c.args.history.now.events c.initial-initial.ensures.complete c.initial-initial.ensures.few
-
-pub returns-then-is_empty-clause-complete : goal.returns-then-is_empty-clause-complete
-returns-then-is_empty-clause-complete c =
-    filled_are_complete c.args.history.now.initial c.args.history.now.events c.initial-initial.ensures.complete c.initial-initial.ensures.few
-
-pub returns-in_err-found-clause-complete : goal.returns-in_err-found-clause-complete
-returns-in_err-found-clause-complete c =
-    filled_are_complete c.args.history.now.initial c.args.history.now.events c.initial-initial.ensures.complete c.initial-initial.ensures.few
-
-pub returns-in_err-filled-clause-complete : goal.returns-in_err-filled-clause-complete
-returns-in_err-filled-clause-complete c =
-    filled_are_complete c.args.history.now.initial c.args.history.now.events c.initial-initial.ensures.complete c.initial-initial.ensures.few
+pub returns-in-Repeat-clause-matched : goal.returns-in-Repeat-clause-matched
+returns-in-Repeat-clause-matched c =
+    let history = c.args.history.now in
+    let found = subst (IsMatchOutcomeOf _) c.in-Repeat.is c.in_ok-sorted.ensures in
+    let chosen = subst (λ all. AreChosenRepeat all c.in-Repeat.places) c.timeline.ensures.timeline found in
+    rw (c.told_repeat.ensures, c.initial-initial_count.ensures.initial)
+    (repeat_told history.initial (operations_of history.events) c.in-Repeat.places chosen)

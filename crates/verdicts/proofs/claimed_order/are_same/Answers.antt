@@ -1,32 +1,31 @@
-use Rattle.verdicts.proofs.Common.{[], ◌++◌, ◌∙◌, ◌∷◌, ap, arith, false≢true, get_or, refl, sym, take, take_all}
-use Rattle.verdicts.proofs.Common.{take_more, Enq, Operation}
+use Rattle.verdicts.proofs.Common.{◌∙◌, false≢true, refl, sym}
+use Rattle.verdicts.proofs.SameLists.{never_short, same_all, same_here, same_more}
 use Rattle.verdicts.proofs.claimed_order.are_same.Goals as goal
 
--- where there is no operation
-abbrev nowhere : Operation
-nowhere = record { call = 0; ret = 0; thread = 0; kind = Enq 0 }
+pub loop-line-init : goal.loop-line-init
+loop-line-init c = c.iter-others.ensures
 
-pub loop-place-preserved : goal.loop-place-preserved
-loop-place-preserved c =
-    let lines = c.args.lines.now in
-    let operations = c.args.operations.now in
-    let i = c.loop-place.place in
-    let same = (c.is_at.ensures nowhere).0 c.if-not-is_at.false in
-    take_more lines i nowhere c.loop-place-test.true
-    ∙ ap (λ xs. xs ++ get_or lines i nowhere ∷ []) c.loop-place.invariant
-    ∙ ap (λ o. take i operations ++ o ∷ []) (sym same)
-    ∙ sym (take_more operations i nowhere (omega (arith, c.requires, c.loop-place-test.true)))
+pub loop-line-preserved : goal.loop-line-preserved
+loop-line-preserved c =
+    same_more c.args.lines.now c.args.operations.now c.loop-line.others c.next.new.self c.loop-line.line-index c.in-Some.operation _ c.loop-line-test.true
+    (c.is_same.ensures.0 c.if-not-is_same.false) c.in-Some.ensures.steps c.loop-line.invariant
 
-pub returns-then-not-is_at : goal.returns-then-not-is_at
-returns-then-not-is_at c = (
+pub returns-in_default : goal.returns-in_default
+returns-in_default c =
+    absurd (never_short c.args.lines.now c.args.operations.now c.loop-line.others c.loop-line.line-index c.loop-line-test.true c.requires
+    c.in_default.ensures.steps.0 c.loop-line.invariant)
+
+pub returns-then-not-is_same : goal.returns-then-not-is_same
+returns-then-not-is_same c = (
   λ f. absurd (false≢true f),
   λ same.
-      let here = (c.is_at.ensures nowhere).1 (ap (λ xs. get_or xs c.loop-place.place nowhere) (sym same)) in
-      absurd (false≢true (sym c.if-not-is_at.true ∙ here)),
+      let here = same_here c.args.lines.now c.args.operations.now c.loop-line.others c.next.new.self c.loop-line.line-index c.in-Some.operation _
+      c.loop-line-test.true c.in-Some.ensures.steps c.loop-line.invariant same in
+      absurd (false≢true (sym c.if-not-is_same.true ∙ c.is_same.ensures.1 here)),
 )
 
 pub returns : goal.returns
-returns c =
-    let whole = take_all c.loop-place.place c.args.lines.now c.loop-place-test.false in
-    let whole' = take_all c.loop-place.place c.args.operations.now (omega (arith, c.requires, c.loop-place-test.false)) in
-    (λ t. sym whole ∙ c.loop-place.invariant ∙ whole', λ same. refl)
+returns c = (
+  λ t. same_all c.args.lines.now c.args.operations.now c.loop-line.others c.loop-line.line-index c.loop-line-test.false c.requires c.loop-line.invariant,
+  λ same. refl,
+)

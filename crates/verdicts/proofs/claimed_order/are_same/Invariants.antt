@@ -1,5 +1,5 @@
-use Rattle.verdicts.proofs.Common.{◌≡◌, take}
+use Rattle.verdicts.proofs.Common.{◌≡◌, ◌++◌, take}
 use Rattle.verdicts.proofs.claimed_order.are_same.Given as goal
 
-abbrev pub invariant-loop-place : goal.invariant-loop-place
-invariant-loop-place l = take l.place l.lines ≡ take l.place l.operations
+abbrev pub invariant-loop-line : goal.invariant-loop-line
+invariant-loop-line l = take l.line-index l.lines ++ l.others ≡ l.operations

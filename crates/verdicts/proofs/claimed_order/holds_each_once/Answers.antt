@@ -1,10 +1,13 @@
-use Rattle.verdicts.proofs.Common.{◌↔◌, ◌≡◌, IsNonDecreasingBy-from_sort_by_key, IsTrue, length_permutation, rules}
+use Rattle.verdicts.proofs.Common.{◌↔◌, ◌∙◌, ◌≡◌, IsNonDecreasingBy-from_sort_by_key, IsTrue, length_permutation, rules, sym}
 use Rattle.verdicts.proofs.ClaimedViolations.{through}
 use Rattle.verdicts.proofs.SameLists.{sorted_tells}
 use Rattle.verdicts.proofs.claimed_order.holds_each_once.Goals as goal
 
-pub returns-then-lines-operations : goal.returns-then-lines-operations
-returns-then-lines-operations c = (λ f. cc, λ whole. absurd (c.if-lines-operations.true (length_permutation c.args.operations.now c.args.lines.now whole)))
+pub returns-then-lines-len : goal.returns-then-lines-len
+returns-then-lines-len c = (
+  λ f. cc,
+  λ whole. absurd (c.if-lines-len.true (length_permutation c.args.operations.now c.args.lines.now whole ∙ sym c.len.ensures.exact)),
+)
 
 pub returns : goal.returns
 returns c =

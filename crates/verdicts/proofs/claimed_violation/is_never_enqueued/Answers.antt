@@ -1,11 +1,11 @@
-use Rattle.verdicts.proofs.Common.{◌∙◌, sym, all_of}
+use Rattle.verdicts.proofs.Common.{◌∙◌, sym}
 use Rattle.verdicts.proofs.ClaimedViolations.{is_never_enqueued}
 use Rattle.verdicts.proofs.claimed_violation.is_never_enqueued.Goals as goal
 use Rattle.verdicts.proofs.claimed_violation.is_never_enqueued.Goals.{then-did, else-did}
 
 pub returns-then-none_did : goal.returns-then-none_did
 returns-then-none_did c =
-    let is = is_never_enqueued (all_of c.args.operations.now) c.args.deq c.in-Deq.value c.in-Deq.is in
+    let is = is_never_enqueued c.args.operations.now.timeline.now c.args.deq c.in-Deq.value c.in-Deq.is in
     let none = c.none_did-then-none_did.ensures in
     elim c.if-did.branch [
       | then-did w ↦
@@ -16,7 +16,7 @@ returns-then-none_did c =
 
 pub returns-else-none_did : goal.returns-else-none_did
 returns-else-none_did c =
-    let is = is_never_enqueued (all_of c.args.operations.now) c.args.deq c.in-Deq.value c.in-Deq.is in (
+    let is = is_never_enqueued c.args.operations.now.timeline.now c.args.deq c.in-Deq.value c.in-Deq.is in (
       λ t. cc,
       λ never.
           elim c.if-did.branch [

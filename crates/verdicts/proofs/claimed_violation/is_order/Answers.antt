@@ -1,11 +1,11 @@
-use Rattle.verdicts.proofs.Common.{◌∙◌, sym, all_of}
+use Rattle.verdicts.proofs.Common.{◌∙◌, sym}
 use Rattle.verdicts.proofs.ClaimedViolations.{is_order}
 use Rattle.verdicts.proofs.claimed_violation.is_order.Goals as goal
 use Rattle.verdicts.proofs.claimed_violation.is_order.Goals.{then-are_enqueued_in_turn, else-are_enqueued_in_turn}
 
 pub returns-then-did : goal.returns-then-did
 returns-then-did c =
-    let is = is_order (all_of c.args.operations.now) c.args.enq_a c.args.enq_b c.args.deq_b c.args.deq_a c.in-Enq-Enq.a c.in-Enq-Enq.b
+    let is = is_order c.args.operations.now.timeline.now c.args.enq_a c.args.enq_b c.args.deq_b c.args.deq_a c.in-Enq-Enq.a c.in-Enq-Enq.b
     c.in-Enq-Enq.is-0 c.in-Enq-Enq.is-1 in
     elim c.if-are_enqueued_in_turn.branch [
       | then-are_enqueued_in_turn w ↦
@@ -19,7 +19,7 @@ returns-then-did c =
 
 pub returns-else-did : goal.returns-else-did
 returns-else-did c =
-    let is = is_order (all_of c.args.operations.now) c.args.enq_a c.args.enq_b c.args.deq_b c.args.deq_a c.in-Enq-Enq.a c.in-Enq-Enq.b
+    let is = is_order c.args.operations.now.timeline.now c.args.enq_a c.args.enq_b c.args.deq_b c.args.deq_a c.in-Enq-Enq.a c.in-Enq-Enq.b
     c.in-Enq-Enq.is-0 c.in-Enq-Enq.is-1 in (
       λ t. cc,
       λ violation.

@@ -6,8 +6,8 @@ use Rattle.verdicts.proofs.claiming.operations_at.Goals.{in-Some+in_ok-push, in_
 pub loop-place-preserved : goal.loop-place-preserved
 loop-place-preserved c =
     let find = slice_get c.args.operations.now in
-    let at = ap find (sym c.place-item.is) ∙ sym c.operation_at.ensures in
-    elim c.match-operation_at.branch [
+    let at = ap find (sym c.place-item.is) ∙ sym c.get.ensures in
+    elim c.match-get.branch [
       | in-Some+in_ok-push w ↦
           ap (λ v. v.items) w.listed-is
           ∙ found_one find c.args.places.now c.loop-place.place-index c.place-item.result c.loop-place.listed.items c.loop-place-test.true

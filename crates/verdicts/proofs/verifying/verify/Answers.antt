@@ -1,5 +1,4 @@
 use Rattle.verdicts.proofs.verifying.verify.Goals as goal
 
 pub returns-in-Yes-clause-exact : goal.returns-in-Yes-clause-exact
-returns-in-Yes-clause-exact c =
-    rw c.in-Yes.is (rw (c.of-filled.ensures.initial, c.of-filled.ensures.operations, c.as_slice.ensures) at c.is_legal_order.ensures)
+returns-in-Yes-clause-exact c = rw c.in-Yes.is (rw c.as_slice.ensures at c.is_legal_order.ensures)

@@ -1,13 +1,20 @@
-use Rattle.std.proofs.Common.{◌∙◌, sym, subst}
+use Rattle.std.proofs.Common.{◌∙◌, ap, subst, sym}
 use Rattle.history_merge.specs.Events.{events_of}
+use Rattle.history_merge.specs.Forming.{operations_so_far}
 use Rattle.history_merge.specs.Inner.History.{IsRunOf}
 use Rattle.history_merge.proofs.Formed.{all_formed, run_of_complete}
+use Rattle.history_merge.proofs.TheirEvents.{told_of_run}
 use Rattle.history_merge.proofs.complete.History.events.Goals as goal
 
 pub new-requires : goal.new-requires
 new-requires c =
-    let kept = c.self.invariant in
-    let events = events_of c.self.inside.operations.items in (
-      events,
-      subst (IsRunOf events) (all_formed events kept.complete.complete ∙ sym (c.as_slice.ensures.value ∙ kept.formed)) (run_of_complete events kept.complete.complete),
-    )
+    let events = c.args.self.now.events in
+    let complete = c.operations.ensures.complete in
+    (events, subst (IsRunOf events) (all_formed events complete ∙ sym c.operations.ensures.operations) (run_of_complete events complete))
+
+pub returns-clause-events : goal.returns-clause-events
+returns-clause-events c =
+    let events = c.args.self.now.events in
+    let complete = c.operations.ensures.complete in
+    c.new.ensures ∙ ap events_of (c.operations.ensures.operations ∙ sym (all_formed events complete))
+    ∙ told_of_run events (operations_so_far events) (run_of_complete events complete)

@@ -11,19 +11,19 @@ use Rattle.history_merge.proofs.events.EventsIterator.next.Goals.{After-maybe_re
 -- ---- a call comes first
 
 call : (c : After-maybe_return)
-    → GivesCall (put_each c.self.inside.due (events_of c.self.inside.by_call.now)) c.in-Some.operation c.in-Some.by_call.now c.self.inside.due
+    → GivesCall (put_each c.self.inside.due (events_of c.self.inside.by_call)) c.in-Some.operation c.in-Some.by_call c.self.inside.due
 call c =
-    gives_call _ c.in-Some.operation c.in-Some.by_call.now c.self.inside.due c.first_due-due.result
-    (subst (λ os. AreLeft (put_each c.self.inside.due (events_of c.self.inside.by_call.now)) os c.self.inside.due) c.in-Some.ensures.0 c.self.invariant.0)
+    gives_call _ c.in-Some.operation c.in-Some.by_call c.self.inside.due c.first_due-due.result
+    (subst (λ os. AreLeft (put_each c.self.inside.due (events_of c.self.inside.by_call)) os c.self.inside.due) c.in-Some.ensures.0 c.self.invariant.0)
     (first_of_all c.self.inside.due c.self.inside.threads c.first_due-due.result
     (omega (arith, c.self.invariant.1, c.self.invariant.0.one_per_thread)) c.first_due-due.ensures c.self.invariant.2) c.in-Some.ensures.1
 
 after_call : (c : After-maybe_return)
-    → AreLeft (call c).later c.in-Some.by_call.now (set c.self.inside.due c.from-thread.result c.maybe_return.result)
+    → AreLeft (call c).later c.in-Some.by_call (set c.self.inside.due c.from-thread.result c.maybe_return.result)
 after_call c = left_after_call _ _ _ _ (call c) c.from-thread.result c.maybe_return.result c.from-thread.ensures c.maybe_return.ensures
 
 later_is : (c : After-maybe_return)
-    → put_each (set c.self.inside.due c.from-thread.result c.maybe_return.result) (events_of c.in-Some.by_call.now) ≡ (call c).later
+    → put_each (set c.self.inside.due c.from-thread.result c.maybe_return.result) (events_of c.in-Some.by_call) ≡ (call c).later
 later_is c = told _ _ _ (after_call c)
 
 pub bounds-self-inside-thread : goal.bounds-self-inside-thread
@@ -62,12 +62,12 @@ returns-in-Some-clause-goes c = goes _ _ _ (returns-in-Some-clause-steps c)
 -- ---- a return comes first
 
 given : (c : After-branch-event) (e : Event) → c.first_due-due.result ≡ Some e
-    → GivesReturn (put_each c.self.inside.due (events_of c.self.inside.by_call.now)) e c.self.inside.by_call.now c.self.inside.due
+    → GivesReturn (put_each c.self.inside.due (events_of c.self.inside.by_call)) e c.self.inside.by_call c.self.inside.due
 given c e is =
     let due : IsFirstOfAll c.self.inside.due c.first_due-due.result =
     first_of_all c.self.inside.due c.self.inside.threads c.first_due-due.result
     (omega (arith, c.self.invariant.1, c.self.invariant.0.one_per_thread)) c.first_due-due.ensures c.self.invariant.2 in
-    gives_return _ c.self.inside.by_call.now c.self.inside.due e c.self.invariant.0 (subst (IsFirstOfAll c.self.inside.due) is due)
+    gives_return _ c.self.inside.by_call c.self.inside.due e c.self.invariant.0 (subst (IsFirstOfAll c.self.inside.due) is due)
     (λ o rest ops. subst (λ d. comes_by_ticket d o.call ≡ true) is (c.in_default.ensures o rest ops))
 
 -- nothing is left
@@ -77,7 +77,7 @@ returns-in_err-event-clause-steps c =
     first_of_all c.self.inside.due c.self.inside.threads c.first_due-due.result
     (omega (arith, c.self.invariant.1, c.self.invariant.0.one_per_thread)) c.first_due-due.ensures c.self.invariant.2 in
     let none = subst (IsFirstOfAll c.self.inside.due) c.in_err-event.was due in
-    let empty = gives_nothing _ c.self.inside.by_call.now c.self.inside.due c.self.invariant.0 none
+    let empty = gives_nothing _ c.self.inside.by_call c.self.inside.due c.self.invariant.0 none
     (λ o rest ops. subst (λ d. comes_by_ticket d o.call ≡ true) c.in_err-event.was (c.in_default.ensures o rest ops)) in
     let nothing = sym c.self.view_is ∙ empty in rw c.from_residual.ensures (nothing, nothing)
 

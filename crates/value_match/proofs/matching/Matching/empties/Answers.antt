@@ -1,9 +1,13 @@
-use Rattle.std.proofs.Common.{subst}
+use Rattle.std.proofs.Common.{subst, sym}
+use Rattle.history_merge.specs.Operations.{operations_of}
 use Rattle.value_match.specs.Lives.{HoldsPlaces, is_empty_answer}
+use Rattle.value_match.specs.Timeline.{timeline_of}
 use Rattle.value_match.proofs.ToldPlaces.{empties_told}
 use Rattle.value_match.proofs.matching.Matching.empties.Goals as goal
 
 pub returns : goal.returns
 returns c =
-    let holds = subst (λ all. HoldsPlaces all is_empty_answer c.empties.result.now) c.self.invariant.0 c.empties.ensures in
-    rw (← c.self.view_is, c.new.ensures) (empties_told c.self.inside.initial.now c.self.inside.operations.now c.empties.result.now holds)
+    let history = c.self.inside.history.now in
+    let places = c.timeline_empties.result.now in
+    let holds = subst (λ matching. HoldsPlaces (timeline_of matching) is_empty_answer places) (sym c.self.view_is) c.timeline_empties.ensures in
+    rw (← c.self.view_is, c.new.ensures, c.initial.ensures.initial) (empties_told history.initial (operations_of history.events) places holds)

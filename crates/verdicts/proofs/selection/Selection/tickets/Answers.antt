@@ -1,21 +1,45 @@
-use Rattle.verdicts.proofs.Common.{◌∙◌, ap, contains, nat_cmp, sym, selects}
+use Rattle.verdicts.proofs.Common.{[], ◌++◌, ◌∙◌, ◌∷◌, ◌≡◌, ap, append_assoc, append-nil, contains, filter, List, nat_cmp, rules, sym, holds_ticket}
+use Rattle.verdicts.proofs.Common.{Operation, selects}
 use Rattle.verdicts.proofs.HeldTickets.{held_more, held_same}
 use Rattle.verdicts.proofs.selection.Selection.tickets.Goals as goal
-use Rattle.verdicts.proofs.selection.Selection.tickets.Goals.{then-selects+in_ok-insert+in_ok-insert-2, else-selects}
+
+pub loop-operation-init : goal.loop-operation-init
+loop-operation-init c = (
+  [],
+  record { all = c.into_iter-operation-iterator.ensures.into_iter_gives ∙ c.iter-operation-items.ensures; held = λ t. search rules },
+)
+
+-- what was seen, and one more
+gone_over : (seen left rest all : List Operation) (o : Operation) → left ≡ o ∷ rest → seen ++ left ≡ all → (seen ++ o ∷ []) ++ rest ≡ all
+gone_over seen left rest all o first is = append_assoc seen (o ∷ []) rest ∙ ap (λ os. seen ++ os) (sym first) ∙ is
 
 pub loop-operation-preserved : goal.loop-operation-preserved
 loop-operation-preserved c =
-    let operations = c.args.operations.now in
-    let test = selects (contains nat_cmp c.args.self.now.values) (contains nat_cmp c.args.self.now.calls) in
-    let i = c.loop-operation.operation-index in
-    let read = c.unpack-operation.ensures.operation ∙ c.operation-item.is in
-    λ t.
-    elim c.if-selects.branch [
-      | then-selects+in_ok-insert+in_ok-insert-2 w ↦
-          ap (λ s. contains nat_cmp s t) w.tickets-is
-          ∙ held_more test operations i _ t _ _ _ c.loop-operation-test.true (ap test (sym read) ∙ sym c.selects.ensures ∙ w.if-selects.true)
-          (c.loop-operation.invariant t) (rw read at (w.in_ok-insert.ensures.updates.0 t)) (rw read at (w.in_ok-insert-2.ensures.updates.0 t))
-      | else-selects w ↦
-          ap (λ s. contains nat_cmp s t) w.tickets-is
-          ∙ held_same test operations i _ t _ c.loop-operation-test.true (ap test (sym read) ∙ sym c.selects.ensures ∙ w.if-selects.false) (c.loop-operation.invariant t)
-    ]
+    let old = c.loop-operation.invariant in
+    let o = c.in-Some.operation in (
+      old.0 ++ o ∷ [],
+      record {
+        all = gone_over old.0 _ c.next.new.self _ o c.in-Some.ensures.steps old.1.all;
+        held = λ t. held_same (selects (contains nat_cmp c.args.self.now.values) (contains nat_cmp c.args.self.now.calls)) old.0 o t _
+            (sym c.selects.ensures ∙ c.if-selects.false) (old.1.held t);
+      },
+    )
+
+pub loop-operation-preserved-in_ok-insert-2 : goal.loop-operation-preserved-in_ok-insert-2
+loop-operation-preserved-in_ok-insert-2 c =
+    let old = c.loop-operation.invariant in
+    let o = c.in-Some.operation in (
+      old.0 ++ o ∷ [],
+      record {
+        all = gone_over old.0 _ c.next.new.self _ o c.in-Some.ensures.steps old.1.all;
+        held = λ t. held_more (selects (contains nat_cmp c.args.self.now.values) (contains nat_cmp c.args.self.now.calls)) old.0 o t _ _ _
+            (sym c.selects.ensures ∙ c.if-selects.true) (old.1.held t) (c.in_ok-insert.ensures.updates.0 t) (c.in_ok-insert-2.ensures.updates.0 t);
+      },
+    )
+
+pub returns : goal.returns
+returns c = λ t.
+    let old = c.loop-operation.invariant in
+    let all = sym (append-nil old.0) ∙ ap (λ os. old.0 ++ os) (sym c.in-None.ensures.steps.0) ∙ old.1.all in
+    old.1.held t
+    ∙ ap (λ os. holds_ticket (filter (selects (contains nat_cmp c.args.self.now.values) (contains nat_cmp c.args.self.now.calls)) os) t) all

@@ -1,0 +1,11 @@
+-- The operations of a timeline, by their tickets again.
+use Rattle.std.specs.Prelude.{ℕ, ◌*◌, ◌-◌, List, drop, map}
+use Rattle.history_merge.specs.declared.operation.Operation.{Operation}
+
+-- the operation, this much earlier
+abbrev pub earlier_by : ℕ → Operation → Operation
+earlier_by n o = record { call = o.call - n; ret = o.ret - n; thread = o.thread; kind = o.kind }
+
+-- the operations behind this many enqueues of initial values, by their tickets
+abbrev pub operations_on : ℕ → List Operation → List Operation
+operations_on initial_count timeline = map (earlier_by (2 * initial_count)) (drop initial_count timeline)

@@ -1,0 +1,189 @@
+-- The operations of the timeline: the enqueues of the initial values, and the operations, later.
+use Rattle.std.proofs.Common.{Bool, true, false, ◌≡◌, ℕ, zero, suc, ◌+◌, ◌*◌, ◌<◌}
+use Rattle.std.proofs.Common.{◌≤◌, ◌↔◌, List, [], ◌∷◌, ◌++◌, length, map}
+use Rattle.std.proofs.Common.{Option, Some, None, refl, sym, ◌∙◌, ap, subst, arith, inl, inr, ◌-◌, nat_lt, cond}
+use Rattle.std.specs.Prelude.{Contains, ◌⊎◌, slice_get, option_map, filter_map}
+use Rattle.std.specs.List.{cons_option}
+use Rattle.std.proofs.lemmas.Option.{slice_get_within, slice_get-map}
+use Rattle.std.proofs.lemmas.List.Elements.{Contains-append_right, Contains-append_cases}
+use Rattle.history_merge.specs.declared.operation.Operation.{Operation}
+use Rattle.history_merge.specs.declared.operation.OpKind.TheVariants.{Enq}
+use Rattle.history_merge.specs.Initial.{timeline, enqueues_from, later_by}
+use Rattle.history_merge.proofs.Distinct.{contains_at, place_of}
+use Rattle.history_merge.proofs.TimelineOperations.{length_enqueues}
+use Rattle.value_match.proofs.Lists.{mapped_from, mapped_to}
+use Rattle.value_match.specs.Timeline.{initial_enqueue}
+use Rattle.std.proofs.lemmas.Bool.{cases_lt, lt-ltb, ltb-true}
+
+-- the enqueue of the initial value at this place, where the first clock is another
+abbrev enqueues_from_at : ℕ → ℕ → ℕ → Operation
+enqueues_from_at n j v = record { call = n + 2 * j; ret = n + 2 * j + 1; thread = 0; kind = Enq v }
+
+-- operations with the same parts are one
+pub same_operation : (a b : Operation) → a.call ≡ b.call → a.ret ≡ b.ret → a.thread ≡ b.thread → a.kind ≡ b.kind → a ≡ b
+same_operation a b call ret thread kind = λ i. record { call = call i; ret = ret i; thread = thread i; kind = kind i }
+
+-- what stands at a place of the enqueues
+at_enqueues_from : (n : ℕ) (initial : List ℕ) (j : ℕ) → slice_get (enqueues_from n initial) j ≡ option_map (enqueues_from_at n j) (slice_get initial j)
+at_enqueues_from n [] j = cc
+at_enqueues_from n (v ∷ rest) zero = ap (λ o. Some o) (same_operation _ _ (omega arith) (omega arith) refl refl)
+at_enqueues_from n (v ∷ rest) (suc j) =
+    at_enqueues_from (n + 2) rest j
+    ∙ ap (λ (f : ℕ → Operation). option_map f (slice_get rest j)) (later_place n j)
+  where
+    later_place : (n j : ℕ) → enqueues_from_at (n + 2) j ≡ enqueues_from_at n (suc j)
+    later_place n j = λ i v. same_operation (enqueues_from_at (n + 2) j v) (enqueues_from_at n (suc j) v) (omega arith) (omega arith) refl refl i
+
+-- the j-th operation of the enqueues enqueues the j-th initial value
+pub at_enqueue : (initial : List ℕ) (j : ℕ) → slice_get (enqueues_from 0 initial) j ≡ option_map (initial_enqueue j) (slice_get initial j)
+at_enqueue initial j = at_enqueues_from 0 initial j ∙ ap (λ (f : ℕ → Operation). option_map f (slice_get initial j)) first_clock
+  where
+    first_clock : enqueues_from_at 0 j ≡ initial_enqueue j
+    first_clock = λ i v. same_operation (enqueues_from_at 0 j v) (initial_enqueue j v) (omega arith) (omega arith) refl refl i
+
+-- the place and the value of one of the enqueues
+pub enqueue_place : (initial : List ℕ) (o : Operation) → Contains (enqueues_from 0 initial) o
+    → (j : ℕ) × (v : ℕ) × (slice_get initial j ≡ Some v) × (initial_enqueue j v ≡ o)
+enqueue_place initial o among =
+    let at = place_of (enqueues_from 0 initial) o among in
+    found at.0 (slice_get initial at.0) refl (sym (at_enqueue initial at.0) ∙ at.1)
+  where
+    found : (j : ℕ) (w : Option ℕ) → slice_get initial j ≡ w → option_map (initial_enqueue j) (slice_get initial j) ≡ Some o
+        → (j : ℕ) × (v : ℕ) × (slice_get initial j ≡ Some v) × (initial_enqueue j v ≡ o)
+    found j None is same = let clash : None ≡ Some o = sym (ap (option_map (initial_enqueue j)) is) ∙ same in cc
+    found j (Some v) is same = let one : Some (initial_enqueue j v) ≡ Some o = sym (ap (option_map (initial_enqueue j)) is) ∙ same in (j, v, is, cc)
+
+-- and each such enqueue stands there
+pub enqueue_stands : (initial : List ℕ) (j v : ℕ) → slice_get initial j ≡ Some v → Contains (enqueues_from 0 initial) (initial_enqueue j v)
+enqueue_stands initial j v at =
+    contains_at (enqueues_from 0 initial) j (initial_enqueue j v) (at_enqueue initial j ∙ ap (option_map (initial_enqueue j)) at)
+
+-- operations that are one when later are one
+pub one_later : (n : ℕ) (x y : Operation) → later_by n x ≡ later_by n y → x ≡ y
+one_later n x y same =
+    let calls : x.call + n ≡ y.call + n = ap (λ (o : Operation). o.call) same in
+    let returns : x.ret + n ≡ y.ret + n = ap (λ (o : Operation). o.ret) same in
+    same_operation x y (omega arith) (omega arith) (ap (λ (o : Operation). o.thread) same) (ap (λ (o : Operation). o.kind) same)
+
+-- an operation called later is one of the operations
+pub called_late : (initial : List ℕ) (operations : List Operation) (o x : Operation) → 2 * length initial ≤ o.call → later_by (2 * length initial) x ≡ o
+    → Contains operations x ↔ Contains (timeline initial operations) o
+called_late initial operations o x late is = (
+  λ among. subst (Contains (timeline initial operations)) is
+      (Contains-append_right (enqueues_from 0 initial) (map (later_by (2 * length initial)) operations) (later_by (2 * length initial) x)
+      (mapped_to (later_by (2 * length initial)) operations x among)),
+  λ among. back (Contains-append_cases (enqueues_from 0 initial) (map (later_by (2 * length initial)) operations) o among),
+)
+  where
+    in_range : (j v : ℕ) → slice_get initial j ≡ Some v → j < length initial
+    in_range j v at = slice_get_within initial j v at
+
+    back : Contains (enqueues_from 0 initial) o ⊎ Contains (map (later_by (2 * length initial)) operations) o → Contains operations x
+    back (inl here) =
+        let found = enqueue_place initial o here in
+        let calls : 2 * found.0 ≡ o.call = ap (λ (y : Operation). y.call) found.3 in
+        let within = in_range found.0 found.1 found.2 in
+        absurd (omega arith)
+    back (inr there) =
+        let found = mapped_from (later_by (2 * length initial)) operations o there in
+        subst (Contains operations) (one_later (2 * length initial) found.0 x (found.2 ∙ sym is)) found.1
+
+-- ---- what stands at a place of the timeline
+
+-- a place within the first list is one of the first list
+pub get_before : {X : Type 0} (xs ys : List X) (p : ℕ) → p < length xs → slice_get (xs ++ ys) p ≡ slice_get xs p
+get_before [] ys p within = absurd (omega arith)
+get_before (x ∷ xs) ys zero within = refl
+get_before (x ∷ xs) ys (suc p) within = get_before xs ys p (omega arith)
+
+-- a place behind the first list is one of the second
+pub get_behind : {X : Type 0} (xs ys : List X) (n p : ℕ) → n ≡ length xs → n ≤ p → slice_get (xs ++ ys) p ≡ slice_get ys (p - n)
+get_behind [] ys n p is within = ap (slice_get ys) (omega arith)
+get_behind (x ∷ xs) ys n zero is within = absurd (omega arith)
+get_behind (x ∷ xs) ys n (suc p) is within = get_behind xs ys (n - 1) p (omega arith) (omega arith) ∙ ap (slice_get ys) (omega arith)
+
+-- the place of an initial value, or of an operation after these
+pub at_timeline : (initial : List ℕ) (operations : List Operation) (p : ℕ)
+    → ((p < length initial) × (slice_get (timeline initial operations) p ≡ option_map (initial_enqueue p) (slice_get initial p)))
+    ⊎ ((length initial ≤ p) × (slice_get (timeline initial operations) p
+    ≡ option_map (later_by (2 * length initial)) (slice_get operations (p - length initial))))
+at_timeline initial operations p = elim (cases_lt p (length initial)) [
+  | inl early ↦
+      let many = length_enqueues 0 initial in
+      inl (early, get_before (enqueues_from 0 initial) (map (later_by (2 * length initial)) operations) p (omega arith) ∙ at_enqueue initial p)
+  | inr late ↦
+      let many = length_enqueues 0 initial in
+      inr (
+        late,
+        get_behind (enqueues_from 0 initial) (map (later_by (2 * length initial)) operations) (length initial) p (omega arith) late
+            ∙ slice_get-map (later_by (2 * length initial)) operations (p - length initial),
+      )
+]
+
+-- what a mapped option holds comes from what is mapped
+pub mapped_option : {A B : Type 0} (f : A → B) (o : Option A) (y : B) → option_map f o ≡ Some y → (x : A) × (o ≡ Some x) × (f x ≡ y)
+mapped_option f None y is = cc
+mapped_option f (Some x) y is = (x, refl, cc)
+
+-- the operation at a place of the timeline is the enqueue of the initial value there
+pub record IsInitialEnqueueAt (initial : List ℕ) (p : ℕ) (x : Operation) : Type 0 where
+  pub value : ℕ
+  pub within : p < length initial
+  pub stands : slice_get initial p ≡ Some value
+  pub is : initial_enqueue p value ≡ x
+
+-- or an operation, later, behind the initial values
+pub record IsLaterAt (initial : List ℕ) (operations : List Operation) (p : ℕ) (x : Operation) : Type 0 where
+  pub operation : Operation
+  pub behind : length initial ≤ p
+  pub stands : slice_get operations (p - length initial) ≡ Some operation
+  pub is : later_by (2 * length initial) operation ≡ x
+
+-- at a place of the timeline stands the enqueue of an initial value, or an operation, later
+pub timeline_at : (initial : List ℕ) (operations : List Operation) (p : ℕ) (x : Operation) → slice_get (timeline initial operations) p ≡ Some x
+    → IsInitialEnqueueAt initial p x ⊎ IsLaterAt initial operations p x
+timeline_at initial operations p x at = elim (at_timeline initial operations p) [
+  | inl early ↦
+      let value = mapped_option (initial_enqueue p) (slice_get initial p) x (sym early.1 ∙ at) in
+      inl (record { value = value.0; within = early.0; stands = value.1; is = value.2 })
+  | inr late ↦
+      let operation = mapped_option (later_by (2 * length initial)) (slice_get operations (p - length initial)) x (sym late.1 ∙ at) in
+      inr (record { operation = operation.0; behind = late.0; stands = operation.1; is = operation.2 })
+]
+
+-- ---- the operations of a `YES`
+
+-- an operation of the timeline as it was, where it isn't the enqueue of an initial value
+abbrev pub earlier : ℕ → Operation → Option Operation
+earlier n o = cond (nat_lt o.call n) None (Some (record { call = o.call - n; ret = o.ret - n; thread = o.thread; kind = o.kind }))
+
+-- the enqueue of an initial value is no operation of the history
+pub earlier_none : (n : ℕ) (o : Operation) → o.call < n → earlier n o ≡ None
+earlier_none n o early = rw (lt-ltb o.call n early) refl
+
+-- an operation that is moved later and back is as it was
+pub earlier_later : (n : ℕ) (o : Operation) → earlier n (later_by n o) ≡ Some o
+earlier_later n o = pick (nat_lt (o.call + n) n) refl
+  where
+    pick : (b : Bool) → nat_lt (o.call + n) n ≡ b
+        → cond b None (Some (record { call = o.call + n - n; ret = o.ret + n - n; thread = o.thread; kind = o.kind })) ≡ Some o
+    pick true is = let less : o.call + n < n = ltb-true _ _ is in absurd (omega arith)
+    pick false is = ap (λ x. Some x) (same_operation _ o (omega arith) (omega arith) refl refl)
+
+enqueues_earlier : (clock n : ℕ) (values : List ℕ) (later : List Operation) → clock + 2 * length values ≤ n
+    → filter_map (earlier n) (enqueues_from clock values ++ later) ≡ filter_map (earlier n) later
+enqueues_earlier clock n [] later within = refl
+enqueues_earlier clock n (v ∷ values) later within =
+    ap (λ (o : Option Operation). cons_option o (filter_map (earlier n) (enqueues_from (clock + 2) values ++ later))) (earlier_none n _ (omega arith))
+    ∙ enqueues_earlier (clock + 2) n values later (omega arith)
+
+later_earlier : (n : ℕ) (operations : List Operation) → filter_map (earlier n) (map (later_by n) operations) ≡ operations
+later_earlier n [] = refl
+later_earlier n (o ∷ operations) =
+    ap (λ (x : Option Operation). cons_option x (filter_map (earlier n) (map (later_by n) operations))) (earlier_later n o)
+    ∙ ap (λ (r : List Operation). o ∷ r) (later_earlier n operations)
+
+-- without the enqueues of the initial values it is what stands after these
+pub timeline_earlier : (initial : List ℕ) (listed : List Operation) → filter_map (earlier (2 * length initial)) (timeline initial listed) ≡ listed
+timeline_earlier initial listed =
+    enqueues_earlier 0 (2 * length initial) initial (map (later_by (2 * length initial)) listed) (omega arith) ∙ later_earlier (2 * length initial) listed

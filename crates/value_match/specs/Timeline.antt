@@ -1,0 +1,31 @@
+-- What holds of a history, by its timeline, in which the initial values are enqueued before all else.
+use Rattle.std.specs.Prelude.{ℕ, ◌+◌, ◌*◌, ◌/◌, nat_lt, ℤ, pos, ◌-ℤ◌, List, if◌then◌else◌}
+use Rattle.history_merge.specs.declared.operation.Operation.{Operation}
+use Rattle.history_merge.specs.declared.operation.OpKind.TheVariants as kind
+use Rattle.history_merge.specs.Initial.{timeline}
+
+-- what a matching is of: a history's initial values and its operations
+pub record MatchingView : Type 0 where
+  pub initial : List ℕ
+  pub operations : List Operation
+
+-- the operations of its timeline
+abbrev pub timeline_of : MatchingView → List Operation
+timeline_of matching = timeline matching.initial matching.operations
+
+-- on the timeline, the enqueue of the initial value v at place j
+abbrev pub initial_enqueue : ℕ → ℕ → Operation
+initial_enqueue j v = record { call = 2 * j; ret = 2 * j + 1; thread = 0; kind = kind.Enq v }
+
+-- a gap, by the clocks of the timeline
+abbrev pub clock_of_gap : ℕ → ℕ → ℕ
+clock_of_gap initial_count c = c + 2 * initial_count
+
+-- the ticket of a clock: the enqueue of the j-th of k initial values has the ticket j - k, at its call and at its return
+abbrev pub ticket_of : ℕ → ℕ → ℤ
+ticket_of initial_count clock =
+    if nat_lt clock (2 * initial_count) then pos (clock / 2) -ℤ pos initial_count else pos clock -ℤ pos (2 * initial_count)
+
+-- the place of an operation after this many initial values
+abbrev pub behind : ℕ → ℕ → ℕ
+behind initial_count place = initial_count + place
