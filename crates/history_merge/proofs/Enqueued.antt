@@ -1,7 +1,10 @@
 -- The timeline, operation by operation.
-use Rattle.std.proofs.Common.{◌≡◌, ℕ, ◌+◌, ◌*◌, ◌<◌, ◌≤◌, List, [], ◌∷◌, ◌++◌, length, get_or, take, sym, ◌∙◌, ap, arith, length-take-le}
+use Rattle.std.proofs.Common.{◌≡◌, ℕ, ◌+◌, ◌*◌, ◌<◌, ◌≤◌, List, [], ◌∷◌, ◌++◌, length, get_or, take, take_all, drop, drop-cons, suc, sym, ◌∙◌, ap}
+use Rattle.std.proofs.Common.{append-nil, arith, length-take-le}
+use Rattle.std.proofs.Math.Seq.{drop-append_seam, get_or-append_seam, take-append_seam}
+use Rattle.std.proofs.Math.ListN.{drop_of_length-le}
 use Rattle.std.specs.Prelude.{All, map}
-use Rattle.std.proofs.lemmas.List.{append_assoc, take_more}
+use Rattle.std.proofs.lemmas.List.{append_assoc, length-map, take_more}
 use Rattle.std.proofs.lemmas.List.Elements.{Contains-get_or}
 use Rattle.event_records.specs.declared.event.Event.{Event}
 use Rattle.event_records.specs.declared.limits.TheConstants.{MAX_TICKET}
@@ -47,8 +50,25 @@ enqueued_more now before start values i below pushed is =
     ∙ append_assoc start (enqueues_from 0 (take i values)) (enqueue_at (2 * i) (get_or values i 0) ∷ [])
     ∙ ap (λ os. start ++ os) (sym (enqueues_more values i below))
 
--- the enqueues, and after them the operations, later
-pub all_timeline : (now mid start : List Operation) (initial : List ℕ) (operations : List Operation) → start ≡ [] → mid ≡ start ++ enqueues_from 0 initial
-    → now ≡ mid ++ map (later_by (2 * length initial)) operations → now ≡ timeline initial operations
-all_timeline now mid start initial operations none enqueued added =
-    added ∙ ap (λ os. os ++ map (later_by (2 * length initial)) operations) (enqueued ∙ ap (λ os. os ++ enqueues_from 0 initial) none)
+-- an operation that isn't moved yet is as it was
+pub not_yet : (f : Operation → Operation) (xs ys : List Operation) (i : ℕ) (x : Operation) → i < length xs → ys ≡ map f (take i xs) ++ drop i xs
+    → x ≡ get_or ys i x → x ≡ get_or xs i x
+not_yet f xs ys i x within so_far is =
+    let front = map f (take i xs) in
+    let long : length front ≡ i = length-map (take i xs) f ∙ length-take-le i xs (omega (arith, within)) in
+    is ∙ ap (λ l. get_or l i x) (so_far ∙ ap (λ l. front ++ l) (drop-cons xs i x within))
+    ∙ ap (λ n. get_or (front ++ get_or xs i x ∷ drop (suc i) xs) n x) (sym long) ∙ get_or-append_seam front (get_or xs i x) (drop (suc i) xs) x
+
+-- all are moved
+pub all_moved : (f : Operation → Operation) (xs ys : List Operation) (i : ℕ) → length xs ≤ i → ys ≡ map f (take i xs) ++ drop i xs → ys ≡ map f xs
+all_moved f xs ys i end so_far =
+    so_far ∙ ap (λ l. map f l ++ drop i xs) (take_all i xs end) ∙ ap (λ l. map f xs ++ l) (drop_of_length-le xs end) ∙ append-nil (map f xs)
+
+-- the operations, later, and the enqueues, turned round
+pub turned_round : (now all moved : List Operation) (n : ℕ) (initial : List ℕ) (operations : List Operation)
+    → moved ≡ map (later_by (2 * length initial)) operations → all ≡ moved ++ enqueues_from 0 initial → n ≡ length moved
+    → now ≡ drop n all ++ take n all → now ≡ timeline initial operations
+turned_round now all moved n initial operations later added long turned =
+    turned ∙ ap (λ m. drop m all ++ take m all) long ∙ ap (λ l. drop (length moved) l ++ take (length moved) l) added
+    ∙ ap (λ l. l ++ take (length moved) (moved ++ enqueues_from 0 initial)) (drop-append_seam moved (enqueues_from 0 initial))
+    ∙ ap (λ l. enqueues_from 0 initial ++ l) (take-append_seam moved (enqueues_from 0 initial) ∙ later)

@@ -22,7 +22,6 @@ use std::alloc::{AllocError, Global};
 /// The initial values and the operations of the events so far, or the first fault and what contradicts what there.
 #[derive(Drop)]
 pub struct Gathering {
-    alloc: Global,
     initial: Vec<u64>,
     known: InitialValues,
     called: CalledValues,
@@ -48,7 +47,6 @@ impl Gathering {
             ),
         };
         Gathering {
-            alloc,
             initial,
             known,
             called: CalledValues::new(alloc),
@@ -135,7 +133,6 @@ impl Gathering {
         ensures kept { IsSome self.fault → IsErr result }
     {
         let Gathering {
-            alloc,
             initial,
             known: _known,
             called: _called,
@@ -150,7 +147,7 @@ impl Gathering {
         if let Some(ticket) = forming.least_pending() {
             return Err(HistoryFault::Pending(ticket));
         }
-        let timeline = timeline_of(alloc, initial.as_slice(), forming.into_operations())?;
+        let timeline = timeline_of(initial.as_slice(), forming.into_operations())?;
         Ok(History::new(initial, timeline))
     }
 }

@@ -6,15 +6,13 @@ ghost use Rattle.history_merge.specs.Initial.{enqueues_from, later_by, timeline}
 use crate::operation::{OpKind, Operation};
 use crate::packed::PackedOperation;
 use event_records::{MAX_INITIAL, MAX_TICKET};
-use std::alloc::{AllocError, Global};
+use std::alloc::AllocError;
 
 /// Makes the timeline: thread 0 enqueues the initial values alone, one after another, and then the operations follow,
 /// each later by two ticks for each initial value.
 ///
-/// Time O(n). If there are initial values it takes the memory for the answer at once, and gives back that of the
-/// operations.
+/// Time O(n). It takes memory for the enqueues, and moves the operations in place.
 pub fn timeline_of(
-    alloc: Global,
     initial: &[u64],
     operations: Vec<PackedOperation>,
 ) -> Result<Vec<PackedOperation>, AllocError>
@@ -22,13 +20,31 @@ pub fn timeline_of(
     requires few { length initial.now ≤ MAX_INITIAL }
     ensures { IfOk result (λ all. all.items ≡ timeline initial.now operations.items) }
 {
+    let mut all = operations;
     if initial.is_empty() {
-        return Ok(operations);
+        return Ok(all);
     }
-    let mut all = Vec::with_capacity(alloc, initial.len() + operations.len())?;
+    all.reserve_exact(initial.len())?;
+    move_later(all.as_mut_slice(), 2 * initial.len() as u64);
     add_enqueues(&mut all, initial)?;
-    add_later(&mut all, operations.as_slice(), 2 * initial.len() as u64)?;
+    all.rotate_right(initial.len());
     Ok(all)
+}
+
+/// Moves the operations later by this many ticks.
+fn move_later(operations: &mut [PackedOperation], ticks: u64)
+    requires operations { All (λ o. (o.call ≤ MAX_TICKET) × (o.ret ≤ MAX_TICKET)) operations.old }
+    requires ticks { ticks ≤ 2 * MAX_INITIAL }
+    ensures { operations.new ≡ map (later_by ticks) operations.old }
+{
+    for packed in operations.iter_mut() {
+        let operation = packed.unpack();
+        *packed = PackedOperation::new(Operation {
+            call: operation.call + ticks,
+            ret: operation.ret + ticks,
+            ..operation
+        });
+    }
 }
 
 /// Adds an enqueue of each value, one after another.
@@ -43,27 +59,6 @@ fn add_enqueues(all: &mut Vec<PackedOperation>, values: &[u64]) -> Result<(), Al
             ret: call + 1,
             thread: 0,
             kind: OpKind::Enq(*value),
-        }))?;
-    }
-    Ok(())
-}
-
-/// Adds the operations, later by this many ticks.
-fn add_later(
-    all: &mut Vec<PackedOperation>,
-    operations: &[PackedOperation],
-    ticks: u64,
-) -> Result<(), AllocError>
-    requires operations { All (λ o. (o.call ≤ MAX_TICKET) × (o.ret ≤ MAX_TICKET)) operations.now }
-    requires ticks { ticks ≤ 2 * MAX_INITIAL }
-    ensures { OnOk result (all.new.items ≡ all.old.items ++ map (later_by ticks) operations.now) }
-{
-    for operation in operations {
-        let operation = operation.unpack();
-        all.push(PackedOperation::new(Operation {
-            call: operation.call + ticks,
-            ret: operation.ret + ticks,
-            ..operation
         }))?;
     }
     Ok(())
