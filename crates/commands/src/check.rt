@@ -12,10 +12,10 @@ use std::thread::Threads;
 use verdicts::decide_par;
 
 /// Into how many pieces `check` and `stress` cut the searches for violations.
-pub const PIECES: usize = 4;
+pub(crate) const PIECES: usize = 4;
 
 /// What `check` finds in what the reader gives.
-pub fn check<R, S>(rt: &R, alloc: Global, reader: S) -> Outcome
+pub(crate) fn check<R, S>(rt: &R, alloc: Global, reader: S) -> Outcome
 where
     R: Threads + Sync,
     S: TextSource + Drop,

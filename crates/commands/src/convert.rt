@@ -10,7 +10,7 @@ use history_text::TextSource;
 use std::alloc::Global;
 
 /// What `convert` finds in what the reader gives.
-pub fn convert<S: TextSource + Drop>(alloc: Global, reader: S) -> Outcome
+pub(crate) fn convert<S: TextSource + Drop>(alloc: Global, reader: S) -> Outcome
     ensures found { IfSome (S.ahead reader) (λ input. AnswersFor IsHistoryOf IsFaultOfHistoryInput Converts input (answer_of result)) }
     ensures places { NamesPlaces result }
 {

@@ -24,7 +24,7 @@ use svg_picture::{html_picture, svg_picture};
 use verdicts::{Claimed, claim, decide};
 
 /// What `draw` finds in what the reader gives.
-pub fn draw<S: TextSource + Drop>(alloc: Global, reader: S, options: DrawOptions) -> Outcome
+pub(crate) fn draw<S: TextSource + Drop>(alloc: Global, reader: S, options: DrawOptions) -> Outcome
     ensures found { IfSome (S.ahead reader) (λ input. AnswersFor IsDrawableOf IsFaultOfDrawableInput (Draws options) input (answer_of result)) }
     ensures places { NamesPlaces result }
 {

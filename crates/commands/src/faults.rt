@@ -89,7 +89,7 @@ fn push_fault(fault: Fault, kept: &mut WriteBuffer)
 
 /// Writes the line of a fault: whether the input is refused or the command failed, the fault's name, and the place, the line,
 /// the ticket or the thread that it names.
-pub fn write_fault<W: TextSink>(fault: Fault, writer: &mut W) -> Result<(), WriteFault>
+pub(crate) fn write_fault<W: TextSink>(fault: Fault, writer: &mut W) -> Result<(), WriteFault>
     ensures { Writes W.contents W.has_refused W.transition (answer_text (answer_of_fault fault)) writer.old writer.new result }
 {
     let mut kept = WriteBuffer::new();

@@ -21,7 +21,7 @@ use std::alloc::Global;
 use verdicts::Claimed;
 
 /// A history builder, and the version of the text that it was read from.
-pub type Gathered = (Version, HistoryBuilder);
+pub(crate) type Gathered = (Version, HistoryBuilder);
 
 /// The one text of a history that the reader gives, of either version.
 fn gathered_of<S: TextSource + Drop>(alloc: Global, reader: S) -> Result<Gathered, TextFault>
@@ -36,7 +36,7 @@ fn gathered_of<S: TextSource + Drop>(alloc: Global, reader: S) -> Result<Gathere
 }
 
 /// The text of a history, and what the verdict text after it claims of it.
-pub fn claimed_of<S: TextSource + Drop>(
+pub(crate) fn claimed_of<S: TextSource + Drop>(
     alloc: Global,
     reader: S,
 ) -> Result<(Gathered, Claimed), TextFault>
@@ -51,7 +51,7 @@ pub fn claimed_of<S: TextSource + Drop>(
 }
 
 /// The text of a history, and where anything follows what the verdict text after it claims of it.
-pub fn drawable_of<S: TextSource + Drop>(
+pub(crate) fn drawable_of<S: TextSource + Drop>(
     alloc: Global,
     reader: S,
 ) -> Result<(Gathered, Option<Claimed>), TextFault>
@@ -69,7 +69,7 @@ pub fn drawable_of<S: TextSource + Drop>(
 }
 
 /// The one history that the reader gives, and the version of its text.
-pub fn given_history<S: TextSource + Drop>(
+pub(crate) fn given_history<S: TextSource + Drop>(
     alloc: Global,
     reader: S,
 ) -> Result<(Version, History), Fault>
@@ -84,7 +84,7 @@ pub fn given_history<S: TextSource + Drop>(
 }
 
 /// The history that was gathered from a text, and the version of this.
-pub fn history_of(gathered: Gathered) -> Result<(Version, History), Fault>
+pub(crate) fn history_of(gathered: Gathered) -> Result<(Version, History), Fault>
     ensures history { (text : HistoryText) → HasText text → IsReadAs text gathered.0 gathered.1 → IfOk result (λ read. said_in read.0 read.1 ≡ text) }
     ensures complete { IfOk result (λ read. IsCompleteFrom read.1.initial read.1.events) }
     ensures fault { (text : HistoryText) → HasText text → IsReadAs text gathered.0 gathered.1
@@ -112,7 +112,10 @@ fn incomplete(fault: HistoryFault, clash: Option<Clash>) -> Fault
 }
 
 /// The one schedule that the reader gives.
-pub fn schedule_of<S: TextSource + Drop>(alloc: Global, reader: S) -> Result<Schedule, TextFault>
+pub(crate) fn schedule_of<S: TextSource + Drop>(
+    alloc: Global,
+    reader: S,
+) -> Result<Schedule, TextFault>
     ensures schedule { IfOk result (λ schedule. IfSome (S.ahead reader) (λ input. IsScheduleOf input schedule)) }
     ensures setting { IfOk result (λ schedule. IsSetting schedule.threads schedule.ring) }
     ensures fault { IfErr result (λ fault. IfSome (S.ahead reader) (λ input. IsFaultOfScheduleInput input fault)) }

@@ -17,7 +17,10 @@ use value_match::Violation;
 use verdicts::Verdict;
 
 /// Writes what a command found, or why it found nothing.
-pub fn write_outcome<W: TextSink>(outcome: &Outcome, writer: &mut W) -> Result<(), WriteFault>
+pub(crate) fn write_outcome<W: TextSink>(
+    outcome: &Outcome,
+    writer: &mut W,
+) -> Result<(), WriteFault>
     requires { NamesPlaces outcome.now }
     ensures { Writes W.contents W.has_refused W.transition (answer_text (answer_of outcome.now)) writer.old writer.new result }
 {
@@ -128,7 +131,7 @@ fn write_said<W: TextSink>(
 }
 
 /// Writes what a command found, quietly or whole, and flushes the writer; answers the status.
-pub fn print_outcome<W: TextSink>(outcome: &Outcome, is_quiet: bool, writer: &mut W) -> u8
+pub(crate) fn print_outcome<W: TextSink>(outcome: &Outcome, is_quiet: bool, writer: &mut W) -> u8
     requires fresh { W.has_refused writer.old ≡ false }
     requires places { NamesPlaces outcome.now }
     ensures printed { PrintsSaid is_quiet (W.contents writer.old) (W.contents writer.new) (W.has_refused writer.new) result (answer_of outcome.now) }
@@ -150,7 +153,7 @@ pub(crate) fn print_memory<W: TextSink>(writer: &mut W) -> u8
 }
 
 /// Writes a text and flushes the writer; answers the status.
-pub fn print_text<W: TextSink>(text: &[u8], status: u8, writer: &mut W) -> u8
+pub(crate) fn print_text<W: TextSink>(text: &[u8], status: u8, writer: &mut W) -> u8
     requires fresh { W.has_refused writer.old ≡ false }
     ensures printed { Prints (W.contents writer.old) (W.contents writer.new) (W.has_refused writer.new) result text.now status }
     ensures asked { WritesAndFlushes W.transition (W.has_refused writer.new) writer.old writer.new }

@@ -17,7 +17,7 @@ use text_lines::WriteBuffer;
 use verdicts::Verdict;
 
 /// Writes a history, and a verdict on it.
-pub fn write_shown<W: TextSink>(
+pub(crate) fn write_shown<W: TextSink>(
     version: Version,
     history: &History,
     verdict: &Verdict,
@@ -26,14 +26,15 @@ pub fn write_shown<W: TextSink>(
     requires places { IsWithin history.now.initial (operations_of history.now.events) verdict.now }
     requires version { version ≡ One → history.now.initial ≡ [] }
     ensures { Writes W.contents W.has_refused W.transition
-        (text_of (said_in version history.now) ++ verdict_text (claim_of history.now.initial (operations_of history.now.events) verdict.now)) writer.old writer.new result }
+        (text_of (said_in version history.now)
+        ++ verdict_text (claim_of history.now.initial (operations_of history.now.events) verdict.now)) writer.old writer.new result }
 {
     write_history(version, history, writer)?;
     write_verdict(history, verdict, writer)
 }
 
 /// Writes refused steps, and that the machine isn't done.
-pub fn write_left_open<W: TextSink>(
+pub(crate) fn write_left_open<W: TextSink>(
     rejections: &Rejections,
     writer: &mut W,
 ) -> Result<(), WriteFault>
@@ -44,7 +45,7 @@ pub fn write_left_open<W: TextSink>(
 }
 
 /// Writes refused steps, then a history and the verdict on it.
-pub fn write_played<W: TextSink>(
+pub(crate) fn write_played<W: TextSink>(
     rejections: &Rejections,
     history: &History,
     verdict: &Verdict,
@@ -53,7 +54,8 @@ pub fn write_played<W: TextSink>(
     requires places { IsWithin history.now.initial (operations_of history.now.events) verdict.now }
     requires none { history.now.initial ≡ [] }
     ensures { Writes W.contents W.has_refused W.transition
-        (rejection_lines rejections.now ++ (history_text history.now.events ++ verdict_text (claim_of history.now.initial (operations_of history.now.events) verdict.now))) writer.old writer.new result }
+        (rejection_lines rejections.now ++ (history_text history.now.events
+        ++ verdict_text (claim_of history.now.initial (operations_of history.now.events) verdict.now))) writer.old writer.new result }
 {
     write_rejections(rejections.as_slice(), writer)?;
     write_shown(Version::One, history, verdict, writer)

@@ -19,7 +19,7 @@ use value_match::Violation;
 use verdicts::{Verdict, decide};
 
 /// What `shrink` finds in what the reader gives.
-pub fn shrink<S: TextSource + Drop>(alloc: Global, reader: S) -> Outcome
+pub(crate) fn shrink<S: TextSource + Drop>(alloc: Global, reader: S) -> Outcome
     ensures found { IfSome (S.ahead reader) (λ input. AnswersFor IsHistoryOf IsFaultOfHistoryInput Shrinks input (answer_of result)) }
     ensures places { NamesPlaces result }
 {

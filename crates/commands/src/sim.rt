@@ -14,7 +14,7 @@ use std::alloc::Global;
 use verdicts::decide;
 
 /// What `sim` finds in what the reader gives.
-pub fn sim<S: TextSource + Drop>(alloc: Global, reader: S) -> Outcome
+pub(crate) fn sim<S: TextSource + Drop>(alloc: Global, reader: S) -> Outcome
     ensures found { IfSome (S.ahead reader) (λ input. AnswersFor IsScheduleOf IsFaultOfScheduleInput Simulates input (answer_of result)) }
     ensures places { NamesPlaces result }
 {

@@ -14,7 +14,7 @@ use history_text::TextSource;
 use std::alloc::Global;
 
 /// What `stats` finds in what the reader gives.
-pub fn stats<S: TextSource + Drop>(alloc: Global, reader: S) -> Outcome
+pub(crate) fn stats<S: TextSource + Drop>(alloc: Global, reader: S) -> Outcome
     ensures found { IfSome (S.ahead reader) (λ input. AnswersFor IsHistoryOf IsFaultOfHistoryInput Counts input (answer_of result)) }
     ensures places { NamesPlaces result }
 {

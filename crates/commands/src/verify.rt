@@ -14,7 +14,7 @@ use std::alloc::Global;
 use verdicts::Claimed;
 
 /// What `verify` finds in what the reader gives.
-pub fn verify<S: TextSource + Drop>(alloc: Global, reader: S) -> Outcome
+pub(crate) fn verify<S: TextSource + Drop>(alloc: Global, reader: S) -> Outcome
     ensures found { IfSome (S.ahead reader) (λ input. AnswersFor IsClaimOf IsFaultOfClaimInput Verifies input (answer_of result)) }
     ensures places { NamesPlaces result }
 {

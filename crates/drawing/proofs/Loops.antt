@@ -88,7 +88,8 @@ flat_map_enumerated_step f text xs i d old new within before now =
 -- a word of one number more was added
 pub words_range_step : (f : ℕ → Word) (line : List ℕ) (n : ℕ) (old new : List ℕ) → old ≡ with_words line (map f (range_with_len 0 n))
     → new ≡ placed old (f n) → new ≡ with_words line (map f (range_with_len 0 (n + 1)))
-words_range_step f line n old new before now = now ∙ ap (λ (l : List ℕ). placed l (f n)) before ∙ sym (ap (with_words line) (map-range_with_len_more f 0 n n (zero-add n)) ∙ words_push line (map f (range_with_len 0 n)) (f n))
+words_range_step f line n old new before now = now ∙ ap (λ (l : List ℕ). placed l (f n)) before
+    ∙ sym (ap (with_words line) (map-range_with_len_more f 0 n n (zero-add n)) ∙ words_push line (map f (range_with_len 0 n)) (f n))
 
 -- a word of one element more was added
 pub words_step : {X : Type 0} (f : X → Word) (line : List ℕ) (xs : List X) (i : ℕ) (d : X) (old new : List ℕ) → i < length xs

@@ -160,7 +160,7 @@ fn push_repeat_bands(bands: &mut Vec<Band>, lines: &[ClaimLine]) -> Added
 }
 
 /// The bands of a claim, left to right.
-pub fn bands_of(alloc: Global, claimed: &Claimed) -> Result<Vec<Band>, AllocError>
+pub(crate) fn bands_of(alloc: Global, claimed: &Claimed) -> Result<Vec<Band>, AllocError>
     ensures bands { IfOk result (λ bands. bands.items ≡ bands_of claimed.now) }
     ensures few { IfOk result (λ bands. vec_len bands ≤ count_of_lines claimed.now + 2) }
 {

@@ -16,7 +16,7 @@ pub fn count_of_lines(claimed: &Claimed) -> usize
 }
 
 /// The order of a `YES`.
-pub fn order_of(claimed: &Claimed) -> &[Operation]
+pub(crate) fn order_of(claimed: &Claimed) -> &[Operation]
     ensures { result.now ≡ order_of claimed.now }
 {
     match claimed {

@@ -22,7 +22,7 @@ pub const MOST_DRAWN: usize = 400;
 pub(crate) const ROWS_UNDER_HEADS: usize = 40;
 
 /// The events of a history, in a list of their own.
-pub fn events_of(alloc: Global, history: &History) -> Result<Vec<Event>, AllocError>
+pub(crate) fn events_of(alloc: Global, history: &History) -> Result<Vec<Event>, AllocError>
     ensures { IfOk result (λ events. events.items ≡ history.now.events) }
 {
     history.events().collect(alloc)
@@ -68,7 +68,7 @@ fn has_operations(operations: &[Operation], thread: u8) -> bool
 
 /// The threads that have operations, the least first.
 #[tactic(auto, using(crate::proofs::Loops::threads_yes, crate::proofs::Loops::threads_no, crate::proofs::Loops::threads_none))]
-pub fn threads_of(alloc: Global, operations: &[Operation]) -> Result<Vec<u8>, AllocError>
+pub(crate) fn threads_of(alloc: Global, operations: &[Operation]) -> Result<Vec<u8>, AllocError>
     ensures threads { IfOk result (λ threads. threads.items ≡ threads_of operations.now) }
     ensures few { IfOk result (λ threads. vec_len threads ≤ MAX_THREADS) }
 {

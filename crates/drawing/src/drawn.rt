@@ -14,7 +14,7 @@ use verdicts::{ClaimLine, Claimed};
 
 /// How many events come before the call of an operation, and before its return.
 #[derive(Clone, Copy)]
-pub struct Standing {
+pub(crate) struct Standing {
     call: usize,
     ret: usize,
 }

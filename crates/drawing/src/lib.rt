@@ -15,9 +15,9 @@ mod sheet;
 mod signs;
 mod terminal;
 
-pub use bands::{Band, Head, bands_of, form_words, head_words};
+pub use bands::{Band, Head, form_words, head_words};
 pub use captions::{headline, push_caption};
-pub use claim::{count_of_lines, order_of, shown_by};
+pub use claim::{count_of_lines, shown_by};
 pub use columns::{Columns, MOST_DRAWN, digits, label_width};
 pub use drawn::{drawn_operations, is_away};
 pub use laws::{

@@ -14,7 +14,7 @@ pub type Added = Result<(), AllocError>;
 
 /// A piece of a text.
 #[derive(Clone, Copy)]
-pub enum Piece<'a> {
+pub(crate) enum Piece<'a> {
     /// These bytes.
     Words(&'a [u8]),
     /// The digits of this number.

@@ -27,7 +27,7 @@ pub(crate) fn under_way(operations: &[Operation], thread: u8, ticket: u64) -> Op
 }
 
 /// The operation that is called at this ticket.
-pub fn called_at(operations: &[Operation], ticket: u64) -> Option<Operation>
+pub(crate) fn called_at(operations: &[Operation], ticket: u64) -> Option<Operation>
     ensures { result ≡ called_at operations.now ticket }
 {
     for operation in operations {

@@ -10,7 +10,7 @@ use std::alloc::{AllocError, Global};
 
 /// The name of a value, as recorders give it.
 #[derive(Clone, Copy)]
-pub enum Name {
+pub(crate) enum Name {
     /// Of a thread from 1 on: the thread, and the number of its value.
     OfThread(u64, u64),
     /// Of an initial value: its number.

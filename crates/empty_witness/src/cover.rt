@@ -12,7 +12,11 @@ use value_match::{Cover, CoverStep, LongestTable, Matching, told_maybe, told_sou
 /// Returns the chosen cover of a window that is covered.
 ///
 /// Time O(n log n) for n values: a table of them, and a look-up for each step.
-pub fn cover_of(alloc: Global, matching: &Matching, answer: &Operation) -> Result<Cover, AllocError>
+pub(crate) fn cover_of(
+    alloc: Global,
+    matching: &Matching,
+    answer: &Operation,
+) -> Result<Cover, AllocError>
     requires is_empty { Did (timeline_of matching.now) answer.now Empty }
     requires covered { IsCovered (timeline_of matching.now) answer.now }
     ensures { IfOk result (λ cover. NamesChosenCover matching.now.initial matching.now.operations answer.now cover) }

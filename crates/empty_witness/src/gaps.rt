@@ -22,7 +22,7 @@ fn first_outside(spans: &[Span], from: u64) -> u64
 
 /// Returns the least free gap in the window of an operation of a history, if there is one, by the spans of the
 /// history.
-pub fn least_free_gap(spans: &[Span], answer: &Operation) -> Option<u64>
+pub(crate) fn least_free_gap(spans: &[Span], answer: &Operation) -> Option<u64>
     requires { AreApart spans.now }
     ensures { (operations : List Operation) → AreSpansOf operations spans.now
         → MatchOption result (IsCovered operations answer.now) (λ c. IsLeastFreeGap operations answer.now c) }

@@ -40,7 +40,7 @@ fn tickets_rise(events: &[Event]) -> bool
 }
 
 /// Whether the second is a return of the kind of the first, which is a call.
-pub fn is_answer(call: What, answer: What) -> bool
+pub(crate) fn is_answer(call: What, answer: What) -> bool
     ensures { result ≡ answers call answer }
 {
     match (call, answer) {

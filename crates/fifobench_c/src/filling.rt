@@ -10,7 +10,7 @@ use itoa::Buffer;
 use std::alloc::{AllocError, Global};
 
 /// Writes what was found; or that memory ran out for its text.
-pub fn tell(alloc: Global, outcome: &Outcome, answer: &mut [u8], needed: &mut usize) -> u8
+pub(crate) fn tell(alloc: Global, outcome: &Outcome, answer: &mut [u8], needed: &mut usize) -> u8
     requires { NamesPlaces outcome.now }
     ensures { TellsAnswer (answer_of outcome.now) answer.old answer.new needed.new result ⊎ TellsAnswer memory_fault answer.old answer.new needed.new result }
 {
@@ -23,7 +23,12 @@ pub fn tell(alloc: Global, outcome: &Outcome, answer: &mut [u8], needed: &mut us
 }
 
 /// Writes that the kind of the event at this place isn't known; or that memory ran out for the line.
-pub fn tell_bad_what(alloc: Global, place: usize, answer: &mut [u8], needed: &mut usize) -> u8
+pub(crate) fn tell_bad_what(
+    alloc: Global,
+    place: usize,
+    answer: &mut [u8],
+    needed: &mut usize,
+) -> u8
     ensures { Tells (bad_what_line place) 2 answer.old answer.new needed.new result ⊎ TellsAnswer memory_fault answer.old answer.new needed.new result }
 {
     tell_text(bad_what(alloc, place), 2, answer, needed)

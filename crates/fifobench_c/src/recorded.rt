@@ -27,7 +27,7 @@ pub const RET_DEQ: u32 = 5;
 pub const RET_EMPTY: u32 = 6;
 
 /// The greatest thread that is distinguished from others. It is above the greatest of a history, and so are all above it.
-pub const GREATEST_TOLD: u32 = 255;
+pub(crate) const GREATEST_TOLD: u32 = 255;
 
 /// An event as callers in C have it: any numbers may stand in it.
 #[repr(C)]
@@ -71,7 +71,7 @@ fn what_in(kind: u32, value: u64) -> Option<What>
 }
 
 /// A history builder of these events, of a queue that is empty first; or the place of the first whose kind isn't known.
-pub fn gathered(alloc: Global, structs: &[RecordedEvent]) -> Result<HistoryBuilder, usize>
+pub(crate) fn gathered(alloc: Global, structs: &[RecordedEvent]) -> Result<HistoryBuilder, usize>
     requires { length structs.now ≤ MAX_EVENTS }
     ensures events { IfOk result (λ builder. (events : List Event) × AreEvents structs.now events × HasGathered [] events builder) }
     ensures unknown { IfErr result (IsFirstUnknown structs.now) }

@@ -21,14 +21,14 @@ use std::collections::BTreeSet;
 /// they do, one number for each thread shows that a value is new. From the first value that doesn't rise, a set holds
 /// them.
 #[derive(Drop)]
-pub struct CalledValues {
+pub(crate) struct CalledValues {
     alloc: Global,
     least: [u64; MAX_THREADS],
     others: Option<BTreeSet<u64>>,
 }
 
 impl CalledValues {
-    pub fn new(alloc: Global) -> CalledValues
+    pub(crate) fn new(alloc: Global) -> CalledValues
         ensures { KnowsCalled [] result }
     {
         CalledValues {
@@ -41,7 +41,11 @@ impl CalledValues {
     /// Whether the event calls with a value that an earlier one called with; it notes the value. The operations are
     /// those of the events before.
     #[inline(always)]
-    pub fn note(&mut self, what: What, operations: &[PackedOperation]) -> Result<bool, AllocError>
+    pub(crate) fn note(
+        &mut self,
+        what: What,
+        operations: &[PackedOperation],
+    ) -> Result<bool, AllocError>
         ensures { (events : List Event) (e : Event) → e.what ≡ what → KnowsCalled events self.old → operations.now ≡ operations_so_far events
             → IfOk result (λ repeats. (repeats ≡ repeats_value events e) × KnowsCalled (events ++ e ∷ []) self.new) }
     {
@@ -106,7 +110,7 @@ fn name_in(value: u64) -> usize
 }
 
 /// Returns the value that a call enqueues.
-pub fn called_value(what: What) -> Option<u64>
+pub(crate) fn called_value(what: What) -> Option<u64>
     ensures { result ≡ called_value what }
 {
     match what {

@@ -56,7 +56,7 @@ impl Clash {
 
 /// By what an event is looked for.
 #[derive(Clone, Copy)]
-pub enum Sought {
+pub(crate) enum Sought {
     Place(usize),
     Ticket(u64),
     Value(u64),
@@ -92,7 +92,7 @@ fn first_of(events: Events<'_>, sought: Sought) -> Option<Placed>
 }
 
 /// The first of the events of these operations that is looked for. Time O(n).
-pub fn first_event(forming: &Forming, sought: Sought) -> Option<Placed>
+pub(crate) fn first_event(forming: &Forming, sought: Sought) -> Option<Placed>
     requires { AreOfRun forming.now.operations.items }
     ensures { (events : List Event) → IsRunOf events forming.now.operations.items → length events ≤ MAX_EVENTS
         → IfSome result (IsFirstSought events sought) }
@@ -102,7 +102,7 @@ pub fn first_event(forming: &Forming, sought: Sought) -> Option<Placed>
 
 /// What an event that has this fault contradicts, of the events before it and the initial values. Time O(n).
 #[inline(never)]
-pub fn clash_of(
+pub(crate) fn clash_of(
     fault: HistoryFault,
     later: Placed,
     initial: &[u64],
@@ -147,7 +147,7 @@ fn first_place(values: &[u64], value: u64) -> Option<usize>
 }
 
 /// What initial values that have this fault contradict. Time O(k) for k values.
-pub fn clash_of_initial(fault: HistoryFault, initial: &[u64]) -> Option<Clash>
+pub(crate) fn clash_of_initial(fault: HistoryFault, initial: &[u64]) -> Option<Clash>
     ensures { (events : List Event) → IfSome result (IsClash initial.now events) }
 {
     let HistoryFault::InitialTwice(later) = fault else {

@@ -20,7 +20,7 @@ use std::alloc::{AllocError, Global};
 
 /// The operations of the events so far, in the order of their calls, and what the next event is judged by.
 #[derive(Drop)]
-pub struct Forming {
+pub(crate) struct Forming {
     operations: Vec<PackedOperation>,
     last_ticket: Option<u64>,
     // The place of each thread's pending call.
@@ -28,7 +28,7 @@ pub struct Forming {
 }
 
 impl Forming {
-    pub fn new(alloc: Global) -> Forming
+    pub(crate) fn new(alloc: Global) -> Forming
         ensures { HasFormed [] result }
     {
         Forming {
@@ -39,21 +39,21 @@ impl Forming {
     }
 
     /// Returns the operations; a pending one has the return 0, and counts as a successful enqueue or as empty.
-    pub fn operations(&self) -> &[PackedOperation]
+    pub(crate) fn operations(&self) -> &[PackedOperation]
         ensures { (events : List Event) → HasFormed events self.now → result.now ≡ operations_so_far events }
     {
         self.operations.as_slice()
     }
 
     /// The events so far.
-    pub fn events(&self) -> Events<'_>
+    pub(crate) fn events(&self) -> Events<'_>
         requires { AreOfRun self.now.operations.items }
         ensures { (events : List Event) → IsRunOf events self.now.operations.items → result ≡ events }
     {
         Events::new(Operations::new(0, self.operations.as_slice()))
     }
 
-    pub fn into_operations(self) -> Vec<PackedOperation>
+    pub(crate) fn into_operations(self) -> Vec<PackedOperation>
         ensures { (events : List Event) → HasFormed events self → result.items ≡ operations_so_far events }
     {
         let Forming {
@@ -67,7 +67,12 @@ impl Forming {
     /// Adds the event at this place, unless it has a fault; `repeats` says whether it calls with a value that an event
     /// before it called with, or with an initial value.
     #[inline(always)]
-    pub fn take(&mut self, event: Event, place: usize, repeats: bool) -> Result<(), HistoryFault>
+    pub(crate) fn take(
+        &mut self,
+        event: Event,
+        place: usize,
+        repeats: bool,
+    ) -> Result<(), HistoryFault>
         ensures { (initial : List ℕ) (events : List Event) → HasFormed events self.old
             → repeats ≡ (repeats_value events event || calls_initial initial event)
             → IsTaken initial events event place result self.new }
@@ -153,7 +158,7 @@ impl Forming {
     }
 
     /// Returns the pending call of this thread.
-    pub fn call_of(&self, thread: u8) -> Option<Event>
+    pub(crate) fn call_of(&self, thread: u8) -> Option<Event>
         ensures { (events : List Event) → HasFormed events self.now → result ≡ pending_call thread events }
     {
         if thread > MAX_THREAD {
@@ -165,7 +170,7 @@ impl Forming {
     }
 
     /// Returns the least ticket of a pending call.
-    pub fn least_pending(&self) -> Option<u64>
+    pub(crate) fn least_pending(&self) -> Option<u64>
         ensures { (events : List Event) → HasFormed events self.now → MatchOption result (NothingPending events) (IsLeastPending events) }
     {
         let mut least = None;

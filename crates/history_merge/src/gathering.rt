@@ -21,7 +21,7 @@ use std::alloc::{AllocError, Global};
 
 /// The initial values and the operations of the events so far, or the first fault and what contradicts what there.
 #[derive(Drop)]
-pub struct Gathering {
+pub(crate) struct Gathering {
     initial: Vec<u64>,
     known: InitialValues,
     called: CalledValues,
@@ -33,7 +33,7 @@ pub struct Gathering {
 
 impl Gathering {
     /// Begins with these initial values and no events.
-    pub fn new(alloc: Global, initial: Vec<u64>) -> Gathering
+    pub(crate) fn new(alloc: Global, initial: Vec<u64>) -> Gathering
         requires { vec_len initial ≤ MAX_INITIAL }
         ensures { HasGathered initial.items [] result }
     {
@@ -59,7 +59,7 @@ impl Gathering {
 
     /// Adds an event. It keeps a fault, also out of memory or of room.
     #[inline(always)]
-    pub fn add(&mut self, event: Event)
+    pub(crate) fn add(&mut self, event: Event)
         requires { (initial : List ℕ) × (events : List Event) × HasGathered initial events self.old }
         ensures added { (initial : List ℕ) (events : List Event) → HasGathered initial events self.old → length events < MAX_EVENTS
             → HasGathered initial (events ++ event ∷ []) self.new }
@@ -113,7 +113,7 @@ impl Gathering {
     }
 
     /// Returns what contradicts what at the first fault. Time O(n) if there is one.
-    pub fn clash(&self) -> Option<Clash>
+    pub(crate) fn clash(&self) -> Option<Clash>
         requires { (initial : List ℕ) × (events : List Event) × HasGathered initial events self.now }
         ensures { (initial : List ℕ) (events : List Event) → HasGathered initial events self.now → IfSome result (IsClash initial events) }
     {
@@ -126,7 +126,7 @@ impl Gathering {
     }
 
     /// Returns the history of the initial values and the events if it is complete, otherwise the first fault.
-    pub fn finish(self) -> Result<History, HistoryFault>
+    pub(crate) fn finish(self) -> Result<History, HistoryFault>
         requires { (initial : List ℕ) × (events : List Event) × HasGathered initial events self }
         ensures outcome { (initial : List ℕ) (events : List Event) → HasGathered initial events self
             → MatchResult result (λ whole. (whole.initial ≡ initial) × (whole.events ≡ events)) (IsFirstFault initial events) }

@@ -13,7 +13,7 @@ use std::collections::BTreeSet;
 
 /// Distinct values, with the least and the greatest of them.
 #[derive(Drop)]
-pub struct InitialValues {
+pub(crate) struct InitialValues {
     least: u64,
     greatest: u64,
     values: BTreeSet<u64>,
@@ -21,7 +21,7 @@ pub struct InitialValues {
 
 impl InitialValues {
     /// Takes these values, or returns the fault of the first that stands twice.
-    pub fn new(alloc: Global, initial: &[u64]) -> Result<InitialValues, HistoryFault>
+    pub(crate) fn new(alloc: Global, initial: &[u64]) -> Result<InitialValues, HistoryFault>
         ensures outcome { MatchResult result (λ known. KnowsInitial initial.now known) (HasRefusedInitial initial.now) }
         ensures distinct { IfOk result (λ _. AreDistinct initial.now) }
     {
@@ -35,7 +35,7 @@ impl InitialValues {
     }
 
     /// No values.
-    pub fn none(alloc: Global) -> InitialValues
+    pub(crate) fn none(alloc: Global) -> InitialValues
         ensures { KnowsInitial [] result }
     {
         InitialValues {
@@ -58,7 +58,7 @@ impl InitialValues {
 
     /// Whether the event calls with one of these values. If the value is below all of them, as a recorder's names
     /// are, it needs no look-up.
-    pub fn are_called(&self, what: What) -> bool
+    pub(crate) fn are_called(&self, what: What) -> bool
         ensures { (initial : List ℕ) (e : Event) → e.what ≡ what → KnowsInitial initial self.now → result ≡ calls_initial initial e }
     {
         match called_value(what) {

@@ -7,7 +7,7 @@ use crate::operation::OpKind;
 use event_records::{Event, MAX_THREADS, What};
 
 /// Returns no event for any thread.
-pub fn no_events() -> [Option<Event>; MAX_THREADS]
+pub(crate) fn no_events() -> [Option<Event>; MAX_THREADS]
     ensures none { (thread : ℕ) → slice_index_or result thread None ≡ None }
     ensures length { length result ≡ MAX_THREADS }
 {
@@ -15,14 +15,14 @@ pub fn no_events() -> [Option<Event>; MAX_THREADS]
 }
 
 /// Whether this is a call.
-pub fn is_call(what: What) -> bool
+pub(crate) fn is_call(what: What) -> bool
     ensures { result ≡ is_call what }
 {
     matches!(what, What::CallEnq(_) | What::CallDeq)
 }
 
 /// Returns what an operation with this call and this return did, if the second is a return of the first's kind.
-pub fn kind_of(call: What, answer: What) -> Option<OpKind>
+pub(crate) fn kind_of(call: What, answer: What) -> Option<OpKind>
     ensures { result ≡ kind_of call answer }
 {
     match (call, answer) {

@@ -12,7 +12,7 @@ use std::alloc::AllocError;
 /// each later by two ticks for each initial value.
 ///
 /// Time O(n). It takes memory for the enqueues, and moves the operations in place.
-pub fn timeline_of(
+pub(crate) fn timeline_of(
     initial: &[u64],
     operations: Vec<PackedOperation>,
 ) -> Result<Vec<PackedOperation>, AllocError>

@@ -18,7 +18,7 @@ pub fn sooner_of(first: MatchedValue, second: MatchedValue) -> MatchedValue
 }
 
 /// Returns of the values that b overtakes the one that stays longest.
-pub fn longest_overtaken(table: &LongestTable, b: &Life) -> Option<MatchedValue>
+pub(crate) fn longest_overtaken(table: &LongestTable, b: &Life) -> Option<MatchedValue>
     ensures { FindsLongest (Overtakes b.now) table.now result }
 {
     let longest = table.longest_before(b.enqueue_call());

@@ -9,7 +9,7 @@ use value_match::{LongestTable, MatchedValue, Values};
 
 /// Finds, in pieces, the candidate that is dequeued first of those that overtake a value of the table.
 #[cycle(halves)]
-pub fn first_overtaking_par<R: Threads + Sync>(
+pub(crate) fn first_overtaking_par<R: Threads + Sync>(
     rt: &R,
     table: &LongestTable,
     candidates: &Values,

@@ -8,7 +8,7 @@ use std::thread::Threads;
 use value_match::{Front, presort};
 
 /// Sorts by rising enqueue return.
-pub fn sort_fronts<R: Threads + Sync>(rt: &R, fronts: &mut Vec<Front>)
+pub(crate) fn sort_fronts<R: Threads + Sync>(rt: &R, fronts: &mut Vec<Front>)
     ensures permutation { IsPermutation fronts.old.items fronts.new.items }
     ensures rises { IsNonDecreasingBy (λ front. front.enqueue_return) fronts.new.items }
 {
@@ -16,7 +16,7 @@ pub fn sort_fronts<R: Threads + Sync>(rt: &R, fronts: &mut Vec<Front>)
 }
 
 /// Sorts by rising start.
-pub fn sort_stays<R: Threads + Sync>(rt: &R, stays: &mut Vec<Span>)
+pub(crate) fn sort_stays<R: Threads + Sync>(rt: &R, stays: &mut Vec<Span>)
     ensures permutation { IsPermutation stays.old.items stays.new.items }
     ensures rises { IsNonDecreasingBy (λ stay. stay.start) stays.new.items }
 {

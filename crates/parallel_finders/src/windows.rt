@@ -15,7 +15,7 @@ use value_match::Matching;
 
 /// Searches the windows of the empty dequeues at these places, in pieces.
 #[cycle(halves)]
-pub fn windows_at_par<R: Threads + Sync>(
+pub(crate) fn windows_at_par<R: Threads + Sync>(
     rt: &R,
     alloc: Global,
     matching: &Matching,

@@ -99,7 +99,7 @@ fn push_bar_number(text: &mut Vec<u8>, m: Measures, x: u128, y: u128, place: Opt
 
 /// A bar: where its lane begins, its upper edge, its height, the base line of its label, what was done, and its place in a `NO`.
 #[derive(Clone, Copy)]
-pub struct Bar {
+pub(crate) struct Bar {
     pub x: u128,
     pub y: u128,
     pub height: u128,

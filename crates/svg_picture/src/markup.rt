@@ -8,7 +8,7 @@ use itoa::Buffer;
 
 /// An attribute of an element: its name and its value.
 #[derive(Clone, Copy)]
-pub enum Attribute<'a> {
+pub(crate) enum Attribute<'a> {
     /// The digits of this number.
     Number(&'a [u8], u128),
     /// These words.

@@ -9,7 +9,7 @@ use std::alloc::Global;
 
 /// How wide the parts of a picture are, in characters, and how many there are.
 #[derive(Clone, Copy)]
-pub struct Measures {
+pub(crate) struct Measures {
     /// The widest ticket, or the word above it.
     pub ticket: u8,
     /// The greatest number of the claim.
@@ -36,7 +36,7 @@ pub struct Measures {
 
 /// A scene, and its measures.
 #[derive(Clone, Copy)]
-pub struct Sheet<'a> {
+pub(crate) struct Sheet<'a> {
     /// Where the memory of its words comes from.
     pub alloc: Global,
     pub measures: Measures,

@@ -57,7 +57,12 @@ pub fn number_in(line: u64, greatest: u64, field: &[u8]) -> Result<u64, TextFaul
 }
 
 /// Returns what a number field stands for, if it lies from `least` to `greatest`.
-pub fn number_between(line: u64, least: u64, greatest: u64, field: &[u8]) -> Result<u64, TextFault>
+pub(crate) fn number_between(
+    line: u64,
+    least: u64,
+    greatest: u64,
+    field: &[u8],
+) -> Result<u64, TextFault>
     ensures value { result ≡ wanted.number_between line least greatest field.now }
     ensures of_line { IfErr result IsLineFault }
     ensures within { IfOk result (λ n. n ≤ greatest) }

@@ -13,7 +13,7 @@ use crate::sources::Sources;
 use history_merge::{OpId, OpKind, Operation, PackedOperation};
 
 /// The places of a dequeue of a value that was not there, and of the call for this value if there is one.
-#[derive(Clone, Copy, Debug)]
+#[derive(Clone, Copy)]
 pub(crate) struct FreshPlaces {
     pub(crate) deq: OpId,
     pub(crate) enq: Option<OpId>,

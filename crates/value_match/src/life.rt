@@ -60,7 +60,7 @@ impl Life {
     }
 
     /// Whether the value is dequeued later than the other, or as late and enqueued no later.
-    pub fn stays_at_least(&self, other: &Life) -> bool
+    pub(crate) fn stays_at_least(&self, other: &Life) -> bool
         ensures { IsTrue result ↔ StaysAtLeast self.now other.now }
     {
         let call = self.dequeue_call();

@@ -8,7 +8,7 @@ use std::alloc::{AllocError, Global};
 use std::collections::BTreeSet;
 
 /// A value that was called to be enqueued, with the place of the call.
-#[derive(Clone, Copy, Debug)]
+#[derive(Clone, Copy)]
 pub(crate) struct Call {
     pub(crate) value: u64,
     pub(crate) place: usize,

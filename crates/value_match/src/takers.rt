@@ -10,7 +10,7 @@ use history_merge::{OpId, PackedOperation};
 use std::alloc::{AllocError, Global};
 
 /// The places of two dequeues of one value, in the order of their returns, and of its enqueue.
-#[derive(Clone, Copy, Debug)]
+#[derive(Clone, Copy)]
 pub(crate) struct RepeatPlaces {
     pub(crate) enq: OpId,
     pub(crate) first: OpId,
@@ -18,7 +18,7 @@ pub(crate) struct RepeatPlaces {
 }
 
 /// What takes from the sources.
-#[derive(Debug, Drop)]
+#[derive(Drop)]
 pub(crate) enum Takers {
     /// No two dequeues take from one source: at each source the one that does, if there is one.
     Once(Vec<MaybePlace>),

@@ -19,7 +19,7 @@ use history_merge::{History, OpId, OpKind, PackedOperation};
 use std::alloc::{AllocError, Global};
 
 /// What is found of operations: the three sorts of them, or the violation that rules a matching out.
-#[derive(Debug, Drop)]
+#[derive(Drop)]
 pub(crate) enum MatchOutcome {
     Clear(SortedOut),
     Fresh(FreshPlaces),

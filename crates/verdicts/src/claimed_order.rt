@@ -11,7 +11,7 @@ use std::collections::VecDeque;
 
 /// Returns whether the lines are a linearization of the history's operations, for a queue that holds its initial values
 /// first.
-pub fn is_legal_order(
+pub(crate) fn is_legal_order(
     alloc: Global,
     history: &History,
     lines: &[Operation],

@@ -9,7 +9,7 @@ use crate::verifying::{ClaimLine, ViolationKind};
 use history_merge::{OpKind, Operation};
 
 /// Whether the lines are those of a violation of this kind.
-pub fn shows_violation(operations: &Lookup, kind: ViolationKind, lines: &[ClaimLine]) -> bool
+pub(crate) fn shows_violation(operations: &Lookup, kind: ViolationKind, lines: &[ClaimLine]) -> bool
     requires { IsLookedUp operations.now }
     ensures { IsTrue result ↔ ShowsKind operations.now kind lines.now }
 {

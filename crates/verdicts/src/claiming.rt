@@ -49,7 +49,7 @@ fn operations_at(
 }
 
 /// The lines of a violation, in the order in which they are shown.
-pub fn violation_lines(
+pub(crate) fn violation_lines(
     alloc: Global,
     history: &History,
     violation: &Violation,

@@ -15,13 +15,13 @@ use history_merge::{History, OpKind, Operation, PackedOperation};
 /// The initial values of a history, and its timeline: the queue is empty first, the initial values are enqueued one
 /// after another, and then come the operations.
 #[derive(Clone, Copy)]
-pub struct Lookup<'a> {
+pub(crate) struct Lookup<'a> {
     pub initial: &'a [u64],
     pub timeline: &'a [PackedOperation],
 }
 
 impl<'a> Lookup<'a> {
-    pub fn of(history: &'a History) -> Lookup<'a>
+    pub(crate) fn of(history: &'a History) -> Lookup<'a>
         ensures initial { result.initial.now ≡ history.now.initial }
         ensures timeline { result.timeline.now ≡ timeline history.now.initial (operations_of history.now.events) }
         ensures looked_up { IsLookedUp result }
@@ -33,7 +33,7 @@ impl<'a> Lookup<'a> {
     }
 
     /// What a line of a claim stands for.
-    pub fn shown_by(&self, line: ClaimLine) -> Option<Operation>
+    pub(crate) fn shown_by(&self, line: ClaimLine) -> Option<Operation>
         requires { IsLookedUp self.now }
         ensures { result ≡ stands_for self.now.initial.now line }
     {
@@ -70,7 +70,7 @@ impl<'a> Lookup<'a> {
     }
 
     /// Whether this is one of the operations, and did this.
-    pub fn did(&self, operation: Operation, kind: OpKind) -> bool
+    pub(crate) fn did(&self, operation: Operation, kind: OpKind) -> bool
         requires { IsLookedUp self.now }
         ensures { IsTrue result ↔ Did self.now.timeline.now operation kind }
     {
@@ -78,7 +78,7 @@ impl<'a> Lookup<'a> {
     }
 
     /// Whether none of the operations did this; a scan of them all.
-    pub fn none_did(&self, kind: OpKind) -> bool
+    pub(crate) fn none_did(&self, kind: OpKind) -> bool
         ensures { IsTrue result ↔ NoneDid self.now.timeline.now kind }
     {
         none_did(self.timeline, kind)

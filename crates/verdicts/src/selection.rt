@@ -14,14 +14,14 @@ use std::collections::BTreeSet;
 
 /// Values with all their operations, and operations without a value by their calls.
 #[derive(Drop)]
-pub struct Selection {
+pub(crate) struct Selection {
     values: BTreeSet<u64>,
     calls: BTreeSet<u64>,
 }
 
 impl Selection {
     /// The values and the calls of these lines.
-    pub fn named_by(alloc: Global, lines: &[ClaimLine]) -> Result<Selection, AllocError>
+    pub(crate) fn named_by(alloc: Global, lines: &[ClaimLine]) -> Result<Selection, AllocError>
         ensures { IfOk result (λ selection. SelectsNamed lines.now (contains nat_cmp selection.values) (contains nat_cmp selection.calls)) }
     {
         let values = values_of(alloc, lines)?;
@@ -30,7 +30,7 @@ impl Selection {
     }
 
     /// The selected ones of these initial values, in their order.
-    pub fn initial(&self, alloc: Global, initial: &[u64]) -> Result<Vec<u64>, AllocError>
+    pub(crate) fn initial(&self, alloc: Global, initial: &[u64]) -> Result<Vec<u64>, AllocError>
         ensures { IfOk result (λ kept. kept.items ≡ filter (contains nat_cmp self.now.values) initial.now) }
     {
         initial
@@ -41,7 +41,7 @@ impl Selection {
     }
 
     /// The events of the selected ones of a history's operations, in their order.
-    pub fn events(&self, alloc: Global, history: &History) -> Result<Vec<Event>, AllocError>
+    pub(crate) fn events(&self, alloc: Global, history: &History) -> Result<Vec<Event>, AllocError>
         ensures kept { IfOk result (λ kept. kept.items ≡ filter (λ e. holds_ticket (filter (selects (contains nat_cmp self.now.values)
             (contains nat_cmp self.now.calls)) (operations_of history.now.events)) e.ticket) history.now.events) }
         ensures few { length history.now.events ≤ MAX_EVENTS }

@@ -44,7 +44,10 @@ impl LinePlace {
 }
 
 /// The places that a violation names, in the order in which they are shown.
-pub fn violation_places(alloc: Global, violation: &Violation) -> Result<Vec<LinePlace>, AllocError>
+pub(crate) fn violation_places(
+    alloc: Global,
+    violation: &Violation,
+) -> Result<Vec<LinePlace>, AllocError>
     ensures { IfOk result (λ places. places.items ≡ violation_places violation.now) }
 {
     let mut places = first_places(alloc, violation)?;

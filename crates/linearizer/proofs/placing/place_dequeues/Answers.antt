@@ -22,7 +22,8 @@ turn : (c : After-max-left) → IsTurn (timeline_of c.args.matching.now) (lives_
     c.get-value.result c.unpack-entered.result.time
 turn c = turn_is (timeline_of c.args.matching.now) c.values-values.result c.args.order.now c.loop-so_far.so_far.dequeues c.unpack-entered.result
     c.get-value.result
-    c.values-values.ensures.values c.requires.order c.requires.gaps (slice_get_read _ _ _ _ refl c.loop-so_far-test.true c.index-order-rank.is ∙ ap Some (sym c.unpack-entered.ensures)) c.get-value.ensures
+    c.values-values.ensures.values c.requires.order c.requires.gaps
+    (slice_get_read _ _ _ _ refl c.loop-so_far-test.true c.index-order-rank.is ∙ ap Some (sym c.unpack-entered.ensures)) c.get-value.ensures
 
 left_is : (c : After-max-left) → c.max-left.result ≡ max (leaves_from c.get-value.result.life) c.loop-so_far.so_far.left
 left_is c = c.max-left.ensures ∙ ap (λ n. max n c.loop-so_far.so_far.left) c.leaves_from.ensures
