@@ -5,10 +5,15 @@ use commands::{
     NamedQueue, StartFault, Terminals, built_ins, print_start_fault, run_over, words_of,
 };
 use history_text::{Buffered, Watched};
+use std::alloc::Global;
 use std::io::{IsTerminal, Write};
 use std::process::ExitCode;
 
+/// The size of the largest block by which glibc learns what to keep: 32 MiB, less what it adds to a block.
+const LARGE_BLOCK: usize = (32 << 20) - (8 << 10);
+
 fn main(rt: HostRuntime) -> ExitCode {
+    drop(large_block(rt.alloc()));
     let terminals = Terminals {
         input: rt.stdin().is_terminal(),
         output: rt.stdout().is_terminal(),
@@ -49,4 +54,13 @@ where
     let mut writer = Buffered::new(Watched::new(std::io::writer(rt)));
     let mut errors = Watched::new(errors);
     ExitCode::from(print_start_fault(fault, &mut writer, &mut errors, terminals))
+}
+
+/// Takes a large block of memory, if there is one, and nothing of it is used.
+///
+/// Once such a block is given back, glibc keeps what later lists give back for those after them. Otherwise each large list
+/// is new memory of the system, and its pages cost a tenth of the time of a check.
+#[inline(never)]
+fn large_block(alloc: Global) -> Option<Vec<u8>> {
+    Vec::with_capacity(alloc, LARGE_BLOCK).ok()
 }

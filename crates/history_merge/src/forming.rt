@@ -1,5 +1,5 @@
 //! The operations of events after which more may come.
-ghost use Rattle.std.specs.Prelude.{◌≡◌, ◌≤◌, ◌<◌, ◌||◌, true, false, ℕ, List, [], ◌∷◌, ◌++◌, MatchOption, length};
+ghost use Rattle.std.specs.Prelude.{◌≡◌, ◌≤◌, ◌<◌, ◌||◌, true, false, ℕ, List, [], ◌∷◌, ◌++◌, MatchOption, OnErr, OnOk, length};
 ghost use Rattle.event_records.specs.declared.event.Event.{Event};
 ghost use Rattle.event_records.specs.Turns.{is_call};
 ghost use Rattle.history_merge.specs.Faults.{IsLeastPending, breaks_ticket_order, calls_initial, pending_call, repeats_value};
@@ -119,9 +119,7 @@ impl Forming {
         let Ok(added) = u32::try_from(self.operations.len()) else {
             return Err(HistoryFault::Memory);
         };
-        if self.operations.push(begun(event)).is_err() {
-            return Err(HistoryFault::Memory);
-        }
+        push(&mut self.operations, begun(event))?;
         self.pending[thread] = Some(added);
         self.last_ticket = Some(event.ticket);
         Ok(())
@@ -183,6 +181,19 @@ impl Forming {
         }
         least
     }
+}
+
+/// Adds an operation. Only where the list has to grow is this more than a store.
+#[inline(always)]
+fn push(operations: &mut Vec<PackedOperation>, operation: PackedOperation) -> Result<(), AllocError>
+    ensures added { OnOk result (operations.new.items ≡ operations.old.items ++ operation ∷ []) }
+    ensures kept { OnErr result (operations.new.items ≡ operations.old.items) }
+{
+    if operations.len() == operations.capacity() {
+        operations.reserve(1)?;
+    }
+    operations.push_reserved(operation);
+    Ok(())
 }
 
 /// Returns the operation of a call while it is pending.

@@ -262,23 +262,19 @@ impl<R: TextSource> TextReader<R> {
         item_in(self.lines, count, line.as_slice())
     }
 
-    /// Reads the next line of a text after this many items: an item, or none at the last line or the end of the
-    /// input.
+    /// Returns the next item after this many, if there is room for it and its line stands whole in the buffer.
     #[inline(always)]
-    fn next_item<T: Item>(&mut self, count: usize) -> Result<Option<T>, TextFault>
+    fn next_in_buffer<T: Item>(&mut self, count: usize) -> Option<T>
         requires { self.old.lines + 1 < 2 ^ 64 }
-        ensures ok { IfOk result (TakesItem T.format self.old.left self.new.left count) }
-        ensures fault { IfErr result (HasItemFault T.format (self.old.lines + 1) count self.old.left) }
-        ensures of_input { IfErr result IsOfInput }
-        ensures lines { self.new.lines ≡ self.old.lines + 1 }
+        ensures item { IfSome result (λ item. TakesItem T.format self.old.left self.new.left count (Some item)) }
+        ensures lines { IfSome result (λ _. self.new.lines ≡ self.old.lines + 1) }
+        ensures none { IfNone result (self.new ≡ self.old) }
         ensures is_stopped { self.new.is_stopped ≡ self.old.is_stopped }
     {
-        if count < T::most()
-            && let Some(item) = self.item_in_buffer()
-        {
-            return Ok(Some(item));
+        if count < T::most() {
+            return self.item_in_buffer();
         }
-        self.item_by_line(count)
+        None
     }
 
     /// Returns the item of the next line, which must be one.
@@ -338,13 +334,19 @@ impl<R: TextSource> TextReader<R> {
         ensures is_stopped { self.new.is_stopped ≡ self.old.is_stopped }
     {
         let mut count = 0;
-        while let Some(item) = self.next_item(count)? {
+        loop {
+            let item = match self.next_in_buffer(count) {
+                Some(item) => item,
+                None => match self.item_by_line(count)? {
+                    Some(item) => item,
+                    None => return Ok(()),
+                },
+            };
             if into.add(item).is_err() {
                 return Err(TextFault::Memory);
             }
             count += 1;
         }
-        Ok(())
     }
 
     /// Returns the items from here on, up to the last line or the end of the input.

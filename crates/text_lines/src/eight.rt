@@ -1,9 +1,49 @@
 //! Numbers whose digits are read eight at a time.
-ghost use Rattle.std.specs.Prelude.{◌≡◌, ◌+◌, ◌≤◌, ◌++◌, length, drop, decimal, IfSome};
+ghost use Rattle.std.specs.Prelude.{◌≡◌, ℕ, ◌+◌, ◌≤◌, ◌++◌, List, length, drop, decimal, IfSome};
+ghost use Rattle.std.specs.Int.{w64, from_le_bytes};
+ghost use Rattle.core.specs.Int.Digits.{number_from_digits};
+ghost use Rattle.core.specs.Dec2flt.Digits.{IsEightBytes, IsEightDigits};
 ghost use Rattle.text_lines.specs.Inner.Digits.{IsDigitsSoFar};
 
-use crate::scan::digits_front;
 use core::dec2flt::ten_to;
+
+/// The digit 0 in each byte.
+const ZEROS: u64 = 0x3030_3030_3030_3030;
+
+/// All bits but the highest of each byte.
+const LOW_BITS: u64 = 0x7f7f_7f7f_7f7f_7f7f;
+
+/// What carries a byte from 10 on into its highest bit.
+const TO_HIGH: u64 = 0x7676_7676_7676_7676;
+
+/// The highest bit of each byte.
+const HIGH_BITS: u64 = 0x8080_8080_8080_8080;
+
+/// Returns the number of eight digits, the first in the lowest byte: of pairs, of these pairs' pairs, and of all.
+#[inline(always)]
+fn value_of_digits(word: u64) -> u64
+    ensures { (digits : List ℕ) → IsEightDigits digits → word ≡ from_le_bytes w64 digits → result ≡ number_from_digits 10 digits }
+{
+    let pairs = word.wrapping_mul(10).wrapping_add(word >> 8);
+    let outer = (pairs & 0xff_0000_00ff).wrapping_mul(100 + (1_000_000 << 32));
+    let inner = ((pairs >> 16) & 0xff_0000_00ff).wrapping_mul(1 + (10_000 << 32));
+    outer.wrapping_add(inner) >> 32
+}
+
+/// Returns how many digits eight bytes begin with, and their value.
+#[inline(always)]
+fn digits_in(bytes: &[u8; 8]) -> (usize, u64)
+    ensures digits { IsDigitsSoFar bytes.now result.0 result.1 }
+    ensures most { result.0 ≤ 8 }
+{
+    let lanes = u64::from_le_bytes(*bytes) ^ ZEROS;
+    let others = ((lanes & LOW_BITS) + TO_HIGH | lanes) & HIGH_BITS;
+    let count = others.trailing_zeros() / 8;
+    if count == 0 {
+        return (0, 0);
+    }
+    (count as usize, value_of_digits(lanes << (64 - 8 * count)))
+}
 
 /// Returns how many digits stand at this place, up to eight, and their value.
 #[inline(always)]
@@ -12,7 +52,10 @@ fn eight_digits_at(bytes: &[u8], at: usize) -> (usize, u64)
     ensures digits { IsDigitsSoFar (drop at bytes.now) result.0 result.1 }
     ensures most { result.0 ≤ 8 }
 {
-    digits_front(&bytes[at..at + 8])
+    match bytes[at..at + 8].first_chunk() {
+        Some(eight) => digits_in(eight),
+        None => (0, 0),
+    }
 }
 
 /// Reads up to eight more digits after these at a place. Returns how many they all are, and their value, if that is in

@@ -1,17 +1,6 @@
 //! What stands at the front of some bytes, found in one pass.
 ghost use Rattle.std.specs.Prelude.{◌≡◌, ◌+◌, ◌≤◌, ◌++◌, length, IfSome, IfNone, List, ℕ, drop};
 ghost use Rattle.std.specs.Bool.{MatchBool};
-ghost use Rattle.text_lines.specs.Inner.Digits.{AreDigitsFront};
-
-use core::dec2flt::read_digits;
-
-/// Returns how many digits stand at the front, and their value in 64 bits.
-#[inline(always)]
-pub(crate) fn digits_front(bytes: &[u8]) -> (usize, u64)
-    ensures { AreDigitsFront bytes.now result.0 result.1 }
-{
-    read_digits(bytes, 0, 0)
-}
 
 /// Returns the place after the word that stands at this place. A word of eight bytes is compared at once.
 #[inline(always)]

@@ -21,7 +21,7 @@ use Rattle.history_merge.proofs.Distinct.{place_of}
 use Rattle.history_merge.proofs.DistinctValues.{each_more}
 use Rattle.history_merge.proofs.KnownValues.{is_eq-nat_cmp}
 use Rattle.value_match.specs.declared.others.Call.{Call}
-use Rattle.value_match.specs.Inner.Others.{IsCall, NoneOf, HoldsOthers, IsNearSource, HoldsNear}
+use Rattle.value_match.specs.Inner.Others.{AreNearWith, IsCall, NoneOf, HoldsOthers, IsNearSource, HoldsNear}
 use Rattle.value_match.specs.Inner.Sources.{IsCallPlace, IsSourceOf, HoldsSources}
 
 -- the place of the call for a value among the first n operations
@@ -281,3 +281,19 @@ found_all wanted operations n sources all known = record {
 pub other_call : (wanted : BTreeSet ℕ) (operations : List Operation) (calls : List Call) (v place : ℕ) → HoldsOthers wanted operations calls
     → Contains calls (record { value = v; place = place }) → IsCallPlace operations v (Some place)
 other_call wanted operations calls v place others among = All-contains (IsCall operations) calls (record { value = v; place = place }) others.are_calls among
+
+-- if there are no other calls, the sources that were found are all
+pub no_others : (operations : List Operation) (sources : List (Option ℕ)) (calls : List Call) → length calls ≡ 0 → AreNearWith operations sources calls
+    → HoldsSources operations sources
+no_others operations sources [] none (wanted, near, others) = record {
+  one_each = near.one_each;
+  each = λ i o at. settled o.kind (get_or sources i None) (near.each i o at);
+}
+  where
+    settled : (kind : OpKind) (source : Option ℕ) → IsNearSource wanted operations kind source → IsSourceOf operations kind source
+    settled (Deq v) None wanted_is = others.has_all v wanted_is (λ k d inside. absurd (omega (arith, inside)))
+    settled (Deq v) (Some p) is = is
+    settled (Enq v) source is = is
+    settled Empty source is = is
+    settled (Not v) source is = is
+no_others operations sources (call ∷ calls) none near = absurd (omega arith)

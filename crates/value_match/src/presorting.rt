@@ -19,8 +19,10 @@ fn presort_slice<T: Copy, F: Fn(&T) -> u64>(elements: &mut [T], number: &F)
     requires { F.IsAlwaysCallable number.now }
     ensures { IsPermutation elements.old elements.new }
 {
-    for place in 0..elements.len() {
-        if !presort_one(elements, number, place) {
+    for place in 1..elements.len() {
+        if number(&elements[place]) < number(&elements[place - 1])
+            && !presort_one(elements, number, place)
+        {
             return;
         }
     }

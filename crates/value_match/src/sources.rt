@@ -1,7 +1,7 @@
 ghost use Rattle.std.specs.Prelude.{◌≤◌, IfOk, IfSome, IsTrue, Some, length};
 ghost use Rattle.history_merge.specs.Complete.{AreComplete};
 ghost use Rattle.value_match.specs.Inner.Others.{AreNearWith, HoldsNear};
-ghost use Rattle.value_match.specs.Inner.Sources.{AreSources, HoldsSources, IsCallPlace};
+ghost use Rattle.value_match.specs.Inner.Sources.{AreSources, HoldsSources, HoldsTakers, IsCallPlace};
 ghost use Rattle.value_match.specs.Violations.{NoFreshViolation};
 
 use crate::fresh::comes_too_soon;
@@ -22,16 +22,22 @@ pub(crate) struct Sources {
     pub(crate) places: Vec<MaybePlace>,
     /// Whether it was seen that each value was there when it was dequeued.
     pub(crate) all_in_time: bool,
+    /// At each source the dequeue that takes from it, if it was seen that no two do.
+    pub(crate) takers: Option<Vec<MaybePlace>>,
 }
 
 /// Sources, of which some may not be found yet.
 #[derive(Drop)]
 struct NearSources {
     sources: Vec<MaybePlace>,
+    /// At each source that was found the last dequeue that takes from it.
+    takers: Vec<MaybePlace>,
     /// The values of the dequeues whose sources aren't found yet.
     wanted: BTreeSet<u64>,
     all_found: bool,
     all_in_time: bool,
+    /// Whether no two dequeues take from one source.
+    all_once: bool,
 }
 
 /// The sources of all dequeues.
@@ -50,10 +56,10 @@ pub(crate) fn sources_of(
     let near = near_sources(alloc, operations)?;
     let mut places = near.sources;
     if near.all_found {
-        let all_in_time = near.all_in_time;
         return Ok(Sources {
             places,
-            all_in_time,
+            all_in_time: near.all_in_time,
+            takers: near.all_once.then_some(near.takers),
         });
     }
     let others = others_of(alloc, operations, &near.wanted)?;
@@ -61,6 +67,7 @@ pub(crate) fn sources_of(
     Ok(Sources {
         places,
         all_in_time: false,
+        takers: None,
     })
 }
 
@@ -71,17 +78,21 @@ fn near_sources(alloc: Global, operations: &[PackedOperation]) -> Result<NearSou
     ensures near { IfOk result (λ near. HoldsNear near.wanted operations.now near.sources.items) }
     ensures all { IfOk result (λ near. IsTrue near.all_found → HoldsSources operations.now near.sources.items) }
     ensures in_time { IfOk result (λ near. IsTrue near.all_found → IsTrue near.all_in_time → NoFreshViolation operations.now) }
+    ensures once { IfOk result (λ near. IsTrue near.all_once → HoldsTakers near.sources.items near.takers.items) }
 {
     let mut sources = Vec::with_capacity(alloc, operations.len())?;
+    let mut takers = vec![in alloc; MaybePlace::none(); operations.len()]?;
     let mut calls = ThreadCalls::new(alloc, operations)?;
     let mut wanted = BTreeSet::new(alloc);
     let mut all_found = true;
     let mut all_in_time = true;
+    let mut all_once = true;
     let mut guess = Guess {
         from: 0,
         reach: REACH,
     };
     for operation in operations {
+        calls.note_next(operations);
         let operation = operation.unpack();
         let OpKind::Deq(value) = operation.kind else {
             sources.push(MaybePlace::none())?;
@@ -94,13 +105,17 @@ fn near_sources(alloc: Global, operations: &[PackedOperation]) -> Result<NearSou
             continue;
         };
         all_in_time = all_in_time && !comes_too_soon(operations, operation, place);
+        all_once = all_once && takers[place].get().is_none();
+        takers[place] = MaybePlace::some(sources.len());
         sources.push(MaybePlace::some(place))?;
     }
     Ok(NearSources {
         sources,
+        takers,
         wanted,
         all_found,
         all_in_time,
+        all_once,
     })
 }
 
@@ -122,12 +137,15 @@ impl Guess {
     ) -> Option<usize>
         ensures { IfSome result (λ place. IsCallPlace operations.now value (Some place)) }
     {
-        let found = match calls.find(operations, value) {
-            Some(place) => Some(place),
-            None => near_place(operations, value, self.from, self.reach),
-        };
+        if let Some(place) = calls.find(operations, value) {
+            self.from = place.saturating_add(1);
+            self.reach = REACH;
+            return Some(place);
+        }
+        let found = near_place(operations, value, self.from, self.reach);
         match found {
             Some(place) => {
+                calls.go_on_behind(value, place);
                 self.from = place.saturating_add(1);
                 self.reach = REACH;
             }
@@ -166,6 +184,9 @@ fn find_others(operations: &[PackedOperation], others: &[Call], sources: &mut [M
     requires near { AreNearWith operations.now sources.old others.now }
     ensures { HoldsSources operations.now sources.new }
 {
+    if others.is_empty() {
+        return;
+    }
     for (place, operation) in operations.iter().enumerate() {
         if sources[place].get().is_some() {
             continue;

@@ -1,4 +1,5 @@
-ghost use Rattle.std.specs.Prelude.{◌≡◌, ◌<◌, ◌↔◌, IfOk, IfSome, IsTrue, MatchOption, length, slice_index_or};
+ghost use Rattle.std.specs.Prelude.{◌≡◌, ◌<◌, ◌≤◌, ◌↔◌, IfOk, IfSome, IsTrue, MatchOption, length, nat_lt, slice_index_or, true, false};
+ghost use Rattle.std.specs.List.Sorted.{IsNonDecreasingBy, IsPartitionPoint};
 ghost use Rattle.value_match.specs.Choice.{StaysAtLeast};
 ghost use Rattle.value_match.specs.declared.life.MatchedValue.{MatchedValue};
 ghost use Rattle.value_match.specs.Longest.{EntersBefore, FindsLongest, IsLongerOf};
@@ -84,40 +85,44 @@ impl<'a> LongestTable<'a> {
     pub fn longest_before(&self, limit: u64) -> Option<MatchedValue>
         ensures { FindsLongest (EntersBefore limit) self.now result }
     {
-        let before = self
-            .fronts
-            .as_slice()
-            .partition_point(|front| front.enqueue_return < limit);
-        let last = before.checked_sub(1)?;
-        Some(self.values.get(self.fronts[last].place))
+        let mut start = self.fronts.len();
+        self.longest_before_from(&mut start, limit)
     }
 
     /// The same. The look-up begins at `start`, any place, and leaves there where it ended.
     ///
     /// Time O(log n) for n values, and a few steps where it ends near by: so for limits that rise, each beginning where the
     /// one before ended.
+    #[inline(always)]
     pub fn longest_before_from(&self, start: &mut usize, limit: u64) -> Option<MatchedValue>
         ensures { FindsLongest (EntersBefore limit) self.now result }
     {
         let fronts = self.fronts.as_slice();
-        let mut before = (*start).min(fronts.len());
-        let most = fronts.len().min(before.saturating_add(MOST_STEPS));
-        while before < most && fronts[before].enqueue_return < limit {
-            before += 1;
-        }
-        if before == most {
-            *start = fronts.partition_point(|front| front.enqueue_return < limit);
-            return self.longest_before(limit);
-        }
-        *start = before;
-        let last = before.checked_sub(1);
-        match last {
-            Some(last) if fronts[last].enqueue_return < limit => {
-                Some(self.values.get(fronts[last].place))
-            }
-            _ => self.longest_before(limit),
-        }
+        *start = count_before(fronts, *start, limit);
+        let last = start.checked_sub(1)?;
+        Some(self.values.get(fronts[last].place))
     }
+}
+
+/// How many of the fronts returned before the limit. It walks a few steps on from a place near by, and else searches.
+#[inline(always)]
+fn count_before(fronts: &[Front], near: usize, limit: u64) -> usize
+    requires { IsNonDecreasingBy (λ front. front.enqueue_return) fronts.now }
+    ensures within { result ≤ length fronts.now }
+    ensures cut { IsPartitionPoint (λ front. nat_lt front.enqueue_return limit ≡ true) (λ front. nat_lt front.enqueue_return limit ≡ false) fronts.now result }
+{
+    let mut before = near.min(fronts.len());
+    let most = fronts.len().min(before.saturating_add(MOST_STEPS));
+    while before < most && fronts[before].enqueue_return < limit {
+        before += 1;
+    }
+    if before < most
+        && let Some(last) = before.checked_sub(1)
+        && fronts[last].enqueue_return < limit
+    {
+        return before;
+    }
+    fronts.partition_point(|front| front.enqueue_return < limit)
 }
 
 /// The enqueue returns and places of the values, in the order of the values.

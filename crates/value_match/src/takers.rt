@@ -1,11 +1,12 @@
 ghost use Rattle.std.specs.Prelude.{◌≡◌, ◌⊎◌, ◌<◌, ◌≤◌, ⊤, IfOk, MatchOption, length};
 ghost use Rattle.history_merge.specs.Complete.{AreComplete};
 ghost use Rattle.value_match.specs.Inner.MatchOutcome.{AreTakers};
-ghost use Rattle.value_match.specs.Inner.Sources.{HoldsSources, return_at};
+ghost use Rattle.value_match.specs.Inner.Sources.{AreSources, HoldsSources, return_at};
 ghost use Rattle.value_match.specs.Violations.{NoFreshViolation};
 
 use crate::matching::MAX_MATCHED;
 use crate::maybe_place::MaybePlace;
+use crate::sources::Sources;
 use history_merge::{OpId, PackedOperation};
 use std::alloc::{AllocError, Global};
 
@@ -28,6 +29,29 @@ pub(crate) enum Takers {
 
 /// What takes from the sources of all dequeues. Time O(n).
 pub(crate) fn takers_of(
+    alloc: Global,
+    operations: &[PackedOperation],
+    sources: Sources,
+) -> Result<Takers, AllocError>
+    requires complete { AreComplete operations.now }
+    requires few { length operations.now ≤ MAX_MATCHED }
+    requires sources { AreSources operations.now sources }
+    requires no_fresh { NoFreshViolation operations.now }
+    ensures { IfOk result (AreTakers operations.now sources.places.items) }
+{
+    let Sources {
+        places,
+        all_in_time: _all_in_time,
+        takers,
+    } = sources;
+    match takers {
+        Some(takers) => Ok(Takers::Once(takers)),
+        None => find_takers(alloc, operations, places.as_slice()),
+    }
+}
+
+/// The same by looking at each source.
+fn find_takers(
     alloc: Global,
     operations: &[PackedOperation],
     sources: &[MaybePlace],

@@ -1,117 +1,157 @@
-ghost use Rattle.std.specs.Prelude.{◌≤◌, IfSome, Some, length};
+ghost use Rattle.std.specs.Prelude.{◌<◌, ◌≤◌, IfSome, Some, length};
+ghost use Rattle.event_records.specs.declared.limits.TheConstants.{MAX_THREADS};
 ghost use Rattle.value_match.specs.Inner.Sources.{IsCallPlace};
 
 use crate::matching::MAX_MATCHED;
 use crate::others::is_called_at;
 use event_records::{MAX_THREADS, NAMES_OF_A_THREAD};
-use history_merge::{Operation, PackedOperation};
+use history_merge::{OpKind, PackedOperation};
 use std::alloc::{AllocError, Global};
 
-/// How far from the call for a thread's value dequeued last the call for its next is looked for.
+/// How many calls of a thread are looked at for one value at most.
 const REACH: usize = 8;
 
-/// The places of the calls to enqueue by their threads, and for each thread where among them the call for its next value is
-/// looked for first. A recorder puts the thread into the upper half of a value's bits, and the values of one thread leave
-/// nearly in the order of their calls.
+/// How many operations are noted ahead of the one that is matched: a dequeue may be called before its value.
+const AHEAD: usize = 1024;
+
+/// For each thread the accepted calls to enqueue whose values weren't found yet, in their order. A recorder puts the thread
+/// into the upper half of a value's bits, and the values of one thread leave nearly in the order of their calls.
 ///
-/// Nothing rests on where it looks first: `find` gives only a place at which the value was called.
+/// Nothing rests on these lists: `find` gives only a place at which the value was called.
 #[derive(Drop)]
 pub(crate) struct ThreadCalls {
-    places: Vec<u32>,
-    next: [u32; MAX_THREADS],
+    /// For each link the next one of its list, or 0. A list begins at the link of its thread, and the link of the operation
+    /// at place p is p + `MAX_THREADS`.
+    next: Vec<u32>,
+    /// The last link of each thread's list.
+    last: [u32; MAX_THREADS],
+    noted: u32,
+    reach: usize,
 }
 
 impl ThreadCalls {
-    /// The calls of these operations. It takes half a word for each.
+    /// The calls of these operations, of which the first are noted. It takes half a word for each operation.
     pub(crate) fn new(
         alloc: Global,
         operations: &[PackedOperation],
     ) -> Result<ThreadCalls, AllocError>
         requires { length operations.now ≤ MAX_MATCHED }
     {
-        let (starts, count) = starts_of(operations);
-        let mut ends = starts;
-        let mut places = vec![in alloc; 0; count as usize]?;
-        for (place, operation) in operations.iter().enumerate() {
-            let operation = operation.unpack();
-            let thread = usize::from(operation.thread) % MAX_THREADS;
-            let end = ends[thread];
-            // What isn't a call is written too, without a branch, and the thread's next call takes its place.
-            if let Ok(end) = usize::try_from(end)
-                && let Some(called) = places.get_mut(end)
-            {
-                *called = place as u32;
-            }
-            ends[thread] = end.wrapping_add(calls_of(operation));
+        let mut calls = ThreadCalls {
+            next: vec![in alloc; 0; operations.len() + MAX_THREADS]?,
+            last: heads(),
+            noted: 0,
+            reach: REACH,
+        };
+        for _ in 0..AHEAD {
+            calls.note_next(operations);
         }
-        Ok(ThreadCalls {
-            places,
-            next: starts,
-        })
+        Ok(calls)
     }
 
-    /// Returns the place of the call for this value, if it is near that of the last value found of the thread that its name
-    /// gives.
+    /// Notes the next operation.
+    #[inline(always)]
+    pub(crate) fn note_next(&mut self, operations: &[PackedOperation]) {
+        let Some(operation) = operations.get(self.noted as usize) else {
+            return;
+        };
+        let operation = operation.unpack();
+        let thread = usize::from(operation.thread) % MAX_THREADS;
+        let last = self.last[thread];
+        let link = link_of(self.noted);
+        // What isn't such a call is written too, without a branch, and the thread's next call takes its place.
+        self.set_next(last, link);
+        let is_call = matches!(operation.kind, OpKind::Enq(_));
+        self.last[thread] = if is_call { link } else { last };
+        self.noted = self.noted.wrapping_add(1);
+    }
+
+    /// Returns the place of the call for this value, if it is among the first of the thread that its name gives, and takes it
+    /// from the list. After each miss it looks half as far.
     #[inline(always)]
     pub(crate) fn find(&mut self, operations: &[PackedOperation], value: u64) -> Option<usize>
         ensures { IfSome result (λ place. IsCallPlace operations.now value (Some place)) }
     {
-        let thread = (value / NAMES_OF_A_THREAD % MAX_THREADS as u64) as usize;
-        let from = self.next[thread];
-        for distance in 0..REACH as u32 {
-            let after = from.saturating_add(distance);
-            if let Some(place) = self.called_at(operations, value, after) {
-                self.next[thread] = after.saturating_add(1);
+        let thread = thread_in(value);
+        let mut before = thread as u32;
+        for _ in 0..self.reach {
+            let link = self.next_of(before);
+            let Some(place) = (link as usize).checked_sub(MAX_THREADS) else {
+                break;
+            };
+            if is_called_at(operations, value, place) {
+                self.take(thread, before, link);
+                self.reach = REACH;
                 return Some(place);
             }
-            let before = from.saturating_sub(distance).saturating_sub(1);
-            if let Some(place) = self.called_at(operations, value, before) {
-                self.next[thread] = before.saturating_add(1);
-                return Some(place);
-            }
+            before = link;
         }
+        self.reach = (self.reach / 2).max(1);
         None
     }
 
-    /// Returns the place that stands here in the list, if this value was called there.
+    /// Takes a link from this thread's list, in which it comes after the other.
     #[inline(always)]
-    fn called_at(&self, operations: &[PackedOperation], value: u64, at: u32) -> Option<usize>
-        ensures { IfSome result (λ place. IsCallPlace operations.now value (Some place)) }
+    fn take(&mut self, thread: usize, before: u32, link: u32)
+        requires { thread < MAX_THREADS }
     {
-        let place = *self.places.get(at as usize)? as usize;
-        if is_called_at(operations, value, place) {
-            Some(place)
-        } else {
-            None
+        let behind = self.next_of(link);
+        self.set_next(before, behind);
+        if self.last[thread] == link {
+            self.last[thread] = before;
+        }
+    }
+
+    /// Goes on behind the call at this place, where the value was found otherwise.
+    #[inline(always)]
+    pub(crate) fn go_on_behind(&mut self, value: u64, place: usize) {
+        let Ok(place) = u32::try_from(place) else {
+            return;
+        };
+        let thread = thread_in(value);
+        let link = link_of(place);
+        let behind = self.next_of(link);
+        self.set_next(thread as u32, behind);
+        if self.last[thread] <= link {
+            self.last[thread] = thread as u32;
+        }
+    }
+
+    #[inline(always)]
+    fn next_of(&self, link: u32) -> u32 {
+        match self.next.get(link as usize) {
+            Some(next) => *next,
+            None => 0,
+        }
+    }
+
+    #[inline(always)]
+    fn set_next(&mut self, link: u32, to: u32) {
+        if let Some(next) = self.next.get_mut(link as usize) {
+            *next = to;
         }
     }
 }
 
-/// For each thread how many calls to enqueue those of lower number have, and how many there are of all, with one more for each
-/// thread.
-fn starts_of(operations: &[PackedOperation]) -> ([u32; MAX_THREADS], u32) {
-    let mut counts = [1u32; MAX_THREADS];
-    for operation in operations {
-        let operation = operation.unpack();
-        let thread = usize::from(operation.thread) % MAX_THREADS;
-        counts[thread] = counts[thread].wrapping_add(calls_of(operation));
-    }
-    sums_before(counts)
-}
-
-/// 1 for a call to enqueue, and 0 for one to dequeue.
+/// The link of the operation at this place.
 #[inline(always)]
-fn calls_of(operation: Operation) -> u32 {
-    u32::from(operation.kind.enqueued_value().is_some())
+fn link_of(place: u32) -> u32 {
+    place.wrapping_add(MAX_THREADS as u32)
 }
 
-/// For each number the sum of those before it, and the sum of all.
-fn sums_before(counts: [u32; MAX_THREADS]) -> ([u32; MAX_THREADS], u32) {
-    let mut sums = [0; MAX_THREADS];
-    let mut sum = 0u32;
+/// The thread in the name of a value.
+#[inline(always)]
+fn thread_in(value: u64) -> usize
+    ensures { result < MAX_THREADS }
+{
+    (value / NAMES_OF_A_THREAD % MAX_THREADS as u64) as usize
+}
+
+/// The links at which the lists begin.
+fn heads() -> [u32; MAX_THREADS] {
+    let mut heads = [0; MAX_THREADS];
     for thread in 0..MAX_THREADS {
-        sums[thread] = sum;
-        sum = sum.wrapping_add(counts[thread]);
+        heads[thread] = thread as u32;
     }
-    (sums, sum)
+    heads
 }

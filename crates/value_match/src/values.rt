@@ -60,7 +60,7 @@ fn find(alloc: Global, operations: &[PackedOperation]) -> Result<MatchOutcome, A
     if let Some(places) = first_fresh(operations, &sources) {
         return Ok(MatchOutcome::Fresh(places));
     }
-    match takers_of(alloc, operations, sources.places.as_slice())? {
+    match takers_of(alloc, operations, sources)? {
         Takers::Once(dequeues) => {
             let sorted = sorted_out(alloc, operations, dequeues.as_slice())?;
             Ok(MatchOutcome::Clear(sorted))

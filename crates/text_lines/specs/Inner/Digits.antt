@@ -1,5 +1,5 @@
 -- Digits at the front of bytes.
-use Rattle.std.specs.Prelude.{◌≡◌, ℕ, ◌≤◌, ◌^◌, ◌%◌, List, length, take, true}
+use Rattle.std.specs.Prelude.{◌≡◌, ℕ, ◌≤◌, List, length, take, true}
 use Rattle.std.specs.List.{list_all}
 use Rattle.std.specs.Char.{is_ascii_digit}
 use Rattle.std.specs.Str.Parse.{digits_value}
@@ -9,8 +9,3 @@ pub record IsDigitsSoFar (bytes : List ℕ) (count value : ℕ) : Type 0 where
   pub within : count ≤ length bytes
   pub digits : list_all is_ascii_digit (take count bytes) ≡ true
   pub value_is : value ≡ digits_value 10 (take count bytes)
-
--- the first bytes are digits, and this is their value in 64 bits
-pub record AreDigitsFront (bytes : List ℕ) (count value : ℕ) : Type 0 where
-  pub so_far : IsDigitsSoFar bytes count (digits_value 10 (take count bytes))
-  pub value_is : value ≡ digits_value 10 (take count bytes) % 2 ^ 64

@@ -1,5 +1,5 @@
 -- From each dequeue to the call that enqueued its value, and back.
-use Rattle.std.specs.Prelude.{◌≡◌, ℕ, List, length, slice_get, slice_index_or, Option, Some, None, Contains, IsTrue}
+use Rattle.std.specs.Prelude.{◌≡◌, ℕ, List, length, slice_get, slice_index_or, Option, Some, None, Contains, IfSome, IsTrue}
 use Rattle.std.specs.Option.{option_map_or}
 use Rattle.history_merge.specs.declared.operation.Operation.{Operation}
 use Rattle.history_merge.specs.declared.operation.OpKind.{OpKind}
@@ -24,11 +24,6 @@ pub record HoldsSources (operations : List Operation) (sources : List (Option �
   pub one_each : length sources ≡ length operations
   pub each : (i : ℕ) (o : Operation) → IsAt operations i o → IsSourceOf operations o.kind (slice_index_or sources i None)
 
--- the places are the sources; if all were seen to be in time, no dequeue is of a value that was not there
-pub record AreSources (operations : List Operation) (sources : Sources) : Type 0 where
-  pub holds : HoldsSources operations sources.places.items
-  pub in_time : IsTrue sources.all_in_time → NoFreshViolation operations
-
 -- the operation is a dequeue of a value that was not there; the call for its value, if there is one, is at the place
 abbrev pub IsFreshFrom : List Operation → Option ℕ → Operation → Type 0
 IsFreshFrom operations source deq = (enq : Option Operation) × IsMaybeAt operations source enq × IsFreshViolation operations deq enq
@@ -42,6 +37,12 @@ pub record HoldsTakers (sources takers : List (Option ℕ)) : Type 0 where
   pub one_each : length takers ≡ length sources
   pub taken : (p i : ℕ) → slice_index_or takers p None ≡ Some i → TakesFrom sources i p
   pub takes : (i p : ℕ) → TakesFrom sources i p → slice_index_or takers p None ≡ Some i
+
+-- the places are the sources; if all were seen to be in time, no dequeue is of a value that was not there; and the takers are theirs, if they are known
+pub record AreSources (operations : List Operation) (sources : Sources) : Type 0 where
+  pub holds : HoldsSources operations sources.places.items
+  pub in_time : IsTrue sources.all_in_time → NoFreshViolation operations
+  pub takers : IfSome sources.takers (λ takers. HoldsTakers sources.places.items takers.items)
 
 -- the return of the operation at this place
 abbrev pub return_at : List Operation → ℕ → ℕ

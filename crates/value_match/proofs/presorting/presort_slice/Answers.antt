@@ -1,8 +1,12 @@
 use Rattle.std.proofs.lemmas.List.Sorted.{IsPermutation-trans}
 use Rattle.value_match.proofs.presorting.presort_slice.Goals as goal
+use Rattle.value_match.proofs.presorting.presort_slice.Goals.{else-number-via-then-number+else-not-presort_one, else-number-via-else-number}
 
 pub loop-place-preserved : goal.loop-place-preserved
-loop-place-preserved g c = IsPermutation-trans _ _ _ c.loop-place.invariant c.presort_one.ensures
+loop-place-preserved g c = elim c.else-number.branch [
+  | else-number-via-then-number+else-not-presort_one w ↦ rw w.elements-is (IsPermutation-trans _ _ _ c.loop-place.invariant w.presort_one.ensures)
+  | else-number-via-else-number w ↦ rw w.elements-is c.loop-place.invariant
+]
 
 pub returns-then-not-presort_one : goal.returns-then-not-presort_one
 returns-then-not-presort_one g c = IsPermutation-trans _ _ _ c.loop-place.invariant c.presort_one.ensures

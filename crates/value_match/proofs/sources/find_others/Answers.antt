@@ -1,11 +1,12 @@
 use Rattle.std.proofs.Common.{◌≡◌, ℕ, arith, ap, sym, subst, ◌∙◌, false, Option, None, Some, refl}
 use Rattle.std.specs.Prelude.{is_some}
 use Rattle.std.proofs.lemmas.Bool.{false≢true}
+use Rattle.std.proofs.lemmas.Bool.Decides.{nat_tests}
 use Rattle.std.proofs.lemmas.List.{get_or_read}
 use Rattle.std.proofs.lemmas.Option.{slice_get-get_or, slice_get_read}
 use Rattle.history_merge.specs.declared.operation.OpKind.TheVariants.{Enq}
 use Rattle.value_match.specs.Inner.Sources.{IsSourceOf}
-use Rattle.value_match.proofs.CallPlaces.{call_within, found_all, found_here, found_more, found_nowhere, near_source, no_source, other_call}
+use Rattle.value_match.proofs.CallPlaces.{call_within, found_all, found_here, found_more, found_nowhere, near_source, no_others, no_source, other_call}
 use Rattle.value_match.proofs.sources.find_others.Goals as goal
 use Rattle.value_match.proofs.sources.find_others.Goals.{in-Some, in_default-place_among}
 
@@ -57,6 +58,9 @@ loop-place-preserved c =
         known.2,
       )
     ]
+
+pub returns-then-is_empty : goal.returns-then-is_empty
+returns-then-is_empty c = no_others c.args.operations.now c.args.sources.now c.args.others.now (grind (arith, nat_tests, c.if-is_empty.ensures)) c.requires.near
 
 pub returns : goal.returns
 returns c = found_all _ _ _ _ c.loop-place-test.false c.loop-place.invariant.1

@@ -13,6 +13,6 @@ returns c = λ initial events known order called repeats.
     let none = none_pending_at events e.thread c.args.self.now c.requires.thread known (rw c.from-thread.ensures at (none_is _ c.if-is_some.ensures)) in
     let place : c.in-Ok.added ≡ length c.args.self.now.operations.items = omega (arith, c.len.ensures) in (
       formed_after_call events e c.args.self.now _ c.requires.thread called none known
-          (rw (c.push.ensures.items, c.if-is_err.ensures.negation, c.begun.ensures) refl) refl (rw (c.from-thread.ensures, place) refl),
+          (rw (c.in_ok-push.ensures.added, c.begun.ensures) refl) refl (rw (c.from-thread.ensures, place) refl),
       fault_of_call initial events c.args.place e order c.requires.thread called ∙ rw (none, sym repeats ∙ c.if-repeats.false) refl,
     )

@@ -1,36 +1,61 @@
-use Rattle.history_text.proofs.Common.{[], ◌++◌, ◌+◌, ◌∙◌, ◌∷◌, ◌≡◌, arith, err_from_is_err_and, length, length-append}
-use Rattle.history_text.proofs.Common.{Option, subst, TakesItem}
+use Rattle.history_text.proofs.Common.{[], ◌++◌, ◌+◌, ◌∙◌, ◌∷◌, ◌≡◌, ℕ, arith, err_from_is_err_and, length, length-append}
+use Rattle.history_text.proofs.Common.{Option, Some, TakesItem, subst}
+use Rattle.history_text.specs.Items.{Format}
+use Rattle.history_text.specs.Reading.{Input}
 use Rattle.history_text.proofs.FirstFaults.{item_is_first, HaveLines-push, no_room, on_ok, takes_item}
 use Rattle.history_text.proofs.reader.TextReader.collect_items.Goals as goal
+use Rattle.history_text.proofs.reader.TextReader.collect_items.Goals.{in-Some, in-None+in_ok-item-in-None+in-Some-2}
 
-pub returns-in_err-item-clause-fault : goal.returns-in_err-item-clause-fault
-returns-in_err-item-clause-fault g c =
+-- the next item, from the buffer or by its line
+record IsNext {A : Type 0} (format : Format A) (old new : Input) (count : ℕ) (item : Option A) : Type 0 where
+  pub taken : TakesItem format old.left new.left count item
+  pub lines : new.lines ≡ old.lines + 1
+  pub is_stopped : new.is_stopped ≡ old.is_stopped
+
+-- where nothing stood in the buffer it is what the line gave
+by_line : {A : Type 0} (format : Format A) (old same new : Input) (count : ℕ) (found item : Option A) → same ≡ old → found ≡ item
+    → IsNext format same new count found → IsNext format old new count item
+by_line format old same new count found item none is next =
+    subst (λ i. IsNext format old new count i) is (subst (λ o. IsNext format o new count found) none next)
+
+pub returns-in_err-item-in-None-clause-fault : goal.returns-in_err-item-in-None-clause-fault
+returns-in_err-item-in-None-clause-fault g c =
     let p = err_from_is_err_and c.from_residual.result c.from_residual.ensures.1 in
     let known = c.loop-item.invariant in
     let place : c.loop-item.self.lines + 1 ≡ c.args.self.now.lines + 1 + length known.items = omega (arith, known.lines, known.count) in
     rw (p.1, p.2) (item_is_first g.T.Item.format (c.args.self.now.lines + 1)
-    (c.loop-item.self.lines + 1) known.items c.loop-item.count _ _ c.in_err-item.field-0.0 c.in_err-item.ensures.of_input known.right known.taken
-    known.count place c.in_err-item.ensures.fault)
+    (c.loop-item.self.lines + 1) known.items c.loop-item.count _ _ c.in_err-item-in-None.field-0.0 c.in_err-item-in-None.ensures.of_input known.right known.taken
+    known.count place (rw c.in-None.ensures.none at c.in_err-item-in-None.ensures.fault))
 
 pub returns-then-is_err-clause-fault : goal.returns-then-is_err-clause-fault
 returns-then-is_err-clause-fault g c =
     let known = c.loop-item.invariant in
-    let item = subst (λ (i : Option g.row.T.Denot). TakesItem g.T.Item.format c.loop-item.self.left c.next_item.new.self.left c.loop-item.count i)
-    c.in-Some.is c.in_ok-item.ensures.ok in
-    no_room g.T.Item.format known.items c.in-Some.item _ _ _ known.right known.taken (omega (arith, known.count, item.2)) item.1 item.0
+    let next : IsNext g.T.Item.format c.loop-item.self c.match-next_in_buffer.self c.loop-item.count (Some c.match-next_in_buffer.item) =
+    elim c.match-next_in_buffer.branch [
+      | in-Some w ↦ rw (w.self-is, w.item-is) (record { taken = w.in-Some.ensures.item; lines = w.in-Some.ensures.lines; is_stopped = w.in-Some.ensures.is_stopped })
+      | in-None+in_ok-item-in-None+in-Some-2 w ↦
+          rw (w.self-is, w.item-is) (by_line g.T.Item.format _ _ _ _ _ _ w.in-None.ensures.none w.in-Some-2.is
+          (record { taken = w.in_ok-item-in-None.ensures.ok; lines = w.item_by_line.ensures.lines; is_stopped = w.item_by_line.ensures.is_stopped }))
+    ] in
+    no_room g.T.Item.format known.items c.match-next_in_buffer.item _ _ _ known.right known.taken (omega (arith, known.count, next.taken.2)) next.taken.1 next.taken.0
 
 pub loop-item-preserved : goal.loop-item-preserved
 loop-item-preserved g c =
     let known = c.loop-item.invariant in
-    let item = subst (λ (i : Option g.row.T.Denot). TakesItem g.T.Item.format c.loop-item.self.left c.next_item.new.self.left c.loop-item.count i)
-    c.in-Some.is c.in_ok-item.ensures.ok in
+    let next : IsNext g.T.Item.format c.loop-item.self c.match-next_in_buffer.self c.loop-item.count (Some c.match-next_in_buffer.item) =
+    elim c.match-next_in_buffer.branch [
+      | in-Some w ↦ rw (w.self-is, w.item-is) (record { taken = w.in-Some.ensures.item; lines = w.in-Some.ensures.lines; is_stopped = w.in-Some.ensures.is_stopped })
+      | in-None+in_ok-item-in-None+in-Some-2 w ↦
+          rw (w.self-is, w.item-is) (by_line g.T.Item.format _ _ _ _ _ _ w.in-None.ensures.none w.in-Some-2.is
+          (record { taken = w.in_ok-item-in-None.ensures.ok; lines = w.item_by_line.ensures.lines; is_stopped = w.item_by_line.ensures.is_stopped }))
+    ] in
     record {
-      items = known.items ++ c.in-Some.item ∷ [];
-      right = HaveLines-push g.T.Item.format known.items c.in-Some.item known.right item.1 (omega (arith, known.count, item.2));
-      taken = takes_item g.T.Item.format known.items c.in-Some.item _ _ _ known.taken item.0;
+      items = known.items ++ c.match-next_in_buffer.item ∷ [];
+      right = HaveLines-push g.T.Item.format known.items c.match-next_in_buffer.item known.right next.taken.1 (omega (arith, known.count, next.taken.2));
+      taken = takes_item g.T.Item.format known.items c.match-next_in_buffer.item _ _ _ known.taken next.taken.0;
       held = on_ok c.add.result _ c.if-is_err.ensures.value
-          (c.add.ensures _ known.items known.held (omega (arith, known.count, item.2, g.met.T.Item.few)));
+          (c.add.ensures _ known.items known.held (omega (arith, known.count, next.taken.2, g.met.T.Item.few)));
       count = simp length-append (omega (arith, known.count));
-      lines = omega (arith, c.next_item.ensures.lines, known.lines);
-      is_stopped = c.next_item.ensures.is_stopped ∙ known.is_stopped;
+      lines = omega (arith, next.lines, known.lines);
+      is_stopped = next.is_stopped ∙ known.is_stopped;
     }

@@ -4,8 +4,8 @@ use Rattle.std.proofs.lemmas.List.{get_or_read}
 use Rattle.value_match.specs.Inner.Sources.{TakesFrom, return_at}
 use Rattle.value_match.proofs.RepeatedDequeues.{IsSoonest, Once, distinct_returns, found_inside, met_again, met_first}
 use Rattle.value_match.proofs.RepeatedDequeues.{met_nothing, met_skip, once_taken, repeat_chosen, source_inside, source_read}
-use Rattle.value_match.proofs.takers.takers_of.Goals as goal
-use Rattle.value_match.proofs.takers.takers_of.Goals.{In-Some, In-Some-get, After-in_order-pair}
+use Rattle.value_match.proofs.takers.find_takers.Goals as goal
+use Rattle.value_match.proofs.takers.find_takers.Goals.{In-Some, In-Some-get, After-in_order-pair}
 
 -- the operation takes from the source that was read
 from : (c : In-Some) → TakesFrom c.args.sources.now c.loop-place.place c.in-Some.source

@@ -1,5 +1,5 @@
 use Rattle.std.proofs.Common.{◌-◌, ◌≤◌}
-use Rattle.value_match.proofs.table.LongestTable.longest_before_from.Given as goal
+use Rattle.value_match.proofs.table.count_before.Given as goal
 
 abbrev pub invariant-loop-before : goal.invariant-loop-before
 invariant-loop-before l = l.before ≤ l.most

@@ -1,6 +1,6 @@
 use Rattle.value_match.specs.Inner.Sources.{return_at}
 use Rattle.value_match.proofs.RepeatedDequeues.{HasMet}
-use Rattle.value_match.proofs.takers.takers_of.Given as goal
+use Rattle.value_match.proofs.takers.find_takers.Given as goal
 
 abbrev pub invariant-loop-place : goal.invariant-loop-place
 invariant-loop-place l = HasMet (return_at l.operations) l.sources l.firsts.items l.place l.found
