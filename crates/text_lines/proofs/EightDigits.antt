@@ -1,5 +1,6 @@
 -- Digits that are read eight at a time.
-use Rattle.std.proofs.Common.{◌≡◌, ℕ, ◌+◌, ◌-◌, ◌*◌, ◌/◌, ◌%◌, ◌^◌, ◌<◌, ◌≤◌, List, [], ◌∷◌, ◌++◌, length, map, take, drop, get_or, bit_and, bit_or, bit_xor, eqb}
+use Rattle.std.proofs.Common.{◌≡◌, ℕ, ◌+◌, ◌-◌, ◌*◌, ◌/◌, ◌%◌, ◌^◌, ◌<◌, ◌≤◌, List}
+use Rattle.std.proofs.Common.{[], ◌∷◌, ◌++◌, length, map, take, drop, get_or, bit_and, bit_or, bit_xor, eqb}
 use Rattle.std.proofs.Common.{arith, ap, sym, ◌∙◌, refl, inl, inr, length-drop, add-zero}
 use Rattle.std.specs.Char.{is_ascii_digit}
 use Rattle.std.specs.Int.{w64, from_le_bytes, trailing_zeros}
@@ -53,7 +54,8 @@ module _ (xs : List ℕ) (word others count : ℕ) (eight : IsEightBytes xs) (is
       | inl some ↦ count_is ∙ sym (first_other xs word eight number others (λ byte fit by. others_are ∙ flags_from_ten lanes byte fit by) some).0
       | inr none ↦
           let zero : others ≡ 0 = omega (arith, none) in
-          count_is ∙ ap (λ n. trailing_zeros w64 n / 8) zero ∙ sym (all_digits xs word eight number others (λ byte fit by. others_are ∙ flags_from_ten lanes byte fit by) zero)
+          let all = all_digits xs word eight number others (λ byte fit by. others_are ∙ flags_from_ten lanes byte fit by) zero in
+          count_is ∙ ap (λ n. trailing_zeros w64 n / 8) zero ∙ sym all
     ]
 
     pub most : count ≤ 8

@@ -1,6 +1,7 @@
 -- Lists of which the keys rise, with the same elements, are one list; so are lists of what stands beside the same elements, and lists
 -- that are the same one by one.
-use Rattle.verdicts.proofs.Common.{[], ◌+◌, ◌++◌, ◌<◌, ◌↔◌, ◌∙◌, ◌∷◌, ◌≡◌, ◌≤◌, ◌⊎◌, AllPairs, AllZip, ap, ap₂, append-nil, append_assoc, arith}
+use Rattle.verdicts.proofs.Common.{[], ◌+◌, ◌++◌, ◌<◌, ◌↔◌, ◌∙◌, ◌∷◌, ◌≡◌, ◌≤◌}
+use Rattle.verdicts.proofs.Common.{◌⊎◌, AllPairs, AllZip, ap, ap₂, append-nil, append_assoc, arith}
 use Rattle.verdicts.proofs.Common.{cases_order, Contains, length, length-append, take, take_all, take_more}
 use Rattle.std.proofs.Common.{length-take-le}
 use Rattle.std.proofs.Math.Seq.{get_or-append_seam}

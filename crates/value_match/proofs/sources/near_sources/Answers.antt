@@ -1,4 +1,5 @@
-use Rattle.std.proofs.Common.{◌≡◌, ◌<◌, ℕ, Bool, true, not, [], ◌∷◌, ◌++◌, set, length, get_or, arith, subst, sym, Option, Some, None, ◌∙◌, ap, refl, length-set}
+use Rattle.std.proofs.Common.{◌≡◌, ◌<◌, ℕ, Bool, true, not, [], ◌∷◌, ◌++◌, set, length}
+use Rattle.std.proofs.Common.{get_or, arith, subst, sym, Option, Some, None, ◌∙◌, ap, refl, length-set}
 use Rattle.std.specs.Prelude.{is_some}
 use Rattle.std.proofs.lemmas.List.{get_or_read, length-replicate}
 use Rattle.std.proofs.lemmas.Bool.{false≢true}
