@@ -3,8 +3,9 @@ use Rattle.history_text.proofs.Common.{Option, Some, TakesItem, subst}
 use Rattle.history_text.specs.Items.{Format}
 use Rattle.history_text.specs.Reading.{Input}
 use Rattle.history_text.proofs.FirstFaults.{item_is_first, HaveLines-push, no_room, on_ok, takes_item}
+use Rattle.history_text.proofs.reader.TextReader.collect_items.Given.{Over}
 use Rattle.history_text.proofs.reader.TextReader.collect_items.Goals as goal
-use Rattle.history_text.proofs.reader.TextReader.collect_items.Goals.{in-Some, in-None+in_ok-item-in-None+in-Some-2}
+use Rattle.history_text.proofs.reader.TextReader.collect_items.Goals.{After-add, in-Some, in-None+in_ok-item-in-None+in-Some-2}
 
 -- the next item, from the buffer or by its line
 record IsNext {A : Type 0} (format : Format A) (old new : Input) (count : ℕ) (item : Option A) : Type 0 where
@@ -18,6 +19,17 @@ by_line : {A : Type 0} (format : Format A) (old same new : Input) (count : ℕ) 
 by_line format old same new count found item none is next =
     subst (λ i. IsNext format old new count i) is (subst (λ o. IsNext format o new count found) none next)
 
+-- the next item comes from the buffer or by its line
+next_is : (g : Over) (c : After-add g)
+    → IsNext g.T.Item.format c.loop-item.self c.match-next_in_buffer.self c.loop-item.count (Some c.match-next_in_buffer.item)
+next_is g c =
+    elim c.match-next_in_buffer.branch [
+      | in-Some w ↦ rw (w.self-is, w.item-is) (record { taken = w.in-Some.ensures.item; lines = w.in-Some.ensures.lines; is_stopped = w.in-Some.ensures.is_stopped })
+      | in-None+in_ok-item-in-None+in-Some-2 w ↦
+          rw (w.self-is, w.item-is) (by_line g.T.Item.format _ _ _ _ _ _ w.in-None.ensures.none w.in-Some-2.is
+          (record { taken = w.in_ok-item-in-None.ensures.ok; lines = w.item_by_line.ensures.lines; is_stopped = w.item_by_line.ensures.is_stopped }))
+    ]
+
 pub returns-in_err-item-in-None-clause-fault : goal.returns-in_err-item-in-None-clause-fault
 returns-in_err-item-in-None-clause-fault g c =
     let p = err_from_is_err_and c.from_residual.result c.from_residual.ensures.1 in
@@ -30,25 +42,13 @@ returns-in_err-item-in-None-clause-fault g c =
 pub returns-then-is_err-clause-fault : goal.returns-then-is_err-clause-fault
 returns-then-is_err-clause-fault g c =
     let known = c.loop-item.invariant in
-    let next : IsNext g.T.Item.format c.loop-item.self c.match-next_in_buffer.self c.loop-item.count (Some c.match-next_in_buffer.item) =
-    elim c.match-next_in_buffer.branch [
-      | in-Some w ↦ rw (w.self-is, w.item-is) (record { taken = w.in-Some.ensures.item; lines = w.in-Some.ensures.lines; is_stopped = w.in-Some.ensures.is_stopped })
-      | in-None+in_ok-item-in-None+in-Some-2 w ↦
-          rw (w.self-is, w.item-is) (by_line g.T.Item.format _ _ _ _ _ _ w.in-None.ensures.none w.in-Some-2.is
-          (record { taken = w.in_ok-item-in-None.ensures.ok; lines = w.item_by_line.ensures.lines; is_stopped = w.item_by_line.ensures.is_stopped }))
-    ] in
+    let next = next_is g (goal.at.returns-then-is_err-clause-fault g c).After-add in
     no_room g.T.Item.format known.items c.match-next_in_buffer.item _ _ _ known.right known.taken (omega (arith, known.count, next.taken.2)) next.taken.1 next.taken.0
 
 pub loop-item-preserved : goal.loop-item-preserved
 loop-item-preserved g c =
     let known = c.loop-item.invariant in
-    let next : IsNext g.T.Item.format c.loop-item.self c.match-next_in_buffer.self c.loop-item.count (Some c.match-next_in_buffer.item) =
-    elim c.match-next_in_buffer.branch [
-      | in-Some w ↦ rw (w.self-is, w.item-is) (record { taken = w.in-Some.ensures.item; lines = w.in-Some.ensures.lines; is_stopped = w.in-Some.ensures.is_stopped })
-      | in-None+in_ok-item-in-None+in-Some-2 w ↦
-          rw (w.self-is, w.item-is) (by_line g.T.Item.format _ _ _ _ _ _ w.in-None.ensures.none w.in-Some-2.is
-          (record { taken = w.in_ok-item-in-None.ensures.ok; lines = w.item_by_line.ensures.lines; is_stopped = w.item_by_line.ensures.is_stopped }))
-    ] in
+    let next = next_is g (goal.at.loop-item-preserved g c).After-add in
     record {
       items = known.items ++ c.match-next_in_buffer.item ∷ [];
       right = HaveLines-push g.T.Item.format known.items c.match-next_in_buffer.item known.right next.taken.1 (omega (arith, known.count, next.taken.2));
