@@ -59,7 +59,7 @@ where
 /// Takes a large block of memory, if there is one, and nothing of it is used.
 ///
 /// Once such a block is given back, glibc keeps what later lists give back for those after them. Otherwise each large list
-/// is new memory of the system, and its pages cost a tenth of the time of a check.
+/// is new memory of the system, and its pages cost up to a tenth of a check's time.
 #[inline(never)]
 fn large_block(alloc: Global) -> Option<Vec<u8>> {
     Vec::with_capacity(alloc, LARGE_BLOCK).ok()
