@@ -1,9 +1,13 @@
 -- What is taken from the buffer of a reader.
 use Rattle.history_text.proofs.Common.{[], ◌++◌, ◌+◌, ◌-◌, ◌<◌, ◌∙◌, ◌∷◌, ◌≡◌, ◌≤◌, ap, append_assoc, arith, drop}
-use Rattle.history_text.proofs.Common.{drop-drop, Err, IfOk, IfSome, length, length-append, length-drop, length-take-le}
-use Rattle.history_text.proofs.Common.{List, None, Ok, Option, refl, Result, Some, take, take-append-le, take_all, ℕ}
-use Rattle.history_text.proofs.Common.{Ahead, HasMore, ReadTakes, Takes, with_front}
+use Rattle.history_text.proofs.Common.{drop-drop, false, IfSome, length, length-append, length-drop, length-take-le, List}
+use Rattle.history_text.proofs.Common.{nat_lt, nat_tests, None, Option, refl, Some, subst, sym, take, take_all, ℕ}
+use Rattle.history_text.proofs.Common.{Ahead, EndOfInput, Ending, HasMore, IsOver, Takes, with_front}
+use Rattle.std.proofs.Common.{not, suc, take-add, zero}
 use Rattle.std.proofs.Math.Seq.{take-append-add}
+use Rattle.std.proofs.lemmas.List.Edits.{take-paste}
+use lib.Seq.{paste}
+use Rattle.history_text.specs.Reading.{IsOverIf}
 
 -- the bytes of a buffer from one place to another
 abbrev pub part : List ℕ → ℕ → ℕ → List ℕ
@@ -42,8 +46,37 @@ has_more_in_buffer bytes at filled (Some a) some within =
     let long : length (part bytes at filled) ≡ filled - at = length-take-le (filled - at) (drop at bytes) (omega (arith, length-drop at bytes, within)) in
     has_more_behind (part bytes at filled) a (omega (arith, long, some))
 
--- what a read put at the front of a piece stands at the front of more
-pub read_takes_more : {E : Type 0} (old new : Option Ahead) (result : Result ℕ E) (piece more : List ℕ) → IfOk result (λ n. n ≤ length piece)
-    → 0 < length piece → ReadTakes old new result piece → ReadTakes old new result (piece ++ more)
-read_takes_more old new (Ok n) piece more bound some takes = (rw (take-append-le n piece more bound) takes.0, λ none _. takes.1 none some)
-read_takes_more old new (Err e) piece more bound some takes = takes
+-- whether a read gave a byte says whether the input is over
+pub over_if_nothing : (ahead : Option Ahead) (n : ℕ) (bytes : List ℕ) → n ≤ length bytes → 0 < length bytes
+    → (n ≡ 0 → 0 < length bytes → IsOver EndOfInput ahead) → IsOverIf (with_front (part bytes 0 n) ahead) (not (nat_lt 0 n))
+over_if_nothing None zero bytes within some ends = tt
+over_if_nothing (Some a) zero bytes within some ends = ends refl some
+over_if_nothing ahead (suc n) bytes within some ends =
+    let more : not (nat_lt 0 (suc n)) ≡ false = grind (arith, nat_tests) in
+    subst (IsOverIf (with_front (part bytes 0 (suc n)) ahead)) (sym more) (has_more_in_buffer bytes 0 (suc n) ahead (omega arith) within)
+
+-- the bytes that are left, moved to the front, and those of a read behind them: nothing is taken
+pub moved_and_read : (bytes more : List ℕ) (at filled n : ℕ) (old new : Option Ahead) → at ≤ filled → filled ≤ length bytes
+    → take (filled - at) more ≡ take (filled - at) (paste bytes 0 (drop at bytes) (filled - at)) → Takes old new (take n (drop (filled - at) more))
+    → Takes (with_front (part bytes at filled) old) (with_front (part more 0 (filled - at + n)) new) []
+moved_and_read bytes more at filled n None new in_order within kept takes = tt
+moved_and_read bytes more at filled n (Some a) None in_order within kept takes = takes
+moved_and_read bytes more at filled n (Some a) (Some b) in_order within kept takes =
+    let front : take (filled - at) more ≡ part bytes at filled =
+    let same : filled - at ≡ 0 + (filled - at) = omega arith in
+    kept ∙ ap (λ k. take k (paste bytes 0 (drop at bytes) (filled - at))) same
+    ∙ take-paste bytes 0 (drop at bytes) (filled - at) (omega arith) (omega (arith, length-drop at bytes, in_order, within)) in
+    let whole : part more 0 (filled - at + n) ≡ part bytes at filled ++ take n (drop (filled - at) more) =
+    ap (λ k. take k more) (omega arith) ∙ take-add (filled - at) n more ∙ ap (λ (r : List ℕ). r ++ take n (drop (filled - at) more)) front in (
+      ap (λ (r : List ℕ). part bytes at filled ++ r) takes.0 ∙ sym (append_assoc (part bytes at filled) (take n (drop (filled - at) more)) b.bytes)
+          ∙ ap (λ (r : List ℕ). r ++ b.bytes) (sym whole),
+      takes.1,
+    )
+
+-- a fact on what is ahead, where nothing was taken
+pub nothing_taken : (old new : Option Ahead) (P : Ahead → Type 0) → Takes old new [] → IfSome new P → IfSome old P
+nothing_taken None new P takes holds = tt
+nothing_taken (Some a) None P takes holds = absurd takes
+nothing_taken (Some a) (Some b) P takes holds =
+    subst (λ (r : List ℕ). P (record { bytes = r; ending = a.ending })) (sym takes.0)
+    (subst (λ (e : Ending). P (record { bytes = b.bytes; ending = e })) takes.1 holds)

@@ -15,6 +15,7 @@ mod lines;
 mod operation_line;
 mod reader;
 mod schedule;
+mod source_end;
 mod step_line;
 mod value_line;
 mod verdict_writer;

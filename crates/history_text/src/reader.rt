@@ -1,10 +1,10 @@
 //! How texts are read, line by line.
-ghost use Rattle.std.specs.Prelude.{◌≡◌, ◌+◌, ◌<◌, ◌^◌, ◌≤◌, ◌∷◌, true, false, IfOk, IfErr, OnErr, OnOk, MatchResult, IfNone, IfSome};
+ghost use Rattle.std.specs.Prelude.{◌≡◌, ◌+◌, ◌<◌, ◌^◌, ◌≤◌, true, false, IfOk, IfErr, OnErr, OnOk, MatchResult, IfNone, IfSome};
 ghost use Rattle.std.specs.Prelude.{option_to_list, is_err, not, Err, Ok, length, List, []};
 ghost use Rattle.event_records.specs.declared.limits.TheConstants.{MAX_INITIAL};
 ghost use Rattle.verdicts.specs.declared.verifying.Claimed.{Claimed};
 ghost use Rattle.history_text.specs.declared.schedule.Schedule.{Schedule};
-ghost use Rattle.text_lines.specs.Input.{EndOfInput, Failure, Takes, IsOver, ReadTakes};
+ghost use Rattle.text_lines.specs.Input.{EndOfInput, Failure, Takes, IsOver};
 ghost use Rattle.text_lines.specs.Lines.{line, spaced};
 ghost use Rattle.history_text.specs.Items.{line_of, lines_of, HaveLines};
 ghost use Rattle.history_text.specs.Versions.{value_format, count_fields, count_in as judged_count, lines_of_initial, header_of};
@@ -23,6 +23,7 @@ use crate::collecting::Collects;
 use crate::item::{Item, ROOM, item_in};
 use crate::operation_line::answer_in;
 use crate::schedule::{Schedule, Steps};
+use crate::source_end::{BUFFER_LEN, SourceEnd, read_at};
 use crate::step_line::setting_in;
 use crate::value_line::{count_in, version_in};
 use crate::version::Version;
@@ -32,20 +33,18 @@ use std::marker::Model;
 use text_lines::{LONGEST_LINE, Line, ReadFailed, TextFault, TextSource};
 use verdicts::{ClaimLines, Claimed, Lines, ViolationKind};
 
-/// The most bytes that one read asks a source for.
-const BUFFER_LEN: usize = 4096;
-
 /// A reader of texts, one after another, from one source.
 ///
 /// Contracts see what is left to be judged, how many lines were taken, and whether the reader is stopped: after the
 /// first fault that a call returns it stays stopped.
 ///
 /// It asks its source for at most 4,096 bytes at a time, and only after it has judged each line that stands whole in
-/// what it has.
+/// what it has. After a read that gave nothing or failed it doesn't ask again.
 #[derive(Drop)]
 pub struct TextReader<R: TextSource> {
     source: R,
-    buffer: [u8; BUFFER_LEN + ROOM],
+    end: SourceEnd,
+    buffer: [u8; BUFFER_LEN + 2 * ROOM],
     at: usize,
     filled: usize,
     lines: u64,
@@ -55,6 +54,7 @@ pub struct TextReader<R: TextSource> {
 impl<R: TextSource> Model for TextReader<R> {
     ghost use Rattle.std.specs.Prelude.{◌-◌, ◌≤◌, take, drop};
     ghost use Rattle.history_text.specs.Reading.{Input, with_front};
+    ghost use Rattle.history_text.specs.Inner.Taking.{IsSeen};
 
     ghost Value = { Input };
 
@@ -64,7 +64,7 @@ impl<R: TextSource> Model for TextReader<R> {
       is_stopped = r.is_stopped;
     } };
 
-    ghost invariant = { λ r. (r.at ≤ r.filled) × (r.filled ≤ 4096) };
+    ghost invariant = { λ r. (r.at ≤ r.filled) × (r.filled ≤ 4160) × IsSeen r.end (R.ahead r.source) };
 }
 
 /// The line that the input begins with.
@@ -79,15 +79,6 @@ pub(crate) enum FrontLine {
     Nothing,
 }
 
-/// Reads bytes to the front of a buffer.
-fn read_front<R: TextSource>(source: &mut R, buffer: &mut [u8]) -> Result<usize, ReadFailed>
-    requires { BUFFER_LEN ≤ length buffer.old }
-    ensures bound { IfOk result (λ n. n ≤ BUFFER_LEN) }
-    ensures bytes { ReadTakes (R.ahead source.old) (R.ahead source.new) result buffer.new }
-{
-    source.read(&mut buffer[..BUFFER_LEN])
-}
-
 impl<R: TextSource> TextReader<R> {
     /// Makes a reader at the beginning of its source. It takes no memory, and asks for nothing yet.
     pub fn new(source: R) -> Self
@@ -95,7 +86,8 @@ impl<R: TextSource> TextReader<R> {
     {
         TextReader {
             source,
-            buffer: [0; BUFFER_LEN + ROOM],
+            end: SourceEnd::NotSeen,
+            buffer: [0; BUFFER_LEN + 2 * ROOM],
             at: 0,
             filled: 0,
             lines: 0,
@@ -118,7 +110,7 @@ impl<R: TextSource> TextReader<R> {
         }
         self.at = 0;
         self.filled = 0;
-        self.filled = read_front(&mut self.source, &mut self.buffer)?;
+        self.filled = read_at(&mut self.source, &mut self.end, &mut self.buffer, 0)?;
         if self.filled == 0 {
             return Ok(None);
         }
@@ -139,7 +131,7 @@ impl<R: TextSource> TextReader<R> {
         }
         self.at = 0;
         self.filled = 0;
-        self.filled = read_front(&mut self.source, &mut self.buffer)?;
+        self.filled = read_at(&mut self.source, &mut self.end, &mut self.buffer, 0)?;
         Ok(self.filled > 0)
     }
 
@@ -235,6 +227,38 @@ impl<R: TextSource> TextReader<R> {
         self.at += len;
         self.lines += 1;
         Some(item)
+    }
+
+    /// Asks the source for more, if what is left of the buffer is the front of a line that isn't too long yet.
+    #[inline(always)]
+    fn ask_for_more(&mut self)
+        ensures left { Takes self.old.left self.new.left [] }
+        ensures lines { self.new.lines ≡ self.old.lines }
+        ensures is_stopped { self.new.is_stopped ≡ self.old.is_stopped }
+    {
+        if self.filled - self.at < ROOM {
+            self.complete_line();
+        }
+    }
+
+    /// Does so if no line stands whole in the buffer: brings what is left to the front, and reads behind it.
+    #[inline(never)]
+    fn complete_line(&mut self)
+        ensures left { Takes self.old.left self.new.left [] }
+        ensures lines { self.new.lines ≡ self.old.lines }
+        ensures is_stopped { self.new.is_stopped ≡ self.old.is_stopped }
+    {
+        let left = self.filled - self.at;
+        if left > ROOM || self.buffer[self.at..self.filled].contains(&b'\n') {
+            return;
+        }
+        self.buffer.copy_within(self.at..self.filled, 0);
+        self.at = 0;
+        self.filled = left;
+        let read = read_at(&mut self.source, &mut self.end, &mut self.buffer, left);
+        if let Ok(count) = read {
+            self.filled += count;
+        }
     }
 
     /// Returns the item of the next line, however it comes.
@@ -335,6 +359,7 @@ impl<R: TextSource> TextReader<R> {
     {
         let mut count = 0;
         loop {
+            self.ask_for_more();
             let item = match self.next_in_buffer(count) {
                 Some(item) => item,
                 None => match self.item_by_line(count)? {

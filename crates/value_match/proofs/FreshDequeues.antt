@@ -15,7 +15,7 @@ use Rattle.history_merge.proofs.DistinctValues.{each_more}
 use Rattle.value_match.specs.Lives.{IsMaybeAt, is_refused}
 use Rattle.value_match.specs.Violations.{IsFreshViolation, IsEnqueuedTooLate, NoFreshViolation}
 use Rattle.value_match.specs.Inner.MatchOutcome.{AreChosenFresh}
-use Rattle.value_match.specs.Inner.Sources.{IsCallPlace, IsSourceOf, HoldsSources, IsFreshFrom}
+use Rattle.value_match.specs.Inner.Sources.{AreInTimeTo, first_of, HoldsSources, IsCallPlace, IsFreshFrom, IsSourceOf, NoneFresh}
 
 -- an operation that called to enqueue a value was accepted or refused
 pub calls_for : (kind : OpKind) (v : ℕ) → enqueued_value kind ≡ Some v → (kind ≡ Enq v) ⊎ (kind ≡ Not v)
@@ -139,10 +139,6 @@ named_by_source operations o (Some e) source complete from violates = named sour
         (calls_for call.kind violates.value calls) for_it in
         subst (IsAt operations p) same there
 
--- none of the first n operations is a dequeue of a value that was not there
-abbrev pub NoneFresh : List Operation → ℕ → Type 0
-NoneFresh operations n = (k : ℕ) (o : Operation) → k < n → IsAt operations k o → (enq : Option Operation) → ¬ (IsFreshViolation operations o enq)
-
 -- none at first
 pub none_fresh_yet : (operations : List Operation) → NoneFresh operations 0
 none_fresh_yet operations k o below at enq violates = absurd (omega (arith, below))
@@ -174,6 +170,20 @@ in_time_more operations i p o v soon complete here is call tells in_time none =
         let from : IsFreshFrom operations (Some p) o = (enq, named_by_source operations o enq (Some p) complete source violates, violates) in
         let fresh = (fresh_by_call operations i p o call.0 v here is call.1 call.2).1 from in
         false≢true (sym (ap not (tells call.0 call.1 ∙ fresh)) ∙ in_time)
+
+-- a dequeue that may come too soon is the first of those that aren't known to come in time
+pub late_from : (operations : List Operation) (n : ℕ) (late : Option ℕ) (soon : Bool) → (soon ≡ false → NoneFresh operations n → NoneFresh operations (n + 1))
+    → AreInTimeTo n operations late → AreInTimeTo (n + 1) operations (first_of late n soon)
+late_from operations n None true more none = none
+late_from operations n None false more none = more refl none
+late_from operations n (Some k) true more none = none
+late_from operations n (Some k) false more none = none
+
+-- an operation that comes in time
+pub in_time_at : (operations : List Operation) (n : ℕ) (late : Option ℕ) → (NoneFresh operations n → NoneFresh operations (n + 1))
+    → AreInTimeTo n operations late → AreInTimeTo (n + 1) operations late
+in_time_at operations n None more none = more none
+in_time_at operations n (Some k) more none = none
 
 -- what violates is one of the operations
 pub violates_among : (operations : List Operation) (o : Operation) (enq : Option Operation) → IsFreshViolation operations o enq → Contains operations o

@@ -1,10 +1,9 @@
 -- Values that are dequeued twice, met by a walk over the operations.
-use Rattle.std.proofs.Common.{◌≡◌, ◌≢◌, ℕ, zero, suc, ◌+◌, ◌<◌, ◌≤◌, ◌⊎◌, List, length}
-use Rattle.std.proofs.Common.{get_or, set, replicate, Option, Some, None, refl, sym, ◌∙◌, ap, subst}
+use Rattle.std.proofs.Common.{◌≡◌, ◌≢◌, ℕ, ◌+◌, ◌<◌, ◌≤◌, ◌⊎◌, List, length}
+use Rattle.std.proofs.Common.{get_or, set, Option, Some, None, refl, sym, ◌∙◌, ap, subst}
 use Rattle.std.proofs.Common.{inl, inr, arith, get_or-set_other, get_or-set_same, length-set}
 use Rattle.std.specs.Prelude.{AllPairs, MatchOption, slice_get, ⊤}
 use Rattle.std.proofs.lemmas.Bool.{cases_eq, cases_order}
-use Rattle.std.proofs.lemmas.List.{length-replicate}
 use Rattle.std.proofs.lemmas.Option.{slice_get-get_or, slice_get_within, get_or_from_slice_get}
 use Rattle.history_merge.specs.declared.operation.Operation.{Operation}
 use Rattle.history_merge.specs.declared.operation.OpKind.{OpKind}
@@ -15,7 +14,7 @@ use Rattle.history_merge.proofs.Distinct.{contains_at, place_of, one_at, pairs_a
 use Rattle.value_match.specs.declared.takers.RepeatPlaces.{RepeatPlaces}
 use Rattle.value_match.specs.Violations.{NoFreshViolation, IsRepeatViolation}
 use Rattle.value_match.specs.Inner.MatchOutcome.{AreChosenRepeat}
-use Rattle.value_match.specs.Inner.Sources.{IsCallPlace, IsSourceOf, HoldsSources, HoldsTakers, TakesFrom, return_at}
+use Rattle.value_match.specs.Inner.Sources.{IsCallPlace, IsSourceOf, HoldsSources, HasTakersTo, HoldsTakers, TakesFrom, return_at}
 use Rattle.value_match.proofs.FreshDequeues.{calls_for}
 
 -- ---- operations and their places
@@ -100,20 +99,17 @@ pub record HasMet (returns : ℕ → ℕ) (sources firsts : List (Option ℕ)) (
   pub kept : HasFirsts returns sources firsts n
   pub twice : MatchOption found (Once sources n) (IsSoonest returns sources n)
 
-none_at : (n i : ℕ) → get_or {A = Option ℕ} (replicate n None) i None ≡ None
-none_at zero i = refl
-none_at (suc n) zero = refl
-none_at (suc n) (suc i) = none_at n i
-
--- at first nothing was met
-pub met_nothing : (returns : ℕ → ℕ) (sources : List (Option ℕ)) → HasMet returns sources (replicate (length sources) None) 0 None
-met_nothing returns sources = record {
+-- what is known of the first operations was met, and no source twice
+pub met_once : (returns : ℕ → ℕ) (sources takers : List (Option ℕ)) (n : ℕ) → length takers ≡ length sources → HasTakersTo n sources takers
+    → HasMet returns sources takers n None
+met_once returns sources takers n same known = record {
   kept = record {
-    one_each = length-replicate (length sources) None;
-    taken = λ p i is. let none = none_at (length sources) p in cc;
-    least = λ i p below from. absurd (omega arith);
+    one_each = same;
+    taken = known.taken;
+    least = λ i p below from. (i, known.takes i p below from, omega arith);
   };
-  twice = λ p i j below. absurd (omega arith);
+  twice = λ p i j below_i below_j from_i from_j.
+      let both : ◌≡◌ {A = Option ℕ} (Some i) (Some j) = sym (known.takes i p below_i from_i) ∙ known.takes j p below_j from_j in cc;
 }
 
 before_or_here : (i n : ℕ) → i < n + 1 → (i < n) ⊎ (i ≡ n)

@@ -1,22 +1,18 @@
 -- What takes from the sources, noted while these are found.
-use Rattle.std.proofs.Common.{◌≡◌, ◌≢◌, ℕ, zero, suc, ◌<◌, ◌⊎◌, List, [], ◌∷◌, ◌++◌, length, get_or, set, replicate, Option, Some, None}
-use Rattle.std.proofs.Common.{refl, sym, ◌∙◌, ap, subst, inl, inr, get_or-set_other, get_or-set_same}
+use Rattle.std.proofs.Common.{◌≡◌, ◌≢◌, ℕ, zero, suc, ◌<◌, ◌≤◌, ◌⊎◌, ◌+◌, List, [], ◌∷◌, ◌++◌, length, get_or, set, replicate, Option, Some, None}
+use Rattle.std.proofs.Common.{refl, sym, ◌∙◌, ap, arith, subst, inl, inr, get_or-set_other, get_or-set_same, length-append}
 use Rattle.std.proofs.lemmas.Bool.{cases_eq}
-use Rattle.value_match.specs.Inner.Sources.{HoldsTakers, TakesFrom}
-
--- at each source stands the one operation so far that takes from it, if there is one
-pub record HasTakers (sources takers : List (Option ℕ)) : Type 0 where
-  pub taken : (p i : ℕ) → get_or takers p None ≡ Some i → TakesFrom sources i p
-  pub takes : (i p : ℕ) → TakesFrom sources i p → get_or takers p None ≡ Some i
+use Rattle.std.proofs.lemmas.Option.{slice_get_within}
+use Rattle.value_match.specs.Inner.Sources.{AreTakersTo, HasTakersTo, TakesFrom}
 
 none_at : (n i : ℕ) → get_or {A = Option ℕ} (replicate n None) i None ≡ None
 none_at zero i = refl
 none_at (suc n) zero = refl
 none_at (suc n) (suc i) = none_at n i
 
--- nothing takes at first
-pub no_takers : (n : ℕ) → HasTakers [] (replicate n None)
-no_takers n = record { taken = λ p i is. let none = none_at n p in cc; takes = λ i p from. cc }
+-- of no operations none takes from a source
+pub no_takers : (n : ℕ) (sources : List (Option ℕ)) → HasTakersTo 0 sources (replicate n None)
+no_takers n sources = record { taken = λ p i is. let none = none_at n p in cc; takes = λ i p below from. absurd (omega (arith, below)) }
 
 -- an operation more: it is behind those before, or it is the last
 last_or_before : (sources : List (Option ℕ)) (source : Option ℕ) (i p : ℕ) → TakesFrom (sources ++ source ∷ []) i p
@@ -38,31 +34,68 @@ last : (sources : List (Option ℕ)) (p : ℕ) → TakesFrom (sources ++ Some p 
 last [] p = refl
 last (s ∷ sources) p = last sources p
 
--- one that takes from nothing
-pub takes_nothing : (sources takers : List (Option ℕ)) → HasTakers sources takers → HasTakers (sources ++ None ∷ []) takers
-takes_nothing sources takers known = record {
-  taken = λ p i is. before sources None i p (known.taken p i is);
-  takes = λ i p from. elim (last_or_before sources None i p from) [ inl old ↦ known.takes i p old | inr new ↦ let e = new.1 in cc ];
+-- an operation more, where no more are noted
+kept : (sources takers : List (Option ℕ)) (source : Option ℕ) (n : ℕ) → n ≤ length sources → HasTakersTo n sources takers
+    → HasTakersTo n (sources ++ source ∷ []) takers
+kept sources takers source n within known = record {
+  taken = λ p i is. let was = known.taken p i is in (was.0, before sources source i p was.1);
+  takes = λ i p below from. elim (last_or_before sources source i p from) [
+    | inl old ↦ known.takes i p below old
+    | inr new ↦ absurd (omega (arith, below, within, new.0))
+  ];
 }
 
+one_more : (sources : List (Option ℕ)) (source : Option ℕ) → length (sources ++ source ∷ []) ≡ length sources + 1
+one_more sources source = length-append sources (source ∷ [])
+
+-- what is known up to an operation stays known
+pub kept_to : (n : ℕ) (sources takers : List (Option ℕ)) (source : Option ℕ) → AreTakersTo (Some n) sources takers
+    → AreTakersTo (Some n) (sources ++ source ∷ []) takers
+kept_to n sources takers source known = (omega (arith, known.0, one_more sources source), kept sources takers source n known.0 known.1)
+
+-- an operation that may take from a source again is the first of those that aren't noted
+pub not_noted : (sources takers : List (Option ℕ)) (source : Option ℕ) → AreTakersTo None sources takers
+    → AreTakersTo (Some (length sources)) (sources ++ source ∷ []) takers
+not_noted sources takers source known = (omega (arith, one_more sources source), kept sources takers source (length sources) (omega arith) known)
+
+-- one that takes from nothing
+takes_none : (sources takers : List (Option ℕ)) → AreTakersTo None sources takers → AreTakersTo None (sources ++ None ∷ []) takers
+takes_none sources takers known = record {
+  taken = λ p i is. let was = known.taken p i is in (omega (arith, was.0, one_more sources None), before sources None i p was.1);
+  takes = λ i p below from. elim (last_or_before sources None i p from) [
+    | inl old ↦ known.takes i p (slice_get_within sources i (Some p) old) old
+    | inr new ↦ let e = new.1 in cc
+  ];
+}
+
+pub takes_nothing : (twice : Option ℕ) (sources takers : List (Option ℕ)) → AreTakersTo twice sources takers → AreTakersTo twice (sources ++ None ∷ []) takers
+takes_nothing None sources takers known = takes_none sources takers known
+takes_nothing (Some n) sources takers known = kept_to n sources takers None known
+
 -- one that takes from a source from which nothing took
-pub takes_first : (sources takers : List (Option ℕ)) (q : ℕ) → q < length takers → get_or takers q None ≡ None → HasTakers sources takers
-    → HasTakers (sources ++ Some q ∷ []) (set takers q (Some (length sources)))
+pub takes_first : (sources takers : List (Option ℕ)) (q : ℕ) → q < length takers → get_or takers q None ≡ None → AreTakersTo None sources takers
+    → AreTakersTo None (sources ++ Some q ∷ []) (set takers q (Some (length sources)))
 takes_first sources takers q inside free known = record { taken = taken; takes = takes }
   where
-    taken : (p i : ℕ) → get_or (set takers q (Some (length sources))) p None ≡ Some i → TakesFrom (sources ++ Some q ∷ []) i p
+    taken : (p i : ℕ) → get_or (set takers q (Some (length sources))) p None ≡ Some i
+        → (i < length (sources ++ Some q ∷ [])) × TakesFrom (sources ++ Some q ∷ []) i p
     taken p i is = elim (cases_eq q p) [
       | inl same ↦
           let here : get_or (set takers q (Some (length sources))) q None ≡ Some (length sources) = get_or-set_same takers q (Some (length sources)) None inside in
-          let place : length sources ≡ i = let e = sym here ∙ ap (λ k. get_or (set takers q (Some (length sources))) k None) same ∙ is in cc in
-          subst (λ k. TakesFrom (sources ++ Some q ∷ []) k p) place (subst (λ k. TakesFrom (sources ++ Some q ∷ []) (length sources) k) same (last sources q))
-      | inr other ↦ before sources (Some q) i p (known.taken p i (sym (get_or-set_other takers q p (Some (length sources)) None (λ same. other (sym same))) ∙ is))
+          let place : length sources ≡ i = let e = sym here ∙ ap (λ k. get_or (set takers q (Some (length sources))) k None) same ∙ is in cc in (
+            omega (arith, place, one_more sources (Some q)),
+            subst (λ k. TakesFrom (sources ++ Some q ∷ []) k p) place (subst (λ k. TakesFrom (sources ++ Some q ∷ []) (length sources) k) same (last sources q)),
+          )
+      | inr other ↦
+          let was = known.taken p i (sym (get_or-set_other takers q p (Some (length sources)) None (λ same. other (sym same))) ∙ is) in
+          (omega (arith, was.0, one_more sources (Some q)), before sources (Some q) i p was.1)
     ]
 
-    takes : (i p : ℕ) → TakesFrom (sources ++ Some q ∷ []) i p → get_or (set takers q (Some (length sources))) p None ≡ Some i
-    takes i p from = elim (last_or_before sources (Some q) i p from) [
+    takes : (i p : ℕ) → i < length (sources ++ Some q ∷ []) → TakesFrom (sources ++ Some q ∷ []) i p
+        → get_or (set takers q (Some (length sources))) p None ≡ Some i
+    takes i p below from = elim (last_or_before sources (Some q) i p from) [
       | inl old ↦
-          let was = known.takes i p old in
+          let was = known.takes i p (slice_get_within sources i (Some p) old) old in
           let other : p ≢ q = λ same. let e = sym free ∙ ap (λ k. get_or takers k None) (sym same) ∙ was in cc in
           get_or-set_other takers q p (Some (length sources)) None other ∙ was
       | inr new ↦
@@ -70,7 +103,3 @@ takes_first sources takers q inside free known = record { taken = taken; takes =
           subst (λ k. get_or (set takers q (Some (length sources))) k None ≡ Some i) same
           (get_or-set_same takers q (Some (length sources)) None inside ∙ ap (λ k. Some k) (sym new.0))
     ]
-
--- all are noted
-pub all_taken : (sources takers : List (Option ℕ)) → length takers ≡ length sources → HasTakers sources takers → HoldsTakers sources takers
-all_taken sources takers same known = record { one_each = same; taken = known.taken; takes = known.takes }

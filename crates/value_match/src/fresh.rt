@@ -4,7 +4,7 @@ ghost use Rattle.history_merge.specs.Complete.{AreComplete};
 ghost use Rattle.history_merge.specs.Operations.{IsAt};
 ghost use Rattle.value_match.specs.Lives.{is_refused};
 ghost use Rattle.value_match.specs.Inner.MatchOutcome.{AreChosenFresh};
-ghost use Rattle.value_match.specs.Inner.Sources.{AreSources, HoldsSources, IsFreshFrom};
+ghost use Rattle.value_match.specs.Inner.Sources.{AreSources, HoldsSources, IsFreshFrom, NoneFresh};
 ghost use Rattle.value_match.specs.Violations.{NoFreshViolation};
 
 use crate::matching::MAX_MATCHED;
@@ -26,21 +26,23 @@ pub(crate) fn first_fresh(operations: &[PackedOperation], sources: &Sources) -> 
     requires sources { AreSources operations.now sources.now }
     ensures { MatchOption result (NoFreshViolation operations.now) (AreChosenFresh operations.now) }
 {
-    if sources.all_in_time {
-        return None;
-    }
-    find_fresh(operations, sources.places.as_slice())
+    find_fresh(operations, sources.places.as_slice(), sources.in_time)
 }
 
-/// The same by looking at each dequeue.
-fn find_fresh(operations: &[PackedOperation], sources: &[MaybePlace]) -> Option<FreshPlaces>
+/// The same by looking at each dequeue from a place on. Before it no dequeue is of a value that was not there.
+fn find_fresh(
+    operations: &[PackedOperation],
+    sources: &[MaybePlace],
+    in_time: usize,
+) -> Option<FreshPlaces>
     requires complete { AreComplete operations.now }
     requires few { length operations.now ≤ MAX_MATCHED }
     requires sources { HoldsSources operations.now sources.now }
+    requires in_time { NoneFresh operations.now in_time }
     ensures { MatchOption result (NoFreshViolation operations.now) (AreChosenFresh operations.now) }
 {
     let mut first = None;
-    for place in 0..operations.len() {
+    for place in in_time..operations.len() {
         if !is_fresh(operations, sources, place) {
             continue;
         }

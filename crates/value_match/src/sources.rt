@@ -1,8 +1,7 @@
-ghost use Rattle.std.specs.Prelude.{◌≤◌, IfOk, IfSome, IsTrue, Some, length};
+ghost use Rattle.std.specs.Prelude.{◌≡◌, ◌<◌, ◌≤◌, ◌++◌, ◌∷◌, [], List, ℕ, IfOk, IfSome, IsTrue, Option, Some, length};
 ghost use Rattle.history_merge.specs.Complete.{AreComplete};
 ghost use Rattle.value_match.specs.Inner.Others.{AreNearWith, HoldsNear};
-ghost use Rattle.value_match.specs.Inner.Sources.{AreSources, HoldsSources, HoldsTakers, IsCallPlace};
-ghost use Rattle.value_match.specs.Violations.{NoFreshViolation};
+ghost use Rattle.value_match.specs.Inner.Sources.{AreInTimeTo, AreSources, AreTakersTo, HoldsSources, IsCallPlace, first_of};
 
 use crate::fresh::comes_too_soon;
 use crate::matching::MAX_MATCHED;
@@ -20,24 +19,27 @@ const REACH: usize = 64;
 #[derive(Drop)]
 pub(crate) struct Sources {
     pub(crate) places: Vec<MaybePlace>,
-    /// Whether it was seen that each value was there when it was dequeued.
-    pub(crate) all_in_time: bool,
-    /// At each source the dequeue that takes from it, if it was seen that no two do.
-    pub(crate) takers: Option<Vec<MaybePlace>>,
+    /// How many operations at the front were seen not to be dequeues of values that were not there.
+    pub(crate) in_time: usize,
+    /// At each source the operation that takes from it, if one of the first `once` does.
+    pub(crate) takers: Vec<MaybePlace>,
+    /// How many operations at the front were seen to take from different sources.
+    pub(crate) once: usize,
 }
 
 /// Sources, of which some may not be found yet.
 #[derive(Drop)]
 struct NearSources {
     sources: Vec<MaybePlace>,
-    /// At each source that was found the last dequeue that takes from it.
-    takers: Vec<MaybePlace>,
     /// The values of the dequeues whose sources aren't found yet.
     wanted: BTreeSet<u64>,
     all_found: bool,
-    all_in_time: bool,
-    /// Whether no two dequeues take from one source.
-    all_once: bool,
+    /// The place of the first dequeue that wasn't seen to come in time, if there is one.
+    late: Option<usize>,
+    /// At each source that was found the dequeue that takes from it, of those before `twice`.
+    takers: Vec<MaybePlace>,
+    /// The place of the first dequeue that takes from a source again, if there is one.
+    twice: Option<usize>,
 }
 
 /// The sources of all dequeues.
@@ -54,20 +56,25 @@ pub(crate) fn sources_of(
     ensures { IfOk result (AreSources operations.now) }
 {
     let near = near_sources(alloc, operations)?;
+    let count = operations.len();
+    let in_time = near.late.unwrap_or(count);
     let mut places = near.sources;
     if near.all_found {
         return Ok(Sources {
             places,
-            all_in_time: near.all_in_time,
-            takers: near.all_once.then_some(near.takers),
+            in_time,
+            takers: near.takers,
+            once: near.twice.unwrap_or(count),
         });
     }
+    drop(near.takers);
     let others = others_of(alloc, operations, &near.wanted)?;
     find_others(operations, &others, places.as_mut_slice());
     Ok(Sources {
         places,
-        all_in_time: false,
-        takers: None,
+        in_time,
+        takers: vec![in alloc; MaybePlace::none(); count]?,
+        once: 0,
     })
 }
 
@@ -77,16 +84,18 @@ fn near_sources(alloc: Global, operations: &[PackedOperation]) -> Result<NearSou
     requires few { length operations.now ≤ MAX_MATCHED }
     ensures near { IfOk result (λ near. HoldsNear near.wanted operations.now near.sources.items) }
     ensures all { IfOk result (λ near. IsTrue near.all_found → HoldsSources operations.now near.sources.items) }
-    ensures in_time { IfOk result (λ near. IsTrue near.all_found → IsTrue near.all_in_time → NoFreshViolation operations.now) }
-    ensures once { IfOk result (λ near. IsTrue near.all_once → HoldsTakers near.sources.items near.takers.items) }
+    ensures late { IfOk result (λ near. AreInTimeTo (length operations.now) operations.now near.late) }
+    ensures twice { IfOk result (λ near. AreTakersTo near.twice near.sources.items near.takers.items) }
+    ensures one_each { IfOk result (λ near. length near.takers.items ≡ length operations.now) }
 {
-    let mut sources = Vec::with_capacity(alloc, operations.len())?;
+    // What lies behind the takers is given back before they are, so the next list can have its room.
     let mut takers = vec![in alloc; MaybePlace::none(); operations.len()]?;
+    let mut sources = Vec::with_capacity(alloc, operations.len())?;
     let mut calls = ThreadCalls::new(alloc, operations)?;
     let mut wanted = BTreeSet::new(alloc);
     let mut all_found = true;
-    let mut all_in_time = true;
-    let mut all_once = true;
+    let mut late = None;
+    let mut twice = None;
     let mut guess = Guess {
         from: 0,
         reach: REACH,
@@ -98,25 +107,61 @@ fn near_sources(alloc: Global, operations: &[PackedOperation]) -> Result<NearSou
             sources.push(MaybePlace::none())?;
             continue;
         };
-        let Some(place) = guess.find(&mut calls, operations, value) else {
+        let place = sources.len();
+        let Some(source) = guess.find(&mut calls, operations, value) else {
             wanted.insert(value)?;
             all_found = false;
+            late = first_of(late, place, true);
             sources.push(MaybePlace::none())?;
             continue;
         };
-        all_in_time = all_in_time && !comes_too_soon(operations, operation, place);
-        all_once = all_once && takers[place].get().is_none();
-        takers[place] = MaybePlace::some(sources.len());
-        sources.push(MaybePlace::some(place))?;
+        late = first_of(late, place, comes_too_soon(operations, operation, source));
+        twice = note_taker(takers.as_mut_slice(), twice, source, place);
+        sources.push(MaybePlace::some(source))?;
     }
     Ok(NearSources {
         sources,
-        takers,
         wanted,
         all_found,
-        all_in_time,
-        all_once,
+        late,
+        takers,
+        twice,
     })
+}
+
+/// The first of some places: what is known of it, or else this one, where it is one of them.
+#[inline(always)]
+fn first_of(known: Option<usize>, place: usize, is_one: bool) -> Option<usize>
+    ensures { result ≡ first_of known place is_one }
+{
+    match known {
+        None if is_one => Some(place),
+        _ => known,
+    }
+}
+
+/// Notes what takes from a source, and returns the first that takes from one again: what is known of it, or this one.
+#[inline(always)]
+fn note_taker(
+    takers: &mut [MaybePlace],
+    twice: Option<usize>,
+    source: usize,
+    place: usize,
+) -> Option<usize>
+    requires source { source < length takers.old }
+    requires place { place < MAX_MATCHED }
+    ensures taken { (sources : List (Option ℕ)) → length sources ≡ place → AreTakersTo twice sources takers.old
+        → AreTakersTo result (sources ++ Some source ∷ []) takers.new }
+    ensures len { length takers.new ≡ length takers.old }
+{
+    if twice.is_some() {
+        return twice;
+    }
+    if takers[source].get().is_some() {
+        return Some(place);
+    }
+    takers[source] = MaybePlace::some(place);
+    None
 }
 
 /// Where the call for the next value is looked for, and how far from there: half as far after each miss.

@@ -1,14 +1,13 @@
-ghost use Rattle.std.specs.Prelude.{◌≡◌, ◌⊎◌, ◌<◌, ◌≤◌, ⊤, IfOk, MatchOption, length};
+ghost use Rattle.std.specs.Prelude.{◌≡◌, ◌⊎◌, ◌<◌, ◌≤◌, ⊤, MatchOption, length};
 ghost use Rattle.history_merge.specs.Complete.{AreComplete};
 ghost use Rattle.value_match.specs.Inner.MatchOutcome.{AreTakers};
-ghost use Rattle.value_match.specs.Inner.Sources.{AreSources, HoldsSources, return_at};
+ghost use Rattle.value_match.specs.Inner.Sources.{AreSources, HoldsSources, HasTakersTo, return_at};
 ghost use Rattle.value_match.specs.Violations.{NoFreshViolation};
 
 use crate::matching::MAX_MATCHED;
 use crate::maybe_place::MaybePlace;
 use crate::sources::Sources;
 use history_merge::{OpId, PackedOperation};
-use std::alloc::{AllocError, Global};
 
 /// The places of two dequeues of one value, in the order of their returns, and of its enqueue.
 #[derive(Clone, Copy)]
@@ -27,46 +26,45 @@ pub(crate) enum Takers {
     Twice(RepeatPlaces),
 }
 
-/// What takes from the sources of all dequeues. Time O(n).
-pub(crate) fn takers_of(
-    alloc: Global,
-    operations: &[PackedOperation],
-    sources: Sources,
-) -> Result<Takers, AllocError>
+/// What takes from the sources of all dequeues.
+///
+/// Time O(n) for n operations behind those that were seen to take from different sources.
+pub(crate) fn takers_of(operations: &[PackedOperation], sources: Sources) -> Takers
     requires complete { AreComplete operations.now }
     requires few { length operations.now ≤ MAX_MATCHED }
     requires sources { AreSources operations.now sources }
     requires no_fresh { NoFreshViolation operations.now }
-    ensures { IfOk result (AreTakers operations.now sources.places.items) }
+    ensures { AreTakers operations.now sources.places.items result }
 {
     let Sources {
         places,
-        all_in_time: _all_in_time,
+        in_time: _in_time,
         takers,
+        once,
     } = sources;
-    match takers {
-        Some(takers) => Ok(Takers::Once(takers)),
-        None => find_takers(alloc, operations, places.as_slice()),
-    }
+    find_takers(operations, places.as_slice(), takers, once)
 }
 
-/// The same by looking at each source.
+/// The same by looking at each source from a place on. At each source stands the operation before this place that takes from it.
 fn find_takers(
-    alloc: Global,
     operations: &[PackedOperation],
     sources: &[MaybePlace],
-) -> Result<Takers, AllocError>
+    takers: Vec<MaybePlace>,
+    once: usize,
+) -> Takers
     requires complete { AreComplete operations.now }
     requires few { length operations.now ≤ MAX_MATCHED }
     requires sources { HoldsSources operations.now sources.now }
+    requires takers { HasTakersTo once sources.now takers.items }
+    requires one_each { length takers.items ≡ length sources.now }
     requires no_fresh { NoFreshViolation operations.now }
-    ensures { IfOk result (AreTakers operations.now sources.now) }
+    ensures { AreTakers operations.now sources.now result }
 {
     // For each source the dequeue that returns first, of those so far.
-    let mut firsts = vec![in alloc; MaybePlace::none(); sources.len()]?;
+    let mut firsts = takers;
     let mut found = None;
-    for (place, source) in sources.iter().enumerate() {
-        let Some(source) = source.get() else {
+    for place in once..sources.len() {
+        let Some(source) = sources[place].get() else {
             continue;
         };
         let Some(other) = firsts[source].get() else {
@@ -78,8 +76,8 @@ fn find_takers(
         found = Some(sooner_of(operations, found, pair));
     }
     match found {
-        Some(pair) => Ok(Takers::Twice(pair)),
-        None => Ok(Takers::Once(firsts)),
+        Some(pair) => Takers::Twice(pair),
+        None => Takers::Once(firsts),
     }
 }
 

@@ -60,7 +60,7 @@ fn find(alloc: Global, operations: &[PackedOperation]) -> Result<MatchOutcome, A
     if let Some(places) = first_fresh(operations, &sources) {
         return Ok(MatchOutcome::Fresh(places));
     }
-    match takers_of(alloc, operations, sources)? {
+    match takers_of(operations, sources) {
         Takers::Once(dequeues) => {
             let sorted = sorted_out(alloc, operations, dequeues.as_slice())?;
             Ok(MatchOutcome::Clear(sorted))
@@ -80,7 +80,7 @@ fn sorted_out(
     requires dequeues { HoldsDequeues operations.now dequeues.now }
     ensures { IfOk result (IsSortedOutOf operations.now) }
 {
-    let mut values = Vec::with_capacity(alloc, operations.len() / 2)?;
+    let mut values = Vec::with_capacity(alloc, operations.len())?;
     let mut empties = Vec::new(alloc);
     let mut refused = Vec::new(alloc);
     for (place, operation) in operations.iter().enumerate() {

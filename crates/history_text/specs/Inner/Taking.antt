@@ -1,10 +1,12 @@
 -- What the steps of a reader take of its input.
-use Rattle.std.specs.Prelude.{◌≡◌, ℕ, ◌<◌, Bool, true, false, List, [], ◌∷◌, ◌++◌, length, Option, Some, None, Err, IfSome}
+use Rattle.std.specs.Prelude.{◌≡◌, ℕ, ◌<◌, ⊤, Bool, true, false, List, [], ◌∷◌, ◌++◌, length, Option, Some, None, Err, IfSome}
 use Rattle.std.specs.declared.result.Result.{Result}
 use Rattle.text_lines.specs.declared.fault.TextFault.{TextFault}
 use Rattle.text_lines.specs.declared.fault.TextFault.TheVariants.{Memory}
 use Rattle.history_text.specs.declared.reader.FrontLine.{FrontLine}
 use Rattle.history_text.specs.declared.reader.FrontLine.TheVariants as at_front
+use Rattle.history_text.specs.declared.source_end.SourceEnd.{SourceEnd}
+use Rattle.history_text.specs.declared.source_end.SourceEnd.TheVariants as end
 use Rattle.text_lines.specs.Input.{Ahead, Ending, EndOfInput, Failure, Takes, IsOver}
 use Rattle.text_lines.specs.Lines.{line, end_line, longest_line, is_line_feed, front_of, header_fault, Front, Whole, TooLong}
 use Rattle.text_lines.specs.Inner.Lines.{IsPartOfLine}
@@ -13,6 +15,12 @@ use Rattle.history_text.specs.Items.{Format, line_of, lines_of, item_at_front, L
 use Rattle.history_text.specs.Versions.{value_format, NoVersionFault, AfterCount, InitialFault}
 use Rattle.history_text.specs.Claims.{FirstLineFault}
 use Rattle.history_text.specs.Reading.{HasFirstFault}
+
+-- nothing is ahead, and it ends so, if the end of the source was seen
+abbrev pub IsSeen : SourceEnd → Option Ahead → Type 0
+IsSeen end.NotSeen ahead = ⊤
+IsSeen end.Over ahead = IsOver EndOfInput ahead
+IsSeen end.Failed ahead = IsOver Failure ahead
 
 -- the bytes that a line took, by how it stands
 abbrev pub TakesLine : Option Ahead → Option Ahead → FrontLine → Type 0

@@ -1,7 +1,6 @@
 use Rattle.std.proofs.Common.{true, ◌≡◌, length}
+use Rattle.value_match.specs.Inner.Sources.{AreInTimeTo, AreTakersTo}
 use Rattle.value_match.proofs.CallPlaces.{HasSources, HasNear}
-use Rattle.value_match.proofs.FreshDequeues.{NoneFresh}
-use Rattle.value_match.proofs.TakenSources.{HasTakers}
 use Rattle.value_match.proofs.sources.near_sources.Given as goal
 
 abbrev pub invariant-loop-operation : goal.invariant-loop-operation
@@ -9,6 +8,6 @@ invariant-loop-operation l = record {
   near : HasNear l.wanted l.operations l.operation-index l.sources.items;
   all : l.all_found ≡ true → HasSources l.operations l.operation-index l.sources.items;
   one_each : length l.takers.items ≡ length l.operations;
-  once : l.all_once ≡ true → HasTakers l.sources.items l.takers.items;
-  in_time : l.all_found ≡ true → l.all_in_time ≡ true → NoneFresh l.operations l.operation-index;
+  late : AreInTimeTo l.operation-index l.operations l.late;
+  twice : AreTakersTo l.twice l.sources.items l.takers.items;
 }

@@ -3,7 +3,7 @@ use Rattle.std.specs.Prelude.{MatchOption}
 use Rattle.std.proofs.lemmas.List.{get_or_read}
 use Rattle.value_match.specs.Inner.Sources.{TakesFrom, return_at}
 use Rattle.value_match.proofs.RepeatedDequeues.{IsSoonest, Once, distinct_returns, found_inside, met_again, met_first}
-use Rattle.value_match.proofs.RepeatedDequeues.{met_nothing, met_skip, once_taken, repeat_chosen, source_inside, source_read}
+use Rattle.value_match.proofs.RepeatedDequeues.{met_once, met_skip, once_taken, repeat_chosen, source_inside, source_read}
 use Rattle.value_match.proofs.takers.find_takers.Goals as goal
 use Rattle.value_match.proofs.takers.find_takers.Goals.{In-Some, In-Some-get, After-in_order-pair}
 
@@ -66,7 +66,7 @@ pub index-requires : goal.index-requires
 index-requires c = let inside = below (goal.at.index-requires c).In-Some in omega arith
 
 pub loop-place-init : goal.loop-place-init
-loop-place-init c = rw (c.in_ok-firsts.ensures.items_if_clones_equal, c.none.ensures) (met_nothing (return_at c.args.operations.now) c.args.sources.now)
+loop-place-init c = met_once (return_at c.args.operations.now) c.args.sources.now c.args.takers.items c.args.once c.requires.one_each c.requires.takers
 
 pub index_mut-requires : goal.index_mut-requires
 index_mut-requires c = let inside = below (goal.at.index_mut-requires c).In-Some in omega arith

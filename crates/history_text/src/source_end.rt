@@ -1,0 +1,48 @@
+//! What a reader asks of its source.
+ghost use Rattle.std.specs.Prelude.{◌≡◌, ◌+◌, ◌≤◌, IfOk, length, drop, take};
+ghost use Rattle.text_lines.specs.Input.{ReadTakes};
+ghost use Rattle.history_text.specs.Inner.Taking.{IsSeen};
+
+use text_lines::{ReadFailed, TextSource};
+
+/// The most bytes that one read asks a source for.
+pub(crate) const BUFFER_LEN: usize = 4096;
+
+/// Whether the end of a source was seen, which isn't asked again then.
+#[derive(Clone, Copy)]
+pub(crate) enum SourceEnd {
+    NotSeen,
+    /// A read gave nothing.
+    Over,
+    /// A read failed.
+    Failed,
+}
+
+/// Reads bytes to this place of a buffer, unless the end of the source was seen.
+pub(crate) fn read_at<R: TextSource>(
+    source: &mut R,
+    end: &mut SourceEnd,
+    buffer: &mut [u8],
+    at: usize,
+) -> Result<usize, ReadFailed>
+    requires room { at + BUFFER_LEN ≤ length buffer.old }
+    requires seen { IsSeen end.old (R.ahead source.old) }
+    ensures bound { IfOk result (λ n. n ≤ BUFFER_LEN) }
+    ensures bytes { ReadTakes (R.ahead source.old) (R.ahead source.new) result (drop at buffer.new) }
+    ensures before { take at buffer.new ≡ take at buffer.old }
+    ensures len { length buffer.new ≡ length buffer.old }
+    ensures seen { IsSeen end.new (R.ahead source.new) }
+{
+    match *end {
+        SourceEnd::NotSeen => {}
+        SourceEnd::Over => return Ok(0),
+        SourceEnd::Failed => return Err(ReadFailed),
+    }
+    let read = source.read(&mut buffer[at..at + BUFFER_LEN]);
+    *end = match read {
+        Ok(0) => SourceEnd::Over,
+        Ok(_) => SourceEnd::NotSeen,
+        Err(ReadFailed) => SourceEnd::Failed,
+    };
+    read
+}
