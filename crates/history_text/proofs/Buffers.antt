@@ -55,7 +55,7 @@ over_if_nothing ahead (suc n) bytes within some ends =
     let more : not (nat_lt 0 (suc n)) ≡ false = grind (arith, nat_tests) in
     subst (IsOverIf (with_front (part bytes 0 (suc n)) ahead)) (sym more) (has_more_in_buffer bytes 0 (suc n) ahead (omega arith) within)
 
--- the bytes that are left, moved to the front, and those of a read behind them: nothing is taken
+-- the bytes that are left, moved to the front, and those of a read after them: nothing is taken
 pub moved_and_read : (bytes more : List ℕ) (at filled n : ℕ) (old new : Option Ahead) → at ≤ filled → filled ≤ length bytes
     → take (filled - at) more ≡ take (filled - at) (paste bytes 0 (drop at bytes) (filled - at)) → Takes old new (take n (drop (filled - at) more))
     → Takes (with_front (part bytes at filled) old) (with_front (part more 0 (filled - at + n)) new) []

@@ -241,7 +241,7 @@ impl<R: TextSource> TextReader<R> {
         }
     }
 
-    /// Does so if no line stands whole in the buffer: brings what is left to the front, and reads behind it.
+    /// Does so if no line stands whole in the buffer: brings what is left to the front, and reads on after it.
     #[inline(never)]
     fn complete_line(&mut self)
         ensures left { Takes self.old.left self.new.left [] }

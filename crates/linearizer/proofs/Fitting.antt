@@ -9,17 +9,18 @@ use Rattle.history_merge.specs.declared.operation.OpKind.TheVariants.{Deq}
 use Rattle.history_merge.specs.Operations.{Did, NoneDid, Precedes}
 use Rattle.history_merge.proofs.Distinct.{contains_at, place_of, return_in_range}
 use Rattle.value_match.specs.declared.life.Life.{Life}
-use Rattle.value_match.specs.Lives.{HoldsLives, IsLife, call_or_never, dequeue_call, dequeue_return, enqueue_call, entered_by, leaves_from, life_from, lives_of}
+use Rattle.value_match.specs.Lives.{HoldsLives, IsLife, call_or_never, dequeue_call, dequeue_return, enqueue_call, enqueue_return, entered_by, leaves_from, life_from, lives_of}
 use Rattle.value_match.specs.Violations.{IsClear, NoOrderViolation}
 use Rattle.linearizer.specs.Values.{EachIsChoice, IsChoice, IsValueOrder}
 use Rattle.linearizer.specs.Inner.Placement.{AreCalledInTime}
-use Rattle.linearizer.specs.Inner.Sweep.{IsPassedOver}
+use Rattle.linearizer.specs.Inner.Swept.{IsPassedOver}
 use Rattle.value_match.specs.declared.life.MatchedValue.{MatchedValue}
 use Rattle.value_match.specs.declared.life.TheConstants.{NEVER}
 use Rattle.value_match.specs.declared.matching.TheConstants.{MAX_MATCHED}
 use Rattle.linearizer.specs.declared.timed.TheConstants.{PLACES}
 use Rattle.value_match.proofs.Lists.{mapped_to}
-use Rattle.value_match.proofs.Lives.{life_of_contained}
+use Rattle.value_match.proofs.Lives.{life_of_contained, places_of_value, value_is_life, value_of_life}
+use Rattle.order_violation.specs.Overtaking.{IsFirstOvertaker, Overtakes}
 use Rattle.linearizer.proofs.Choices.{least_at, made}
 use Rattle.linearizer.proofs.Opposites.{choice_may_stand_before, no_two_opposite, stands_in_order}
 use Rattle.linearizer.proofs.Times.{above, returned_by_never, times_of_life}
@@ -36,7 +37,7 @@ later_among (z ∷ lives) (suc i) zero x y each le at_x at_y = absurd (omega ari
 later_among (z ∷ lives) (suc i) (suc j) x y each le at_x at_y = later_among lives i j x y each.1 (omega arith) at_x at_y
 
 -- a choice isn't dequeued after a value that remains
-no_later : (remaining : List Life) (x y : Life) → IsChoice remaining x → Contains remaining y → dequeue_call x ≤ dequeue_return x
+pub no_later : (remaining : List Life) (x y : Life) → IsChoice remaining x → Contains remaining y → dequeue_call x ≤ dequeue_return x
     → dequeue_return y < dequeue_call x → ⊥
 no_later remaining x y is among takes_time later =
     let returned = least_at dequeue_return remaining is.first_dequeued y is.dequeued_first among in
@@ -100,22 +101,84 @@ module _ (operations : List Operation) (lives : List Life) (clear : IsClear oper
       cases : (at_a.0 ≤ at_b.0) ⊎ (at_b.0 ≤ at_a.0)
       cases = grind arith
 
--- where a value is passed over, two values are dequeued against the order of their enqueues
-pub passed_over : (operations : List Operation) (values : List MatchedValue) → IsClear operations → HoldsLives operations values → IsPassedOver values
-    → ¬ (NoOrderViolation operations)
-passed_over operations values clear holds passed none =
-    let may = choice_may_stand_before passed.remaining passed.next passed.entered
-    (λ x among. times_of_life operations x clear (is_life_of x among))
-    (λ x y in_x in_y. no_two_opposite operations x y clear none (is_life_of x in_x) (is_life_of y in_y))
-    (λ x among. returned_by_never operations x clear (is_life_of x among))
-    passed.is_next passed.is_left in
-    let differs = enters_at_no_call operations passed.entered passed.next clear (is_life_of passed.entered passed.is_left)
-    (is_life_of passed.next passed.next_is_left) in
-    let called = above (enqueue_call passed.next) (entered_by passed.entered) may.0 differs in
-    omega (arith, called, passed.too_late)
-  where
-    is_life_of : (x : Life) → Contains passed.remaining x → IsLife operations x
-    is_life_of x among = life_of_contained operations x (subst (λ lives. Contains lives x) holds.0 (passed.among x among))
+-- a value that is passed over is dequeued first of those that overtake another
+module _ (operations : List Operation) (values : List MatchedValue) (clear : IsClear operations) (holds : HoldsLives operations values)
+    (b : MatchedValue) (passed : IsPassedOver values b) where
+  is_life_of : (x : Life) → Contains passed.remaining x → IsLife operations x
+  is_life_of x among = life_of_contained operations x (subst (λ lives. Contains lives x) holds.0 (passed.among x among))
+
+  is_b : IsLife operations b.life
+  is_b = value_is_life operations values b holds passed.is_value
+
+  abbrev a : Life
+  a = passed.is_next.first_entered
+
+  is_a : IsLife operations a
+  is_a = is_life_of a passed.is_next.enters_first.0
+
+  -- the first of those left has entered when b is called
+  entered_before : entered_by a < enqueue_call b.life
+  entered_before =
+      let least = least_at entered_by passed.remaining a passed.entered passed.is_next.enters_first passed.is_left in
+      let differs = enters_at_no_call operations a b.life clear is_a is_b in
+      let order : (entered_by a < enqueue_call b.life) ⊎ (entered_by a ≡ enqueue_call b.life) = let late = passed.too_late in grind arith in
+      elim order [ inl less ↦ less | inr same ↦ absurd (differs same) ]
+
+  -- so b is the first that was dequeued
+  dequeued_first : (dequeue_return passed.is_next.first_dequeued < leaves_from a) × (b.life ≡ passed.is_next.first_dequeued)
+  dequeued_first = elim (made passed.remaining b.life passed.is_next) [
+    | inl dequeued ↦ dequeued
+    | inr entered ↦
+        let times = times_of_life operations b.life clear is_b in
+        let same = ap entered_by entered.1 in
+        absurd (omega (arith, same, times.enters_after_call, entered_before))
+  ]
+
+  before : (x : Life) → Contains passed.remaining x → dequeue_return b.life ≤ dequeue_return x
+  before x among =
+      let least = least_at dequeue_return passed.remaining passed.is_next.first_dequeued x passed.is_next.dequeued_first among in
+      let same = ap dequeue_return dequeued_first.1 in
+      omega (arith, least, same)
+
+  overtakes : Overtakes b.life a
+  overtakes =
+      let times_a = times_of_life operations a clear is_a in
+      let times_b = times_of_life operations b.life clear is_b in
+      let entered : entered_by b.life ≤ dequeue_return b.life = omega arith in
+      let called : enqueue_call b.life ≤ dequeue_return b.life = omega (arith, times_b.enters_after_call, entered) in
+      let sooner = before a passed.is_next.enters_first.0 in
+      let same = ap dequeue_return dequeued_first.1 in
+      let returned : enqueue_return a ≡ entered_by a = let less = entered_before in omega (arith, less, called, sooner) in
+      let returns : enqueue_return a < enqueue_call b.life = omega (arith, returned, entered_before) in
+      let stays : dequeue_return b.life < dequeue_call a = let leaves = dequeued_first.0 in let takes = times_a.enqueue_takes_time in
+      omega (arith, leaves, same, takes, returns, called) in
+      (returns, stays)
+
+  pub is_first_overtaker : IsFirstOvertaker operations b
+  is_first_overtaker = record {
+    is_life = is_b;
+    has_places = places_of_value operations values b holds passed.is_value;
+    overtaken = a;
+    overtaken_is_life = is_a;
+    overtakes = overtakes;
+    first = λ x y is_x is_y over.
+        let m = value_of_life operations values x clear holds is_x in
+        let n = value_of_life operations values y clear holds is_y in
+        let left = passed.are_left m.0 n.0 m.1 n.1 (subst (λ l. Overtakes m.0.life l) (sym n.2) (subst (λ l. Overtakes l y) (sym m.2) over)) in
+        before x (subst (Contains passed.remaining) m.2 left);
+  }
+
+  -- so two values are dequeued against the order of their enqueues
+  pub passed_over : ¬ (NoOrderViolation operations)
+  passed_over none =
+      let may = choice_may_stand_before passed.remaining b.life passed.entered
+      (λ x among. times_of_life operations x clear (is_life_of x among))
+      (λ x y in_x in_y. no_two_opposite operations x y clear none (is_life_of x in_x) (is_life_of y in_y))
+      (λ x among. returned_by_never operations x clear (is_life_of x among))
+      passed.is_next passed.is_left in
+      let differs = enters_at_no_call operations passed.entered b.life clear (is_life_of passed.entered passed.is_left) is_b in
+      let called = above (enqueue_call b.life) (entered_by passed.entered) may.0 differs in
+      omega (arith, called, passed.too_late)
 
 -- the values of a matching are lives
 are_lives : (operations : List Operation) (values : List MatchedValue) → HoldsLives operations values
@@ -155,3 +218,11 @@ pub few_values : (operations : List Operation) (values : List MatchedValue) → 
 few_values operations values holds few =
     let same : length values ≡ length (lives_of operations) = sym (length-map values (λ m. m.life)) ∙ ap (λ lives. length lives) holds.0 in
     omega (arith, same, some_of (λ o. life_from operations o o.kind) operations)
+
+-- the call of each dequeue comes no later than its return
+pub take_time : (operations : List Operation) (values : List MatchedValue) → IsClear operations → HoldsLives operations values
+    → All (λ value. dequeue_call value.life ≤ dequeue_return value.life) values
+take_time operations values clear holds =
+    All-weaker (λ value. IsLife operations value.life) (λ value. dequeue_call value.life ≤ dequeue_return value.life)
+    (λ value is. elim (times_of_life operations value.life clear is).dequeue_takes_time [ inl less ↦ omega arith | inr never ↦ omega (arith, never.0, never.1) ])
+    values (are_lives operations values holds)

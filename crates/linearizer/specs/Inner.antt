@@ -2,3 +2,4 @@
 pub mod Merging
 pub mod Placement
 pub mod Sweep
+pub mod Swept

@@ -1,26 +1,33 @@
-ghost use Rattle.std.specs.Prelude.{◌<◌, ◌≤◌, All, IfOk, MatchOption, length};
+ghost use Rattle.std.specs.Prelude.{◌<◌, ◌≤◌, All, IfOk, length};
 ghost use Rattle.value_match.specs.declared.life.TheConstants.{NEVER};
-ghost use Rattle.value_match.specs.Lives.{dequeue_return, entered_by};
+ghost use Rattle.value_match.specs.Lives.{dequeue_call, dequeue_return, entered_by};
 ghost use Rattle.linearizer.specs.declared.timed.TheConstants.{PLACES};
-ghost use Rattle.linearizer.specs.Inner.Sweep.{IsDequeuedAt, IsInOrder, IsPassedOver, TakesOneOf};
+ghost use Rattle.linearizer.specs.Inner.Sweep.{IsDequeuedAt, TakesOneOf};
+ghost use Rattle.linearizer.specs.Inner.Swept.{IsSweepOf};
 
 use crate::timed::{PackedTimed, Timed, by_time, first_left};
 use std::alloc::{AllocError, Global};
-use value_match::{NEVER, Values};
+use value_match::{MatchedValue, NEVER, Values};
 
-/// The places of the values in their chosen order, each with the gap of its enqueue: a value is the choice among itself
-/// and those after it. Or none, if an enqueue is called only after a later value has entered.
+/// What a sweep over the values finds.
+#[derive(Drop)]
+pub(crate) enum Swept {
+    /// The places of the values in their chosen order, each with the gap of its enqueue.
+    InOrder(Vec<PackedTimed>),
+    /// A value that has to come next, though its enqueue is called only after a later value has entered.
+    PassedOver(MatchedValue),
+}
+
+/// Puts the values in their chosen order: a value is the choice among itself and those after it.
 ///
 /// The values stand in two lists, one by when each has entered, the other by when each was dequeued. In each list
 /// those before a cursor are taken, so the one at the cursor is the first of its values that remain.
-pub(crate) fn put_in_order(
-    alloc: Global,
-    values: &Values,
-) -> Result<Option<Vec<PackedTimed>>, AllocError>
+pub(crate) fn put_in_order(alloc: Global, values: &Values) -> Result<Swept, AllocError>
     requires few { length values.now ≤ PLACES }
     requires entries { All (λ value. entered_by value.life < NEVER) values.now }
     requires dequeues { All (λ value. dequeue_return value.life ≤ NEVER) values.now }
-    ensures { IfOk result (λ found. MatchOption found (IsPassedOver values.now) (λ order. IsInOrder values.now order.items)) }
+    requires takes_time { All (λ value. dequeue_call value.life ≤ dequeue_return value.life) values.now }
+    ensures { IfOk result (IsSweepOf values.now) }
 {
     let mut order = Vec::with_capacity(alloc, values.len())?;
     let mut taken = vec![in alloc; false; values.len()]?;
@@ -34,8 +41,9 @@ pub(crate) fn put_in_order(
         first_out = first_left(dequeues, &taken, first_out);
         let entry = entries[first_in].unpack();
         let next = choice(values, entry, dequeued_at(dequeues, first_out, entry.place));
-        if entry.time <= values.get(next).life.enqueue_call() {
-            return Ok(None);
+        let value = values.get(next);
+        if entry.time <= value.life.enqueue_call() {
+            return Ok(Swept::PassedOver(value));
         }
         taken[next] = true;
         order.push(PackedTimed::new(Timed {
@@ -43,7 +51,7 @@ pub(crate) fn put_in_order(
             place: next,
         }))?;
     }
-    Ok(Some(order))
+    Ok(Swept::InOrder(order))
 }
 
 /// The dequeue at this place of the list. Behind the last, this value is as good as any: none of those that are left is dequeued.

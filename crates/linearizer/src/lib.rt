@@ -10,4 +10,4 @@ mod position;
 mod timed;
 
 pub use order::linearize;
-pub use ordered_values::{OrderedValues, order_values};
+pub use ordered_values::{OrderFound, OrderedValues, order_values};

@@ -1,14 +1,14 @@
-ghost use Rattle.std.specs.Prelude.{◌≡◌, IfOk, MatchOption};
+ghost use Rattle.std.specs.Prelude.{IfOk};
 ghost use Rattle.value_match.specs.Timeline.{timeline_of};
-ghost use Rattle.value_match.specs.Violations.{NoOrderViolation};
+ghost use Rattle.linearizer.specs.Ordering.{OrdersValues};
 ghost use Rattle.linearizer.specs.Inner.Placement.{AreEnqueueGaps, IsOrderOfPlaces, gaps_in, lives_at, places_in};
 
-use crate::choice::put_in_order;
+use crate::choice::{Swept, put_in_order};
 use crate::timed::PackedTimed;
 use history_merge::PackedOperation;
 use std::alloc::{AllocError, Global};
 use std::marker::Model;
-use value_match::Matching;
+use value_match::{MatchedValue, Matching};
 
 /// The accepted values of a matching in their chosen order, with the gap of each enqueue; seen as the operations that they are of.
 ///
@@ -33,23 +33,28 @@ impl<'a> Model for OrderedValues<'a> {
         × AreEnqueueGaps (lives_at a.operations.now (places_in a.order.items)) (gaps_in a.order.items) };
 }
 
-/// The accepted values of a matching in their chosen order, or none if two of them are dequeued against the order of their
+/// What ordering the accepted values of a matching finds.
+#[derive(Debug, Drop)]
+pub enum OrderFound<'a> {
+    /// The values in their chosen order. No two are dequeued against the order of their enqueues.
+    InOrder(OrderedValues<'a>),
+    /// Of the values that are dequeued before another that was enqueued before them the one that is dequeued first.
+    Overtaker(MatchedValue),
+}
+
+/// Puts the accepted values of a matching in their chosen order, or finds that two are dequeued against the order of their
 /// enqueues.
 ///
 /// Time O(n log n) for n values, and little more than a pass where they enter and leave nearly in the order of their enqueues' calls.
 /// `AllocError` comes only where a growth was refused.
-pub fn order_values<'a>(
-    alloc: Global,
-    matching: &'a Matching,
-) -> Result<Option<OrderedValues<'a>>, AllocError>
-    ensures { IfOk result (λ found. MatchOption found (¬ (NoOrderViolation (timeline_of matching.now)))
-        (λ order. (order ≡ timeline_of matching.now) × NoOrderViolation (timeline_of matching.now))) }
+pub fn order_values<'a>(alloc: Global, matching: &'a Matching) -> Result<OrderFound<'a>, AllocError>
+    ensures { IfOk result (OrdersValues (timeline_of matching.now)) }
 {
     let operations = matching.timeline();
-    let Some(order) = put_in_order(alloc, &matching.values())? else {
-        return Ok(None);
-    };
-    Ok(Some(OrderedValues { operations, order }))
+    match put_in_order(alloc, &matching.values())? {
+        Swept::InOrder(order) => Ok(OrderFound::InOrder(OrderedValues { operations, order })),
+        Swept::PassedOver(value) => Ok(OrderFound::Overtaker(value)),
+    }
 }
 
 impl<'a> OrderedValues<'a> {

@@ -1,5 +1,5 @@
 -- A value that overtakes another is an order violation, and each order violation is one.
-use Rattle.order_violation.proofs.Common.{◌<◌, ◌∙◌, ◌≡◌, ◌≤◌, All, All-contains, ap, arith, Contains, length, List}
+use Rattle.order_violation.proofs.Common.{◌<◌, ◌∙◌, ◌≡◌, ◌≤◌, All, All-contains, All-weaker, ap, arith, Contains, length, List}
 use Rattle.order_violation.proofs.Common.{MatchOption, None, Option, option_map, refl, Some, subst, sym, ℕ}
 use Rattle.order_violation.proofs.Common.{call_or_never, dequeue_call, dequeue_of, dequeue_return, enqueue_of}
 use Rattle.order_violation.proofs.Common.{HoldsLives, IsFirstOvertaking, IsLife, IsLongestOf, IsMaybeAt, Life}
@@ -14,7 +14,11 @@ use Rattle.value_match.specs.declared.life.TheConstants.{NEVER}
 use Rattle.value_match.specs.Timeline.{behind}
 use Rattle.value_match.specs.Told.{told_place, told_source}
 use Rattle.value_match.specs.Violations.{IsClear, IsOrderViolation, NoOrderViolation}
-use Rattle.order_violation.specs.Pairs.{IsChosenPair}
+use Rattle.order_violation.specs.Overtaking.{IsFirstOvertaker}
+use Rattle.order_violation.specs.Pairs.{IsChosenPair, IsOrderAnswer, told_pair}
+use Rattle.std.proofs.lemmas.List.Elements.{All-contains_itself}
+use Rattle.value_match.specs.Lives.{HasPlaces}
+use Rattle.value_match.proofs.RepeatedDequeues.{one_place}
 use Rattle.value_match.proofs.Lives.{value_is_life, value_of_life, places_of_value}
 use Rattle.value_match.proofs.ToldPlaces.{value_told}
 
@@ -191,3 +195,53 @@ module _ (initial : List ℕ) (operations : List Operation) (values : List Match
   pub dequeue_is_named : b.dequeue ≡ None → ⊥
   dequeue_is_named missing = place_missing all b.dequeue (dequeue_of b.life) dequeue_of_b.0
       (places_of_value all values b holds first.among).1 dequeue_of_b.1 missing
+
+  -- so their pair is the answer
+  pub is_answer : IsOrderAnswer initial operations (told_pair k a b)
+  is_answer = answer b.dequeue refl
+    where
+      answer : (dequeue : Option ℕ) → b.dequeue ≡ dequeue → IsOrderAnswer initial operations (told_pair k a b)
+      answer None missing = absurd (dequeue_is_named missing)
+      answer (Some p) named = rw named (is_chosen_pair p named)
+
+same_place : (operations : List Operation) (p q : Option ℕ) (o : Option Operation) → AreComplete operations → IsMaybeAt operations p o
+    → IsMaybeAt operations q o → p ≡ q
+same_place operations None None o complete at_p at_q = refl
+same_place operations None (Some q) None complete at_p at_q = absurd at_q
+same_place operations None (Some q) (Some o) complete at_p at_q = absurd at_p
+same_place operations (Some p) q None complete at_p at_q = absurd at_p
+same_place operations (Some p) None (Some o) complete at_p at_q = absurd at_q
+same_place operations (Some p) (Some q) (Some o) complete at_p at_q = ap (λ n. Some n) (one_place operations p q o complete at_p at_q)
+
+-- the first of all lives that overtake another is the first of the values
+pub first_of_values : (operations : List Operation) (values : List MatchedValue) (b : MatchedValue) → IsClear operations → HoldsLives operations values
+    → IsFirstOvertaker operations b → IsFirstOvertaking values values b
+first_of_values operations values b clear holds is = record {
+  among = subst (Contains values) same m.1;
+  overtaken = a.0;
+  overtaken_among = a.1;
+  overtakes = subst (Overtakes b.life) (sym a.2) is.overtakes;
+  first = All-weaker (Contains values) (λ other. (x : MatchedValue) → Contains values x → Overtakes other.life x.life → dequeue_return b.life ≤ dequeue_return other.life)
+      (λ other among x also overtakes. is.first other.life x.life (value_is_life operations values other holds among) (value_is_life operations values x holds also) overtakes)
+      values (All-contains_itself values);
+}
+  where
+    m : (m : MatchedValue) × Contains values m × (m.life ≡ b.life)
+    m = value_of_life operations values b.life clear holds is.is_life
+
+    a : (m : MatchedValue) × Contains values m × (m.life ≡ is.overtaken)
+    a = value_of_life operations values is.overtaken clear holds is.overtaken_is_life
+
+    places : HasPlaces operations m.0
+    places = places_of_value operations values m.0 holds m.1
+
+    enqueue : m.0.enqueue ≡ b.enqueue
+    enqueue = one_place operations m.0.enqueue b.enqueue (enqueue_of b.life) clear.complete
+        (subst (λ l. IsAt operations m.0.enqueue (enqueue_of l)) m.2 places.0) is.has_places.0
+
+    dequeue : m.0.dequeue ≡ b.dequeue
+    dequeue = same_place operations m.0.dequeue b.dequeue (dequeue_of b.life) clear.complete
+        (subst (λ l. IsMaybeAt operations m.0.dequeue (dequeue_of l)) m.2 places.1) is.has_places.1
+
+    same : m.0 ≡ b
+    same = λ i. record { life = m.2 i; enqueue = enqueue i; dequeue = dequeue i }

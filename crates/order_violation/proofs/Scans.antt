@@ -151,3 +151,17 @@ pub overtaken_none : (values : List MatchedValue) (b : Life) (longest : Option M
     → is_some longest ≡ false → NonePasses (Overtakes b) values
 overtaken_none values b None none not = none
 overtaken_none values b (Some a) is not = cc
+
+-- the next value doesn't pass
+pub longest_stays : (Passes : Life → Type 0) (values : List MatchedValue) (i : ℕ) (x : MatchedValue) (found : Option MatchedValue) → i < length values
+    → x ≡ get_or values i x → FindsLongest Passes (take i values) found → ¬ (Passes x.life) → FindsLongest Passes (take (i + 1) values) found
+longest_stays Passes values i x found within is so_far not =
+    subst (λ seen. FindsLongest Passes seen found) (sym (one_more values i x within is)) (go found so_far)
+  where
+    go : (found : Option MatchedValue) → FindsLongest Passes (take i values) found → FindsLongest Passes (take i values ++ x ∷ []) found
+    go None none = All-push (λ value. ¬ (Passes value.life)) (take i values) x none not
+    go (Some a) is_a = record {
+      among = Contains-append_left (take i values) (x ∷ []) a is_a.among;
+      passes = is_a.passes;
+      longest = All-push (λ other. Passes other.life → StaysAtLeast a.life other.life) (take i values) x is_a.longest (λ passes. absurd (not passes));
+    }

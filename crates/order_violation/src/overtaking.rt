@@ -27,7 +27,7 @@ pub(crate) fn longest_overtaken(table: &LongestTable, b: &Life) -> Option<Matche
 
 /// Returns the longest of the values that entered before b, if b overtakes it; otherwise b overtakes none.
 #[inline(always)]
-fn if_overtaken(b: &Life, longest: Option<MatchedValue>) -> Option<MatchedValue>
+pub(crate) fn if_overtaken(b: &Life, longest: Option<MatchedValue>) -> Option<MatchedValue>
     ensures { (values : List MatchedValue) → FindsLongest (EntersBefore (enqueue_call b.now)) values longest → FindsLongest (Overtakes b.now) values result }
 {
     let a = longest?;

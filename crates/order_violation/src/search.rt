@@ -1,13 +1,16 @@
-ghost use Rattle.std.specs.Prelude.{IfOk};
+ghost use Rattle.std.specs.Prelude.{◌≡◌, IfOk};
+ghost use Rattle.value_match.specs.Longest.{EntersBefore, FindsLongest};
 ghost use Rattle.value_match.specs.Lives.{HoldsLives};
-ghost use Rattle.order_violation.specs.Overtaking.{FindsFirst};
+ghost use Rattle.order_violation.specs.Overtaking.{FindsFirst, IsFirstOvertaker};
 ghost use Rattle.value_match.specs.Timeline.{timeline_of};
-ghost use Rattle.order_violation.specs.Pairs.{IsOrderAnswer};
+ghost use Rattle.order_violation.specs.Pairs.{IsOrderAnswer, told_pair};
 
-use crate::overtaking::{first_overtaking, longest_overtaken};
+use crate::overtaking::{first_overtaking, if_overtaken, longest_overtaken};
 use crate::pair::OrderPair;
 use std::alloc::{AllocError, Global};
-use value_match::{LongestTable, MatchedValue, Matching, told_maybe, told_place, told_source};
+use value_match::{
+    LongestTable, MatchedValue, Matching, Values, told_maybe, told_place, told_source,
+};
 
 /// Finds the chosen pair of values dequeued against the order of their enqueues, if there is one: of the values
 /// dequeued before another that was enqueued before them the one dequeued first, and of those others the one that
@@ -38,10 +41,45 @@ pub fn chosen_pair(
     let initial_count = matching.initial().len();
     let b = first?;
     let a = longest_overtaken(table, &b.life)?;
+    pair_of(initial_count, a, b)
+}
+
+/// Returns the pair of this value, which overtakes another and is dequeued first of those that do, and the longest of those
+/// that it overtakes.
+///
+/// Time O(n) for n values.
+pub fn pair_with(matching: &Matching, b: MatchedValue) -> Option<OrderPair>
+    requires { IsFirstOvertaker (timeline_of matching.now) b }
+    ensures { IsOrderAnswer matching.now.initial matching.now.operations result }
+{
+    let initial_count = matching.initial().len();
+    let longest = longest_before(&matching.values(), b.life.enqueue_call());
+    let a = if_overtaken(&b.life, longest)?;
+    pair_of(initial_count, a, b)
+}
+
+/// The pair of two values, by the places of the history, if the second is dequeued.
+fn pair_of(initial_count: usize, a: MatchedValue, b: MatchedValue) -> Option<OrderPair>
+    ensures { result ≡ told_pair initial_count a b }
+{
     Some(OrderPair {
         enq_a: told_source(initial_count, a.enqueue),
         enq_b: told_source(initial_count, b.enqueue),
         deq_b: told_place(initial_count, b.dequeue?),
         deq_a: told_maybe(initial_count, a.dequeue),
     })
+}
+
+/// Returns of the values whose enqueues returned before the limit the one that stays longest.
+fn longest_before(values: &Values, limit: u64) -> Option<MatchedValue>
+    ensures { FindsLongest (EntersBefore limit) values.now result }
+{
+    let mut longest: Option<MatchedValue> = None;
+    for place in 0..values.len() {
+        let value = values.get(place);
+        if value.life.enqueue_return() < limit {
+            longest = Some(longest.map_or(value, |longest| longest.longer_of(value)));
+        }
+    }
+    longest
 }

@@ -10,9 +10,9 @@ ghost use Rattle.verdicts.specs.Decided.{IsDecided};
 use crate::verdict::{Order, Verdict};
 use empty_witness::{WitnessAnswer, find_witness};
 use history_merge::History;
-use linearizer::{OrderedValues, linearize, order_values};
-use order_violation::{OrderPair, find_order};
-use parallel_finders::{find_order_par, find_witness_par};
+use linearizer::{OrderFound, OrderedValues, linearize, order_values};
+use order_violation::{OrderPair, pair_with};
+use parallel_finders::find_witness_par;
 use std::alloc::{AllocError, Global};
 use std::thread::Threads;
 use value_match::{Matched, Matching, Violation, match_values};
@@ -60,21 +60,18 @@ pub fn decide_par<R: Threads + Sync>(
     }
 }
 
-/// The verdict where each dequeue is of a value that was there, and no value is dequeued twice. A pair of values dequeued against the
-/// order of their enqueues is looked for only where there is one.
+/// The verdict where each dequeue is of a value that was there, and no value is dequeued twice. Ordering the values finds the one
+/// that is dequeued first against the order of the enqueues, if there is one.
 fn decide_matching(alloc: Global, matching: &Matching) -> Result<Verdict, AllocError>
     requires { IsClear (timeline_of matching.now) }
     ensures { IfOk result (IsDecided matching.now.initial matching.now.operations) }
 {
     match order_values(alloc, matching)? {
-        Some(values) => {
+        OrderFound::InOrder(values) => {
             let answer = find_witness(alloc, matching)?;
             decide_in_order(alloc, matching, &values, answer)
         }
-        None => {
-            let pair = find_order(alloc, matching)?;
-            Ok(overtaken(matching, pair))
-        }
+        OrderFound::Overtaker(value) => Ok(overtaken(matching, pair_with(matching, value))),
     }
 }
 
@@ -90,14 +87,11 @@ fn decide_matching_par<R: Threads + Sync>(
     ensures { IfOk result (IsDecided matching.now.initial matching.now.operations) }
 {
     match order_values(alloc, matching)? {
-        Some(values) => {
+        OrderFound::InOrder(values) => {
             let answer = find_witness_par(rt, alloc, matching, pieces)?;
             decide_in_order(alloc, matching, &values, answer)
         }
-        None => {
-            let pair = find_order_par(rt, alloc, matching, pieces)?;
-            Ok(overtaken(matching, pair))
-        }
+        OrderFound::Overtaker(first) => Ok(overtaken(matching, pair_with(matching, first))),
     }
 }
 

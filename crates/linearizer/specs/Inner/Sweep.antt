@@ -6,8 +6,8 @@ use Rattle.std.proofs.Math.Nat.{div-add-mod}
 use Rattle.value_match.specs.declared.life.Life.{Life}
 use Rattle.value_match.specs.declared.life.MatchedValue.{MatchedValue}
 use Rattle.value_match.specs.declared.life.TheConstants.{NEVER}
-use Rattle.value_match.specs.Lives.{enqueue_call, entered_by, leaves_from}
-use Rattle.linearizer.specs.Values.{EachIsChoice, IsChoice}
+use Rattle.value_match.specs.Lives.{leaves_from}
+use Rattle.linearizer.specs.Values.{EachIsChoice}
 use Rattle.linearizer.specs.Inner.Placement.{AreCalledInTime, AreEnqueueGaps, elements_at, gaps_in, lives_in, places_in}
 use Rattle.linearizer.specs.declared.timed.Timed.{Timed}
 use Rattle.linearizer.specs.declared.timed.TheConstants.{PLACES}
@@ -55,17 +55,6 @@ pub record IsInOrder (values : List MatchedValue) (order : List Timed) : Type 0 
   pub each_is_choice : EachIsChoice (lives_in (elements_at values (places_in order)))
   pub gaps : AreEnqueueGaps (lives_in (elements_at values (places_in order))) (gaps_in order)
   pub in_time : AreCalledInTime (lives_in (elements_at values (places_in order)))
-
--- the next of some of the values is called when another of them has entered
-pub record IsPassedOver (values : List MatchedValue) : Type 0 where
-  pub remaining : List Life
-  pub among : (life : Life) → Contains remaining life → Contains (lives_in values) life
-  pub next : Life
-  pub is_next : IsChoice remaining next
-  pub next_is_left : Contains remaining next
-  pub entered : Life
-  pub is_left : Contains remaining entered
-  pub too_late : entered_by entered ≤ enqueue_call next
 
 -- ---- nothing is lost of a time and a place in one word
 

@@ -1,4 +1,4 @@
-use Rattle.std.proofs.Common.{◌≡◌, ◌∙◌, ◌<◌, ◌≤◌, Some, ap, refl, sym, arith, false, length, replicate, rules}
+use Rattle.std.proofs.Common.{◌≡◌, ◌∙◌, ◌<◌, ◌≤◌, Some, ap, refl, subst, sym, arith, false, length, replicate, rules}
 use Rattle.std.proofs.lemmas.List.{length-map}
 use Rattle.std.proofs.lemmas.List.Elements.{All-contains}
 use Rattle.std.proofs.lemmas.Option.{get_or_from_slice_get, slice_get_read, slice_get_within}
@@ -8,6 +8,7 @@ use Rattle.value_match.specs.declared.life.TheConstants.{NEVER}
 use Rattle.value_match.specs.Lives.{dequeue_return, enqueue_call, entered_by}
 use Rattle.linearizer.specs.Inner.Placement.{gaps_in, places_in}
 use Rattle.linearizer.specs.Inner.Sweep.{IsFirstLeft}
+use Rattle.linearizer.specs.Inner.Swept.{IsPassedOver}
 use Rattle.linearizer.proofs.Sweeping.{IsLeastLeft, IsNext, least_left, next_at, not_past}
 use Rattle.linearizer.proofs.Choosing.{all_swept, flags_within, nothing_swept, passed_over, some_left, swept_next}
 use Rattle.linearizer.proofs.choice.put_in_order.Goals as goal
@@ -101,8 +102,8 @@ index_mut-requires c =
     let same = c.loop-entries.invariant.one_flag_each in
     search rules
 
-pub get-requires : goal.get-requires
-get-requires c = let states = goal.at.get-requires c in chosen_within states.After-choice-next (inside states.After-first_left-first_in)
+pub get-value-requires : goal.get-value-requires
+get-value-requires c = let states = goal.at.get-value-requires c in chosen_within states.After-choice-next (inside states.After-first_left-first_in)
 
 pub new-requires-clause-place : goal.new-requires-clause-place
 new-requires-clause-place c =
@@ -121,23 +122,25 @@ returns-then-entry-enqueue_call c =
     let states = goal.at.returns-then-entry-enqueue_call c in
     let first = inside states.After-first_left-first_in in
     let turn = next states.After-choice-next first in
-    let read = c.get.ensures ∙ get_or_from_slice_get c.args.values.now c.choice-next.result turn.value c.get.result turn.is_at in
+    let read = c.get-value.ensures ∙ get_or_from_slice_get c.args.values.now c.choice-next.result turn.value c.get-value.result turn.is_at in
     let called = c.enqueue_call.ensures ∙ ap (λ m. enqueue_call m.life) read in
-    passed_over c.args.values.now c.loop-entries.taken.items _ _ c.choice-next.result c.unpack-entry.result turn
-    c.loop-entries.invariant.so_far (least states.After-choice-next first) (omega (arith, called, c.if-entry-enqueue_call.true))
+    subst (IsPassedOver c.args.values.now) (sym read)
+    (passed_over c.args.values.now c.loop-entries.taken.items _ _ c.choice-next.result c.unpack-entry.result turn
+    c.loop-entries.invariant.so_far (least states.After-choice-next first) (omega (arith, called, c.if-entry-enqueue_call.true)))
 
 pub loop-entries-preserved : goal.loop-entries-preserved
 loop-entries-preserved c =
     let states = goal.at.loop-entries-preserved c in
     let first = inside states.After-first_left-first_in in
     let turn = next states.After-choice-next first in
-    let read = c.get.ensures ∙ get_or_from_slice_get c.args.values.now c.choice-next.result turn.value c.get.result turn.is_at in
+    let read = c.get-value.ensures ∙ get_or_from_slice_get c.args.values.now c.choice-next.result turn.value c.get-value.result turn.is_at in
     let called = c.enqueue_call.ensures ∙ ap (λ m. enqueue_call m.life) read in
     rw (c.in_ok-push.ensures.items, c.new.ensures)
     (swept_next c.args.values.now c.as_slice-entries.result.now c.as_slice-dequeues.result.now c.loop-entries.taken.items _ _ _ _
     c.loop-entries.order.items c.choice-next.result c.unpack-entry.result turn c.loop-entries.invariant
     (entered states.After-first_left-first_in) (dequeued states.After-first_left-first_out)
-    (least states.After-choice-next first) (bounded states.After-choice-next first) (omega (arith, called, c.if-entry-enqueue_call.false)))
+    (least states.After-choice-next first) (bounded states.After-choice-next first) (omega (arith, called, c.if-entry-enqueue_call.false))
+    c.requires.takes_time)
 
 pub returns : goal.returns
 returns c = all_swept _ _ _ _ _ _ _ c.loop-entries.invariant (search rules)

@@ -1,8 +1,9 @@
 use Rattle.std.proofs.Common.{subst}
 use Rattle.linearizer.specs.Inner.Placement.{AreCalledInTime, AreEnqueueGaps, gaps_in, lives_at, places_in}
 use Rattle.linearizer.specs.Inner.Sweep.{IsInOrder}
+use Rattle.linearizer.specs.Inner.Swept.{IsPassedOver, IsSweepOf}
 use Rattle.linearizer.proofs.Choosing.{places_in_order}
-use Rattle.linearizer.proofs.Fitting.{dequeued_in_time, entered_in_time, few_values, no_order_violation, passed_over}
+use Rattle.linearizer.proofs.Fitting.{dequeued_in_time, entered_in_time, few_values, is_first_overtaker, no_order_violation, passed_over, take_time}
 use Rattle.linearizer.proofs.OrderedPlaces.{lives_are}
 use Rattle.value_match.specs.Timeline.{timeline_of}
 use Rattle.linearizer.proofs.ordered_values.order_values.Goals as goal
@@ -13,29 +14,35 @@ put_in_order-requires-clause-entries c = entered_in_time (timeline_of c.args.mat
 pub put_in_order-requires-clause-dequeues : goal.put_in_order-requires-clause-dequeues
 put_in_order-requires-clause-dequeues c = dequeued_in_time (timeline_of c.args.matching.now) c.values.result c.values.ensures.clear c.values.ensures.values
 
-pub returns-in_default : goal.returns-in_default
-returns-in_default c = passed_over (timeline_of c.args.matching.now) c.values.result c.values.ensures.clear c.values.ensures.values
-    (rw c.in_default.is at c.in_ok-order.ensures)
+pub put_in_order-requires-clause-takes_time : goal.put_in_order-requires-clause-takes_time
+put_in_order-requires-clause-takes_time c = take_time (timeline_of c.args.matching.now) c.values.result c.values.ensures.clear c.values.ensures.values
 
 pub put_in_order-requires-clause-few : goal.put_in_order-requires-clause-few
 put_in_order-requires-clause-few c = few_values (timeline_of c.args.matching.now) c.values.result c.values.ensures.values c.timeline-operations.ensures.few
 
 pub invariant_of-result : goal.invariant_of-result
 invariant_of-result c =
-    let in_order : IsInOrder c.values.result c.in-Some.order.items = rw c.in-Some.is at c.in_ok-order.ensures in
+    let in_order : IsInOrder c.values.result c.in-InOrder.order.items = subst (IsSweepOf c.values.result) c.in-InOrder.is c.in_ok-order.ensures in
     rw c.timeline-operations.ensures.timeline (
-      places_in_order (timeline_of c.args.matching.now) c.values.result c.in-Some.order.items c.values.ensures.values in_order,
-      subst (λ lives. AreEnqueueGaps lives (gaps_in c.in-Some.order.items))
-          (lives_are (timeline_of c.args.matching.now) c.values.result (places_in c.in-Some.order.items) c.values.ensures.values) in_order.gaps,
+      places_in_order (timeline_of c.args.matching.now) c.values.result c.in-InOrder.order.items c.values.ensures.values in_order,
+      subst (λ lives. AreEnqueueGaps lives (gaps_in c.in-InOrder.order.items))
+          (lives_are (timeline_of c.args.matching.now) c.values.result (places_in c.in-InOrder.order.items) c.values.ensures.values) in_order.gaps,
     )
 
-pub returns : goal.returns
-returns c =
-    let in_order : IsInOrder c.values.result c.in-Some.order.items = rw c.in-Some.is at c.in_ok-order.ensures in
-    let order = places_in_order (timeline_of c.args.matching.now) c.values.result c.in-Some.order.items c.values.ensures.values in_order in (
+pub returns-in-InOrder : goal.returns-in-InOrder
+returns-in-InOrder c =
+    let in_order : IsInOrder c.values.result c.in-InOrder.order.items = subst (IsSweepOf c.values.result) c.in-InOrder.is c.in_ok-order.ensures in
+    let order = places_in_order (timeline_of c.args.matching.now) c.values.result c.in-InOrder.order.items c.values.ensures.values in_order in (
       c.timeline-operations.ensures.timeline,
-      no_order_violation (timeline_of c.args.matching.now) (lives_at (timeline_of c.args.matching.now) (places_in c.in-Some.order.items))
+      no_order_violation (timeline_of c.args.matching.now) (lives_at (timeline_of c.args.matching.now) (places_in c.in-InOrder.order.items))
           c.values.ensures.clear order.in_order
-          (subst AreCalledInTime (lives_are (timeline_of c.args.matching.now) c.values.result (places_in c.in-Some.order.items)
+          (subst AreCalledInTime (lives_are (timeline_of c.args.matching.now) c.values.result (places_in c.in-InOrder.order.items)
           c.values.ensures.values) in_order.in_time),
+    )
+
+pub returns-in-PassedOver : goal.returns-in-PassedOver
+returns-in-PassedOver c =
+    let passed : IsPassedOver c.values.result c.in-PassedOver.value = subst (IsSweepOf c.values.result) c.in-PassedOver.is c.in_ok-order.ensures in (
+      passed_over (timeline_of c.args.matching.now) c.values.result c.values.ensures.clear c.values.ensures.values c.in-PassedOver.value passed,
+      is_first_overtaker (timeline_of c.args.matching.now) c.values.result c.values.ensures.clear c.values.ensures.values c.in-PassedOver.value passed,
     )
