@@ -41,9 +41,8 @@ pub(crate) fn put_in_order(alloc: Global, values: &Values) -> Result<Swept, Allo
         first_out = first_left(dequeues, &taken, first_out);
         let entry = entries[first_in].unpack();
         let next = choice(values, entry, dequeued_at(dequeues, first_out, entry.place));
-        let value = values.get(next);
-        if entry.time <= value.life.enqueue_call() {
-            return Ok(Swept::PassedOver(value));
+        if entry.time <= values.get(next).life.enqueue_call() {
+            return Ok(Swept::PassedOver(values.get(next)));
         }
         taken[next] = true;
         order.push(PackedTimed::new(Timed {

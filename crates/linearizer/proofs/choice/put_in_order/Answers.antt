@@ -102,8 +102,11 @@ index_mut-requires c =
     let same = c.loop-entries.invariant.one_flag_each in
     search rules
 
-pub get-value-requires : goal.get-value-requires
-get-value-requires c = let states = goal.at.get-value-requires c in chosen_within states.After-choice-next (inside states.After-first_left-first_in)
+pub get-requires : goal.get-requires
+get-requires c = let states = goal.at.get-requires c in chosen_within states.After-choice-next (inside states.After-first_left-first_in)
+
+pub get-requires-then-entry-enqueue_call : goal.get-requires-then-entry-enqueue_call
+get-requires-then-entry-enqueue_call c = let states = goal.at.get-requires-then-entry-enqueue_call c in chosen_within states.After-choice-next (inside states.After-first_left-first_in)
 
 pub new-requires-clause-place : goal.new-requires-clause-place
 new-requires-clause-place c =
@@ -122,9 +125,11 @@ returns-then-entry-enqueue_call c =
     let states = goal.at.returns-then-entry-enqueue_call c in
     let first = inside states.After-first_left-first_in in
     let turn = next states.After-choice-next first in
-    let read = c.get-value.ensures ∙ get_or_from_slice_get c.args.values.now c.choice-next.result turn.value c.get-value.result turn.is_at in
+    let read = c.get.ensures ∙ get_or_from_slice_get c.args.values.now c.choice-next.result turn.value c.get.result turn.is_at in
     let called = c.enqueue_call.ensures ∙ ap (λ m. enqueue_call m.life) read in
-    subst (IsPassedOver c.args.values.now) (sym read)
+    let told = c.get-then-entry-enqueue_call.ensures
+    ∙ get_or_from_slice_get c.args.values.now c.choice-next.result turn.value c.get-then-entry-enqueue_call.result turn.is_at in
+    subst (IsPassedOver c.args.values.now) (sym told)
     (passed_over c.args.values.now c.loop-entries.taken.items _ _ c.choice-next.result c.unpack-entry.result turn
     c.loop-entries.invariant.so_far (least states.After-choice-next first) (omega (arith, called, c.if-entry-enqueue_call.true)))
 
@@ -133,7 +138,7 @@ loop-entries-preserved c =
     let states = goal.at.loop-entries-preserved c in
     let first = inside states.After-first_left-first_in in
     let turn = next states.After-choice-next first in
-    let read = c.get-value.ensures ∙ get_or_from_slice_get c.args.values.now c.choice-next.result turn.value c.get-value.result turn.is_at in
+    let read = c.get.ensures ∙ get_or_from_slice_get c.args.values.now c.choice-next.result turn.value c.get.result turn.is_at in
     let called = c.enqueue_call.ensures ∙ ap (λ m. enqueue_call m.life) read in
     rw (c.in_ok-push.ensures.items, c.new.ensures)
     (swept_next c.args.values.now c.as_slice-entries.result.now c.as_slice-dequeues.result.now c.loop-entries.taken.items _ _ _ _
