@@ -11,7 +11,7 @@ use std::alloc::Global;
 use std::thread::Threads;
 use verdicts::decide_par;
 
-/// Into how many pieces `check` and `stress` cut the searches for violations.
+/// Into how many pieces `check` and `stress` cut the search for a cover.
 pub(crate) const PIECES: usize = 4;
 
 /// What `check` finds in what the reader gives.

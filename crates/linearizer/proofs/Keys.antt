@@ -1,5 +1,6 @@
 -- Elements with different keys stand at one place each, in any order of the list.
-use Rattle.std.proofs.Common.{◌≡◌, ℕ, zero, suc, ◌+◌, ◌<◌, ◌≤◌, ◌⊎◌, cond, List, [], ◌∷◌, get_or, Option, None, Some, refl, sym, ◌∙◌, ap, inl, inr}
+use Rattle.std.proofs.Common.{◌≡◌, ℕ, zero, suc, ◌+◌, ◌<◌, ◌≤◌, ◌⊎◌, cond, List, []}
+use Rattle.std.proofs.Common.{◌∷◌, get_or, Option, None, Some, refl, sym, ◌∙◌, ap, inl, inr}
 use Rattle.std.proofs.Common.{arith, nat_eq}
 use Rattle.std.specs.Prelude.{AllPairs, Contains, IsPermutation, slice_get, sum_by, filter_map}
 use Rattle.std.specs.List.{cons_option}

@@ -1,5 +1,6 @@
 -- The gaps of the enqueues are found with the order of the values: each lies just before the least entry of those that remain.
-use Rattle.std.proofs.Common.{◌≡◌, ℕ, zero, suc, ◌+◌, ◌-◌, ◌<◌, ◌≤◌, ◌⊎◌, List, [], ◌∷◌, ◌++◌, length, get_or, drop, Some, refl, sym, ◌∙◌}
+use Rattle.std.proofs.Common.{◌≡◌, ℕ, zero, suc, ◌+◌, ◌-◌, ◌<◌, ◌≤◌, ◌⊎◌, List}
+use Rattle.std.proofs.Common.{[], ◌∷◌, ◌++◌, length, get_or, drop, Some, refl, sym, ◌∙◌}
 use Rattle.std.proofs.Common.{ap, inl, inr, arith}
 use Rattle.std.specs.Prelude.{IsPermutation, slice_get}
 use Rattle.std.proofs.Math.Seq.{drop-append_seam}

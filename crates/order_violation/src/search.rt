@@ -45,9 +45,9 @@ pub fn chosen_pair(
 }
 
 /// Returns the pair of this value, which overtakes another and is dequeued first of those that do, and the longest of those
-/// that it overtakes.
+/// that it overtakes. There always is one.
 ///
-/// Time O(n) for n values.
+/// Time O(n) for n values, and no memory.
 pub fn pair_with(matching: &Matching, b: MatchedValue) -> Option<OrderPair>
     requires { IsFirstOvertaker (timeline_of matching.now) b }
     ensures { IsOrderAnswer matching.now.initial matching.now.operations result }

@@ -1,9 +1,16 @@
 -- What takes from the sources, noted while these are found.
-use Rattle.std.proofs.Common.{◌≡◌, ◌≢◌, ℕ, zero, suc, ◌<◌, ◌≤◌, ◌⊎◌, ◌+◌, List, [], ◌∷◌, ◌++◌, length, get_or, set, replicate, Option, Some, None}
-use Rattle.std.proofs.Common.{refl, sym, ◌∙◌, ap, arith, subst, inl, inr, get_or-set_other, get_or-set_same, length-append}
-use Rattle.std.proofs.lemmas.Bool.{cases_eq}
+use Rattle.std.proofs.Common.{◌≡◌, ◌≢◌, ℕ, zero, suc, ◌<◌, ◌≤◌, ◌⊎◌, ◌+◌, List}
+use Rattle.std.proofs.Common.{[], ◌∷◌, ◌++◌, length, get_or, set, replicate, Option, Some, None}
+use Rattle.std.proofs.Common.{false, refl, sym, ◌∙◌, ap, arith, subst, inl, inr, get_or-set_other, get_or-set_same, length-append}
+use Rattle.std.specs.Prelude.{is_some}
+use Rattle.std.proofs.lemmas.Bool.{cases_eq, false≢true}
 use Rattle.std.proofs.lemmas.Option.{slice_get_within}
 use Rattle.value_match.specs.Inner.Sources.{AreTakersTo, HasTakersTo, TakesFrom}
+
+-- what isn't some place is none
+pub none_if : (x : Option ℕ) → is_some x ≡ false → x ≡ None
+none_if None is = refl
+none_if (Some n) is = absurd (false≢true (sym is))
 
 none_at : (n i : ℕ) → get_or {A = Option ℕ} (replicate n None) i None ≡ None
 none_at zero i = refl

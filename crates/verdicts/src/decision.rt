@@ -40,7 +40,7 @@ pub fn decide(alloc: Global, history: &History) -> Result<Verdict, AllocError>
     }
 }
 
-/// What `decide` answers, by searches in pieces that may run at once.
+/// What `decide` answers, where the search for a cover runs in pieces that may run at once.
 ///
 /// Whatever the number of pieces and whichever thread ends first, the answer is the same. Few operations are searched in one
 /// piece, and start no thread. Where no thread can be started the caller's thread does the work. `AllocError` comes only where
@@ -75,7 +75,7 @@ fn decide_matching(alloc: Global, matching: &Matching) -> Result<Verdict, AllocE
     }
 }
 
-/// The same by searches in pieces.
+/// The same by a search for a cover in pieces.
 fn decide_matching_par<R: Threads + Sync>(
     rt: &R,
     alloc: Global,

@@ -106,7 +106,9 @@ pub get-requires : goal.get-requires
 get-requires c = let states = goal.at.get-requires c in chosen_within states.After-choice-next (inside states.After-first_left-first_in)
 
 pub get-requires-then-entry-enqueue_call : goal.get-requires-then-entry-enqueue_call
-get-requires-then-entry-enqueue_call c = let states = goal.at.get-requires-then-entry-enqueue_call c in chosen_within states.After-choice-next (inside states.After-first_left-first_in)
+get-requires-then-entry-enqueue_call c =
+    let states = goal.at.get-requires-then-entry-enqueue_call c in
+    chosen_within states.After-choice-next (inside states.After-first_left-first_in)
 
 pub new-requires-clause-place : goal.new-requires-clause-place
 new-requires-clause-place c =

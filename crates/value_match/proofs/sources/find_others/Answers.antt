@@ -1,4 +1,4 @@
-use Rattle.std.proofs.Common.{◌≡◌, ℕ, arith, ap, sym, subst, ◌∙◌, false, Option, None, Some, refl}
+use Rattle.std.proofs.Common.{arith, ap, sym, subst, ◌∙◌, None, Some, refl}
 use Rattle.std.specs.Prelude.{is_some}
 use Rattle.std.proofs.lemmas.Bool.{false≢true}
 use Rattle.std.proofs.lemmas.Bool.Decides.{nat_tests}
@@ -7,12 +7,9 @@ use Rattle.std.proofs.lemmas.Option.{slice_get-get_or, slice_get_read}
 use Rattle.history_merge.specs.declared.operation.OpKind.TheVariants.{Enq}
 use Rattle.value_match.specs.Inner.Sources.{IsSourceOf}
 use Rattle.value_match.proofs.CallPlaces.{call_within, found_all, found_here, found_more, found_nowhere, near_source, no_others, no_source, other_call}
+use Rattle.value_match.proofs.TakenSources.{none_if}
 use Rattle.value_match.proofs.sources.find_others.Goals as goal
 use Rattle.value_match.proofs.sources.find_others.Goals.{in-Some, in_default-place_among}
-
-none_if : (x : Option ℕ) → is_some x ≡ false → x ≡ None
-none_if None is = refl
-none_if (Some n) is = cc
 
 pub loop-place-preserved-then-is_some : goal.loop-place-preserved-then-is_some
 loop-place-preserved-then-is_some c =

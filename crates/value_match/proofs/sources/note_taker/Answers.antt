@@ -1,19 +1,15 @@
-use Rattle.std.proofs.Common.{◌≡◌, ◌∙◌, [], ◌∷◌, ◌++◌, List, None, Option, refl, Some, subst, sym, true, false, ℕ}
+use Rattle.std.proofs.Common.{◌≡◌, ◌∙◌, [], ◌∷◌, ◌++◌, List, None, Option, Some, subst, sym, true, ℕ}
 use Rattle.std.specs.Prelude.{is_some}
 use Rattle.std.proofs.lemmas.Bool.{false≢true}
 use Rattle.std.proofs.lemmas.List.{get_or_read}
 use Rattle.value_match.specs.Inner.Sources.{AreTakersTo}
-use Rattle.value_match.proofs.TakenSources.{kept_to, not_noted, takes_first}
+use Rattle.value_match.proofs.TakenSources.{kept_to, none_if, not_noted, takes_first}
 use Rattle.value_match.proofs.sources.note_taker.Goals as goal
 
 kept_if : (twice : Option ℕ) (sources takers : List (Option ℕ)) (source : Option ℕ) → is_some twice ≡ true → AreTakersTo twice sources takers
     → AreTakersTo twice (sources ++ source ∷ []) takers
 kept_if None sources takers source some known = absurd (false≢true some)
 kept_if (Some n) sources takers source some known = kept_to n sources takers source known
-
-none_if : (x : Option ℕ) → is_some x ≡ false → x ≡ None
-none_if None is = refl
-none_if (Some n) is = absurd (false≢true (sym is))
 
 pub returns-then-is_some-clause-taken : goal.returns-then-is_some-clause-taken
 returns-then-is_some-clause-taken c = λ sources count known. kept_if c.args.twice sources c.args.takers.now _ (sym c.is_some.ensures ∙ c.if-is_some.true) known
