@@ -1,10 +1,11 @@
 -- What a history builder keeps, after one more event and at the end.
-use Rattle.std.proofs.Common.{◌≡◌, ◌≢◌, ℕ, ◌<◌, ◌≤◌, ◌||◌, Bool, true, false, cond, not, List, [], ◌∷◌, ◌++◌, length, get_or, set}
+use Rattle.std.proofs.Common.{◌≡◌, ◌≢◌, ℕ, ◌+◌, ◌<◌, ◌≤◌, ◌||◌, Bool, true, false, cond, not, List, [], ◌∷◌, ◌++◌, length, get_or, set}
 use Rattle.std.proofs.Common.{Option, Some, None, refl, sym, ◌∙◌}
 use Rattle.std.proofs.Common.{ap, subst, inl, inr, arith, nat_eq, append_assoc, length-set, get_or-set_same, get_or-set_other}
 use Rattle.std.specs.Prelude.{slice_get, option_and_then, option_map, is_none, is_some}
 use Rattle.std.specs.Bool.{then_some}
 use Rattle.std.specs.List.{last_or}
+use Rattle.std.specs.Option.{option_map_or}
 use Rattle.std.proofs.lemmas.Bool.Decides.{eqb_tells}
 use Rattle.std.proofs.lemmas.Bool.{eq-eqb, le-ltb, false≢true}
 use Rattle.std.proofs.lemmas.List.{append-nil}
@@ -58,12 +59,12 @@ waits_more events e own waits thread = elim (eqb_tells e.thread thread) [
 
 -- one more event, after which this is the place of its thread's pending call
 formed_more : (events : List Event) (e : Event) (old new : Forming) (place : Option ℕ) → e.thread ≤ MAX_THREAD → HasFormed events old
-    → new.operations.items ≡ operations_so_far (events ++ e ∷ []) → new.last_ticket ≡ Some e.ticket → new.pending ≡ set old.pending e.thread place
+    → new.operations.items ≡ operations_so_far (events ++ e ∷ []) → new.least_ticket ≡ e.ticket + 1 → new.pending ≡ set old.pending e.thread place
     → place ≡ option_map (λ found. found.0) (waiting e.thread (events ++ e ∷ []))
     → option_map (λ found. found.1) (waiting e.thread (events ++ e ∷ [])) ≡ then_some (is_call e.what) e → HasFormed (events ++ e ∷ []) new
 formed_more events e old new place below known operations last written own waits = record {
   operations = operations;
-  last_ticket = last ∙ sym (ap (option_map (λ x. x.ticket)) (last_or-push None events e));
+  least_ticket = last ∙ sym (ap (λ o. option_map_or (λ x. x.ticket + 1) o 0) (last_or-push None events e));
   one_per_thread = rw (written, length-set) known.one_per_thread;
   waits = waits_more events e waits known.waits;
   places = places;
@@ -84,7 +85,7 @@ formed_more events e old new place below known operations last written own waits
 -- one more call
 pub formed_after_call : (events : List Event) (e : Event) (old new : Forming) → e.thread ≤ MAX_THREAD → is_call e.what ≡ true
     → pending_call e.thread events ≡ None → HasFormed events old
-    → new.operations.items ≡ old.operations.items ++ operation_so_far e None ∷ [] → new.last_ticket ≡ Some e.ticket
+    → new.operations.items ≡ old.operations.items ++ operation_so_far e None ∷ [] → new.least_ticket ≡ e.ticket + 1
     → new.pending ≡ set old.pending e.thread (Some (length old.operations.items)) → HasFormed (events ++ e ∷ []) new
 formed_after_call events e old new below call none known added last placed =
     formed_more events e old new (Some (length old.operations.items)) below known
@@ -210,7 +211,7 @@ wrong_return initial events n e old place o d order below returns known is found
 pub formed_after_answer : (initial : List ℕ) (events : List Event) (n : ℕ) (e : Event) (old new : Forming) (place : ℕ) (o d : Operation) (kind : OpKind)
     → breaks_ticket_order events e ≡ false → e.thread ≤ MAX_THREAD → is_call e.what ≡ false → HasFormed events old
     → get_or old.pending e.thread None ≡ Some place → o ≡ get_or old.operations.items place d → kind_of (called_by o.kind) e.what ≡ Some kind
-    → new.operations.items ≡ set old.operations.items place (record o { ret = e.ticket; kind = kind }) → new.last_ticket ≡ Some e.ticket
+    → new.operations.items ≡ set old.operations.items place (record o { ret = e.ticket; kind = kind }) → new.least_ticket ≡ e.ticket + 1
     → new.pending ≡ set old.pending e.thread None → HasFormed (events ++ e ∷ []) new × (fault_at initial events n e ≡ None)
 formed_after_answer initial events n e old new place o d kind order below returns known is found kind_is completed last cleared =
     let answer = answer_of events e old place o d below known is found in

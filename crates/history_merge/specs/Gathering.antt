@@ -2,6 +2,7 @@
 use Rattle.std.specs.Prelude.{◌≡◌, ℕ, ◌+◌, ◌<◌, ◌≤◌, ◌/◌, ◌%◌, ◌⊎◌, true, List, [], length, IfSome, MatchOption, MatchResult}
 use Rattle.std.specs.Prelude.{option_map, slice_index_or, All, IsSome, None, Some, Result, ◌∷◌, ◌++◌}
 use Rattle.std.specs.List.{last_or}
+use Rattle.std.specs.Option.{option_map_or}
 use Rattle.std.specs.Ordering.{nat_cmp}
 use Rattle.std.specs.BTreeSet.{contains}
 use Rattle.event_records.specs.declared.event.Event.{Event}
@@ -27,10 +28,10 @@ pub record KnowsCalled (events : List Event) (values : CalledValues) : Type 0 wh
   pub known : MatchOption values.others ((v : ℕ) → was_called events v ≡ true → v < slice_index_or values.least (name_in v) 0)
       (λ others. (v : ℕ) → contains nat_cmp others v ≡ was_called events v)
 
--- the operations of the events are there, the last ticket, and the place of each thread's pending call
+-- the operations of the events are there, the least ticket above theirs, and the place of each thread's pending call
 pub record HasFormed (events : List Event) (forming : Forming) : Type 0 where
   pub operations : forming.operations.items ≡ operations_so_far events
-  pub last_ticket : forming.last_ticket ≡ option_map (λ e. e.ticket) (last_or None events)
+  pub least_ticket : forming.least_ticket ≡ option_map_or (λ e. e.ticket + 1) (last_or None events) 0
   pub one_per_thread : length forming.pending ≡ MAX_THREAD + 1
   pub waits : (thread : ℕ) → option_map (λ found. found.1) (waiting thread events) ≡ pending_call thread events
   pub places : (thread : ℕ) → thread ≤ MAX_THREAD → slice_index_or forming.pending thread None ≡ option_map (λ found. found.0) (waiting thread events)

@@ -22,7 +22,8 @@ use std::alloc::{AllocError, Global};
 #[derive(Drop)]
 pub(crate) struct Forming {
     operations: Vec<PackedOperation>,
-    last_ticket: Option<u64>,
+    // One above the last ticket: the least that the next event may have.
+    least_ticket: u64,
     // The place of each thread's pending call.
     pending: [Option<u32>; MAX_THREADS],
 }
@@ -33,7 +34,7 @@ impl Forming {
     {
         Forming {
             operations: Vec::new(alloc),
-            last_ticket: None,
+            least_ticket: 0,
             pending: [None; MAX_THREADS],
         }
     }
@@ -58,7 +59,7 @@ impl Forming {
     {
         let Forming {
             operations,
-            last_ticket: _last_ticket,
+            least_ticket: _least_ticket,
             pending: _pending,
         } = self;
         operations
@@ -96,7 +97,7 @@ impl Forming {
         ensures order { (events : List Event) (e : Event) → HasFormed events self.now → e.ticket ≡ ticket → result ≡ breaks_ticket_order events e }
         ensures in_range { result ≡ false → ticket ≤ MAX_TICKET }
     {
-        ticket > MAX_TICKET || self.last_ticket.is_some_and(|last| ticket <= last)
+        ticket > MAX_TICKET || ticket < self.least_ticket
     }
 
     /// Does so for a call that comes in order.
@@ -115,13 +116,14 @@ impl Forming {
         if repeats {
             return Err(HistoryFault::DuplicateValue(place));
         }
+        let added = self.operations.len();
         // More operations than a place can name have no memory.
-        let Ok(added) = u32::try_from(self.operations.len()) else {
+        if added > u32::MAX as usize {
             return Err(HistoryFault::Memory);
-        };
+        }
         push(&mut self.operations, begun(event))?;
-        self.pending[thread] = Some(added);
-        self.last_ticket = Some(event.ticket);
+        self.pending[thread] = Some(added as u32);
+        self.least_ticket = event.ticket + 1;
         Ok(())
     }
 
@@ -151,7 +153,7 @@ impl Forming {
             ..operation
         });
         self.pending[thread] = None;
-        self.last_ticket = Some(event.ticket);
+        self.least_ticket = event.ticket + 1;
         Ok(())
     }
 

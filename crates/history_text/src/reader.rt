@@ -229,19 +229,7 @@ impl<R: TextSource> TextReader<R> {
         Some(item)
     }
 
-    /// Asks the source for more, if what is left of the buffer is the front of a line that isn't too long yet.
-    #[inline(always)]
-    fn ask_for_more(&mut self)
-        ensures left { Takes self.old.left self.new.left [] }
-        ensures lines { self.new.lines ≡ self.old.lines }
-        ensures is_stopped { self.new.is_stopped ≡ self.old.is_stopped }
-    {
-        if self.filled - self.at < ROOM {
-            self.complete_line();
-        }
-    }
-
-    /// Does so if no line stands whole in the buffer: brings what is left to the front, and reads on after it.
+    /// If no line stands whole in the buffer, and the line isn't too long yet, brings what is left to the front and reads on after it.
     #[inline(never)]
     fn complete_line(&mut self)
         ensures left { Takes self.old.left self.new.left [] }
@@ -358,15 +346,21 @@ impl<R: TextSource> TextReader<R> {
         ensures is_stopped { self.new.is_stopped ≡ self.old.is_stopped }
     {
         let mut count = 0;
+        let mut is_complete = false;
         loop {
-            self.ask_for_more();
             let item = match self.next_in_buffer(count) {
                 Some(item) => item,
+                None if !is_complete => {
+                    self.complete_line();
+                    is_complete = true;
+                    continue;
+                }
                 None => match self.item_by_line(count)? {
                     Some(item) => item,
                     None => return Ok(()),
                 },
             };
+            is_complete = false;
             if into.add(item).is_err() {
                 return Err(TextFault::Memory);
             }

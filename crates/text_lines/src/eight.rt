@@ -90,7 +90,7 @@ fn digits_at(bytes: &[u8], at: usize) -> Option<(usize, u64)>
     more_digits_at(bytes, at, count, value)
 }
 
-/// Returns the number at this place, and the place after its digits.
+/// Returns the number at this place, which isn't 0, and the place after its digits.
 ///
 /// Room for more digits than a number has lets it read eight at a time.
 #[inline(always)]
@@ -99,11 +99,11 @@ pub fn number_at(bytes: &[u8], at: usize) -> Option<(u64, usize)>
     ensures number { IfSome result (λ p. drop at bytes.now ≡ decimal p.0 ++ drop p.1 bytes.now) }
     ensures end { IfSome result (λ p. p.1 ≤ at + 24) }
 {
-    let (count, value) = digits_at(bytes, at)?;
-    if count == 0 {
+    if bytes[at] == b'0' {
         return None;
     }
-    if count > 1 && bytes[at] == b'0' {
+    let (count, value) = digits_at(bytes, at)?;
+    if count == 0 {
         return None;
     }
     Some((value, at + count))

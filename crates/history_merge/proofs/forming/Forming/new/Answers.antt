@@ -6,7 +6,7 @@ use Rattle.history_merge.proofs.forming.Forming.new.Goals as goal
 pub returns : goal.returns
 returns c = record {
   operations = c.new.ensures.items;
-  last_ticket = refl;
+  least_ticket = refl;
   one_per_thread = refl;
   waits = λ thread. refl;
   places = λ thread within. nothing_at MAX_THREADS thread;

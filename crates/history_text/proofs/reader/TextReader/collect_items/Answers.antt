@@ -1,12 +1,11 @@
 use Rattle.history_text.proofs.Common.{[], ◌++◌, ◌+◌, ◌∙◌, ◌∷◌, ◌≡◌, ℕ, arith, err_from_is_err_and, length, length-append}
-use Rattle.history_text.proofs.Common.{Option, Some, Takes, Takes-append, TakesItem, subst}
-use Rattle.history_text.specs.Items.{Format, line_of}
-use Rattle.history_text.proofs.Buffers.{nothing_taken}
+use Rattle.history_text.proofs.Common.{Option, Some, TakesItem, subst}
+use Rattle.history_text.specs.Items.{Format}
 use Rattle.history_text.specs.Reading.{Input}
 use Rattle.history_text.proofs.FirstFaults.{item_is_first, HaveLines-push, no_room, on_ok, takes_item}
 use Rattle.history_text.proofs.reader.TextReader.collect_items.Given.{Over}
 use Rattle.history_text.proofs.reader.TextReader.collect_items.Goals as goal
-use Rattle.history_text.proofs.reader.TextReader.collect_items.Goals.{After-add, in-Some, in-None+in_ok-item-in-None+in-Some-2}
+use Rattle.history_text.proofs.reader.TextReader.collect_items.Goals.{After-add, in-Some, in-None-2+in_ok-item-in-None-2+in-Some-2}
 
 -- the next item, from the buffer or by its line
 record IsNext {A : Type 0} (format : Format A) (old new : Input) (count : ℕ) (item : Option A) : Type 0 where
@@ -20,36 +19,24 @@ by_line : {A : Type 0} (format : Format A) (old same new : Input) (count : ℕ) 
 by_line format old same new count found item none is next =
     subst (λ i. IsNext format old new count i) is (subst (λ o. IsNext format o new count found) none next)
 
--- where nothing was taken before it
-asked : {A : Type 0} (format : Format A) (old same new : Input) (count : ℕ) (item : A) → Takes old.left same.left [] → same.lines ≡ old.lines
-    → same.is_stopped ≡ old.is_stopped → IsNext format same new count (Some item) → IsNext format old new count (Some item)
-asked format old same new count item nothing lines is_stopped next = record {
-  taken = (Takes-append old.left same.left new.left [] (line_of format item) nothing next.taken.0, next.taken.1, next.taken.2);
-  lines = omega (arith, next.lines, lines);
-  is_stopped = next.is_stopped ∙ is_stopped;
-}
-
 -- the next item comes from the buffer or by its line
 next_is : (g : Over) (c : After-add g)
     → IsNext g.T.Item.format c.loop-item.self c.match-next_in_buffer.self c.loop-item.count (Some c.match-next_in_buffer.item)
-next_is g c = asked g.T.Item.format c.loop-item.self c.ask_for_more.new.self _ _ _ c.ask_for_more.ensures.left c.ask_for_more.ensures.lines
-    c.ask_for_more.ensures.is_stopped
-    (elim c.match-next_in_buffer.branch [
-      | in-Some w ↦ rw (w.self-is, w.item-is) (record { taken = w.in-Some.ensures.item; lines = w.in-Some.ensures.lines; is_stopped = w.in-Some.ensures.is_stopped })
-      | in-None+in_ok-item-in-None+in-Some-2 w ↦
-          rw (w.self-is, w.item-is) (by_line g.T.Item.format _ _ _ _ _ _ w.in-None.ensures.none w.in-Some-2.is
-          (record { taken = w.in_ok-item-in-None.ensures.ok; lines = w.item_by_line.ensures.lines; is_stopped = w.item_by_line.ensures.is_stopped }))
-    ])
+next_is g c = elim c.match-next_in_buffer.branch [
+  | in-Some w ↦ rw (w.self-is, w.item-is) (record { taken = w.in-Some.ensures.item; lines = w.in-Some.ensures.lines; is_stopped = w.in-Some.ensures.is_stopped })
+  | in-None-2+in_ok-item-in-None-2+in-Some-2 w ↦
+      rw (w.self-is, w.item-is) (by_line g.T.Item.format _ _ _ _ _ _ w.in-None-2.ensures.none w.in-Some-2.is
+      (record { taken = w.in_ok-item-in-None-2.ensures.ok; lines = w.item_by_line.ensures.lines; is_stopped = w.item_by_line.ensures.is_stopped }))
+]
 
-pub returns-in_err-item-in-None-clause-fault : goal.returns-in_err-item-in-None-clause-fault
-returns-in_err-item-in-None-clause-fault g c =
+pub returns-in_err-item-in-None-2-clause-fault : goal.returns-in_err-item-in-None-2-clause-fault
+returns-in_err-item-in-None-2-clause-fault g c =
     let p = err_from_is_err_and c.from_residual.result c.from_residual.ensures.1 in
     let known = c.loop-item.invariant in
-    let asked = c.ask_for_more.new.self in
-    let place : asked.lines + 1 ≡ c.args.self.now.lines + 1 + length known.items = omega (arith, c.ask_for_more.ensures.lines, known.lines, known.count) in
+    let place : c.loop-item.self.lines + 1 ≡ c.args.self.now.lines + 1 + length known.items = omega (arith, known.lines, known.count) in
     rw (p.1, p.2) (item_is_first g.T.Item.format (c.args.self.now.lines + 1)
-    (asked.lines + 1) known.items c.loop-item.count _ _ c.in_err-item-in-None.field-0.0 c.in_err-item-in-None.ensures.of_input known.right known.taken
-    known.count place (nothing_taken c.loop-item.self.left asked.left _ c.ask_for_more.ensures.left (rw c.in-None.ensures.none at c.in_err-item-in-None.ensures.fault)))
+    (c.loop-item.self.lines + 1) known.items c.loop-item.count _ _ c.in_err-item-in-None-2.field-0.0 c.in_err-item-in-None-2.ensures.of_input known.right known.taken
+    known.count place (rw c.in-None-2.ensures.none at c.in_err-item-in-None-2.ensures.fault))
 
 pub returns-then-is_err-clause-fault : goal.returns-then-is_err-clause-fault
 returns-then-is_err-clause-fault g c =
