@@ -1,6 +1,8 @@
-ghost use Rattle.std.specs.Prelude.{◌↔◌, Contains, IfOk, IsTrue, MatchOption, Some};
+ghost use Rattle.std.specs.Prelude.{◌≡◌, ◌↔◌, Contains, IfOk, IsTrue, MatchOption, Some};
+ghost use Rattle.std.specs.BTreeSet.{contains};
 ghost use Rattle.std.specs.List.Sorted.{IsNonDecreasingBy};
-ghost use Rattle.value_match.specs.Inner.Others.{HoldsOthers, NoneOf};
+ghost use Rattle.std.specs.Ordering.{nat_cmp};
+ghost use Rattle.value_match.specs.Inner.Others.{AreBounds, HoldsOthers, NoneOf};
 ghost use Rattle.value_match.specs.Inner.Sources.{IsCallPlace};
 
 use history_merge::PackedOperation;
@@ -33,17 +35,44 @@ pub(crate) fn others_of(
 ) -> Result<Vec<Call>, AllocError>
     ensures { IfOk result (λ others. HoldsOthers wanted.now operations.now others.items) }
 {
+    let bounds = bounds_of(wanted);
     let mut others = Vec::new(alloc);
     for (place, operation) in operations.iter().enumerate() {
         let Some(value) = operation.unpack().kind.enqueued_value() else {
             continue;
         };
-        if wanted.contains(&value) {
+        if is_wanted(wanted, bounds, value) {
             others.push(Call { value, place })?;
         }
     }
     others.sort_unstable_by_key(|call| call.value);
     Ok(others)
+}
+
+/// The least and the greatest of some values, or of all numbers.
+#[derive(Clone, Copy)]
+struct Bounds {
+    least: u64,
+    greatest: u64,
+}
+
+/// The bounds of the values that are wanted.
+fn bounds_of(wanted: &BTreeSet<u64>) -> Bounds
+    ensures { AreBounds wanted.now result }
+{
+    Bounds {
+        least: wanted.first().map_or(0, |value| *value),
+        greatest: wanted.last().map_or(u64::MAX, |value| *value),
+    }
+}
+
+/// Whether the value is wanted. Few are, and most others are out of bounds, so that they need no look-up.
+#[inline(always)]
+fn is_wanted(wanted: &BTreeSet<u64>, bounds: Bounds, value: u64) -> bool
+    requires { AreBounds wanted.now bounds }
+    ensures { result ≡ contains nat_cmp wanted.now value }
+{
+    bounds.least <= value && value <= bounds.greatest && wanted.contains(&value)
 }
 
 /// The place of a call of this value among calls by value, if there is one.

@@ -1,4 +1,4 @@
-ghost use Rattle.std.specs.Prelude.{◌≡◌, ◌<◌, ◌≤◌, ◌++◌, ◌∷◌, [], List, ℕ, IfOk, IfSome, IsTrue, Option, Some, length};
+ghost use Rattle.std.specs.Prelude.{◌≡◌, ◌<◌, ◌≤◌, ◌++◌, ◌∷◌, [], List, ℕ, IfOk, IfSome, IsTrue, Option, Some, length, true};
 ghost use Rattle.history_merge.specs.Complete.{AreComplete};
 ghost use Rattle.value_match.specs.Inner.Others.{AreNearWith, HoldsNear};
 ghost use Rattle.value_match.specs.Inner.Sources.{AreInTimeTo, AreSources, AreTakersTo, HoldsSources, IsCallPlace, first_of};
@@ -134,9 +134,20 @@ fn near_sources(alloc: Global, operations: &[PackedOperation]) -> Result<NearSou
 fn first_of(known: Option<usize>, place: usize, is_one: bool) -> Option<usize>
     ensures { result ≡ first_of known place is_one }
 {
+    if is_one {
+        return known_or(known, place);
+    }
+    known
+}
+
+/// What is known, or else this place. The call keeps this from being worked out for each dequeue, where few need it.
+#[inline(never)]
+fn known_or(known: Option<usize>, place: usize) -> Option<usize>
+    ensures { result ≡ first_of known place true }
+{
     match known {
-        None if is_one => Some(place),
-        _ => known,
+        None => Some(place),
+        Some(_) => known,
     }
 }
 

@@ -1,5 +1,5 @@
 -- Calls to enqueue, found near by, or among those of values that weren't.
-use Rattle.std.specs.Prelude.{◌≡◌, ℕ, true, List, All, length, slice_index_or, Option, Some, None}
+use Rattle.std.specs.Prelude.{◌≡◌, ℕ, ◌<◌, ◌≤◌, ◌^◌, true, List, All, length, slice_index_or, Option, Some, None}
 use Rattle.std.specs.BTreeSet.{BTreeSet, contains}
 use Rattle.std.specs.List.Sorted.{IsNonDecreasingBy}
 use Rattle.std.specs.Ordering.{nat_cmp}
@@ -7,6 +7,7 @@ use Rattle.history_merge.specs.declared.operation.Operation.{Operation}
 use Rattle.history_merge.specs.declared.operation.OpKind.{OpKind}
 use Rattle.history_merge.specs.declared.operation.OpKind.TheVariants.{Deq}
 use Rattle.history_merge.specs.Operations.{IsAt}
+use Rattle.value_match.specs.declared.others.Bounds.{Bounds}
 use Rattle.value_match.specs.declared.others.Call.{Call}
 use Rattle.value_match.specs.Inner.Sources.{IsCallPlace, IsSourceOf}
 
@@ -17,6 +18,10 @@ IsCall operations call = IsCallPlace operations call.value (Some call.place)
 -- none of the calls is of this value
 abbrev pub NoneOf : List Call → ℕ → Type 0
 NoneOf calls v = All (λ call. ¬ (call.value ≡ v)) calls
+
+-- what is wanted lies within the bounds
+abbrev pub AreBounds : BTreeSet ℕ → Bounds → Type 0
+AreBounds wanted bounds = (v : ℕ) → v < 2 ^ 64 → contains nat_cmp wanted v ≡ true → (bounds.least ≤ v) × (v ≤ bounds.greatest)
 
 -- the calls of all values that are wanted, by rising value
 pub record HoldsOthers (wanted : BTreeSet ℕ) (operations : List Operation) (calls : List Call) : Type 0 where
