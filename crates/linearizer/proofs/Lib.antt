@@ -13,6 +13,7 @@ pub mod Times
 pub mod Opposites
 pub mod FreeGaps
 pub mod Gaps
+mod Inserting
 pub mod Rising
 pub mod Runs
 pub mod Keys

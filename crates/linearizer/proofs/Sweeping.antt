@@ -131,17 +131,27 @@ module _ (number : Life → ℕ) (values : List MatchedValue) (i : ℕ) (entries
         ];
   }
 
+-- the same entries in another order
+pub moved_so_far : (number : Life → ℕ) (values : List MatchedValue) (n : ℕ) (entries moved : List Timed) → AreTimedSoFar number values n entries
+    → IsPermutation entries moved → AreTimedSoFar number values n moved
+moved_so_far number values n entries moved are permutes = record {
+  are_timed = All-permutation (IsTimeOf number values) entries moved permutes are.are_timed;
+  are_past = All-permutation (λ timed. timed.time < NEVER) entries moved permutes are.are_past;
+  has_each = λ place m below at less.
+      let found = are.has_each place m below at less in
+      (found.0, Contains-permutation entries moved found.0 permutes found.1, found.2);
+}
+
 -- all values with their times, sorted
 pub sorted_by_time : (number : Life → ℕ) (values : List MatchedValue) (n : ℕ) (entries sorted : List Timed) → AreTimedSoFar number values n entries
     → length values ≤ n → IsPermutation entries sorted → IsNonDecreasingBy (λ timed. timed.time) sorted → AreByTime number values sorted
-sorted_by_time number values n entries sorted are all moved rises = record {
-  never_falls = rises;
-  are_timed = All-permutation (IsTimeOf number values) entries sorted moved are.are_timed;
-  are_past = All-permutation (λ timed. timed.time < NEVER) entries sorted moved are.are_past;
-  has_each = λ place m at less.
-      let found = are.has_each place m (let within = slice_get_within values place m at in omega (arith, within, all)) at less in
-      (found.0, Contains-permutation entries sorted found.0 moved found.1, found.2);
-}
+sorted_by_time number values n entries sorted so_far all permutes rises =
+    let are = moved_so_far number values n entries sorted so_far permutes in record {
+      never_falls = rises;
+      are_timed = are.are_timed;
+      are_past = are.are_past;
+      has_each = λ place m at less. are.has_each place m (let within = slice_get_within values place m at in omega (arith, within, all)) at less;
+    }
 
 -- an entry before the cursor is taken, so one that is left stands at or after it
 stands_after : (taken : List Bool) (entries : List Timed) (i k : ℕ) (timed : Timed) → All (IsTaken taken) (take i entries)

@@ -5,7 +5,8 @@ ghost use Rattle.linearizer.specs.declared.timed.TheConstants.{PLACES};
 ghost use Rattle.linearizer.specs.Inner.Sweep.{IsDequeuedAt, TakesOneOf};
 ghost use Rattle.linearizer.specs.Inner.Swept.{IsSweepOf};
 
-use crate::timed::{PackedTimed, Timed, by_time, first_left};
+use crate::by_time::by_time;
+use crate::timed::{PackedTimed, Timed, first_left};
 use std::alloc::{AllocError, Global};
 use value_match::{MatchedValue, NEVER, Values};
 
@@ -30,8 +31,8 @@ pub(crate) fn put_in_order(alloc: Global, values: &Values) -> Result<Swept, Allo
     ensures { IfOk result (IsSweepOf values.now) }
 {
     let mut order = Vec::with_capacity(alloc, values.len())?;
-    let mut taken = vec![in alloc; false; values.len()]?;
     let by_time = by_time(alloc, values)?;
+    let mut taken = vec![in alloc; false; values.len()]?;
     let entries = by_time.entries.as_slice();
     let dequeues = by_time.dequeues.as_slice();
     let mut first_in = 0;

@@ -1,6 +1,7 @@
 //! The linearization of a history without violations.
 #![tactic(auto)]
 
+mod by_time;
 mod choice;
 mod noops;
 mod order;

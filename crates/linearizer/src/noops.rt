@@ -1,5 +1,5 @@
 //! The operations that change nothing, by their positions.
-ghost use Rattle.std.specs.Prelude.{◌≡◌, ◌<◌, ◌≤◌, All, IfOk, OnOk, Some, filter, length, map, slice_get};
+ghost use Rattle.std.specs.Prelude.{◌≡◌, ◌↔◌, ◌<◌, ◌≤◌, All, IfOk, IsSomeAnd, IsTrue, MatchOption, OnOk, Some, false, filter, length, map, slice_get};
 ghost use Rattle.history_merge.specs.declared.packed.TheConstants.{PACKED_LIMIT};
 ghost use Rattle.history_merge.specs.declared.operation.Operation.{Operation};
 ghost use Rattle.history_merge.specs.Operations.{IsAt};
@@ -7,9 +7,10 @@ ghost use Rattle.value_match.specs.Lives.{AreLeastFreeGaps, is_empty_answer, is_
 ghost use Rattle.value_match.specs.Timeline.{timeline_of};
 ghost use Rattle.value_match.specs.Violations.{IsClear};
 ghost use Rattle.value_match.specs.declared.matching.TheConstants.{MAX_MATCHED};
-ghost use Rattle.linearizer.specs.Inner.Placement.{Adds, HoldsNoops, noop_at};
+ghost use Rattle.linearizer.specs.Order.{StandsBefore};
+ghost use Rattle.linearizer.specs.Inner.Placement.{Adds, HoldsNoops, noop_at, position_of};
 
-use crate::position::{Class, Placed};
+use crate::position::{Class, Placed, Position, stands_after};
 use crate::timed::{PackedTimed, Timed};
 use history_merge::{OpId, PackedOperation};
 use std::alloc::{AllocError, Global};
@@ -63,6 +64,22 @@ impl<'a> Noops<'a> {
         let gap = self.at[at].unpack().time;
         let call = self.operations[place as usize].unpack().call;
         Placed::at(OpId::new(place), gap, Class::Noop, call)
+    }
+
+    /// Whether the one at this place of the list stands after a position, if one is given. Mostly its gap decides.
+    #[inline(always)]
+    pub(crate) fn is_after(&self, at: usize, position: Option<Position>) -> bool
+        requires { at < length self.now }
+        ensures { IsSomeAnd (slice_get self.now at) (λ x. MatchOption position (result ≡ false)
+            (λ p. IsTrue result ↔ StandsBefore (position_of p) (position_of x.position))) }
+    {
+        let Some(position) = position else {
+            return false;
+        };
+        if position.gap < self.at[at].unpack().time {
+            return true;
+        }
+        stands_after(&self.get(at), Some(position))
     }
 }
 

@@ -1,15 +1,14 @@
-ghost use Rattle.std.specs.Prelude.{◌≡◌, ◌↔◌, ℕ, [], IfOk, IsTrue, List, MatchOption, OnOk, false, length};
+ghost use Rattle.std.specs.Prelude.{◌≡◌, ℕ, [], IfOk, List, OnOk, length};
 ghost use Rattle.history_merge.specs.declared.operation.Operation.{Operation};
 ghost use Rattle.value_match.specs.declared.life.Life.{Life};
 ghost use Rattle.value_match.specs.Timeline.{timeline_of};
 ghost use Rattle.value_match.specs.Violations.{IsClear};
-ghost use Rattle.linearizer.specs.Order.{StandsBefore};
-ghost use Rattle.linearizer.specs.Inner.Placement.{AreEnqueueGaps, IsOrderOfPlaces, NeverFall, gaps_in, lives_at, places_in, position_of};
+ghost use Rattle.linearizer.specs.Inner.Placement.{AreEnqueueGaps, IsOrderOfPlaces, NeverFall, gaps_in, lives_at, places_in};
 ghost use Rattle.linearizer.specs.Inner.Merging.{IsDequeueFrom, IsEnqueueFrom, IsNoopFrom, IsMerge, IsMergedUpTo, IsValueFrom, NoneBelow};
 
 use crate::noops::Noops;
 use crate::ordered_values::OrderedValues;
-use crate::position::{Placed, Position};
+use crate::position::{Placed, Position, stands_after};
 use crate::timed::PackedTimed;
 use history_merge::OpId;
 use std::alloc::{AllocError, Global};
@@ -138,22 +137,11 @@ fn place_noops(
     ensures up_to { OnOk result (NoneBelow (IsNoopFrom noops.now count.new) before) }
 {
     while *count < noops.len() {
-        let noop = noops.get(*count);
-        if stands_after(&noop, before) {
+        if noops.is_after(*count, before) {
             return Ok(());
         }
-        places.push(noop.operation)?;
+        places.push(noops.get(*count).operation)?;
         *count += 1;
     }
     Ok(())
-}
-
-/// Whether the operation stands after this position, if one is given.
-fn stands_after(placed: &Placed, position: Option<Position>) -> bool
-    ensures { MatchOption position (result ≡ false) (λ p. IsTrue result ↔ StandsBefore (position_of p) (position_of placed.now.position)) }
-{
-    match position {
-        Some(position) => position < placed.position,
-        None => false,
-    }
 }

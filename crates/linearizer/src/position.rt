@@ -1,5 +1,6 @@
-ghost use Rattle.std.specs.Prelude.{◌≡◌, if◌then◌else◌, nat_lt};
-ghost use Rattle.linearizer.specs.Order.{earlier_dequeues, enqueues, other_dequeues};
+ghost use Rattle.std.specs.Prelude.{◌≡◌, ◌↔◌, if◌then◌else◌, nat_lt, IsTrue, MatchOption, false};
+ghost use Rattle.linearizer.specs.Order.{StandsBefore, earlier_dequeues, enqueues, other_dequeues};
+ghost use Rattle.linearizer.specs.Inner.Placement.{position_of};
 
 use history_merge::OpId;
 
@@ -68,5 +69,15 @@ impl Placed {
             Class::OtherDequeue
         };
         Placed::at(operation, gap, class, place as u64)
+    }
+}
+
+/// Whether the operation stands after this position, if one is given.
+pub(crate) fn stands_after(placed: &Placed, position: Option<Position>) -> bool
+    ensures { MatchOption position (result ≡ false) (λ p. IsTrue result ↔ StandsBefore (position_of p) (position_of placed.now.position)) }
+{
+    match position {
+        Some(position) => position < placed.position,
+        None => false,
     }
 }

@@ -1,14 +1,9 @@
-ghost use Rattle.std.specs.Prelude.{◌≡◌, ◌+◌, ◌*◌, ◌<◌, ◌≤◌, All, IfOk, IsPermutation, length, take};
-ghost use Rattle.std.specs.List.Sorted.{IsNonDecreasingBy};
+ghost use Rattle.std.specs.Prelude.{◌≡◌, ◌+◌, ◌*◌, ◌<◌, All, length, take};
 ghost use Rattle.history_merge.specs.declared.packed.TheConstants.{PACKED_LIMIT};
-ghost use Rattle.value_match.specs.declared.life.TheConstants.{NEVER};
 ghost use Rattle.linearizer.specs.declared.timed.TheConstants.{PLACES};
-ghost use Rattle.value_match.specs.Lives.{dequeue_return, entered_by};
-ghost use Rattle.linearizer.specs.Inner.Sweep.{AreByTime, IsFirstLeft, IsTaken};
+ghost use Rattle.linearizer.specs.Inner.Sweep.{IsFirstLeft, IsTaken};
 
-use std::alloc::{AllocError, Global};
 use std::marker::Model;
-use value_match::{NEVER, Values, presort};
 
 /// One above the greatest place that is packed.
 pub(crate) const PLACES: u64 = 1 << 24;
@@ -79,45 +74,6 @@ impl PackedTimed {
             place: (self.word % PLACES) as usize,
         }
     }
-}
-
-/// The values by the time by which each has entered, and those that are dequeued by that at which their dequeues returned.
-#[derive(Drop)]
-pub(crate) struct ByTime {
-    pub(crate) entries: Vec<PackedTimed>,
-    pub(crate) dequeues: Vec<PackedTimed>,
-}
-
-/// The values by these two times.
-pub(crate) fn by_time(alloc: Global, values: &Values) -> Result<ByTime, AllocError>
-    requires few { length values.now ≤ PLACES }
-    requires entries { All (λ value. entered_by value.life < NEVER) values.now }
-    requires dequeues { All (λ value. dequeue_return value.life ≤ NEVER) values.now }
-    ensures entries { IfOk result (λ by_time. AreByTime entered_by values.now by_time.entries.items) }
-    ensures dequeues { IfOk result (λ by_time. AreByTime dequeue_return values.now by_time.dequeues.items) }
-{
-    let mut entries = Vec::with_capacity(alloc, values.len())?;
-    let mut dequeues = Vec::with_capacity(alloc, values.len())?;
-    for place in 0..values.len() {
-        let life = values.get(place).life;
-        let time = life.entered_by();
-        entries.push(PackedTimed::new(Timed { time, place }))?;
-        let time = life.dequeue_return();
-        if time < NEVER {
-            dequeues.push(PackedTimed::new(Timed { time, place }))?;
-        }
-    }
-    sort_by_time(&mut entries);
-    sort_by_time(&mut dequeues);
-    Ok(ByTime { entries, dequeues })
-}
-
-fn sort_by_time(timed: &mut Vec<PackedTimed>)
-    ensures permutation { IsPermutation timed.old.items timed.new.items }
-    ensures never_falls { IsNonDecreasingBy (λ timed. timed.time) timed.new.items }
-{
-    presort(timed, &|timed: &PackedTimed| timed.unpack().time);
-    timed.sort_unstable_by_key(|timed| timed.unpack().time);
 }
 
 /// The place of the first entry whose value is left, where all before the place `from` are taken; or that behind the last.
