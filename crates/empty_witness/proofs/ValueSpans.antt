@@ -1,63 +1,88 @@
--- The spans that are joined from those of a history's values are the history's.
-use Rattle.std.proofs.Common.{◌≡◌, ℕ, ◌<◌, ◌≤◌, true, List, map, sym, subst, arith}
-use Rattle.std.specs.Prelude.{All, IsPermutation, filter}
-use Rattle.std.proofs.lemmas.Bool.{lt-ltb, ltb-true}
-use Rattle.std.proofs.lemmas.List.Elements.{All-weaker, filter_passes}
-use Rattle.std.proofs.lemmas.List.Sorted.{All-permutation, Contains-permutation, IsPermutation-sym}
+-- The spans of the stays of a history's values are the history's.
+use Rattle.std.proofs.Common.{◌≡◌, ℕ, ◌+◌, ◌<◌, ◌≤◌, List, [], ◌∷◌, ◌++◌, length, get_or, take, sym, subst, arith, inl, inr}
+use Rattle.std.specs.Prelude.{Contains}
+use Rattle.std.proofs.lemmas.List.{take_all}
+use Rattle.std.proofs.lemmas.List.Elements.{Contains-append_left, Contains-push, Contains-push_cases}
 use Rattle.history_merge.specs.declared.operation.Operation.{Operation}
-use Rattle.value_match.specs.declared.life.Life.{Life}
+use Rattle.history_merge.proofs.Distinct.{not_in_none}
 use Rattle.value_match.specs.declared.life.MatchedValue.{MatchedValue}
-use Rattle.value_match.specs.Lives.{IsLife, HoldsLives, Covers}
+use Rattle.value_match.specs.Lives.{HoldsLives, Covers}
 use Rattle.value_match.specs.Violations.{IsClear}
-use Rattle.value_match.proofs.Lists.{mapped_from, mapped_to, passes_filter, passed_filter}
+use Rattle.value_match.proofs.Lists.{one_more}
 use Rattle.value_match.proofs.Lives.{value_is_life, value_of_life}
 use Rattle.empty_witness.specs.declared.spans.Span.{Span}
-use Rattle.empty_witness.specs.Spans.{holds_some, LiesIn, AreJoined, stay_of, AreSpansOf}
+use Rattle.empty_witness.specs.Spans.{AreApart, AreSpansOf, Holds, LiesIn, stay_of}
+use Rattle.empty_witness.specs.Inner.Spans.{IsWithSpan}
 
--- the stays of the values that stay
-abbrev pub stays_of : List MatchedValue → List Span
-stays_of values = filter holds_some (map (λ value. stay_of value.life) values)
+-- at this gap one of the values is definitely in the queue
+abbrev pub Stays : List MatchedValue → ℕ → Type 0
+Stays values c = (m : MatchedValue) × Contains values m × Holds (stay_of m.life) c
 
--- each stay holds a gap
-pub stays_hold_some : (values : List MatchedValue) (stays sorted : List Span) → stays ≡ stays_of values → IsPermutation stays sorted
-    → All (λ stay. stay.start < stay.end) sorted
-stays_hold_some values stays sorted are moved =
-    All-permutation (λ stay. stay.start < stay.end) stays sorted moved
-    (subst (All (λ stay. stay.start < stay.end)) (sym are)
-    (All-weaker (λ stay. holds_some stay ≡ true) (λ stay. stay.start < stay.end) (λ stay yes. ltb-true stay.start stay.end yes) (stays_of values)
-    (filter_passes holds_some (map (λ value. stay_of value.life) values))))
+-- the spans of the first n values
+pub record AreSpansSoFar (values : List MatchedValue) (n : ℕ) (spans : List Span) : Type 0 where
+  pub apart : AreApart spans
+  pub lies : (c : ℕ) → LiesIn spans c → Stays (take n values) c
+  pub stays : (c : ℕ) → Stays (take n values) c → LiesIn spans c
 
-module _ (operations : List Operation) (values : List MatchedValue) (clear : IsClear operations) (holds : HoldsLives operations values) where
-  -- a gap lies in the span of a value if and only if a value covers it
-  covers_if_lies : (c : ℕ) → LiesIn (stays_of values) c → (life : Life) × IsLife operations life × Covers life c
-  covers_if_lies c lies =
-      let mapped = passed_filter holds_some (map (λ value. stay_of value.life) values) lies.0 lies.1 in
-      let value = mapped_from (λ value. stay_of value.life) values lies.0 mapped.0 in
-      let at = subst (λ (span : Span). (span.start ≤ c) × (c < span.end)) (sym value.2) lies.2 in
-      (value.0.life, value_is_life operations values value.0 holds value.1, at)
+-- of no values there are none
+pub no_spans : (values : List MatchedValue) → AreSpansSoFar values 0 []
+no_spans values = record {
+  apart = record { hold_some = λ k d within. absurd (omega arith); apart = λ i j d less within. absurd (omega arith) };
+  lies = λ c lies. absurd (not_in_none lies.0 lies.1);
+  stays = λ c stays. absurd (not_in_none stays.0 stays.1);
+}
 
-  lies_if_covers : (c : ℕ) → (life : Life) × IsLife operations life × Covers life c → LiesIn (stays_of values) c
-  lies_if_covers c covered =
-      let value = value_of_life operations values covered.0 clear holds covered.1 in
-      let at = subst (λ l. Covers l c) (sym value.2) covered.2 in
-      let some : (stay_of value.0.life).start < (stay_of value.0.life).end = omega (arith, at.0, at.1) in (
-        stay_of value.0.life,
-        passes_filter holds_some (map (λ value. stay_of value.life) values) (stay_of value.0.life) (lt-ltb _ _ some)
-            (mapped_to (λ value. stay_of value.life) values value.0 value.1),
-        at,
-      )
+module _ (values : List MatchedValue) (n : ℕ) (spans : List Span) (m : MatchedValue) (so_far : AreSpansSoFar values n spans)
+    (within : n < length values) (is : m ≡ get_or values n m) where
+  more : take (n + 1) values ≡ take n values ++ m ∷ []
+  more = one_more values n m within is
 
-  -- sorted and joined, these spans are the history's
-  pub are_spans : (stays sorted spans : List Span) → stays ≡ stays_of values → IsPermutation stays sorted → AreJoined sorted spans → AreSpansOf operations spans
-  are_spans stays sorted spans are moved joined = record {
-    apart = joined.apart;
-    cover = λ c. (
-      λ lies.
-          let before = (joined.same c).1 lies in
-          let among = Contains-permutation sorted stays before.0 (IsPermutation-sym stays sorted moved) before.1 in
-          covers_if_lies c (subst (λ xs. LiesIn xs c) are (before.0, among, before.2)),
-      λ covered.
-          let lies = subst (λ xs. LiesIn xs c) (sym are) (lies_if_covers c covered) in
-          (joined.same c).0 (lies.0, Contains-permutation stays sorted lies.0 moved lies.1, lies.2),
-    );
+  sooner : (c : ℕ) → Stays (take n values) c → Stays (take (n + 1) values) c
+  sooner c stays = subst (λ xs. Stays xs c) (sym more) (stays.0, Contains-append_left (take n values) (m ∷ []) stays.0 stays.1, stays.2)
+
+  -- with the stay of one value more
+  pub with_value : (new : List Span) → IsWithSpan spans (stay_of m.life) new → AreSpansSoFar values (n + 1) new
+  with_value new with_span = record {
+    apart = with_span.apart;
+    lies = λ c lies. elim ((with_span.same c).0 lies) [
+      | inl old ↦ sooner c (so_far.lies c old)
+      | inr here ↦ subst (λ xs. Stays xs c) (sym more) (m, Contains-push (take n values) m, here)
+    ];
+    stays = λ c stays.
+        let now = subst (λ xs. Stays xs c) more stays in
+        elim (Contains-push_cases (take n values) m now.0 now.1) [
+          | inl old ↦ (with_span.same c).1 (inl (so_far.stays c (now.0, old, now.2)))
+          | inr same ↦ (with_span.same c).1 (inr (subst (λ (x : MatchedValue). Holds (stay_of x.life) c) (sym same) now.2))
+        ];
   }
+
+  -- one value more that doesn't stay
+  pub without_value : (stay_of m.life).end ≤ (stay_of m.life).start → AreSpansSoFar values (n + 1) spans
+  without_value none = record {
+    apart = so_far.apart;
+    lies = λ c lies. sooner c (so_far.lies c lies);
+    stays = λ c stays.
+        let now = subst (λ xs. Stays xs c) more stays in
+        elim (Contains-push_cases (take n values) m now.0 now.1) [
+          | inl old ↦ so_far.stays c (now.0, old, now.2)
+          | inr same ↦
+              let here = subst (λ (x : MatchedValue). Holds (stay_of x.life) c) (sym same) now.2 in
+              absurd (omega (arith, here.0, here.1, none))
+        ];
+  }
+
+-- the spans of all values are the history's
+pub are_spans : (operations : List Operation) (values : List MatchedValue) (n : ℕ) (spans : List Span) → IsClear operations → HoldsLives operations values
+    → length values ≤ n → AreSpansSoFar values n spans → AreSpansOf operations spans
+are_spans operations values n spans clear holds all are = record {
+  apart = are.apart;
+  cover = λ c. (
+    λ lies.
+        let stays = subst (λ xs. Stays xs c) (take_all n values all) (are.lies c lies) in
+        (stays.0.life, value_is_life operations values stays.0 holds stays.1, stays.2),
+    λ covered.
+        let value = value_of_life operations values covered.0 clear holds covered.1 in
+        let at = subst (λ l. Covers l c) (sym value.2) covered.2 in
+        are.stays c (subst (λ xs. Stays xs c) (sym (take_all n values all)) (value.0, value.1, at)),
+  );
+}

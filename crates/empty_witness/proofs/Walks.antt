@@ -1,9 +1,10 @@
 -- The walk along the chosen cover, from the call of an empty dequeue to its return.
 use Rattle.std.proofs.Common.{◌≡◌, ◌≢◌, ℕ, ◌<◌, ◌≤◌, ◌⊎◌, List, [], ◌∷◌, ◌++◌, Option, Some, None}
-use Rattle.std.proofs.Common.{refl, sym, subst, inl, inr, arith, append_assoc, rules, length}
-use Rattle.std.specs.Prelude.{Contains, MatchOption, MatchBool, nat_lt, IsSome, option_map}
+use Rattle.std.proofs.Common.{refl, sym, subst, inl, inr, arith, append_assoc, rules, length, take, drop}
+use Rattle.std.specs.Prelude.{All, Contains, MatchOption, MatchBool, nat_lt, IsSome, option_map}
 use Rattle.std.proofs.lemmas.Bool.{lt-ltb, le-ltb}
-use Rattle.std.proofs.lemmas.List.Elements.{All-contains}
+use Rattle.std.proofs.lemmas.List.{take-append-drop}
+use Rattle.std.proofs.lemmas.List.Elements.{All-append, All-contains, All-weaker, Contains-append_cases, Contains-append_right}
 use Rattle.history_merge.specs.declared.operation.Operation.{Operation}
 use Rattle.history_merge.specs.declared.operation.OpKind.TheVariants.{Deq, Empty}
 use Rattle.history_merge.specs.Operations.{Did, NoneDid}
@@ -82,6 +83,45 @@ module _ (initial : List ℕ) (operations : List Operation) (values : List Match
       let value = entered_before steps frontier so_far below in
       absurd (All-contains (λ value. ¬ (EntersBefore frontier value.life)) values value.0 none value.1 value.2)
   next_is_found steps frontier (Some value) so_far below is = search rules
+
+  -- of the values but the first n, which are gone by the call, the longest is the longest of all
+  pub longest_of_all : (n : ℕ) (steps : List CoverStep) (frontier : ℕ) (found : Option MatchedValue)
+      → All (λ value. dequeue_call value.life ≤ o.call) (take n values) → IsCoverSoFar initial operations o steps frontier → frontier < o.ret
+      → FindsLongest (EntersBefore frontier) (drop n values) found → FindsLongest (EntersBefore frontier) values found
+  longest_of_all n steps frontier found gone so_far below finds = go found finds
+    where
+      whole : take n values ++ (drop n values) ≡ values
+      whole = take-append-drop n values
+
+      z : (value : MatchedValue) × Contains values value × EntersBefore frontier value.life × (frontier < dequeue_call value.life)
+      z = entered_before steps frontier so_far below
+
+      left : Contains (drop n values) z.0
+      left = elim (Contains-append_cases (take n values) (drop n values) z.0 (subst (λ xs. Contains xs z.0) (sym whole) z.1)) [
+        | inl early ↦
+            let leaves = All-contains (λ (value : MatchedValue). dequeue_call value.life ≤ o.call) (take n values) z.0 gone early in
+            absurd (omega (arith, leaves, z.3, so_far.past_call))
+        | inr late ↦ late
+      ]
+
+      go : (found : Option MatchedValue) → FindsLongest (EntersBefore frontier) (drop n values) found → FindsLongest (EntersBefore frontier) values found
+      go None none = absurd (All-contains (λ value. ¬ (EntersBefore frontier value.life)) (drop n values) z.0 none left z.2)
+      go (Some w) is = record {
+        among = subst (λ xs. Contains xs w) whole (Contains-append_right (take n values) (drop n values) w is.among);
+        passes = is.passes;
+        longest = subst (All (λ other. EntersBefore frontier other.life → StaysAtLeast w.life other.life)) whole
+            (All-append (λ other. EntersBefore frontier other.life → StaysAtLeast w.life other.life) (take n values) (drop n values) early is.longest);
+      }
+        where
+          past : frontier < dequeue_call w.life
+          past = let stays = All-contains (λ other. EntersBefore frontier other.life → StaysAtLeast w.life other.life) (drop n values) z.0 is.longest left z.2 in
+              omega (arith, stays.0, z.3)
+
+          early : All (λ other. EntersBefore frontier other.life → StaysAtLeast w.life other.life) (take n values)
+          early = All-weaker (λ (value : MatchedValue). dequeue_call value.life ≤ o.call)
+              (λ other. EntersBefore frontier other.life → StaysAtLeast w.life other.life)
+              (λ value leaves entered. (omega (arith, leaves, past, so_far.past_call), λ same. absurd (omega (arith, leaves, past, so_far.past_call, same))))
+              (take n values) gone
 
   is_next : (frontier : ℕ) (value : MatchedValue) → IsLongestOf (EntersBefore frontier) values value → IsNextOfCover all frontier value.life
   is_next frontier value is = record {

@@ -1,5 +1,5 @@
 -- Spans of gaps, and those of the gaps at which some value is definitely in the queue.
-use Rattle.std.specs.Prelude.{◌↔◌, ℕ, ◌<◌, ◌≤◌, nat_lt, Bool, List, All, AllPairs, Contains}
+use Rattle.std.specs.Prelude.{◌↔◌, ℕ, ◌<◌, ◌≤◌, List, All, AllPairs, Contains}
 use Rattle.history_merge.specs.declared.operation.Operation.{Operation}
 use Rattle.value_match.specs.declared.life.Life.{Life}
 use Rattle.value_match.specs.Lives.{IsLife, Covers, enqueue_return, dequeue_call}
@@ -9,10 +9,6 @@ use Rattle.empty_witness.specs.declared.spans.Span.{Span}
 abbrev pub Holds : Span → ℕ → Type 0
 Holds span c = (span.start ≤ c) × (c < span.end)
 
--- some gap lies in the span
-abbrev pub holds_some : Span → Bool
-holds_some span = nat_lt span.start span.end
-
 -- the gap lies in one of the spans
 abbrev pub LiesIn : List Span → ℕ → Type 0
 LiesIn spans c = (span : Span) × Contains spans span × Holds span c
@@ -21,11 +17,6 @@ LiesIn spans c = (span : Span) × Contains spans span × Holds span c
 pub record AreApart (spans : List Span) : Type 0 where
   pub hold_some : All (λ span. span.start < span.end) spans
   pub apart : AllPairs (λ x y. x.end < y.start) spans
-
--- the spans are apart, and hold the same gaps as these
-pub record AreJoined (stays spans : List Span) : Type 0 where
-  pub apart : AreApart spans
-  pub same : (c : ℕ) → LiesIn stays c ↔ LiesIn spans c
 
 -- the gaps at which the value is definitely in the queue
 abbrev pub stay_of : Life → Span

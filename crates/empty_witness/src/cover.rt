@@ -1,17 +1,17 @@
-ghost use Rattle.std.specs.Prelude.{IfOk};
+ghost use Rattle.std.specs.Prelude.{◌≤◌, All, IfOk, length, take};
 ghost use Rattle.history_merge.specs.declared.operation.OpKind.TheVariants.{Empty};
 ghost use Rattle.history_merge.specs.Operations.{Did};
 ghost use Rattle.value_match.specs.Timeline.{timeline_of};
-ghost use Rattle.value_match.specs.Lives.{IsCovered};
+ghost use Rattle.value_match.specs.Lives.{IsCovered, dequeue_call};
 ghost use Rattle.empty_witness.specs.Inner.Covered.{NamesChosenCover};
 
 use history_merge::Operation;
 use std::alloc::{AllocError, Global};
-use value_match::{Cover, CoverStep, LongestTable, Matching, told_maybe, told_source};
+use value_match::{Cover, CoverStep, LongestTable, Matching, Values, told_maybe, told_source};
 
 /// Returns the chosen cover of a window that is covered.
 ///
-/// Time O(n log n) for n values: a table of them, and a look-up for each step.
+/// Time O(n log n) for n values: a table of those that may be in the queue at its call, and a look-up for each step.
 pub(crate) fn cover_of(
     alloc: Global,
     matching: &Matching,
@@ -22,7 +22,9 @@ pub(crate) fn cover_of(
     ensures { IfOk result (λ cover. NamesChosenCover matching.now.initial matching.now.operations answer.now cover) }
 {
     let initial_count = matching.initial().len();
-    let table = LongestTable::new(alloc, matching.values())?;
+    let values = matching.values();
+    let (_gone, others) = values.split_at(count_gone(&values, answer.call));
+    let table = LongestTable::new(alloc, others)?;
     let mut steps = Vec::new(alloc);
     let mut frontier = answer.call;
     while frontier < answer.ret {
@@ -34,4 +36,16 @@ pub(crate) fn cover_of(
         frontier = value.life.dequeue_call();
     }
     Ok(Cover::from_vec(steps))
+}
+
+/// How many values, of those that were enqueued first, were called to be dequeued by this ticket.
+fn count_gone(values: &Values, ticket: u64) -> usize
+    ensures within { result ≤ length values.now }
+    ensures gone { All (λ value. dequeue_call value.life ≤ ticket) (take result values.now) }
+{
+    let mut count = 0;
+    while count < values.len() && values.get(count).life.dequeue_call() <= ticket {
+        count += 1;
+    }
+    count
 }

@@ -12,4 +12,4 @@ pub use answer::{GapAnswer, Gaps, WitnessAnswer};
 pub use search::{
     EmptyAnswer, WindowsAnswer, find_witness, gap_for, sooner_of, windows_at, witness_of,
 };
-pub use spans::{Span, join_spans, stays_of};
+pub use spans::{Span, spans_of};

@@ -1,10 +1,10 @@
-ghost use Rattle.std.specs.Prelude.{◌≡◌, ◌<◌, All, IfOk, filter, map};
-ghost use Rattle.std.specs.List.Sorted.{IsNonDecreasingBy};
+ghost use Rattle.std.specs.Prelude.{◌≡◌, ◌<◌, IfOk, OnOk};
 ghost use Rattle.value_match.specs.Timeline.{timeline_of};
-ghost use Rattle.empty_witness.specs.Spans.{AreJoined, AreSpansOf, holds_some, stay_of};
+ghost use Rattle.empty_witness.specs.Spans.{AreApart, AreSpansOf, stay_of};
+ghost use Rattle.empty_witness.specs.Inner.Spans.{IsOfBoth, IsWithSpan};
 
 use std::alloc::{AllocError, Global};
-use value_match::{Life, Matching, Values, presort};
+use value_match::{Life, Matching};
 
 /// The gaps from the start to before the end.
 #[derive(Clone, Copy, Debug)]
@@ -15,30 +15,19 @@ pub struct Span {
 
 /// Returns the spans of the gaps at which some value is definitely in the queue, by rising start; no two touch.
 ///
-/// Time O(n log n) for n values.
-pub(crate) fn spans_of(alloc: Global, matching: &Matching) -> Result<Vec<Span>, AllocError>
+/// Time O(n) for n values. It takes memory for the spans alone, and the only error is out of memory.
+pub fn spans_of(alloc: Global, matching: &Matching) -> Result<Vec<Span>, AllocError>
     ensures { IfOk result (λ spans. AreSpansOf (timeline_of matching.now) spans.items) }
 {
-    let mut stays = stays_of(alloc, &matching.values())?;
-    presort(&mut stays, &|stay: &Span| stay.start);
-    stays.sort_unstable_by_key(|stay| stay.start);
-    join_spans(alloc, stays.as_slice())
-}
-
-/// Returns for each value that is definitely in the queue at some gap the span of these gaps.
-///
-/// Time O(n) for n values. The only error is out of memory.
-pub fn stays_of(alloc: Global, values: &Values) -> Result<Vec<Span>, AllocError>
-    ensures { IfOk result (λ stays. stays.items ≡ filter holds_some (map (λ value. stay_of value.life) values.now)) }
-{
-    let mut stays = Vec::with_capacity(alloc, values.len())?;
+    let values = matching.values();
+    let mut spans = Vec::new(alloc);
     for place in 0..values.len() {
         let stay = stay_of(&values.get(place).life);
         if stay.start < stay.end {
-            stays.push(stay)?;
+            add_stay(&mut spans, stay)?;
         }
     }
-    Ok(stays)
+    Ok(spans)
 }
 
 /// Returns the gaps at which the value is definitely in the queue.
@@ -51,27 +40,56 @@ fn stay_of(life: &Life) -> Span
     }
 }
 
-/// Joins spans that touch or overlap; they come by rising start.
-///
-/// Time O(n) for n spans. The only error is out of memory.
-pub fn join_spans(alloc: Global, stays: &[Span]) -> Result<Vec<Span>, AllocError>
-    requires hold_some { All (λ stay. stay.start < stay.end) stays.now }
-    requires rise { IsNonDecreasingBy (λ stay. stay.start) stays.now }
-    ensures { IfOk result (λ spans. AreJoined stays.now spans.items) }
+/// Adds the stay of a value to spans that are apart. Mostly it begins within the last of them, or where that ends.
+#[inline(always)]
+fn add_stay(spans: &mut Vec<Span>, stay: Span) -> Result<(), AllocError>
+    requires apart { AreApart spans.old.items }
+    requires holds_some { stay.start < stay.end }
+    ensures { OnOk result (IsWithSpan spans.old.items stay spans.new.items) }
 {
-    let Some((first, rest)) = stays.split_first() else {
-        return Ok(Vec::new(alloc));
-    };
-    let mut spans = Vec::new(alloc);
-    let mut last = *first;
-    for stay in rest {
-        if stay.start <= last.end {
-            last.end = last.end.max(stay.end);
-        } else {
-            spans.push(last)?;
-            last = *stay;
-        }
+    if let Some(last) = spans.len().checked_sub(1)
+        && spans[last].start <= stay.start
+        && stay.start <= spans[last].end
+    {
+        spans[last].end = spans[last].end.max(stay.end);
+        return Ok(());
     }
-    spans.push(last)?;
-    Ok(spans)
+    add_span(spans, stay)
+}
+
+/// Adds a span to spans that are apart, and joins it with those that it touches or overlaps.
+///
+/// It calls itself for each later span, of which there are no more than enqueues were pending at once.
+#[inline(never)]
+#[cycle(spans)]
+fn add_span(spans: &mut Vec<Span>, span: Span) -> Result<(), AllocError>
+    requires apart { AreApart spans.old.items }
+    requires holds_some { span.start < span.end }
+    ensures { OnOk result (IsWithSpan spans.old.items span spans.new.items) }
+{
+    let Some(last) = spans.pop() else {
+        spans.push(span)?;
+        return Ok(());
+    };
+    if last.end < span.start {
+        spans.push(last)?;
+        spans.push(span)?;
+        return Ok(());
+    }
+    if span.end < last.start {
+        add_span(spans, span)?;
+        spans.push(last)?;
+        return Ok(());
+    }
+    add_span(spans, joined(last, span))
+}
+
+/// The span of two that touch or overlap.
+fn joined(one: Span, other: Span) -> Span
+    ensures { IsOfBoth one other result }
+{
+    Span {
+        start: one.start.min(other.start),
+        end: one.end.max(other.end),
+    }
 }

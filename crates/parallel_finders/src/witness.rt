@@ -1,13 +1,10 @@
 ghost use Rattle.std.specs.Prelude.{◌≤◌, IfOk};
 ghost use Rattle.empty_witness.specs.Answers.{IsWitnessAnswer};
 ghost use Rattle.parallel_finders.specs.declared.TheConstants.{MAX_PIECES};
-ghost use Rattle.value_match.specs.Timeline.{timeline_of};
-ghost use Rattle.empty_witness.specs.Spans.{AreSpansOf};
 
 use crate::MIN_ITEMS;
-use crate::sorting::sort_stays;
 use crate::windows::windows_at_par;
-use empty_witness::{Span, WitnessAnswer, find_witness, join_spans, stays_of, witness_of};
+use empty_witness::{WitnessAnswer, find_witness, spans_of, witness_of};
 use std::alloc::{AllocError, Global};
 use std::thread::Threads;
 use value_match::Matching;
@@ -44,21 +41,8 @@ pub fn witness_in_pieces<R: Threads + Sync>(
 ) -> Result<WitnessAnswer, AllocError>
     ensures { IfOk result (IsWitnessAnswer matching.now.initial matching.now.operations) }
 {
-    let spans = spans_of_par(rt, alloc, matching)?;
+    let spans = spans_of(alloc, matching)?;
     let empties = matching.timeline_empties();
     let windows = windows_at_par(rt, alloc, matching, spans.as_slice(), empties, pieces)?;
     witness_of(alloc, matching, windows)
-}
-
-/// Returns the spans of the gaps at which some value is definitely in the queue.
-fn spans_of_par<R: Threads + Sync>(
-    rt: &R,
-    alloc: Global,
-    matching: &Matching,
-) -> Result<Vec<Span>, AllocError>
-    ensures { IfOk result (λ spans. AreSpansOf (timeline_of matching.now) spans.items) }
-{
-    let mut stays = stays_of(alloc, &matching.values())?;
-    sort_stays(rt, &mut stays);
-    join_spans(alloc, stays.as_slice())
 }

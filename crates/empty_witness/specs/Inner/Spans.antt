@@ -1,7 +1,18 @@
--- The first gap outside the spans.
-use Rattle.std.specs.Prelude.{ℕ, ◌<◌, ◌≤◌, List}
+-- Spans that are added to others, and the first gap outside.
+use Rattle.std.specs.Prelude.{◌≡◌, ◌↔◌, ◌⊎◌, ℕ, ◌<◌, ◌≤◌, min, max, List, All}
 use Rattle.empty_witness.specs.declared.spans.Span.{Span}
-use Rattle.empty_witness.specs.Spans.{LiesIn}
+use Rattle.empty_witness.specs.Spans.{AreApart, Holds, LiesIn}
+
+-- from the first start of two spans to their last end
+pub record IsOfBoth (one other joined : Span) : Type 0 where
+  pub starts : joined.start ≡ min one.start other.start
+  pub ends : joined.end ≡ max one.end other.end
+
+-- the spans are apart, and hold the gaps of these and of this span; they end where these or this one do
+pub record IsWithSpan (spans : List Span) (span : Span) (new : List Span) : Type 0 where
+  pub apart : AreApart new
+  pub same : (c : ℕ) → LiesIn new c ↔ (LiesIn spans c ⊎ Holds span c)
+  pub ends : (b : ℕ) → All (λ s. s.end < b) spans → span.end < b → All (λ s. s.end < b) new
 
 -- the least gap from this one on that lies in no span
 pub record IsFirstOutside (spans : List Span) (from c : ℕ) : Type 0 where

@@ -1,28 +1,25 @@
-use Rattle.std.proofs.Common.{◌<◌, rules, sym, subst}
-use Rattle.std.specs.Prelude.{All, IsPermutation}
-use Rattle.std.specs.List.Sorted.{IsNonDecreasingBy}
-use Rattle.std.proofs.lemmas.List.Sorted.{IsNonDecreasingBy-from_sort_by_key, IsPermutation-trans}
-use Rattle.std.proofs.lemmas.Result.{IfOk-weaker}
-use Rattle.empty_witness.specs.Spans.{AreJoined, AreSpansOf}
-use Rattle.empty_witness.proofs.ValueSpans.{stays_hold_some, are_spans}
-use Rattle.value_match.specs.Timeline.{timeline_of}
+use Rattle.std.proofs.Common.{◌<◌, arith, length, subst}
+use Rattle.empty_witness.specs.Inner.Spans.{IsWithSpan}
+use Rattle.empty_witness.proofs.ValueSpans.{are_spans, no_spans, with_value, without_value}
 use Rattle.empty_witness.proofs.spans.spans_of.Goals as goal
+use Rattle.empty_witness.proofs.spans.spans_of.Goals.{then-stay+in_ok-add_stay, else-stay}
 
-pub join_spans-requires-clause-hold_some : goal.join_spans-requires-clause-hold_some
-join_spans-requires-clause-hold_some c =
-    subst (All (λ stay. stay.start < stay.end)) (sym c.as_slice.ensures.value)
-    (stays_hold_some c.values.result c.in_ok-stays.stays.items _ c.in_ok-stays.ensures
-    (IsPermutation-trans _ _ _ c.presort.ensures c.sort_unstable_by_key.ensures.permutation))
+pub loop-place-init : goal.loop-place-init
+loop-place-init c = rw c.new-spans.ensures.items (no_spans c.values-values.result)
 
-pub join_spans-requires-clause-rise : goal.join_spans-requires-clause-rise
-join_spans-requires-clause-rise c =
-    subst (IsNonDecreasingBy (λ stay. stay.start)) (sym c.as_slice.ensures.value)
-    (IsNonDecreasingBy-from_sort_by_key (λ stay. stay.start) _ c.sort_unstable_by_key.ensures.sorted (λ e r q k. search rules))
+pub loop-place-preserved : goal.loop-place-preserved
+loop-place-preserved c =
+    let values = c.values-values.result in
+    let spans = c.loop-place.spans.items in
+    let within : c.loop-place.place < length values = omega (arith, c.loop-place-test.true, c.len-place-end.ensures) in
+    elim c.if-stay.branch [
+      | then-stay+in_ok-add_stay w ↦ rw w.spans-is (with_value values c.loop-place.place spans c.get.result c.loop-place.invariant within c.get.ensures
+          w.add_stay.new.spans.items (subst (λ stay. IsWithSpan spans stay w.add_stay.new.spans.items) c.stay_of-stay.ensures w.in_ok-add_stay.ensures))
+      | else-stay w ↦ rw w.spans-is (without_value values c.loop-place.place spans c.get.result c.loop-place.invariant within c.get.ensures
+          (rw c.stay_of-stay.ensures at w.if-stay.false))
+    ]
 
 pub returns : goal.returns
 returns c =
-    let moved = subst (IsPermutation c.in_ok-stays.stays.items) (sym c.as_slice.ensures.value)
-    (IsPermutation-trans _ _ _ c.presort.ensures c.sort_unstable_by_key.ensures.permutation) in
-    IfOk-weaker c.join_spans.result (λ spans. AreJoined c.as_slice.result.now spans.items) (λ spans. AreSpansOf (timeline_of c.args.matching.now) spans.items)
-    (λ spans joined. are_spans (timeline_of c.args.matching.now) c.values.result c.values.ensures.clear c.values.ensures.values c.in_ok-stays.stays.items _
-    spans.items c.in_ok-stays.ensures moved joined) c.join_spans.ensures
+    are_spans _ c.values-values.result c.loop-place.place c.loop-place.spans.items c.values-values.ensures.clear c.values-values.ensures.values
+    (omega (arith, c.loop-place-test.false, c.len-place-end.ensures)) c.loop-place.invariant
