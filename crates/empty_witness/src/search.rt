@@ -35,7 +35,7 @@ pub enum WindowsAnswer {
 ///
 /// Gap c is the place just after ticket c, and an operation's window has the gaps from its call to before its return.
 /// Places and tickets are the history's; a cover names its initial values too. Time O(n) for n values, whatever the width
-/// of the window, and that of a sort of them if the window is covered. The only error is out of memory.
+/// of the window; a covered one costs a sort of them more. The only error is out of memory.
 pub fn gap_for(alloc: Global, matching: &Matching, empty: OpId) -> Result<GapAnswer, AllocError>
     requires { IsEmptyAnswerAt matching.now.operations empty }
     ensures { IfOk result (IsGapAnswer matching.now.initial matching.now.operations empty) }
@@ -55,8 +55,8 @@ pub fn gap_for(alloc: Global, matching: &Matching, empty: OpId) -> Result<GapAns
 /// window is covered, with its cover; by the places and tickets of the history.
 ///
 /// Time O(n + m log n) for n values and m empty dequeues: it joins the values' stays once, and looks each window up among
-/// them; that of a sort of the values more if a window is covered, and O(1) if no dequeue is empty. The only error is out
-/// of memory.
+/// them. A covered window costs a sort of the values more; if no dequeue is empty it is O(1). The only error is out of
+/// memory.
 pub fn find_witness(alloc: Global, matching: &Matching) -> Result<WitnessAnswer, AllocError>
     ensures { IfOk result (IsWitnessAnswer matching.now.initial matching.now.operations) }
 {

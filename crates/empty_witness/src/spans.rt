@@ -40,7 +40,7 @@ fn stay_of(life: &Life) -> Span
     }
 }
 
-/// Adds the stay of a value to spans that are apart. Mostly it begins within the last of them, or where that ends.
+/// Adds the stay of a value to spans that are apart. Mostly it begins within the last of them, or where that one ends.
 #[inline(always)]
 fn add_stay(spans: &mut Vec<Span>, stay: Span) -> Result<(), AllocError>
     requires apart { AreApart spans.old.items }

@@ -229,7 +229,8 @@ impl<R: TextSource> TextReader<R> {
         Some(item)
     }
 
-    /// If no line stands whole in the buffer, and the line isn't too long yet, brings what is left to the front and reads on after it.
+    /// Reads on after what is left of the buffer, which comes to its front; unless a line stands whole there, or more bytes
+    /// than are read of a line at once.
     #[inline(never)]
     fn complete_line(&mut self)
         ensures left { Takes self.old.left self.new.left [] }
@@ -346,6 +347,7 @@ impl<R: TextSource> TextReader<R> {
         ensures is_stopped { self.new.is_stopped ≡ self.old.is_stopped }
     {
         let mut count = 0;
+        // Whether what is left of the buffer was read on after, since the last item.
         let mut is_complete = false;
         loop {
             let item = match self.next_in_buffer(count) {

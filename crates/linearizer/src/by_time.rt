@@ -11,7 +11,7 @@ use crate::timed::{PackedTimed, Timed};
 use std::alloc::{AllocError, Global};
 use value_match::{NEVER, Values};
 
-/// How many later ones a value is put before at most while its list is made.
+/// Before how many later ones a value is put at most while its list is made.
 const MOST_PASSED: usize = 32;
 
 /// The values by the time by which each has entered, and those that are dequeued by that at which their dequeues returned.
@@ -46,11 +46,11 @@ pub(crate) fn by_time(alloc: Global, values: &Values) -> Result<ByTime, AllocErr
     })
 }
 
-/// Values by a time, each put before those that are later as it comes, where these are few.
+/// Values by a time. As each comes it is put before those that are later, if these are few.
 #[derive(Drop)]
 struct TimedList {
     timed: Vec<PackedTimed>,
-    /// Whether each was put in its place.
+    /// Whether each came to its place so.
     is_sorted: bool,
 }
 
@@ -105,7 +105,7 @@ impl TimedList {
 
     /// The values by their times.
     ///
-    /// Time O(n log n) for n values where one came too late for its place, otherwise O(1).
+    /// Time O(n log n) for n values if one didn't come to its place, otherwise O(1).
     fn sorted(self) -> Vec<PackedTimed>
         requires { IsAsSorted self }
         ensures permutation { IsPermutation self.timed.items result.items }
@@ -122,7 +122,8 @@ impl TimedList {
     }
 }
 
-/// Puts the last of some values before those that are later, where these are few. Returns whether it comes after no later one so.
+/// Puts the last of some values before those that are later, if these are few. Returns whether it then comes after none
+/// of them.
 fn put_last_in_place(timed: &mut [PackedTimed]) -> bool
     requires { 0 < length timed.old }
     ensures permutation { IsPermutation timed.old timed.new }
