@@ -33,18 +33,22 @@ module _ {X : Type 0} (old now : List X) (place : ℕ) (shifted : IsShifted old 
             | inr after ↦ get_or-set_other now place k x d (λ same. absurd (omega (arith, after, same))) ∙ shifted.behind k d after below
           ]
 
+  -- all but the last
+  abbrev others : List X
+  others = take (length old - 1) old
+
+  few : length others ≡ length old - 1
+  few = length-take-le (length old - 1) old (omega arith)
+
+  place_within : place < length old → place ≤ length others
+  place_within inside = omega (arith, few, inside)
+
   -- the last is put at the place that is left
   pub put_in : (last : X) → place < length old → set now place last ≡ insert (take (length old - 1) old) place last
   put_in last inside = ext_get_or last (set now place last) (insert others place last) long each
     where
-      others : List X
-      others = take (length old - 1) old
-
-      few : length others ≡ length old - 1
-      few = length-take-le (length old - 1) old (omega arith)
-
       within : place ≤ length others
-      within = omega (arith, few, inside)
+      within = place_within inside
 
       long : length (set now place last) ≡ length (insert others place last)
       long = omega (arith, length-set now place last, shifted.long, length-insert others place last within, few, inside)
@@ -73,9 +77,6 @@ module _ {X : Type 0} (old now : List X) (place : ℕ) (shifted : IsShifted old 
         (IsPermutation-trans (others ++ last ∷ []) (last ∷ others) (insert others place last) (IsPermutation-append_comm others (last ∷ []))
         (IsPermutation-insert others place last)))
       where
-        others : List X
-        others = take (length old - 1) old
-
         all : length old - 1 + 1 ≡ length old
         all = omega (arith, inside)
 
@@ -91,14 +92,8 @@ module _ {X : Type 0} (old now : List X) (place : ℕ) (shifted : IsShifted old 
         → IsNonDecreasingBy number (take (length old - 1) old) → IsNonDecreasingBy number (set now place last)
     put_rises number later sooner rises = rw (put_in last inside) (IsNonDecreasingBy-insert number others place last rises within low high)
       where
-        others : List X
-        others = take (length old - 1) old
-
-        few : length others ≡ length old - 1
-        few = length-take-le (length old - 1) old (omega arith)
-
         within : place ≤ length others
-        within = omega (arith, few, inside)
+        within = place_within inside
 
         low : (k : ℕ) (d : X) → k < place → number (get_or others k d) ≤ number last
         low k d below =
