@@ -44,7 +44,8 @@ one_comes first arrivals departures place most gone new_gone up within so_far is
     bound : (gap : ℕ) → count_before gap arrivals ≤ place + 1 → there_at first arrivals departures gap ≤ max most (first + place + 1 - new_gone)
     bound gap few = bound_by (cases_lt place (count_before gap arrivals))
       where
-        bound_by : (place < count_before gap arrivals) ⊎ (count_before gap arrivals ≤ place) → there_at first arrivals departures gap ≤ max most (first + place + 1 - new_gone)
+        bound_by : (place < count_before gap arrivals) ⊎ (count_before gap arrivals ≤ place)
+            → there_at first arrivals departures gap ≤ max most (first + place + 1 - new_gone)
         bound_by (inr fewer) = let before = so_far.bound gap fewer in omega (arith, before)
         bound_by (inl last) =
             let low = below_at gap arrivals place up last in

@@ -1,5 +1,6 @@
 //! The most values that were definitely in the queue at once.
-ghost use Rattle.std.specs.Prelude.{◌≡◌, ◌+◌, ◌≤◌, ◌++◌, ◌&&◌, ◌||◌, ◌==◌, ◌∷◌, [], ℕ, IfOk, OnOk, count_by, false, if◌then◌else◌, length, nat_lt, not, vec_len};
+ghost use Rattle.std.specs.Prelude.{◌≡◌, ◌+◌, ◌≤◌, ◌++◌, ◌&&◌, ◌||◌, ◌==◌, ◌∷◌, [], ℕ, IfOk, OnOk};
+ghost use Rattle.std.specs.Prelude.{count_by, false, if◌then◌else◌, length, nat_lt, not, vec_len};
 ghost use Rattle.std.specs.Option.{option_map_or};
 ghost use Rattle.event_records.specs.declared.limits.TheConstants.{MAX_EVENTS, MAX_INITIAL};
 ghost use Rattle.history_merge.specs.declared.operation.Operation.{Operation};

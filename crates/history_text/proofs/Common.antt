@@ -1,5 +1,6 @@
 -- The names that most proofs of this crate cite, passed on from one place. Declares nothing.
-pub use Rattle.std.proofs.Common.{[], ◌%◌, ◌&&◌, ◌*◌, ◌++◌, ◌+◌, ◌-◌, ◌/◌, ◌<◌, ◌==◌, ◌^◌, ◌∙◌, ◌∷◌, ◌≡◌, ◌≤◌, All, ap}
+pub use Rattle.std.proofs.Common.{[], ◌%◌, ◌&&◌, ◌*◌, ◌++◌, ◌+◌, ◌-◌, ◌/◌, ◌<◌}
+pub use Rattle.std.proofs.Common.{◌==◌, ◌^◌, ◌∙◌, ◌∷◌, ◌≡◌, ◌≤◌, All, ap}
 pub use Rattle.std.proofs.Common.{append-nil, append_assoc, ap₂, arith, Bool, bytes_eq, codes, cond, Contains, decimal}
 pub use Rattle.std.proofs.Common.{drop, drop-drop, Err, false, filter_map, flat_map, get_or, IfErr, IfOk, IfSome, inl}
 pub use Rattle.std.proofs.Common.{inr, is_err, IsErrAnd, length, length-append, length-drop, length-take-le, List, map}

@@ -70,7 +70,7 @@ module _ {X : Type 0} (old now : List X) (place : ℕ) (shifted : IsShifted old 
                 ∙ get_or-take (length old - 1) old (k - 1) last (omega (arith, after, inside')))
           ]
 
-  module _ (last : X) (inside : place < length old) (is_last : (d : X) → last ≡ get_or old (length old - 1) d) where
+  module _ (last : X) (inside : place < length old) (is_last : last ≡ get_or old (length old - 1) last) where
     -- then all are there
     pub put_permutes : IsPermutation old (set now place last)
     put_permutes = rw (put_in last inside) (IsPermutation-trans old (others ++ last ∷ []) (insert others place last) parts
@@ -81,7 +81,7 @@ module _ {X : Type 0} (old now : List X) (place : ℕ) (shifted : IsShifted old 
         all = omega (arith, inside)
 
         split : old ≡ others ++ last ∷ []
-        split = sym (take_all (length old) old (omega arith)) ∙ ap (λ n. take n old) (sym all) ∙ one_more old (length old - 1) last (omega (arith, inside)) (is_last last)
+        split = sym (take_all (length old) old (omega arith)) ∙ ap (λ n. take n old) (sym all) ∙ one_more old (length old - 1) last (omega (arith, inside)) is_last
 
         parts : IsPermutation old (others ++ last ∷ [])
         parts = subst (λ xs. IsPermutation old xs) split (IsPermutation-refl old)

@@ -24,7 +24,8 @@ loop-place-preserved c =
     let more = one_more_timed entered_by values c.loop-place.place c.loop-place.entries.timed.items c.get.result known.entries at
     c.entered_by-time.result c.entered_by-time.ensures
     (All-contains (λ value. entered_by value.life < NEVER) values c.get.result c.requires.entries (contains_at values c.loop-place.place c.get.result at)) in
-    let entries = moved_so_far entered_by values (c.loop-place.place + 1) (c.loop-place.entries.timed.items ++ record { time = c.entered_by-time.result; place = c.loop-place.place } ∷ [])
+    let entries = moved_so_far entered_by values (c.loop-place.place + 1)
+    (c.loop-place.entries.timed.items ++ record { time = c.entered_by-time.result; place = c.loop-place.place } ∷ [])
     c.add.new.self.timed.items more (rw (← c.new.ensures) c.in_ok-add.ensures.added) in
     elim c.if-time-lt-NEVER.branch [
       | then-time-lt-NEVER+in_ok-add-2 w ↦

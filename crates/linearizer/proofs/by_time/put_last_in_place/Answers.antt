@@ -41,27 +41,23 @@ loop-place-preserved c =
 pub returns-then-place-eq0-clause-permutation : goal.returns-then-place-eq0-clause-permutation
 returns-then-place-eq0-clause-permutation c =
     let known = c.loop-place.invariant in
-    put_permutes c.args.timed.now c.loop-place.timed c.loop-place.place known.shifted c.index-timed-end.result known.inside
-    (get_or_read c.args.timed.now _ _ (omega (arith, known.inside)) c.index-timed-end.is)
+    put_permutes c.args.timed.now c.loop-place.timed c.loop-place.place known.shifted c.index-timed-end.result known.inside c.index-timed-end.is
 
 pub returns-then-place-eq0-clause-sorted : goal.returns-then-place-eq0-clause-sorted
 returns-then-place-eq0-clause-sorted c = λ in_place rises.
     let known = c.loop-place.invariant in
-    put_rises c.args.timed.now c.loop-place.timed c.loop-place.place known.shifted c.index-timed-end.result known.inside
-    (get_or_read c.args.timed.now _ _ (omega (arith, known.inside)) c.index-timed-end.is)
+    put_rises c.args.timed.now c.loop-place.timed c.loop-place.place known.shifted c.index-timed-end.result known.inside c.index-timed-end.is
     (λ timed. timed.time) known.later (λ d some. absurd (omega (arith, some, c.if-place-eq0.true))) rises
 
 pub returns-else-place-eq0-clause-permutation : goal.returns-else-place-eq0-clause-permutation
 returns-else-place-eq0-clause-permutation c =
     let known = c.loop-place.invariant in
-    put_permutes c.args.timed.now c.loop-place.timed c.loop-place.place known.shifted c.index-timed-end.result known.inside
-    (get_or_read c.args.timed.now _ _ (omega (arith, known.inside)) c.index-timed-end.is)
+    put_permutes c.args.timed.now c.loop-place.timed c.loop-place.place known.shifted c.index-timed-end.result known.inside c.index-timed-end.is
 
 pub returns-else-place-eq0-clause-sorted : goal.returns-else-place-eq0-clause-sorted
 returns-else-place-eq0-clause-sorted c = λ in_place rises.
     let known = c.loop-place.invariant in
-    put_rises c.args.timed.now c.loop-place.timed c.loop-place.place known.shifted c.index-timed-end.result known.inside
-    (get_or_read c.args.timed.now _ _ (omega (arith, known.inside)) c.index-timed-end.is)
+    put_rises c.args.timed.now c.loop-place.timed c.loop-place.place known.shifted c.index-timed-end.result known.inside c.index-timed-end.is
     (λ timed. timed.time) known.later (λ d some.
     let put = set c.loop-place.timed c.loop-place.place c.index-timed-end.result in
     let within : c.loop-place.place - 1 < length put = omega (arith, known.inside, known.shifted.long, length-set c.loop-place.timed c.loop-place.place c.index-timed-end.result) in
