@@ -1,4 +1,4 @@
-ghost use Rattle.std.specs.Prelude.{List};
+ghost use Rattle.std.specs.Prelude.{◌↔◌, List, IsTrue};
 ghost use Rattle.value_match.specs.declared.life.MatchedValue.{MatchedValue};
 ghost use Rattle.value_match.specs.Lives.{enqueue_call};
 ghost use Rattle.value_match.specs.Longest.{EntersBefore, FindsLongest};
@@ -15,6 +15,15 @@ pub fn sooner_of(first: MatchedValue, second: MatchedValue) -> MatchedValue
     } else {
         second
     }
+}
+
+/// Whether b is dequeued before a is, though a was enqueued before b. Of most that b doesn't overtake, their dequeues alone
+/// say so.
+#[inline(always)]
+pub(crate) fn overtakes(b: &Life, a: &Life) -> bool
+    ensures { IsTrue result ↔ Overtakes b.now a.now }
+{
+    b.dequeue_return() < a.dequeue_call() && a.enqueue_return() < b.enqueue_call()
 }
 
 /// Returns of the values that b overtakes the one that stays longest.

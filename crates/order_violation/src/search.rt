@@ -1,15 +1,15 @@
 ghost use Rattle.std.specs.Prelude.{◌≡◌, IfOk};
-ghost use Rattle.value_match.specs.Longest.{EntersBefore, FindsLongest};
+ghost use Rattle.value_match.specs.Longest.{FindsLongest};
 ghost use Rattle.value_match.specs.Lives.{HoldsLives};
-ghost use Rattle.order_violation.specs.Overtaking.{FindsFirst, IsFirstOvertaker};
+ghost use Rattle.order_violation.specs.Overtaking.{FindsFirst, IsFirstOvertaker, Overtakes};
 ghost use Rattle.value_match.specs.Timeline.{timeline_of};
 ghost use Rattle.order_violation.specs.Pairs.{IsOrderAnswer, told_pair};
 
-use crate::overtaking::{first_overtaking, if_overtaken, longest_overtaken};
+use crate::overtaking::{first_overtaking, longest_overtaken, overtakes};
 use crate::pair::OrderPair;
 use std::alloc::{AllocError, Global};
 use value_match::{
-    LongestTable, MatchedValue, Matching, Values, told_maybe, told_place, told_source,
+    Life, LongestTable, MatchedValue, Matching, Values, told_maybe, told_place, told_source,
 };
 
 /// Finds the chosen pair of values dequeued against the order of their enqueues, if there is one: of the values
@@ -53,8 +53,7 @@ pub fn pair_with(matching: &Matching, b: MatchedValue) -> Option<OrderPair>
     ensures { IsOrderAnswer matching.now.initial matching.now.operations result }
 {
     let initial_count = matching.initial().len();
-    let longest = longest_before(&matching.values(), b.life.enqueue_call());
-    let a = if_overtaken(&b.life, longest)?;
+    let a = longest_among(&matching.values(), &b.life)?;
     pair_of(initial_count, a, b)
 }
 
@@ -70,15 +69,15 @@ fn pair_of(initial_count: usize, a: MatchedValue, b: MatchedValue) -> Option<Ord
     })
 }
 
-/// Returns of the values whose enqueues returned before the limit the one that stays longest.
-fn longest_before(values: &Values, limit: u64) -> Option<MatchedValue>
-    ensures { FindsLongest (EntersBefore limit) values.now result }
+/// Returns of the values that b overtakes the one that stays longest.
+fn longest_among(values: &Values, b: &Life) -> Option<MatchedValue>
+    ensures { FindsLongest (Overtakes b.now) values.now result }
 {
     let mut longest: Option<MatchedValue> = None;
     for place in 0..values.len() {
-        let value = values.get(place);
-        if value.life.enqueue_return() < limit {
-            longest = Some(longest.map_or(value, |longest| longest.longer_of(value)));
+        let a = values.get(place);
+        if overtakes(b, &a.life) {
+            longest = Some(longest.map_or(a, |longest| longest.longer_of(a)));
         }
     }
     longest
