@@ -88,8 +88,10 @@ fn near_sources(alloc: Global, operations: &[PackedOperation]) -> Result<NearSou
     ensures twice { IfOk result (λ near. AreTakersTo near.twice near.sources.items near.takers.items) }
     ensures one_each { IfOk result (λ near. length near.takers.items ≡ length operations.now) }
 {
-    // What lies behind the takers is given back before they are, so the next list can have its room.
-    let mut takers = vec![in alloc; MaybePlace::none(); operations.len()]?;
+    // What lies behind the takers is given back before they are. So their room, twice as much as they need, can be that of the
+    // next list, with a word for each value.
+    let mut takers = Vec::with_capacity(alloc, 2 * operations.len())?;
+    takers.resize(operations.len(), MaybePlace::none())?;
     let mut sources = Vec::with_capacity(alloc, operations.len())?;
     let mut calls = ThreadCalls::new(alloc, operations)?;
     let mut wanted = BTreeSet::new(alloc);

@@ -1,6 +1,7 @@
-use Rattle.std.proofs.Common.{◌≡◌, ◌<◌, not, [], length}
+use Rattle.std.proofs.Common.{◌≡◌, ◌<◌, ◌-◌, not, [], length}
 use Rattle.std.proofs.Common.{arith, subst, sym, Some, None, ◌∙◌, ap, refl}
 use Rattle.std.proofs.lemmas.List.{length-replicate, with_items_is}
+use lib.Seq.{take-nil}
 use Rattle.std.proofs.lemmas.Bool.{false≢true}
 use Rattle.std.proofs.lemmas.Option.{slice_get_read}
 use Rattle.value_match.specs.Inner.Others.{IsNearSource}
@@ -26,13 +27,23 @@ pub some-requires : goal.some-requires
 some-requires c = let inside = within (goal.at.some-requires c).In-Some in omega (arith, inside, c.requires.few)
 
 pub loop-operation-init : goal.loop-operation-init
-loop-operation-init c = rw (c.in_ok-sources.ensures.items, c.in_ok-takers.ensures.items_if_clones_equal, c.none.ensures) (record {
-  near = sources_none (IsNearSource _) c.args.operations.now;
-  all = λ all. sources_none IsSourceOf c.args.operations.now;
-  one_each = length-replicate (length c.args.operations.now) None;
-  late = none_fresh_yet c.args.operations.now;
-  twice = no_takers (length c.args.operations.now) [];
-})
+loop-operation-init c =
+    let all : length c.args.operations.now - 0 ≡ length c.args.operations.now = omega arith in
+    rw (
+      c.in_ok-sources.ensures.items,
+      c.in_ok-resize.ensures.items,
+      c.in_ok-takers.ensures.items,
+      c.in_ok-takers.ensures.len,
+      take-nil (length c.args.operations.now),
+      all,
+      c.none.ensures,
+    ) (record {
+      near = sources_none (IsNearSource _) c.args.operations.now;
+      all = λ all. sources_none IsSourceOf c.args.operations.now;
+      one_each = length-replicate (length c.args.operations.now) None;
+      late = none_fresh_yet c.args.operations.now;
+      twice = no_takers (length c.args.operations.now) [];
+    })
 
 pub loop-operation-preserved-in_default : goal.loop-operation-preserved-in_default
 loop-operation-preserved-in_default c =
