@@ -4,7 +4,7 @@
 -- TheirEvents: the operations determine the events.
 -- NextEvents: the same walk from the last event to the first.
 -- Completeness, Distinct: what the operations of a complete history have in common, and what distinguishes them.
--- InitialValues: distinct initial values, and histories that are complete from them.
+-- RisingValues, InitialValues: values that rise, distinct initial values, and histories that are complete from them.
 -- FirstFaults, ExactFaults: a list of events is a complete history if and only if it has no fault. FaultKinds: the kinds of faults.
 -- Formed, MetFaults: what the builder holds after each event, and at the end: the operations, or the first fault.
 -- Searching, Clashes: the first event with a property, and what contradicts what.
@@ -40,3 +40,4 @@ pub mod Later
 pub mod Timelines
 pub mod Enqueued
 pub mod TimelineOperations
+pub mod RisingValues

@@ -1,7 +1,8 @@
 -- What a history builder keeps of what its queue holds at first, and of its events.
 use Rattle.std.specs.Prelude.{◌≡◌, ℕ, ◌+◌, ◌<◌, ◌≤◌, ◌/◌, ◌%◌, ◌⊎◌, true, List, [], length, IfSome, MatchOption, MatchResult}
-use Rattle.std.specs.Prelude.{option_map, slice_index_or, All, IsSome, None, Some, Result, ◌∷◌, ◌++◌}
+use Rattle.std.specs.Prelude.{◌||◌, option_map, slice_index_or, All, IsSome, None, Some, Result, ◌∷◌, ◌++◌}
 use Rattle.std.specs.List.{last_or}
+use Rattle.std.specs.List.Sorted.{IsNonDecreasingBy}
 use Rattle.std.specs.Option.{option_map_or}
 use Rattle.std.specs.Ordering.{nat_cmp}
 use Rattle.std.specs.BTreeSet.{contains}
@@ -43,9 +44,14 @@ IsTaken initial events e place result forming =
     MatchResult result (λ _. HasFormed (events ++ e ∷ []) forming × (fault_at initial events place e ≡ None))
     (λ fault. HasFormed events forming × ((fault ≡ Memory) ⊎ (fault_at initial events place e ≡ Some fault)))
 
--- a set holds these values, and none is below the least of them or above the greatest
+-- these values stand in a list that rises, or in a set
+pub record HoldsInitial (initial : List ℕ) (known : InitialValues) : Type 0 where
+  pub rises : IsNonDecreasingBy (λ v. v) known.rising.items
+  pub values : (v : ℕ) → (is_initial known.rising.items v || contains nat_cmp known.others v) ≡ is_initial initial v
+
+-- and none is below the least of them or above the greatest
 pub record KnowsInitial (initial : List ℕ) (known : InitialValues) : Type 0 where
-  pub values : (v : ℕ) → contains nat_cmp known.values v ≡ is_initial initial v
+  pub holds : HoldsInitial initial known
   pub range : (v : ℕ) → is_initial initial v ≡ true → (known.least ≤ v) × (v ≤ known.greatest)
 
 -- the initial values are distinct, the events have no fault so far, and all that a next event is judged by is there

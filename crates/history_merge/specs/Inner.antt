@@ -5,3 +5,4 @@ pub mod Forming
 pub mod History
 pub mod Packed
 pub mod Timeline
+pub mod Rising

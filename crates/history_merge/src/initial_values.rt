@@ -1,9 +1,11 @@
 //! The values that a queue holds at first.
-ghost use Rattle.std.specs.Prelude.{◌≡◌, not, ℕ, List, [], ◌∷◌, ◌++◌, IfOk, MatchResult};
+ghost use Rattle.std.specs.Prelude.{◌≡◌, not, ℕ, List, [], ◌∷◌, ◌++◌, IfOk, IsTrue, MatchResult};
+ghost use Rattle.std.specs.List.Sorted.{IsNonDecreasingBy};
 ghost use Rattle.event_records.specs.declared.event.Event.{Event};
 ghost use Rattle.history_merge.specs.Complete.{AreDistinct};
 ghost use Rattle.history_merge.specs.Faults.{calls_initial, is_initial};
-ghost use Rattle.history_merge.specs.Gathering.{HasRefusedInitial, KnowsInitial};
+ghost use Rattle.history_merge.specs.Gathering.{HasRefusedInitial, HoldsInitial, KnowsInitial};
+ghost use Rattle.history_merge.specs.Inner.Rising.{AreBelow};
 
 use crate::called::called_value;
 use crate::fault::HistoryFault;
@@ -11,12 +13,14 @@ use event_records::What;
 use std::alloc::{AllocError, Global};
 use std::collections::BTreeSet;
 
-/// Distinct values, with the least and the greatest of them.
+/// Distinct values, with the least and the greatest of them. Those that are above all before them, as a recorder's names are,
+/// stand in a list, the others in a set.
 #[derive(Drop)]
 pub(crate) struct InitialValues {
     least: u64,
     greatest: u64,
-    values: BTreeSet<u64>,
+    rising: Vec<u64>,
+    others: BTreeSet<u64>,
 }
 
 impl InitialValues {
@@ -41,7 +45,8 @@ impl InitialValues {
         InitialValues {
             least: u64::MAX,
             greatest: 0,
-            values: BTreeSet::new(alloc),
+            rising: Vec::new(alloc),
+            others: BTreeSet::new(alloc),
         }
     }
 
@@ -50,10 +55,27 @@ impl InitialValues {
         ensures { (initial : List ℕ) → KnowsInitial initial self.old
             → IfOk result (λ is_new. (not is_new ≡ is_initial initial value) × KnowsInitial (initial ++ value ∷ []) self.new) }
     {
-        let is_new = self.values.insert(value)?;
+        let is_new = self.put(value)?;
         self.least = self.least.min(value);
         self.greatest = self.greatest.max(value);
         Ok(is_new)
+    }
+
+    /// The same, but for the least and the greatest.
+    fn put(&mut self, value: u64) -> Result<bool, AllocError>
+        ensures holds { (initial : List ℕ) → HoldsInitial initial self.old
+            → IfOk result (λ is_new. (not is_new ≡ is_initial initial value) × HoldsInitial (initial ++ value ∷ []) self.new) }
+        ensures least { self.new.least ≡ self.old.least }
+        ensures greatest { self.new.greatest ≡ self.old.greatest }
+    {
+        if comes_last(self.rising.as_slice(), value) {
+            self.rising.push(value)?;
+            return Ok(!self.others.contains(&value));
+        }
+        if is_among(self.rising.as_slice(), value) {
+            return Ok(false);
+        }
+        Ok(self.others.insert(value)?)
     }
 
     /// Whether the event calls with one of these values. If the value is below all of them, as a recorder's names
@@ -70,6 +92,29 @@ impl InitialValues {
     fn contains(&self, value: u64) -> bool
         ensures { (initial : List ℕ) → KnowsInitial initial self.now → result ≡ is_initial initial value }
     {
-        self.least <= value && value <= self.greatest && self.values.contains(&value)
+        self.least <= value
+            && value <= self.greatest
+            && (is_among(self.rising.as_slice(), value) || self.others.contains(&value))
+    }
+}
+
+/// Whether the last of some values, if there is one, is below this one.
+fn comes_last(rising: &[u64], value: u64) -> bool
+    ensures { IsTrue result → AreBelow value rising.now }
+{
+    match rising.last() {
+        Some(last) => *last < value,
+        None => true,
+    }
+}
+
+/// Whether the value is one of those, which rise.
+fn is_among(rising: &[u64], value: u64) -> bool
+    ensures { IsNonDecreasingBy (λ v. v) rising.now → result ≡ is_initial rising.now value }
+{
+    let below = rising.partition_point(|other| *other < value);
+    match rising.get(below) {
+        Some(other) if *other == value => true,
+        _ => false,
     }
 }

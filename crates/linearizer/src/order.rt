@@ -75,10 +75,13 @@ fn timeline_gaps(alloc: Global, initial_count: usize, gaps: &[u64]) -> Result<Ve
 fn told(alloc: Global, initial_count: usize, places: &[OpId]) -> Result<Vec<OpId>, AllocError>
     ensures { IfOk result (λ told. told.items ≡ filter_map (place_behind initial_count) places.now) }
 {
-    places
-        .iter()
-        .filter_map(|place| place_behind(initial_count, *place))
-        .collect(alloc)
+    let mut told = Vec::with_capacity(alloc, places.len().saturating_sub(initial_count))?;
+    for place in places {
+        if let Some(place) = place_behind(initial_count, *place) {
+            told.push(place)?;
+        }
+    }
+    Ok(told)
 }
 
 /// The place, where it is behind the initial values.
