@@ -1,5 +1,6 @@
 -- The least gap outside of spans, and what it says of a window.
-use Rattle.std.proofs.Common.{◌≡◌, ◌≢◌, ℕ, ◌-◌, ◌<◌, ◌≤◌, ◌⊎◌, max, Bool, true, false, List, length, get_or, Option, refl, sym, ap, subst, inl, inr}
+use Rattle.std.proofs.Common.{◌≡◌, ◌≢◌, ℕ, ◌-◌, ◌<◌, ◌≤◌, ◌⊎◌, max, Bool, true, false, List}
+use Rattle.std.proofs.Common.{length, get_or, Option, refl, sym, ap, subst, inl, inr}
 use Rattle.std.proofs.Common.{arith, leb, ltb}
 use Rattle.std.specs.Prelude.{MatchOption}
 use Rattle.std.specs.Bool.{then_some}
