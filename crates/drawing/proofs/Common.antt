@@ -1,5 +1,6 @@
 -- The names that most proofs of this crate cite, passed on from one place. Declares nothing.
-pub use Rattle.std.proofs.Common.{[], ◌%◌, ◌&&◌, ◌*◌, ◌++◌, ◌+◌, ◌-◌, ◌/◌, ◌<◌, ◌==◌, ◌^◌, ◌||◌, ◌∙◌, ◌∷◌, ◌≡◌, ◌≤◌}
+pub use Rattle.std.proofs.Common.{[], ◌%◌, ◌&&◌, ◌*◌, ◌++◌, ◌+◌, ◌-◌, ◌/◌, ◌<◌}
+pub use Rattle.std.proofs.Common.{◌==◌, ◌^◌, ◌||◌, ◌∙◌, ◌∷◌, ◌≡◌, ◌≤◌}
 pub use Rattle.std.proofs.Common.{◌⊎◌, add-one, ap, append-nil, append_assoc, arith, Bool, codes, cond, Contains}
 pub use Rattle.std.proofs.Common.{count_by, decimal, drop, eq-eqb, eqb-true, Err, false, filter, find, flat_map, fold}
 pub use Rattle.std.proofs.Common.{get_or, inl, inr, length, length-take-le, List, lt-ltb, map, map-id, MatchOption, max}

@@ -1,5 +1,6 @@
 -- A scene as lines of characters: a line for each row.
-use Rattle.std.specs.Prelude.{ℕ, ◌+◌, ◌-◌, ◌*◌, ◌/◌, ◌%◌, ◌==◌, ◌&&◌, nat_lt, max, Bool, true, false, if◌then◌else◌, Option, Some, None, List, [], ◌∷◌, ◌++◌, map}
+use Rattle.std.specs.Prelude.{ℕ, ◌+◌, ◌-◌, ◌*◌, ◌/◌, ◌%◌, ◌==◌, ◌&&◌, nat_lt, max, Bool, true}
+use Rattle.std.specs.Prelude.{false, if◌then◌else◌, Option, Some, None, List, [], ◌∷◌, ◌++◌, map}
 use Rattle.std.specs.Prelude.{length, codes, decimal, unwrap_or}
 use Rattle.std.specs.List.{flat_map, range_with_len, enumerate_from}
 use Rattle.history_merge.specs.declared.operation.Operation.{Operation}
