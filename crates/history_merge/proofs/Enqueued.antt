@@ -1,24 +1,19 @@
 -- The timeline, operation by operation.
-use Rattle.std.proofs.Common.{◌≡◌, ℕ, ◌+◌, ◌*◌, ◌<◌, ◌≤◌, List, [], ◌∷◌, ◌++◌, length, get_or}
-use Rattle.std.proofs.Common.{take, take_all, drop, drop-cons, suc, sym, ◌∙◌, ap}
-use Rattle.std.proofs.Common.{append-nil, arith, length-take-le}
-use Rattle.std.proofs.Math.Seq.{drop-append_seam, get_or-append_seam, take-append_seam}
-use Rattle.std.proofs.Math.ListN.{drop_of_length-le}
+use Rattle.std.proofs.Common.{◌≡◌, ℕ, ◌+◌, ◌-◌, ◌*◌, ◌<◌, ◌≤◌, List, [], ◌∷◌, ◌++◌, length, get_or, set}
+use Rattle.std.proofs.Common.{take, take_all, drop, sym, ◌∙◌, ap}
+use Rattle.std.proofs.Common.{arith, length-take-le}
+use Rattle.std.proofs.Math.Seq.{take-append_seam}
 use Rattle.std.specs.Prelude.{All, map}
-use Rattle.std.proofs.lemmas.List.{append_assoc, length-map, take_more}
+use Rattle.std.proofs.lemmas.List.{append_assoc, at_drop_more, length-append, set_at, take_more}
 use Rattle.std.proofs.lemmas.List.Elements.{Contains-get_or}
 use Rattle.event_records.specs.declared.event.Event.{Event}
 use Rattle.event_records.specs.declared.limits.TheConstants.{MAX_TICKET}
 use Rattle.history_merge.specs.declared.operation.Operation.{Operation}
-use Rattle.history_merge.specs.declared.operation.OpKind.TheVariants.{Enq}
 use Rattle.history_merge.specs.Complete.{IsCompleteHistory}
-use Rattle.history_merge.specs.Initial.{timeline, enqueues_from, later_by}
+use Rattle.history_merge.specs.Initial.{enqueue_at, timeline, enqueues_from, later_by}
 use Rattle.history_merge.specs.Operations.{operations_of}
 use Rattle.history_merge.proofs.Distinct.{operation_within}
-
--- an enqueue that is called at this clock
-abbrev enqueue_at : ℕ → ℕ → Operation
-enqueue_at clock v = record { call = clock; ret = clock + 1; thread = 0; kind = Enq v }
+use Rattle.history_merge.proofs.TimelineOperations.{length_enqueues}
 
 enqueues_push : (clock : ℕ) (values : List ℕ) (v : ℕ)
     → enqueues_from clock (values ++ v ∷ []) ≡ enqueues_from clock values ++ enqueue_at (clock + 2 * length values) v ∷ []
@@ -42,34 +37,44 @@ pub operations_in_range : (events : List Event) → IsCompleteHistory events →
 operations_in_range events complete k d below =
     operation_within events (get_or (operations_of events) k d) complete (Contains-get_or (operations_of events) k d below)
 
--- one enqueue more, after other operations
-pub enqueued_more : (now before start : List Operation) (values : List ℕ) (i : ℕ) → i < length values
-    → now ≡ before ++ enqueue_at (2 * i) (get_or values i 0) ∷ [] → before ≡ start ++ enqueues_from 0 (take i values)
-    → now ≡ start ++ enqueues_from 0 (take (i + 1) values)
-enqueued_more now before start values i below pushed is =
-    pushed ∙ ap (λ os. os ++ enqueue_at (2 * i) (get_or values i 0) ∷ []) is
-    ∙ append_assoc start (enqueues_from 0 (take i values)) (enqueue_at (2 * i) (get_or values i 0) ∷ [])
-    ∙ ap (λ os. start ++ os) (sym (enqueues_more values i below))
+-- one enqueue more is put over the operations
+pub put_more : (start all : List Operation) (values : List ℕ) (i : ℕ) → i < length values → length values ≤ length start
+    → all ≡ enqueues_from 0 (take i values) ++ drop i start
+    → set all i (enqueue_at (2 * i) (get_or values i 0)) ≡ enqueues_from 0 (take (i + 1) values) ++ drop (i + 1) start
+put_more start all values i below room is =
+    let front = enqueues_from 0 (take i values) in
+    let o = enqueue_at (2 * i) (get_or values i 0) in
+    let long : length front ≡ i = length_enqueues 0 (take i values) ∙ length-take-le i values (omega arith) in
+    ap (λ os. set os i o) (is ∙ at_drop_more (λ rest. front ++ rest) start i o (omega (arith, below, room)))
+    ∙ set_at front (get_or start i o) (drop (i + 1) start) o i long
+    ∙ sym (append_assoc front (o ∷ []) (drop (i + 1) start))
+    ∙ ap (λ os. os ++ drop (i + 1) start) (sym (enqueues_more values i below))
 
--- an operation that isn't moved yet is as it was
-pub not_yet : (f : Operation → Operation) (xs ys : List Operation) (i : ℕ) (x : Operation) → i < length xs → ys ≡ map f (take i xs) ++ drop i xs
-    → x ≡ get_or ys i x → x ≡ get_or xs i x
-not_yet f xs ys i x within so_far is =
-    let front = map f (take i xs) in
-    let long : length front ≡ i = length-map (take i xs) f ∙ length-take-le i xs (omega (arith, within)) in
-    is ∙ ap (λ l. get_or l i x) (so_far ∙ ap (λ l. front ++ l) (drop-cons xs i x within))
-    ∙ ap (λ n. get_or (front ++ get_or xs i x ∷ drop (suc i) xs) n x) (sym long) ∙ get_or-append_seam front (get_or xs i x) (drop (suc i) xs) x
+-- all are put
+pub put_all : (start all : List Operation) (values : List ℕ) (i : ℕ) → length values ≤ i → i ≤ length values
+    → all ≡ enqueues_from 0 (take i values) ++ drop i start → all ≡ enqueues_from 0 values ++ drop (length values) start
+put_all start all values i end within is =
+    let same : i ≡ length values = omega (arith, end, within) in
+    is ∙ ap (λ n. enqueues_from 0 (take n values) ++ drop n start) same ∙ ap (λ vs. enqueues_from 0 vs ++ drop (length values) start) (take_all _ values (omega arith))
 
--- all are moved
-pub all_moved : (f : Operation → Operation) (xs ys : List Operation) (i : ℕ) → length xs ≤ i → ys ≡ map f (take i xs) ++ drop i xs → ys ≡ map f xs
-all_moved f xs ys i end so_far =
-    so_far ∙ ap (λ l. map f l ++ drop i xs) (take_all i xs end) ∙ ap (λ l. map f xs ++ l) (drop_of_length-le xs end) ∙ append-nil (map f xs)
+-- how far the operations are moved behind: those from a place on are, and those in front are as they were
+pub record AreMoved (f : Operation → Operation) (start : List Operation) (ahead place : ℕ) (all : List Operation) : Type 0 where
+  pub long : length all ≡ length start
+  pub within : (ahead ≤ place) × (place ≤ length start)
+  pub front : take (place - ahead) all ≡ take (place - ahead) start
+  pub behind : drop place all ≡ map f (drop (place - ahead) (take (length start - ahead) start))
 
--- the operations, later, and the enqueues, turned round
-pub turned_round : (now all moved : List Operation) (n : ℕ) (initial : List ℕ) (operations : List Operation)
-    → moved ≡ map (later_by (2 * length initial)) operations → all ≡ moved ++ enqueues_from 0 initial → n ≡ length moved
-    → now ≡ drop n all ++ take n all → now ≡ timeline initial operations
-turned_round now all moved n initial operations later added long turned =
-    turned ∙ ap (λ m. drop m all ++ take m all) long ∙ ap (λ l. drop (length moved) l ++ take (length moved) l) added
-    ∙ ap (λ l. l ++ take (length moved) (moved ++ enqueues_from 0 initial)) (drop-append_seam moved (enqueues_from 0 initial))
-    ∙ ap (λ l. enqueues_from 0 initial ++ l) (take-append_seam moved (enqueues_from 0 initial) ∙ later)
+-- what stands in front of the places that are added
+in_front : (operations fill start : List Operation) (n : ℕ) → start ≡ operations ++ fill → length fill ≡ n → take (length start - n) start ≡ operations
+in_front operations fill start n is long =
+    let both = length-append operations fill in
+    let count : length (operations ++ fill) - n ≡ length operations = omega (arith, both, long) in
+    ap (λ os. take (length os - n) os) is ∙ ap (λ m. take m (operations ++ fill)) count ∙ take-append_seam operations fill
+
+-- the enqueues, and the operations behind them, later
+pub enqueues_and_operations : (initial : List ℕ) (operations fill start moved all : List Operation) → start ≡ operations ++ fill → length fill ≡ length initial
+    → drop (length initial) moved ≡ map (later_by (2 * length initial)) (take (length start - length initial) start)
+    → all ≡ enqueues_from 0 initial ++ drop (length initial) moved → all ≡ timeline initial operations
+enqueues_and_operations initial operations fill start moved all is long later put =
+    put ∙ ap (λ os. enqueues_from 0 initial ++ os)
+    (later ∙ ap (map (later_by (2 * length initial))) (in_front operations fill start (length initial) is long))

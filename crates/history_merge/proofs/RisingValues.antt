@@ -21,23 +21,27 @@ not_yet rising v rises below = list_any_none (λ w. nat_eq w v) rising (λ k d i
         let last = below d (omega (arith, inside)) in
         omega (arith, up, last, same)
 
+-- where the keys from place i on are this one or above it, and those before are below it, and that at i isn't this one, none is
+pub none_by_key : {X : Type 0} (key : X → ℕ) (xs : List X) (v i : ℕ) → IsNonDecreasingBy key xs
+    → IsPartitionPoint (λ (x : X). ltb (key x) v ≡ true) (λ (x : X). ltb (key x) v ≡ false) xs i
+    → ((d : X) → i < length xs → ¬ (key (get_or xs i d) ≡ v)) → (k : ℕ) (d : X) → k < length xs → ¬ (key (get_or xs k d) ≡ v)
+none_by_key key xs v i rises point differs k d below same =
+    let cases : (k < i) ⊎ (i ≤ k) = grind arith in
+    elim cases [
+      | inl before ↦ let less = ltb-true (key (get_or xs k d)) v (point.0 k d (omega arith) before) in omega (arith, less, same)
+      | inr after ↦
+          let inside : i < length xs = omega (arith, after, below) in
+          let at_least = ltb-false (key (get_or xs i d)) v (point.1 i d (omega arith) inside) in
+          let le = rises i k d after below in
+          differs d inside (omega (arith, le, at_least, same))
+    ]
+
 -- nor one that isn't at the place where it would stand
 pub not_there : (rising : List ℕ) (v i : ℕ) → IsNonDecreasingBy (λ v. v) rising
     → IsPartitionPoint (λ (w : ℕ). ltb w v ≡ true) (λ (w : ℕ). ltb w v ≡ false) rising i
     → ((d : ℕ) → i < length rising → ¬ (get_or rising i d ≡ v)) → is_initial rising v ≡ false
-not_there rising v i rises point differs = list_any_none (λ w. nat_eq w v) rising (λ k d inside. ne_eqb (get_or rising k d) v (other k d inside))
-  where
-    other : (k d : ℕ) → k < length rising → get_or rising k d ≡ v → ⊥
-    other k d below same =
-        let cases : (k < i) ⊎ (i ≤ k) = grind arith in
-        elim cases [
-          | inl before ↦ let less = ltb-true (get_or rising k d) v (point.0 k d (omega arith) before) in omega (arith, less, same)
-          | inr after ↦
-              let inside : i < length rising = omega (arith, after, below) in
-              let at_least = ltb-false (get_or rising i d) v (point.1 i d (omega arith) inside) in
-              let le = rises i k d after below in
-              differs d inside (omega (arith, le, at_least, same))
-        ]
+not_there rising v i rises point differs =
+    list_any_none (λ w. nat_eq w v) rising (λ k d inside. ne_eqb (get_or rising k d) v (none_by_key (λ w. w) rising v i rises point differs k d inside))
 
 -- one that is there is
 pub there : (rising : List ℕ) (v i d : ℕ) → i < length rising → get_or rising i d ≡ v → is_initial rising v ≡ true

@@ -18,10 +18,14 @@ pub record HistoryView : Type 0 where
 
 -- ---- the timeline: the queue is empty first, and the initial values are enqueued before all else
 
+-- an enqueue of the value that is called at this clock
+abbrev pub enqueue_at : ℕ → ℕ → Operation
+enqueue_at clock v = record { call = clock; ret = clock + 1; thread = 0; kind = Enq v }
+
 -- from this clock on the values are enqueued, one after another
 abbrev pub enqueues_from : ℕ → List ℕ → List Operation
 enqueues_from clock [] = []
-enqueues_from clock (v ∷ rest) = record { call = clock; ret = clock + 1; thread = 0; kind = Enq v } ∷ enqueues_from (clock + 2) rest
+enqueues_from clock (v ∷ rest) = enqueue_at clock v ∷ enqueues_from (clock + 2) rest
 
 -- the operation, this much later
 abbrev pub later_by : ℕ → Operation → Operation

@@ -1,13 +1,13 @@
 -- Places of calls and of sources, met by walks over the operations.
-use Rattle.std.proofs.Common.{◌≡◌, ℕ, ◌+◌, ◌<◌, ◌≤◌, ◌⊎◌, true, false, List, [], ◌∷◌, ◌++◌, length, get_or, Option}
+use Rattle.std.proofs.Common.{◌≡◌, ℕ, ◌+◌, ◌<◌, ◌≤◌, true, false, List, [], ◌∷◌, ◌++◌, length, get_or, Option}
 use Rattle.std.proofs.Common.{Some, None, refl, sym, ◌∙◌, set, ap, cond, Bool}
-use Rattle.std.proofs.Common.{subst, inl, inr, arith, get_or-set_other, get_or-set_same, length-set, length-append}
+use Rattle.std.proofs.Common.{subst, arith, get_or-set_other, get_or-set_same, length-set, length-append}
 use Rattle.std.specs.Prelude.{All, Contains, IsPermutation}
-use Rattle.std.specs.List.Sorted.{IsNonDecreasingBy, IsPartitionPoint}
-use Rattle.std.specs.BTreeSet.{BTreeSet, contains}
+use Rattle.std.specs.List.{list_any}
+use Rattle.std.specs.List.Sorted.{IsNonDecreasingBy}
+use Rattle.std.specs.BTreeSet.{BTreeSet, btree_set_len, contains, keys}
 use Rattle.std.specs.Ordering.{is_eq, nat_cmp}
-use lib.Dec.{ltb}
-use Rattle.std.proofs.lemmas.Bool.{eq-eqb, false≢true, ltb-true, ltb-false}
+use Rattle.std.proofs.lemmas.Bool.{eq-eqb, false≢true}
 use Rattle.std.proofs.Math.Seq.{get_or-append_seam}
 use Rattle.std.proofs.lemmas.List.Elements.{All-push, All-pop, All-contains}
 use Rattle.std.proofs.lemmas.List.Sorted.{All-permutation, IsPermutation-sym}
@@ -21,8 +21,8 @@ use Rattle.history_merge.proofs.Distinct.{place_of}
 use Rattle.history_merge.proofs.DistinctValues.{each_more}
 use Rattle.history_merge.proofs.KnownValues.{is_eq-nat_cmp}
 use Rattle.value_match.specs.declared.others.Call.{Call}
-use Rattle.value_match.specs.Inner.Others.{AreNearWith, IsCall, NoneOf, HoldsOthers, IsNearSource, HoldsNear}
-use Rattle.value_match.specs.Inner.Sources.{IsCallPlace, IsSourceOf, HoldsSources}
+use Rattle.value_match.specs.Inner.Others.{IsCall, NoneOf, HoldsOthers, IsNearSource, HoldsNear}
+use Rattle.value_match.specs.Inner.Sources.{AreFound, AreFoundTo, AreTakersTo, IsCallPlace, IsSourceOf, HoldsSources, first_of}
 
 -- the place of the call for a value among the first n operations
 abbrev pub MetCall : List Operation → ℕ → ℕ → Option ℕ → Type 0
@@ -93,18 +93,10 @@ others_sorted wanted operations n calls sorted all met moved rises = record {
   rises = rises;
 }
 
--- the sources of the first operations, each of them one of its operation's kind
-pub record HasSourcesBy (Is : List Operation → OpKind → Option ℕ → Type 0) (operations : List Operation) (n : ℕ) (sources : List (Option ℕ)) : Type 0 where
+-- the sources near by of the first n operations
+pub record HasNear (wanted : BTreeSet ℕ) (operations : List Operation) (n : ℕ) (sources : List (Option ℕ)) : Type 0 where
   pub one_each : length sources ≡ n
-  pub each : (i : ℕ) (o : Operation) → i < n → IsAt operations i o → Is operations o.kind (get_or sources i None)
-
--- they are found
-abbrev pub HasSources : List Operation → ℕ → List (Option ℕ) → Type 0
-HasSources = HasSourcesBy IsSourceOf
-
--- some of them aren't found yet
-abbrev pub HasNear : BTreeSet ℕ → List Operation → ℕ → List (Option ℕ) → Type 0
-HasNear wanted = HasSourcesBy (IsNearSource wanted)
+  pub each : (i : ℕ) (o : Operation) → i < n → IsAt operations i o → IsNearSource wanted operations o.kind (get_or sources i None)
 
 -- where more values are wanted, what is near by stays so
 near_wider : (wanted more : BTreeSet ℕ) (operations : List Operation) (kind : OpKind) (source : Option ℕ)
@@ -138,9 +130,9 @@ pub is_wanted : (wanted more : BTreeSet ℕ) (w : ℕ) → ((v : ℕ) → contai
 is_wanted wanted more w adds =
     adds w ∙ ap (λ b. cond b true (contains nat_cmp wanted w)) (is_eq-nat_cmp w w ∙ eq-eqb w w refl)
 
--- no source is needed at first
-pub sources_none : (Is : List Operation → OpKind → Option ℕ → Type 0) (operations : List Operation) → HasSourcesBy Is operations 0 []
-sources_none Is operations = record { one_each = refl; each = λ i o below at. absurd (omega (arith, below)) }
+-- none is needed at first
+pub near_none : (wanted : BTreeSet ℕ) (operations : List Operation) → HasNear wanted operations 0 []
+near_none wanted operations = record { one_each = refl; each = λ i o below at. absurd (omega (arith, below)) }
 
 -- an operation that is no dequeue has no source
 pub no_source : (operations : List Operation) (kind : OpKind) → ((v : ℕ) → ¬ (kind ≡ Deq v)) → IsSourceOf operations kind None
@@ -157,50 +149,27 @@ no_near_source wanted operations (Enq v) other = refl
 no_near_source wanted operations (Not v) other = refl
 no_near_source wanted operations Empty other = refl
 
--- the source of one operation more
-pub sources_push : (Is : List Operation → OpKind → Option ℕ → Type 0) (operations : List Operation) (n : ℕ) (o : Operation)
-    (sources : List (Option ℕ)) (source : Option ℕ) → IsAt operations n o → Is operations o.kind source
-    → HasSourcesBy Is operations n sources → HasSourcesBy Is operations (n + 1) (sources ++ source ∷ [])
-sources_push Is operations n o sources source here is known = record {
+-- one more
+pub near_push : (wanted : BTreeSet ℕ) (operations : List Operation) (n : ℕ) (o : Operation) (sources : List (Option ℕ)) (source : Option ℕ)
+    → IsAt operations n o → IsNearSource wanted operations o.kind source → HasNear wanted operations n sources
+    → HasNear wanted operations (n + 1) (sources ++ source ∷ [])
+near_push wanted operations n o sources source here is known = record {
   one_each = simp length-append (omega (arith, known.one_each));
-  each = each_more (λ i x. Is operations x.kind (get_or (sources ++ source ∷ []) i None)) operations n o here last before;
+  each = each_more (λ i x. IsNearSource wanted operations x.kind (get_or (sources ++ source ∷ []) i None)) operations n o here last before;
 }
   where
-    last : Is operations o.kind (get_or (sources ++ source ∷ []) n None)
-    last = subst (λ i. Is operations o.kind (get_or (sources ++ source ∷ []) i None)) known.one_each
-        (subst (Is operations o.kind) (sym (get_or-append_seam sources source [] None)) is)
+    last : IsNearSource wanted operations o.kind (get_or (sources ++ source ∷ []) n None)
+    last = subst (λ i. IsNearSource wanted operations o.kind (get_or (sources ++ source ∷ []) i None)) known.one_each
+        (subst (IsNearSource wanted operations o.kind) (sym (get_or-append_seam sources source [] None)) is)
 
-    before : (i : ℕ) (x : Operation) → i < n → IsAt operations i x → Is operations x.kind (get_or (sources ++ source ∷ []) i None)
-    before i x below at = subst (Is operations x.kind) (sym (get_or_append_left sources (source ∷ []) None i (omega (arith, known.one_each))))
+    before : (i : ℕ) (x : Operation) → i < n → IsAt operations i x → IsNearSource wanted operations x.kind (get_or (sources ++ source ∷ []) i None)
+    before i x below at =
+        subst (IsNearSource wanted operations x.kind) (sym (get_or_append_left sources (source ∷ []) None i (omega (arith, known.one_each))))
         (known.each i x below at)
-
--- the sources of all operations
-pub sources_all : (operations : List Operation) (n : ℕ) (sources : List (Option ℕ)) → length operations ≤ n → n ≤ length operations
-    → HasSources operations n sources → HoldsSources operations sources
-sources_all operations n sources all within known = record {
-  one_each = omega (arith, known.one_each);
-  each = λ i o at. known.each i o (let below = slice_get_within operations i o at in omega arith) at;
-}
 
 -- the call is among the operations
 pub call_within : (operations : List Operation) (v place : ℕ) → IsCallPlace operations v (Some place) → place < length operations
 call_within operations v place (o, here, called) = slice_get_within operations place o here
-
--- where the calls from place i on have this value or a greater one, and those before a smaller one, and that at i isn't of this value, none is
-pub none_among : (calls : List Call) (v i : ℕ) → IsNonDecreasingBy (λ call. call.value) calls
-    → IsPartitionPoint (λ (call : Call). ltb call.value v ≡ true) (λ (call : Call). ltb call.value v ≡ false) calls i
-    → ((d : Call) → i < length calls → ¬ ((get_or calls i d).value ≡ v)) → NoneOf calls v
-none_among calls v i rises point differs k d below same =
-    let cases : (k < i) ⊎ (i ≤ k) = grind arith in
-    elim cases [
-      | inl before ↦ let less = ltb-true (get_or calls k d).value v (point.0 k d (omega arith) before) in absurd (omega (arith, less, same))
-      | inr after ↦
-          let inside : i < length calls = omega (arith, after, below) in
-          let at_least = ltb-false (get_or calls i d).value v (point.1 i d (omega arith) inside) in
-          let le = rises i k d after below in
-          let differ = differs d inside in
-          absurd (differ (omega (arith, le, at_least, same)))
-    ]
 
 -- ---- sources that are near
 
@@ -218,14 +187,10 @@ pub record HasFound (wanted : BTreeSet ℕ) (operations : List Operation) (n : �
   pub found : (i : ℕ) (o : Operation) → i < n → IsAt operations i o → IsSourceOf operations o.kind (get_or sources i None)
   pub near : (i : ℕ) (o : Operation) → n ≤ i → IsAt operations i o → IsNearSource wanted operations o.kind (get_or sources i None)
 
--- none of the far sources is found at first
-pub none_found : (wanted : BTreeSet ℕ) (operations : List Operation) (sources : List (Option ℕ)) → HoldsNear wanted operations sources
-    → HasFound wanted operations 0 sources
-none_found wanted operations sources near = record {
-  one_each = near.one_each;
-  found = λ i o below at. absurd (omega (arith, below));
-  near = λ i o after at. near.each i o at;
-}
+-- at first the sources of these operations are found
+pub found_first : (wanted : BTreeSet ℕ) (operations : List Operation) (n : ℕ) (sources : List (Option ℕ)) → AreFound n operations sources
+    → HoldsNear wanted operations sources → HasFound wanted operations n sources
+found_first wanted operations n sources found near = record { one_each = near.one_each; found = found; near = λ i o after at. near.each i o at }
 
 -- a source that was near
 pub near_source : (wanted : BTreeSet ℕ) (operations : List Operation) (kind : OpKind) (source : Option ℕ) → IsNearSource wanted operations kind source
@@ -282,18 +247,59 @@ pub other_call : (wanted : BTreeSet ℕ) (operations : List Operation) (calls : 
     → Contains calls (record { value = v; place = place }) → IsCallPlace operations v (Some place)
 other_call wanted operations calls v place others among = All-contains (IsCall operations) calls (record { value = v; place = place }) others.are_calls among
 
--- if there are no other calls, the sources that were found are all
-pub no_others : (operations : List Operation) (sources : List (Option ℕ)) (calls : List Call) → length calls ≡ 0 → AreNearWith operations sources calls
-    → HoldsSources operations sources
-no_others operations sources [] none (wanted, near, others) = record {
+-- if no value is wanted, the sources near by are all
+pub none_wanted : (wanted : BTreeSet ℕ) (operations : List Operation) (sources : List (Option ℕ)) → btree_set_len wanted ≡ 0
+    → HoldsNear wanted operations sources → HoldsSources operations sources
+none_wanted wanted operations sources none near = record {
   one_each = near.one_each;
   each = λ i o at. settled o.kind (get_or sources i None) (near.each i o at);
 }
   where
+    any_of_none : (test : ℕ → Bool) (keys : List ℕ) → length keys ≡ 0 → list_any test keys ≡ false
+    any_of_none test [] none = refl
+    any_of_none test (k ∷ keys) none = absurd (omega (arith, none))
+
     settled : (kind : OpKind) (source : Option ℕ) → IsNearSource wanted operations kind source → IsSourceOf operations kind source
-    settled (Deq v) None wanted_is = others.has_all v wanted_is (λ k d inside. absurd (omega (arith, inside)))
+    settled (Deq v) None is_wanted = absurd (false≢true (sym (any_of_none _ (keys wanted) none) ∙ is_wanted))
     settled (Deq v) (Some p) is = is
     settled (Enq v) source is = is
     settled Empty source is = is
     settled (Not v) source is = is
-no_others operations sources (call ∷ calls) none near = absurd (omega arith)
+
+-- ---- sources that are found up to an operation
+
+-- none at first
+pub none_found_yet : (operations : List Operation) (sources : List (Option ℕ)) → AreFound 0 operations sources
+none_found_yet operations sources i o below at = absurd (omega (arith, below))
+
+-- those before the first that isn't found stay so
+found_before : (operations : List Operation) (n : ℕ) (sources : List (Option ℕ)) (source : Option ℕ) → n ≤ length sources → AreFound n operations sources
+    → AreFound n operations (sources ++ source ∷ [])
+found_before operations n sources source within found i o below at =
+    subst (IsSourceOf operations o.kind) (sym (get_or_append_left sources (source ∷ []) None i (omega (arith, below, within)))) (found i o below at)
+
+-- what is known stays known where the operation isn't the first
+pub first_of_none : (known : Option ℕ) (n : ℕ) → first_of known n false ≡ known
+first_of_none None n = refl
+first_of_none (Some k) n = refl
+
+-- an operation more, which is found, or is the first that may not be
+pub found_next : (operations : List Operation) (n : ℕ) (o : Operation) (sources takers : List (Option ℕ)) (source unnoted : Option ℕ) (again : Bool)
+    → length sources ≡ n → IsAt operations n o → (again ≡ false → IsSourceOf operations o.kind source) → AreTakersTo unnoted sources takers
+    → AreFoundTo n operations sources unnoted → AreFoundTo (n + 1) operations (sources ++ source ∷ []) (first_of unnoted n again)
+found_next operations n o sources takers source None true long here is noted found = found_before operations n sources source (omega (arith, long)) found
+found_next operations n o sources takers source None false long here is noted found =
+    each_more (λ i x. IsSourceOf operations x.kind (get_or (sources ++ source ∷ []) i None)) operations n o here
+    (subst (λ i. IsSourceOf operations o.kind (get_or (sources ++ source ∷ []) i None)) long
+    (subst (IsSourceOf operations o.kind) (sym (get_or-append_seam sources source [] None)) (is refl)))
+    (found_before operations n sources source (omega (arith, long)) found)
+found_next operations n o sources takers source (Some k) true long here is noted found = found_before operations k sources source noted.0 found
+found_next operations n o sources takers source (Some k) false long here is noted found = found_before operations k sources source noted.0 found
+
+-- one more that is found
+pub found_on : (operations : List Operation) (n : ℕ) (o : Operation) (sources takers : List (Option ℕ)) (source unnoted : Option ℕ)
+    → length sources ≡ n → IsAt operations n o → IsSourceOf operations o.kind source → AreTakersTo unnoted sources takers
+    → AreFoundTo n operations sources unnoted → AreFoundTo (n + 1) operations (sources ++ source ∷ []) unnoted
+found_on operations n o sources takers source unnoted long here is noted found =
+    subst (AreFoundTo (n + 1) operations (sources ++ source ∷ [])) (first_of_none unnoted n)
+    (found_next operations n o sources takers source unnoted false long here (λ _. is) noted found)

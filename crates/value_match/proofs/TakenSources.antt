@@ -1,11 +1,12 @@
 -- What takes from the sources, noted while these are found.
 use Rattle.std.proofs.Common.{◌≡◌, ◌≢◌, ℕ, zero, suc, ◌<◌, ◌≤◌, ◌⊎◌, ◌+◌, List}
 use Rattle.std.proofs.Common.{[], ◌∷◌, ◌++◌, length, get_or, set, replicate, Option, Some, None}
-use Rattle.std.proofs.Common.{false, refl, sym, ◌∙◌, ap, arith, subst, inl, inr, get_or-set_other, get_or-set_same, length-append}
+use Rattle.std.proofs.Common.{false, true, refl, sym, ◌∙◌, ap, arith, subst, inl, inr, get_or-set_other, get_or-set_same, length-append}
 use Rattle.std.specs.Prelude.{is_some}
 use Rattle.std.proofs.lemmas.Bool.{cases_eq, false≢true}
-use Rattle.std.proofs.lemmas.Option.{slice_get_within}
-use Rattle.value_match.specs.Inner.Sources.{AreTakersTo, HasTakersTo, TakesFrom}
+use Rattle.std.proofs.lemmas.Option.{get_or_from_slice_get, slice_get_within}
+use Rattle.value_match.specs.Inner.Sources.{AreTakersTo, HasTakersTo, TakesFrom, first_of}
+use Rattle.value_match.proofs.RepeatedDequeues.{source_read}
 
 -- what isn't some place is none
 pub none_if : (x : Option ℕ) → is_some x ≡ false → x ≡ None
@@ -64,6 +65,23 @@ kept_to n sources takers source known = (omega (arith, known.0, one_more sources
 pub not_noted : (sources takers : List (Option ℕ)) (source : Option ℕ) → AreTakersTo None sources takers
     → AreTakersTo (Some (length sources)) (sources ++ source ∷ []) takers
 not_noted sources takers source known = (omega (arith, one_more sources source), kept sources takers source (length sources) (omega arith) known)
+
+-- an operation after which no more are noted
+pub takes_unnoted : (n : ℕ) (unnoted : Option ℕ) (sources takers : List (Option ℕ)) (source : Option ℕ) → length sources ≡ n
+    → AreTakersTo unnoted sources takers → AreTakersTo (first_of unnoted n true) (sources ++ source ∷ []) takers
+takes_unnoted n None sources takers source long known =
+    subst (λ k. AreTakersTo (Some k) (sources ++ source ∷ []) takers) long (not_noted sources takers source known)
+takes_unnoted n (Some k) sources takers source long known = kept_to k sources takers source known
+
+-- where the sources of the first operations stay, so does what takes from them
+pub takers_kept : (n : ℕ) (sources sources' takers : List (Option ℕ)) → n ≤ length sources → length sources' ≡ length sources
+    → ((i : ℕ) → i < n → get_or sources' i None ≡ get_or sources i None) → HasTakersTo n sources takers → HasTakersTo n sources' takers
+takers_kept n sources sources' takers within long same known = record {
+  taken = λ p i is. let was = known.taken p i is in
+      (was.0, source_read sources' i (Some p) (omega (arith, was.0, within, long)) (same i was.0 ∙ get_or_from_slice_get sources i (Some p) None was.1));
+  takes = λ i p below from. known.takes i p below
+      (source_read sources i (Some p) (omega (arith, below, within)) (sym (same i below) ∙ get_or_from_slice_get sources' i (Some p) None from));
+}
 
 -- one that takes from nothing
 takes_none : (sources takers : List (Option ℕ)) → AreTakersTo None sources takers → AreTakersTo None (sources ++ None ∷ []) takers

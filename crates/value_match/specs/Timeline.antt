@@ -1,8 +1,7 @@
 -- What holds of a history, by its timeline, in which the initial values are enqueued before all else.
 use Rattle.std.specs.Prelude.{ℕ, ◌+◌, ◌*◌, ◌/◌, nat_lt, ℤ, pos, ◌-ℤ◌, List, if◌then◌else◌}
 use Rattle.history_merge.specs.declared.operation.Operation.{Operation}
-use Rattle.history_merge.specs.declared.operation.OpKind.TheVariants as kind
-use Rattle.history_merge.specs.Initial.{timeline}
+use Rattle.history_merge.specs.Initial.{enqueue_at, timeline}
 
 -- what a matching is of: a history's initial values and its operations
 pub record MatchingView : Type 0 where
@@ -15,7 +14,7 @@ timeline_of matching = timeline matching.initial matching.operations
 
 -- on the timeline, the enqueue of the initial value v at place j
 abbrev pub initial_enqueue : ℕ → ℕ → Operation
-initial_enqueue j v = record { call = 2 * j; ret = 2 * j + 1; thread = 0; kind = kind.Enq v }
+initial_enqueue j v = enqueue_at (2 * j) v
 
 -- a gap, by the clocks of the timeline
 abbrev pub clock_of_gap : ℕ → ℕ → ℕ

@@ -1,7 +1,7 @@
-ghost use Rattle.std.specs.Prelude.{◌≡◌, ◌<◌, ◌≤◌, ◌++◌, ◌∷◌, [], List, ℕ, IfOk, IfSome, IsTrue, Option, Some, length, true};
+ghost use Rattle.std.specs.Prelude.{◌≡◌, ◌<◌, ◌≤◌, ◌++◌, ◌∷◌, [], List, ℕ, Bool, IfOk, IfSome, Option, None, Some, length, slice_index_or, true};
 ghost use Rattle.history_merge.specs.Complete.{AreComplete};
 ghost use Rattle.value_match.specs.Inner.Others.{AreNearWith, HoldsNear};
-ghost use Rattle.value_match.specs.Inner.Sources.{AreInTimeTo, AreSources, AreTakersTo, HoldsSources, IsCallPlace, first_of};
+ghost use Rattle.value_match.specs.Inner.Sources.{AreFound, AreFoundTo, AreInTimeTo, AreSources, AreTakersTo, HoldsSources, IsCallPlace, first_of};
 
 use crate::fresh::comes_too_soon;
 use crate::matching::MAX_MATCHED;
@@ -33,13 +33,12 @@ struct NearSources {
     sources: Vec<MaybePlace>,
     /// The values of the dequeues whose sources aren't found yet.
     wanted: BTreeSet<u64>,
-    all_found: bool,
     /// The place of the first dequeue that wasn't seen to come in time, if there is one.
     late: Option<usize>,
-    /// At each source that was found the dequeue that takes from it, of those before `twice`.
+    /// At each source the dequeue that takes from it, of those before `unnoted`.
     takers: Vec<MaybePlace>,
-    /// The place of the first dequeue that takes from a source again, if there is one.
-    twice: Option<usize>,
+    /// The place of the first dequeue whose source isn't found yet, or that takes from one again, if there is one.
+    unnoted: Option<usize>,
 }
 
 /// The sources of all dequeues.
@@ -56,25 +55,17 @@ pub(crate) fn sources_of(
     ensures { IfOk result (AreSources operations.now) }
 {
     let near = near_sources(alloc, operations)?;
-    let count = operations.len();
-    let in_time = near.late.unwrap_or(count);
+    let once = near.unnoted.unwrap_or(operations.len());
     let mut places = near.sources;
-    if near.all_found {
-        return Ok(Sources {
-            places,
-            in_time,
-            takers: near.takers,
-            once: near.twice.unwrap_or(count),
-        });
+    if !near.wanted.is_empty() {
+        let others = others_of(alloc, operations, &near.wanted)?;
+        find_others(operations, &others, once, places.as_mut_slice());
     }
-    drop(near.takers);
-    let others = others_of(alloc, operations, &near.wanted)?;
-    find_others(operations, &others, places.as_mut_slice());
     Ok(Sources {
         places,
-        in_time,
-        takers: vec![in alloc; MaybePlace::none(); count]?,
-        once: 0,
+        in_time: near.late.unwrap_or(operations.len()),
+        takers: near.takers,
+        once,
     })
 }
 
@@ -83,9 +74,9 @@ fn near_sources(alloc: Global, operations: &[PackedOperation]) -> Result<NearSou
     requires complete { AreComplete operations.now }
     requires few { length operations.now ≤ MAX_MATCHED }
     ensures near { IfOk result (λ near. HoldsNear near.wanted operations.now near.sources.items) }
-    ensures all { IfOk result (λ near. IsTrue near.all_found → HoldsSources operations.now near.sources.items) }
     ensures late { IfOk result (λ near. AreInTimeTo (length operations.now) operations.now near.late) }
-    ensures twice { IfOk result (λ near. AreTakersTo near.twice near.sources.items near.takers.items) }
+    ensures found { IfOk result (λ near. AreFoundTo (length operations.now) operations.now near.sources.items near.unnoted) }
+    ensures noted { IfOk result (λ near. AreTakersTo near.unnoted near.sources.items near.takers.items) }
     ensures one_each { IfOk result (λ near. length near.takers.items ≡ length operations.now) }
 {
     // What lies behind the takers is given back before they are. So their room, twice as much as they need, can be that of the
@@ -95,9 +86,8 @@ fn near_sources(alloc: Global, operations: &[PackedOperation]) -> Result<NearSou
     let mut sources = Vec::with_capacity(alloc, operations.len())?;
     let mut calls = ThreadCalls::new(alloc, operations)?;
     let mut wanted = BTreeSet::new(alloc);
-    let mut all_found = true;
     let mut late = None;
-    let mut twice = None;
+    let mut unnoted = None;
     let mut guess = Guess {
         from: 0,
         reach: REACH,
@@ -112,22 +102,21 @@ fn near_sources(alloc: Global, operations: &[PackedOperation]) -> Result<NearSou
         let place = sources.len();
         let Some(source) = guess.find(&mut calls, operations, value) else {
             wanted.insert(value)?;
-            all_found = false;
             late = first_of(late, place, true);
+            unnoted = first_of(unnoted, place, true);
             sources.push(MaybePlace::none())?;
             continue;
         };
         late = first_of(late, place, comes_too_soon(operations, operation, source));
-        twice = note_taker(takers.as_mut_slice(), twice, source, place);
+        unnoted = note_taker(takers.as_mut_slice(), unnoted, source, place);
         sources.push(MaybePlace::some(source))?;
     }
     Ok(NearSources {
         sources,
         wanted,
-        all_found,
         late,
         takers,
-        twice,
+        unnoted,
     })
 }
 
@@ -153,22 +142,24 @@ fn known_or(known: Option<usize>, place: usize) -> Option<usize>
     }
 }
 
-/// Notes what takes from a source, and returns the first that takes from one again: what is known of it, or this one.
+/// Notes what takes from a source, and returns the first that isn't noted: what is known of it, or this one if it takes from
+/// one again.
 #[inline(always)]
 fn note_taker(
     takers: &mut [MaybePlace],
-    twice: Option<usize>,
+    unnoted: Option<usize>,
     source: usize,
     place: usize,
 ) -> Option<usize>
     requires source { source < length takers.old }
     requires place { place < MAX_MATCHED }
-    ensures taken { (sources : List (Option ℕ)) → length sources ≡ place → AreTakersTo twice sources takers.old
+    ensures taken { (sources : List (Option ℕ)) → length sources ≡ place → AreTakersTo unnoted sources takers.old
         → AreTakersTo result (sources ++ Some source ∷ []) takers.new }
+    ensures first { (again : Bool) × (result ≡ first_of unnoted place again) }
     ensures len { length takers.new ≡ length takers.old }
 {
-    if twice.is_some() {
-        return twice;
+    if unnoted.is_some() {
+        return unnoted;
     }
     if takers[source].get().is_some() {
         return Some(place);
@@ -236,20 +227,24 @@ fn near_place(
     None
 }
 
-/// Finds the sources that weren't near among the calls of their values.
-fn find_others(operations: &[PackedOperation], others: &[Call], sources: &mut [MaybePlace])
+/// Finds the sources that weren't near among the calls of their values, from a place on before which all are found.
+fn find_others(
+    operations: &[PackedOperation],
+    others: &[Call],
+    found: usize,
+    sources: &mut [MaybePlace],
+)
     requires few { length operations.now ≤ MAX_MATCHED }
     requires near { AreNearWith operations.now sources.old others.now }
-    ensures { HoldsSources operations.now sources.new }
+    requires found { AreFound found operations.now sources.old }
+    ensures holds { HoldsSources operations.now sources.new }
+    ensures kept { (i : ℕ) → i < found → slice_index_or sources.new i None ≡ slice_index_or sources.old i None }
 {
-    if others.is_empty() {
-        return;
-    }
-    for (place, operation) in operations.iter().enumerate() {
+    for place in found..operations.len() {
         if sources[place].get().is_some() {
             continue;
         }
-        let OpKind::Deq(value) = operation.unpack().kind else {
+        let OpKind::Deq(value) = operations[place].unpack().kind else {
             continue;
         };
         if let Some(call) = place_among(others, value) {

@@ -24,6 +24,15 @@ pub record HoldsSources (operations : List Operation) (sources : List (Option �
   pub one_each : length sources ≡ length operations
   pub each : (i : ℕ) (o : Operation) → IsAt operations i o → IsSourceOf operations o.kind (slice_index_or sources i None)
 
+-- so are the first n of them
+abbrev pub AreFound : ℕ → List Operation → List (Option ℕ) → Type 0
+AreFound n operations sources = (i : ℕ) (o : Operation) → i < n → IsAt operations i o → IsSourceOf operations o.kind (slice_index_or sources i None)
+
+-- so are the first n of them, or those before the one given
+abbrev pub AreFoundTo : ℕ → List Operation → List (Option ℕ) → Option ℕ → Type 0
+AreFoundTo n operations sources None = AreFound n operations sources
+AreFoundTo n operations sources (Some place) = AreFound place operations sources
+
 -- the operation is a dequeue of a value that was not there; the call for its value, if there is one, is at the place
 abbrev pub IsFreshFrom : List Operation → Option ℕ → Operation → Type 0
 IsFreshFrom operations source deq = (enq : Option Operation) × IsMaybeAt operations source enq × IsFreshViolation operations deq enq

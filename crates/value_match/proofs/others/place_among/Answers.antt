@@ -5,7 +5,7 @@ use lib.Dec.{ltb}
 use Rattle.std.proofs.lemmas.Bool.{ltb-false}
 use Rattle.std.proofs.lemmas.List.Sorted.{IsPartitionPoint-from_clause, IsPartitionedBy-ltb}
 use Rattle.value_match.specs.declared.others.Call.{Call}
-use Rattle.value_match.proofs.CallPlaces.{none_among}
+use Rattle.history_merge.proofs.RisingValues.{none_by_key}
 use Rattle.value_match.proofs.others.place_among.Goals as goal
 
 pub returns-in_default : goal.returns-in_default
@@ -13,7 +13,7 @@ returns-in_default c =
     let calls = c.args.calls.now in
     let point = IsPartitionPoint-from_clause (λ (call : Call). ltb call.value c.args.value) calls _ c.partition_point-below.ensures.partitioned
     (IsPartitionedBy-ltb (λ (call : Call). call.value) calls c.args.value c.requires) (λ a r f k. search rules) in
-    none_among calls c.args.value c.partition_point-below.result c.requires point
+    none_by_key (λ (call : Call). call.value) calls c.args.value c.partition_point-below.result c.requires point
     (λ d below same. c.if-call-value.false (ap (λ (call : Call). call.value)
     (get_or_read calls c.partition_point-below.result c.in-Some.call.now below c.in-Some.ensures.lookup.1 d) ∙ same))
 
@@ -22,6 +22,6 @@ returns-in_default-2 c =
     let calls = c.args.calls.now in
     let point = IsPartitionPoint-from_clause (λ (call : Call). ltb call.value c.args.value) calls _ c.partition_point-below.ensures.partitioned
     (IsPartitionedBy-ltb (λ (call : Call). call.value) calls c.args.value c.requires) (λ a r f k. search rules) in
-    none_among calls c.args.value c.partition_point-below.result c.requires point
+    none_by_key (λ (call : Call). call.value) calls c.args.value c.partition_point-below.result c.requires point
     (λ d below same. let none = c.get.ensures.lookup.0 in let no = sym (ap is_some c.in_default.is) ∙ none in let after =
     ltb-false c.partition_point-below.result (length calls) (sym no) in omega (arith, after, below))

@@ -1,14 +1,14 @@
 use Rattle.std.proofs.Common.{◌≡◌, ◌<◌, ◌-◌, not, [], length}
-use Rattle.std.proofs.Common.{arith, subst, sym, Some, None, ◌∙◌, ap, refl}
+use Rattle.std.proofs.Common.{arith, subst, sym, true, Some, None, ◌∙◌, ap, refl}
 use Rattle.std.proofs.lemmas.List.{length-replicate, with_items_is}
 use lib.Seq.{take-nil}
 use Rattle.std.proofs.lemmas.Bool.{false≢true}
 use Rattle.std.proofs.lemmas.Option.{slice_get_read}
 use Rattle.value_match.specs.Inner.Others.{IsNearSource}
-use Rattle.value_match.specs.Inner.Sources.{AreInTimeTo, IsSourceOf}
-use Rattle.value_match.proofs.CallPlaces.{call_within, is_wanted, near_all, no_near_source, no_source, sources_all, sources_none, sources_push, wants_more}
+use Rattle.value_match.specs.Inner.Sources.{AreFoundTo, AreInTimeTo, IsSourceOf, first_of}
+use Rattle.value_match.proofs.CallPlaces.{call_within, found_next, found_on, is_wanted, near_all, near_none, near_push, no_near_source, no_source, none_found_yet, wants_more}
 use Rattle.value_match.proofs.FreshDequeues.{in_time_more, late_from, no_dequeue, none_fresh_yet, in_time_at}
-use Rattle.value_match.proofs.TakenSources.{no_takers, takes_nothing}
+use Rattle.value_match.proofs.TakenSources.{no_takers, takes_nothing, takes_unnoted}
 use Rattle.value_match.proofs.sources.near_sources.Goals as goal
 use Rattle.value_match.proofs.sources.near_sources.Goals.{In-Some}
 
@@ -18,9 +18,9 @@ within c = call_within c.args.operations.now c.in-Deq.value c.in-Some.source c.i
 pub comes_too_soon-requires : goal.comes_too_soon-requires
 comes_too_soon-requires c = within (goal.at.comes_too_soon-requires c).In-Some
 
-pub note_taker-twice-requires-clause-source : goal.note_taker-twice-requires-clause-source
-note_taker-twice-requires-clause-source c =
-    let inside = within (goal.at.note_taker-twice-requires-clause-source c).In-Some in
+pub note_taker-unnoted-requires-clause-source : goal.note_taker-unnoted-requires-clause-source
+note_taker-unnoted-requires-clause-source c =
+    let inside = within (goal.at.note_taker-unnoted-requires-clause-source c).In-Some in
     omega (arith, inside, c.as_mut_slice.ensures.len, c.loop-operation.invariant.one_each)
 
 pub some-requires : goal.some-requires
@@ -38,11 +38,11 @@ loop-operation-init c =
       all,
       c.none.ensures,
     ) (record {
-      near = sources_none (IsNearSource _) c.args.operations.now;
-      all = λ all. sources_none IsSourceOf c.args.operations.now;
+      near = near_none _ c.args.operations.now;
       one_each = length-replicate (length c.args.operations.now) None;
       late = none_fresh_yet c.args.operations.now;
-      twice = no_takers (length c.args.operations.now) [];
+      found = none_found_yet c.args.operations.now [];
+      noted = no_takers (length c.args.operations.now) [];
     })
 
 pub loop-operation-preserved-in_default : goal.loop-operation-preserved-in_default
@@ -50,11 +50,11 @@ loop-operation-preserved-in_default c =
     let known = c.loop-operation.invariant in
     let here = slice_get_read _ _ _ _ refl c.loop-operation-test.true c.operation-item.is ∙ ap Some (sym c.unpack-operation.ensures.operation) in
     rw (c.in_ok-push.ensures.items, c.none-in_default.ensures) (record {
-      near = sources_push (IsNearSource _) _ _ _ _ _ here (no_near_source _ _ _ c.in_default.not-Deq) known.near;
-      all = λ all. sources_push IsSourceOf _ _ _ _ _ here (no_source _ _ c.in_default.not-Deq) (known.all all);
+      near = near_push _ _ _ _ _ _ here (no_near_source _ _ _ c.in_default.not-Deq) known.near;
       one_each = known.one_each;
       late = in_time_at _ _ _ (no_dequeue _ _ _ here c.in_default.not-Deq) known.late;
-      twice = takes_nothing _ _ _ known.twice;
+      found = found_on _ _ _ _ _ _ _ known.near.one_each here (no_source _ _ c.in_default.not-Deq) known.noted known.found;
+      noted = takes_nothing _ _ _ known.noted;
     })
 
 pub loop-operation-preserved-in_default-find : goal.loop-operation-preserved-in_default-find
@@ -64,12 +64,12 @@ loop-operation-preserved-in_default-find c =
     let adds = c.in_ok-insert.ensures.updates.0 in
     let near = subst (λ kind. IsNearSource c.insert.new.self c.args.operations.now kind None) (sym c.in-Deq.is) (is_wanted _ _ c.in-Deq.value adds) in
     let count : c.loop-operation.operation-index ≡ c.len-place.result = omega (arith, known.near.one_each, c.len-place.ensures) in
-    rw (c.in_ok-push-2.ensures.items, c.none-in_default-find.ensures, c.first_of-late.ensures, ← count) (record {
-      near = sources_push (IsNearSource _) _ _ _ _ _ here near (wants_more _ _ _ _ _ _ adds known.near);
-      all = λ all. absurd (false≢true all);
+    rw (c.in_ok-push-2.ensures.items, c.none-in_default-find.ensures, c.first_of-late.ensures, c.first_of-unnoted.ensures, ← count) (record {
+      near = near_push _ _ _ _ _ _ here near (wants_more _ _ _ _ _ _ adds known.near);
       one_each = known.one_each;
       late = late_from _ _ _ _ (λ soon. absurd (false≢true (sym soon))) known.late;
-      twice = takes_nothing _ _ _ known.twice;
+      found = found_next _ _ _ _ _ _ _ true known.near.one_each here (λ none. absurd (false≢true (sym none))) known.noted known.found;
+      noted = takes_unnoted _ _ _ _ _ known.near.one_each known.noted;
     })
 
 pub loop-operation-preserved : goal.loop-operation-preserved
@@ -79,26 +79,31 @@ loop-operation-preserved c =
     let source = subst (λ kind. IsSourceOf c.args.operations.now kind (Some c.in-Some.source)) (sym c.in-Deq.is) c.in-Some.ensures in
     let near = subst (λ kind. IsNearSource c.loop-operation.wanted c.args.operations.now kind (Some c.in-Some.source)) (sym c.in-Deq.is) c.in-Some.ensures in
     let count : c.loop-operation.operation-index ≡ c.len-place.result = omega (arith, known.near.one_each, c.len-place.ensures) in
-    let long : length c.note_taker-twice.new.takers ≡ c.loop-operation.takers.len =
-    omega (arith, c.note_taker-twice.ensures.len, c.as_mut_slice.ensures.len, c.loop-operation.takers.ok.0) in
-    let written = with_items_is c.loop-operation.takers c.note_taker-twice.new.takers long in
+    let long : length c.note_taker-unnoted.new.takers ≡ c.loop-operation.takers.len =
+    omega (arith, c.note_taker-unnoted.ensures.len, c.as_mut_slice.ensures.len, c.loop-operation.takers.ok.0) in
+    let written = with_items_is c.loop-operation.takers c.note_taker-unnoted.new.takers long in
     rw (c.in_ok-push-3.ensures.items, c.some.ensures, written, c.first_of-late-in-loop-operation.ensures, ← count) (record {
-      near = sources_push (IsNearSource _) _ _ _ _ _ here near known.near;
-      all = λ all. sources_push IsSourceOf _ _ _ _ _ here source (known.all all);
-      one_each = omega (arith, c.note_taker-twice.ensures.len, c.as_mut_slice.ensures.len, known.one_each);
+      near = near_push _ _ _ _ _ _ here near known.near;
+      one_each = omega (arith, c.note_taker-unnoted.ensures.len, c.as_mut_slice.ensures.len, known.one_each);
       late = late_from _ _ _ _ (λ soon. in_time_more _ _ _ _ _ _ c.requires.complete here c.in-Deq.is c.in-Some.ensures c.comes_too_soon.ensures
           (ap not soon)) known.late;
-      twice = c.note_taker-twice.ensures.taken c.loop-operation.sources.items (omega (arith, c.len-place.ensures))
-          (rw c.as_mut_slice.ensures.value known.twice);
+      found =
+          let (again, first) = c.note_taker-unnoted.ensures.first in
+          subst (AreFoundTo _ _ _) (sym (first ∙ ap (λ n. first_of c.loop-operation.unnoted n again) (sym count)))
+          (found_next _ _ _ _ _ _ _ again known.near.one_each here (λ _. source) known.noted known.found);
+      noted = c.note_taker-unnoted.ensures.taken c.loop-operation.sources.items (omega (arith, c.len-place.ensures))
+          (rw c.as_mut_slice.ensures.value known.noted);
     })
 
 pub returns-clause-near : goal.returns-clause-near
 returns-clause-near c = near_all _ _ _ _ c.loop-operation-test.false c.loop-operation.auto.operation-index-end c.loop-operation.invariant.near
 
-pub returns-clause-all : goal.returns-clause-all
-returns-clause-all c = λ all. sources_all _ _ _ c.loop-operation-test.false c.loop-operation.auto.operation-index-end (c.loop-operation.invariant.all all)
-
 pub returns-clause-late : goal.returns-clause-late
 returns-clause-late c =
     let end : c.loop-operation.operation-index ≡ length c.args.operations.now = omega (arith, c.loop-operation-test.false, c.loop-operation.auto.operation-index-end) in
     subst (λ n. AreInTimeTo n c.args.operations.now c.loop-operation.late) end c.loop-operation.invariant.late
+
+pub returns-clause-found : goal.returns-clause-found
+returns-clause-found c =
+    let end : c.loop-operation.operation-index ≡ length c.args.operations.now = omega (arith, c.loop-operation-test.false, c.loop-operation.auto.operation-index-end) in
+    subst (λ n. AreFoundTo n c.args.operations.now c.loop-operation.sources.items c.loop-operation.unnoted) end c.loop-operation.invariant.found

@@ -1,13 +1,13 @@
-use Rattle.std.proofs.Common.{true, ◌≡◌, length}
-use Rattle.value_match.specs.Inner.Sources.{AreInTimeTo, AreTakersTo}
-use Rattle.value_match.proofs.CallPlaces.{HasSources, HasNear}
+use Rattle.std.proofs.Common.{◌≡◌, length}
+use Rattle.value_match.specs.Inner.Sources.{AreFoundTo, AreInTimeTo, AreTakersTo}
+use Rattle.value_match.proofs.CallPlaces.{HasNear}
 use Rattle.value_match.proofs.sources.near_sources.Given as goal
 
 abbrev pub invariant-loop-operation : goal.invariant-loop-operation
 invariant-loop-operation l = record {
   near : HasNear l.wanted l.operations l.operation-index l.sources.items;
-  all : l.all_found ≡ true → HasSources l.operations l.operation-index l.sources.items;
   one_each : length l.takers.items ≡ length l.operations;
   late : AreInTimeTo l.operation-index l.operations l.late;
-  twice : AreTakersTo l.twice l.sources.items l.takers.items;
+  found : AreFoundTo l.operation-index l.operations l.sources.items l.unnoted;
+  noted : AreTakersTo l.unnoted l.sources.items l.takers.items;
 }

@@ -1,6 +1,0 @@
-use Rattle.std.proofs.Common.{◌≡◌, ◌++◌, take}
-use Rattle.history_merge.specs.Initial.{enqueues_from}
-use Rattle.history_merge.proofs.timeline.add_enqueues.Given as goal
-
-abbrev pub invariant-loop-place : goal.invariant-loop-place
-invariant-loop-place l = l.all.items ≡ l.initial.all.items ++ enqueues_from 0 (take l.place l.values)
