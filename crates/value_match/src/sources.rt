@@ -41,7 +41,7 @@ struct NearSources {
     unnoted: Option<usize>,
 }
 
-/// The sources of all dequeues.
+/// The sources of all dequeues; the first `initial_count` operations enqueue initial values.
 ///
 /// Time O(n) for n operations where the values leave nearly in the order of their calls, or by recorder's names nearly in that
 /// of their threads' calls. Else the calls of the other values are sorted by value, and each of their dequeues costs a look-up,
@@ -49,12 +49,13 @@ struct NearSources {
 pub(crate) fn sources_of(
     alloc: Global,
     operations: &[PackedOperation],
+    initial_count: usize,
 ) -> Result<Sources, AllocError>
     requires complete { AreComplete operations.now }
     requires few { length operations.now ≤ MAX_MATCHED }
     ensures { IfOk result (AreSources operations.now) }
 {
-    let near = near_sources(alloc, operations)?;
+    let near = near_sources(alloc, operations, initial_count)?;
     let once = near.unnoted.unwrap_or(operations.len());
     let mut places = near.sources;
     if !near.wanted.is_empty() {
@@ -70,7 +71,11 @@ pub(crate) fn sources_of(
 }
 
 /// The sources that are each close to that of the dequeue before, or to that of the value before of its thread.
-fn near_sources(alloc: Global, operations: &[PackedOperation]) -> Result<NearSources, AllocError>
+fn near_sources(
+    alloc: Global,
+    operations: &[PackedOperation],
+    initial_count: usize,
+) -> Result<NearSources, AllocError>
     requires complete { AreComplete operations.now }
     requires few { length operations.now ≤ MAX_MATCHED }
     ensures near { IfOk result (λ near. HoldsNear near.wanted operations.now near.sources.items) }
@@ -84,7 +89,7 @@ fn near_sources(alloc: Global, operations: &[PackedOperation]) -> Result<NearSou
     let mut takers = Vec::with_capacity(alloc, 2 * operations.len())?;
     takers.resize(operations.len(), MaybePlace::none())?;
     let mut sources = Vec::with_capacity(alloc, operations.len())?;
-    let mut calls = ThreadCalls::new(alloc, operations)?;
+    let mut calls = ThreadCalls::new(alloc, operations, initial_count)?;
     let mut wanted = BTreeSet::new(alloc);
     let mut late = None;
     let mut unnoted = None;

@@ -14,7 +14,8 @@ const REACH: usize = 8;
 /// How many operations are noted ahead of the one that is matched: a dequeue may be called before its value.
 const AHEAD: usize = 1024;
 
-/// For how many operations the lists have room at most. Each further one takes the room of one before it.
+/// For how many operations the lists have room at most, beside two for each initial value: the more values a queue holds, the
+/// later each of them leaves. Each further operation takes the room of one before it.
 const MOST_SLOTS: usize = 1 << 17;
 
 /// For each thread the accepted calls to enqueue whose values weren't found yet, in their order. A recorder puts the thread
@@ -35,14 +36,17 @@ pub(crate) struct ThreadCalls {
 }
 
 impl ThreadCalls {
-    /// The calls of these operations, of which the first are noted. It takes half a word for each operation, up to half a MiB.
+    /// The calls of these operations, of which the first are noted; this many of them enqueue initial values. It takes half a word
+    /// for each operation, up to half a MiB; with initial values up to a MiB and two words for each.
     pub(crate) fn new(
         alloc: Global,
         operations: &[PackedOperation],
+        initial_count: usize,
     ) -> Result<ThreadCalls, AllocError>
         requires { length operations.now ≤ MAX_MATCHED }
     {
-        let slots = operations.len().next_power_of_two().min(MOST_SLOTS);
+        let most = initial_count.saturating_mul(2).saturating_add(MOST_SLOTS);
+        let slots = operations.len().min(most).next_power_of_two();
         let mut calls = ThreadCalls {
             next: vec![in alloc; 0; MAX_THREADS + slots]?,
             last: heads(),

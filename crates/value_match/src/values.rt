@@ -44,19 +44,23 @@ pub fn match_values(alloc: Global, history: &History) -> Result<Matched<'_>, All
     ensures complete { AreComplete (timeline history.now.initial (operations_of history.now.events)) }
 {
     let initial_count = history.initial().len();
-    match find(alloc, history.timeline())? {
+    match find(alloc, history.timeline(), initial_count)? {
         MatchOutcome::Clear(sorted) => Ok(Matched::Clear(Matching::new(history, sorted))),
         MatchOutcome::Fresh(places) => Ok(Matched::Fresh(told_fresh(initial_count, places))),
         MatchOutcome::Repeat(places) => Ok(Matched::Repeat(told_repeat(initial_count, places))),
     }
 }
 
-fn find(alloc: Global, operations: &[PackedOperation]) -> Result<MatchOutcome, AllocError>
+fn find(
+    alloc: Global,
+    operations: &[PackedOperation],
+    initial_count: usize,
+) -> Result<MatchOutcome, AllocError>
     requires complete { AreComplete operations.now }
     requires few { length operations.now ≤ MAX_MATCHED }
     ensures { IfOk result (IsMatchOutcomeOf operations.now) }
 {
-    let sources = sources_of(alloc, operations)?;
+    let sources = sources_of(alloc, operations, initial_count)?;
     if let Some(places) = first_fresh(operations, &sources) {
         return Ok(MatchOutcome::Fresh(places));
     }
