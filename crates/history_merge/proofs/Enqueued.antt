@@ -71,7 +71,7 @@ in_front operations fill start n is long =
     let count : length (operations ++ fill) - n ≡ length operations = omega (arith, both, long) in
     ap (λ os. take (length os - n) os) is ∙ ap (λ m. take m (operations ++ fill)) count ∙ take-append_seam operations fill
 
--- the enqueues, and the operations behind them, later
+-- the enqueues, and then the operations, later
 pub enqueues_and_operations : (initial : List ℕ) (operations fill start moved all : List Operation) → start ≡ operations ++ fill → length fill ≡ length initial
     → drop (length initial) moved ≡ map (later_by (2 * length initial)) (take (length start - length initial) start)
     → all ≡ enqueues_from 0 initial ++ drop (length initial) moved → all ≡ timeline initial operations
