@@ -33,7 +33,7 @@ was_called_is (e ∷ events) v = join (called_value e.what) (was_called_is event
     join (Some w) more = ap (λ b. nat_eq w v || b) more
 
 -- the same of a value that may be initial too
-known_is : (initial : List ℕ) (events : List Event) (v : ℕ)
+pub known_is : (initial : List ℕ) (events : List Event) (v : ℕ)
     → (was_called events v || is_initial initial v) ≡ list_any (λ w. nat_eq w v) (initial ++ called_values events)
 known_is initial events v = or_comm (was_called events v) (is_initial initial v) ∙ ap (λ b. is_initial initial v || b) (was_called_is events v)
     ∙ sym (list_any-append (λ w. nat_eq w v) initial (called_values events))

@@ -14,7 +14,7 @@ use Rattle.std.proofs.lemmas.Option.{slice_get_within, get_or_from_slice_get}
 use Rattle.event_records.specs.declared.event.Event.{Event}
 use Rattle.event_records.specs.declared.event.What.{What}
 use Rattle.event_records.specs.declared.event.What.TheVariants.{CallEnq, RetEnq, RetNot, CallDeq, RetDeq, RetEmpty}
-use Rattle.event_records.specs.declared.limits.TheConstants.{MAX_EVENTS, MAX_INITIAL, MAX_THREAD}
+use Rattle.event_records.specs.declared.limits.TheConstants.{MAX_EVENTS, MAX_THREAD}
 use Rattle.event_records.specs.Turns.{is_call, answers, TakesTurns}
 use Rattle.event_records.specs.Projection.{projection}
 use Rattle.history_merge.specs.declared.fault.HistoryFault.TheVariants.{CallWhilePending, DuplicateValue, ReturnWithoutCall, WrongReturn}
@@ -26,7 +26,7 @@ use Rattle.history_merge.specs.Faults.{answers_pending, breaks_ticket_order, cal
 use Rattle.history_merge.specs.Operations.{operations_of, operation_of, kind_of}
 use Rattle.history_merge.specs.Forming.{begun, answered, operation_so_far, operations_so_far, waiting}
 use Rattle.history_merge.specs.Events.{call_event, called_by, events_of}
-use Rattle.history_merge.specs.Initial.{IsCompleteFrom, timeline}
+use Rattle.history_merge.specs.Initial.{IsCompleteFrom}
 use Rattle.history_merge.specs.Inner.Forming.{IsFormedOf}
 use Rattle.history_merge.specs.Inner.History.{IsKept, IsRunOf, next_of}
 use Rattle.history_merge.specs.Gathering.{HasFormed}
@@ -59,7 +59,7 @@ waits_more events e own waits thread = elim (eqb_tells e.thread thread) [
 
 -- one more event, after which this is the place of its thread's pending call
 formed_more : (events : List Event) (e : Event) (old new : Forming) (place : Option ℕ) → e.thread ≤ MAX_THREAD → HasFormed events old
-    → new.operations.items ≡ operations_so_far (events ++ e ∷ []) → new.least_ticket ≡ e.ticket + 1 → new.pending ≡ set old.pending e.thread place
+    → new.timeline.operations ≡ operations_so_far (events ++ e ∷ []) → new.least_ticket ≡ e.ticket + 1 → new.pending ≡ set old.pending e.thread place
     → place ≡ option_map (λ found. found.0) (waiting e.thread (events ++ e ∷ []))
     → option_map (λ found. found.1) (waiting e.thread (events ++ e ∷ [])) ≡ then_some (is_call e.what) e → HasFormed (events ++ e ∷ []) new
 formed_more events e old new place below known operations last written own waits = record {
@@ -85,10 +85,10 @@ formed_more events e old new place below known operations last written own waits
 -- one more call
 pub formed_after_call : (events : List Event) (e : Event) (old new : Forming) → e.thread ≤ MAX_THREAD → is_call e.what ≡ true
     → pending_call e.thread events ≡ None → HasFormed events old
-    → new.operations.items ≡ old.operations.items ++ operation_so_far e None ∷ [] → new.least_ticket ≡ e.ticket + 1
-    → new.pending ≡ set old.pending e.thread (Some (length old.operations.items)) → HasFormed (events ++ e ∷ []) new
+    → new.timeline.operations ≡ old.timeline.operations ++ operation_so_far e None ∷ [] → new.least_ticket ≡ e.ticket + 1
+    → new.pending ≡ set old.pending e.thread (Some (length old.timeline.operations)) → HasFormed (events ++ e ∷ []) new
 formed_after_call events e old new below call none known added last placed =
-    formed_more events e old new (Some (length old.operations.items)) below known
+    formed_more events e old new (Some (length old.timeline.operations)) below known
     (added ∙ ap (λ os. os ++ operation_so_far e None ∷ []) known.operations ∙ sym (formed_call events e (none_waits _ (known.waits e.thread ∙ none)) call))
     last placed
     (rw (waits_call events e call) (ap (λ os. Some (length os)) known.operations))
@@ -99,11 +99,11 @@ record IsPendingAt (events : List Event) (thread : ℕ) (old : Forming) (place :
   pub call : Event
   pub pending : pending_call thread events ≡ Some call
   pub calls : is_call call.what ≡ true
-  pub inside : place < length old.operations.items
-  pub was : slice_get old.operations.items place ≡ Some (operation_so_far call None)
-  pub is : (d : Operation) → get_or old.operations.items place d ≡ operation_so_far call None
+  pub inside : place < length old.timeline.operations
+  pub was : slice_get old.timeline.operations place ≡ Some (operation_so_far call None)
+  pub is : (d : Operation) → get_or old.timeline.operations place d ≡ operation_so_far call None
   pub answered : (e : Event) → e.thread ≡ thread → is_call e.what ≡ false
-      → operations_so_far (events ++ e ∷ []) ≡ set old.operations.items place (operation_so_far call (Some e))
+      → operations_so_far (events ++ e ∷ []) ≡ set old.timeline.operations place (operation_so_far call (Some e))
 
 calls_alone : (o : Option Event) (call : Event) → option_and_then (λ e. then_some (is_call e.what) e) o ≡ Some call → is_call call.what ≡ true
 calls_alone None call h = cc
@@ -121,15 +121,15 @@ pending_at events thread old place within known is =
     let call = found.0 in
     let pending : pending_call thread events ≡ Some call = sym (known.waits thread) ∙ ap (option_map (λ w. w.1)) found.1 in
     let done = λ (e : Event) (own : e.thread ≡ thread). formed_answer events e place call (subst (λ t. waiting t events ≡ Some (place, call)) (sym own) found.1) in
-    let stands : slice_get old.operations.items place ≡ Some (operation_so_far call None) =
+    let stands : slice_get old.timeline.operations place ≡ Some (operation_so_far call None) =
     rw known.operations (done (record { ticket = 0; thread = thread; what = RetEnq }) refl refl).was in
     record {
       call = call;
       pending = pending;
       calls = calls_alone (last_or None (projection thread events)) call pending;
-      inside = slice_get_within old.operations.items place (operation_so_far call None) stands;
+      inside = slice_get_within old.timeline.operations place (operation_so_far call None) stands;
       was = stands;
-      is = λ d. get_or_from_slice_get old.operations.items place (operation_so_far call None) d stands;
+      is = λ d. get_or_from_slice_get old.timeline.operations place (operation_so_far call None) d stands;
       answered = λ e own returns. rw known.operations (done e own returns).operations;
     }
 
@@ -191,7 +191,7 @@ record IsAnswerOf (events : List Event) (e : Event) (old : Forming) (place : ℕ
   pub called : called_by o.kind ≡ at.call.what
 
 answer_of : (events : List Event) (e : Event) (old : Forming) (place : ℕ) (o d : Operation) → e.thread ≤ MAX_THREAD → HasFormed events old
-    → get_or old.pending e.thread None ≡ Some place → o ≡ get_or old.operations.items place d → IsAnswerOf events e old place o
+    → get_or old.pending e.thread None ≡ Some place → o ≡ get_or old.timeline.operations place d → IsAnswerOf events e old place o
 answer_of events e old place o d below known is found =
     let at = pending_at events e.thread old place below known is in
     let was : o ≡ operation_so_far at.call None = found ∙ at.is d in
@@ -200,7 +200,7 @@ answer_of events e old place o d below known is found =
 -- a return that isn't of its call's kind
 pub wrong_return : (initial : List ℕ) (events : List Event) (n : ℕ) (e : Event) (old : Forming) (place : ℕ) (o d : Operation)
     → breaks_ticket_order events e ≡ false → e.thread ≤ MAX_THREAD → is_call e.what ≡ false → HasFormed events old
-    → get_or old.pending e.thread None ≡ Some place → o ≡ get_or old.operations.items place d → kind_of (called_by o.kind) e.what ≡ None
+    → get_or old.pending e.thread None ≡ Some place → o ≡ get_or old.timeline.operations place d → kind_of (called_by o.kind) e.what ≡ None
     → fault_at initial events n e ≡ Some (WrongReturn n)
 wrong_return initial events n e old place o d order below returns known is found none =
     let answer = answer_of events e old place o d below known is found in
@@ -210,8 +210,8 @@ wrong_return initial events n e old place o d order below returns known is found
 -- one more return, which is
 pub formed_after_answer : (initial : List ℕ) (events : List Event) (n : ℕ) (e : Event) (old new : Forming) (place : ℕ) (o d : Operation) (kind : OpKind)
     → breaks_ticket_order events e ≡ false → e.thread ≤ MAX_THREAD → is_call e.what ≡ false → HasFormed events old
-    → get_or old.pending e.thread None ≡ Some place → o ≡ get_or old.operations.items place d → kind_of (called_by o.kind) e.what ≡ Some kind
-    → new.operations.items ≡ set old.operations.items place (record o { ret = e.ticket; kind = kind }) → new.least_ticket ≡ e.ticket + 1
+    → get_or old.pending e.thread None ≡ Some place → o ≡ get_or old.timeline.operations place d → kind_of (called_by o.kind) e.what ≡ Some kind
+    → new.timeline.operations ≡ set old.timeline.operations place (record o { ret = e.ticket; kind = kind }) → new.least_ticket ≡ e.ticket + 1
     → new.pending ≡ set old.pending e.thread None → HasFormed (events ++ e ∷ []) new × (fault_at initial events n e ≡ None)
 formed_after_answer initial events n e old new place o d kind order below returns known is found kind_is completed last cleared =
     let answer = answer_of events e old place o d below known is found in
@@ -221,7 +221,7 @@ formed_after_answer initial events n e old new place o d kind order below return
     let same : Some kind ≡ Some (answered (begun call.what) e.what) = sym told ∙ kind_answered call.what e.what right in
     let kind' : kind ≡ answered (begun call.what) e.what = cc in
     let none = waits_answer events e returns in
-    let now : new.operations.items ≡ set old.operations.items place (operation_so_far call (Some e)) = rw (answer.was, kind') at completed in (
+    let now : new.timeline.operations ≡ set old.timeline.operations place (operation_so_far call (Some e)) = rw (answer.was, kind') at completed in (
       formed_more events e old new None below known (now ∙ sym (answer.at.answered e refl returns)) last cleared (rw none refl)
           (ap (option_map (λ found. found.1)) none ∙ rw returns refl),
       fault_of_return initial events n e order below returns ∙ rw (answer.at.pending, right) refl,
@@ -229,14 +229,14 @@ formed_after_answer initial events n e old new place o d kind order below return
 
 -- the call event of the operation at the place that is kept of a thread is its pending call
 pub call_at : (events : List Event) (thread : ℕ) (old : Forming) (place : ℕ) (found : Option Operation) → thread ≤ MAX_THREAD → HasFormed events old
-    → get_or old.pending thread None ≡ Some place → found ≡ slice_get old.operations.items place → option_map call_event found ≡ pending_call thread events
+    → get_or old.pending thread None ≡ Some place → found ≡ slice_get old.timeline.operations place → option_map call_event found ≡ pending_call thread events
 call_at events thread old place found below known is stands =
     let at = pending_at events thread old place below known is in
     rw (stands, at.was) (ap (λ e. Some e) (call_event_begun at.call at.calls) ∙ sym at.pending)
 
 -- an operation stands at the place that is kept of a thread
 pub inside_at : (events : List Event) (thread : ℕ) (old : Forming) (place : ℕ) → thread ≤ MAX_THREAD → HasFormed events old
-    → get_or old.pending thread None ≡ Some place → place < length old.operations.items
+    → get_or old.pending thread None ≡ Some place → place < length old.timeline.operations
 inside_at events thread old place below known is = (pending_at events thread old place below known is).inside
 
 -- ---- all events
@@ -302,14 +302,11 @@ formed_of_complete events operations complete so_far = record {
   told = ap events_of so_far ∙ told_of_run events (operations_so_far events) (run_of_complete events complete);
 }
 
--- a history keeps them on its timeline
-pub kept_of_formed : (initial : List ℕ) (all : List Operation) (events : List Event) (operations : List Operation) → all ≡ timeline initial operations
-    → IsFormedOf events operations → IsCompleteFrom initial events → length events ≤ MAX_EVENTS → length initial ≤ MAX_INITIAL
-    → IsKept initial all operations
-kept_of_formed initial all events operations is formed complete few few_initial = record {
-  all_is = is;
+-- a history keeps them
+pub kept_of_formed : (initial : List ℕ) (events : List Event) (operations : List Operation) → IsFormedOf events operations
+    → IsCompleteFrom initial events → length events ≤ MAX_EVENTS → IsKept initial operations
+kept_of_formed initial events operations formed complete few = record {
   complete = subst (IsCompleteFrom initial) (sym formed.told) complete;
   formed = formed.formed ∙ ap operations_of (sym formed.told);
   few_events = subst (λ es. length es ≤ MAX_EVENTS) (sym formed.told) few;
-  few_initial = few_initial;
 }

@@ -1,18 +1,29 @@
--- Which values were called, after one more event.
-use Rattle.std.proofs.Common.{◌≡◌, ℕ, ◌<◌, ◌||◌, Bool, true, false, not, cond, List, [], ◌∷◌, ◌++◌, length, get_or, Option, Some}
-use Rattle.std.proofs.Common.{refl, sym, ◌∙◌, ap, subst, arith, nat_eq}
-use Rattle.std.specs.Prelude.{MatchOption}
+-- Which values were noted, after one more.
+use Rattle.std.proofs.Common.{◌≡◌, ℕ, zero, suc, ◌+◌, ◌||◌, Bool, true, false, not, cond, List, [], ◌∷◌, ◌++◌, length, get_or, Option, Some, None, take}
+use Rattle.std.proofs.Common.{refl, sym, ◌∙◌, ap, subst, arith, nat_eq, append_assoc}
+use Rattle.std.specs.Prelude.{MatchOption, map, ◌*◌, ◌<◌}
+use Rattle.std.specs.List.{cons_option}
 use Rattle.std.specs.Option.{option_map_or}
 use Rattle.std.specs.Ordering.{nat_cmp, is_eq}
 use Rattle.std.specs.BTreeSet.{BTreeSet, contains}
 use Rattle.std.proofs.lemmas.Bool.Decides.{nat_tests}
+use Rattle.std.proofs.lemmas.List.{take-append-le}
+use Rattle.std.proofs.lemmas.List.Elements.{filter_map-append}
 use Rattle.std.proofs.lemmas.List.Folds.{list_any-append}
 use Rattle.event_records.specs.declared.limits.TheConstants.{MAX_THREADS}
 use Rattle.event_records.specs.declared.event.Event.{Event}
 use Rattle.history_merge.specs.declared.called.CalledValues.{CalledValues}
-use Rattle.history_merge.specs.Complete.{called_value}
-use Rattle.history_merge.specs.Faults.{was_called}
-use Rattle.history_merge.specs.Gathering.{KnowsCalled, name_in}
+use Rattle.history_merge.specs.declared.operation.Operation.{Operation}
+use Rattle.history_merge.specs.Complete.{called_value, called_values}
+use Rattle.history_merge.specs.Faults.{calls_initial, is_initial, repeats_value, was_called}
+use Rattle.history_merge.specs.Forming.{operations_so_far}
+use Rattle.history_merge.specs.Gathering.{Knows, is_among, name_in}
+use Rattle.history_merge.specs.Initial.{TimelineView, enqueue_at, enqueues_from, later_by, timeline}
+use Rattle.history_merge.specs.Inner.Forming.{AreCalledIn, is_called_in}
+use Rattle.history_merge.specs.Operations.{enqueued_value}
+use Rattle.history_merge.proofs.DistinctValues.{known_is}
+use Rattle.history_merge.proofs.Gathered.{called_in_operations}
+use Rattle.history_merge.proofs.TimelineOperations.{length_enqueues}
 
 or_false : (b : Bool) → (b || false) ≡ b
 or_false true = refl
@@ -22,33 +33,97 @@ or_false false = refl
 pub is_eq-nat_cmp : (v q : ℕ) → is_eq (nat_cmp v q) ≡ nat_eq v q
 is_eq-nat_cmp v q = grind (arith, nat_tests)
 
--- what was called before one more event, and by it
-was_called-push : (events : List Event) (e : Event) (called : Option ℕ) (v : ℕ) → called_value e.what ≡ called
-    → was_called (events ++ e ∷ []) v ≡ (was_called events v || option_map_or (λ w. nat_eq w v) called false)
-was_called-push events e called v is =
-    let p = λ (x : Event). option_map_or (λ w. nat_eq w v) (called_value x.what) false in
-    list_any-append p events (e ∷ []) ∙ ap (λ b. was_called events v || b) (or_false (p e))
-    ∙ ap (λ o. was_called events v || option_map_or (λ w. nat_eq w v) o false) is
+-- a value is among some and one more if it is among these or is that one
+pub among-push : (values : List ℕ) (v w : ℕ) → is_among (values ++ v ∷ []) w ≡ (is_among values w || nat_eq v w)
+among-push values v w = list_any-append (λ x. nat_eq x w) values (v ∷ []) ∙ ap (λ b. is_among values w || b) (or_false (nat_eq v w))
 
 -- if they stand in a set, that has one more
-pub knows_set : (events : List Event) (e : Event) (least : List ℕ) (old new : BTreeSet ℕ) (values : CalledValues) (v : ℕ)
-    → called_value e.what ≡ Some v → length least ≡ MAX_THREADS
-    → ((q : ℕ) → contains nat_cmp old q ≡ was_called events q) → ((q : ℕ) → contains nat_cmp new q ≡ cond (is_eq (nat_cmp v q)) true (contains nat_cmp old q))
-    → values.least ≡ least → values.others ≡ Some new → KnowsCalled (events ++ e ∷ []) values
-knows_set events e least old new values v calls long has adds same others = record {
+pub knows_set : (values : List ℕ) (least : List ℕ) (old new : BTreeSet ℕ) (called : CalledValues) (v : ℕ) → length least ≡ MAX_THREADS + 1
+    → ((q : ℕ) → contains nat_cmp old q ≡ is_among values q) → ((q : ℕ) → contains nat_cmp new q ≡ cond (is_eq (nat_cmp v q)) true (contains nat_cmp old q))
+    → called.least ≡ least → called.others ≡ Some new → Knows (values ++ v ∷ []) called
+knows_set values least old new called v long has adds same others = record {
   one_each = rw same long;
-  known = subst (λ o. MatchOption o ((w : ℕ) → was_called (events ++ e ∷ []) w ≡ true → w < get_or values.least (name_in w) 0)
-      (λ s. (w : ℕ) → contains nat_cmp s w ≡ was_called (events ++ e ∷ []) w)) (sym others) each;
+  known = subst (λ o. MatchOption o ((w : ℕ) → is_among (values ++ v ∷ []) w ≡ true → w < get_or called.least (name_in w) 0)
+      (λ s. (w : ℕ) → contains nat_cmp s w ≡ is_among (values ++ v ∷ []) w)) (sym others) each;
 }
   where
     or_cond : (here before : Bool) → cond here true before ≡ (before || here)
     or_cond here before = grind (arith, nat_tests)
 
-    each : (q : ℕ) → contains nat_cmp new q ≡ was_called (events ++ e ∷ []) q
+    each : (q : ℕ) → contains nat_cmp new q ≡ is_among (values ++ v ∷ []) q
     each q = adds q ∙ ap (λ b. cond b true (contains nat_cmp old q)) (is_eq-nat_cmp v q) ∙ ap (cond (nat_eq v q) true) (has q)
-        ∙ or_cond (nat_eq v q) (was_called events q) ∙ sym (was_called-push events e (Some v) q calls)
+        ∙ or_cond (nat_eq v q) (is_among values q) ∙ sym (among-push values v q)
 
 -- the set decides whether the value is new
 pub repeats_by_set : (added has was : Bool) → added ≡ not has → has ≡ was → not added ≡ was
 repeats_by_set added true was is same = rw is same
 repeats_by_set added false was is same = rw is same
+
+-- ---- the values that the operations of a timeline called to enqueue
+
+-- the enqueues of the initial values
+pub called_in_enqueues : (clock : ℕ) (values : List ℕ) (v : ℕ) → is_called_in (enqueues_from clock values) v ≡ is_among values v
+called_in_enqueues clock [] v = refl
+called_in_enqueues clock (w ∷ values) v = ap (λ b. nat_eq w v || b) (called_in_enqueues (clock + 2) values v)
+
+-- later operations called with the same values
+called_in_later : (n : ℕ) (operations : List Operation) (v : ℕ) → is_called_in (map (later_by n) operations) v ≡ is_called_in operations v
+called_in_later n [] v = refl
+called_in_later n (o ∷ operations) v = ap (λ b. option_map_or (λ w. nat_eq w v) (enqueued_value o.kind) false || b) (called_in_later n operations v)
+
+either_way : (a b : Bool) → (a || b) ≡ (b || a)
+either_way true true = refl
+either_way true false = refl
+either_way false true = refl
+either_way false false = refl
+
+-- those of the timeline of events
+pub called_in_timeline : (initial : List ℕ) (events : List Event) (operations : List Operation) → operations ≡ operations_so_far events
+    → AreCalledIn (timeline initial operations) (initial ++ called_values events)
+called_in_timeline initial events operations is = λ v.
+    list_any-append (λ (o : Operation). option_map_or (λ w. nat_eq w v) (enqueued_value o.kind) false) (enqueues_from 0 initial)
+    (map (later_by (2 * length initial)) operations)
+    ∙ ap (λ b. b || is_called_in (map (later_by (2 * length initial)) operations) v) (called_in_enqueues 0 initial v)
+    ∙ ap (λ b. is_initial initial v || b) (called_in_later (2 * length initial) operations v ∙ ap (λ os. is_called_in os v) is ∙ sym (called_in_operations events v))
+    ∙ either_way (is_initial initial v) (was_called events v) ∙ known_is initial events v
+
+-- whether an event calls with a value that isn't new
+pub repeats_is : (initial : List ℕ) (events : List Event) (e : Event)
+    → option_map_or (is_among (initial ++ called_values events)) (called_value e.what) false ≡ (repeats_value events e || calls_initial initial e)
+repeats_is initial events e = join (called_value e.what)
+  where
+    join : (called : Option ℕ) → option_map_or (is_among (initial ++ called_values events)) called false
+        ≡ (option_map_or (was_called events) called false || option_map_or (is_initial initial) called false)
+    join None = refl
+    join (Some v) = sym (known_is initial events v)
+
+-- the values after one more event
+pub values_more : (initial : List ℕ) (events : List Event) (e : Event)
+    → (initial ++ called_values events) ++ cons_option (called_value e.what) [] ≡ initial ++ called_values (events ++ e ∷ [])
+values_more initial events e =
+    append_assoc initial (called_values events) (cons_option (called_value e.what) [])
+    ∙ ap (λ vs. initial ++ vs) (sym (filter_map-append (λ (x : Event). called_value x.what) events (e ∷ [])))
+
+-- the first of the enqueues
+take_enqueues : (clock n : ℕ) (values : List ℕ) → take n (enqueues_from clock values) ≡ enqueues_from clock (take n values)
+take_enqueues clock zero values = refl
+take_enqueues clock (suc n) [] = refl
+take_enqueues clock (suc n) (v ∷ values) = ap (λ os. enqueue_at clock v ∷ os) (take_enqueues (clock + 2) n values)
+
+-- the first operations of a timeline called with the first initial values
+pub called_in_front : (view : TimelineView) (all : List Operation) (n : ℕ) → all ≡ timeline view.initial view.operations → n < length view.initial
+    → AreCalledIn (take n all) (take n view.initial)
+called_in_front view all n is few = λ v.
+    let later = map (later_by (2 * length view.initial)) view.operations in
+    let many = length_enqueues 0 view.initial in
+    ap (λ os. is_called_in (take n os) v) is
+    ∙ ap (λ os. is_called_in os v) (take-append-le n (enqueues_from 0 view.initial) later (omega arith) ∙ take_enqueues 0 n view.initial)
+    ∙ called_in_enqueues 0 (take n view.initial) v
+
+-- those of what a builder has
+pub called_so_far : (initial : List ℕ) (events : List Event) (view same : TimelineView) (all : List Operation) → all ≡ timeline view.initial view.operations
+    → view ≡ same → same.initial ≡ initial → same.operations ≡ operations_so_far events → AreCalledIn all (initial ++ called_values events)
+called_so_far initial events view same all is are initial_is operations_are =
+    subst (λ os. AreCalledIn os (initial ++ called_values events))
+    (sym (is ∙ ap (λ (v : TimelineView). timeline v.initial v.operations) are ∙ ap (λ values. timeline values same.operations) initial_is))
+    (called_in_timeline initial events same.operations operations_are)

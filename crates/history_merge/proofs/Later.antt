@@ -21,7 +21,7 @@ use Rattle.history_merge.specs.Queue.{IsAccepted}
 
 -- ---- operations
 
-there_and_back : (n : ℕ) (o : Operation) → earlier_by n (later_by n o) ≡ o
+pub there_and_back : (n : ℕ) (o : Operation) → earlier_by n (later_by n o) ≡ o
 there_and_back n o =
     ap (λ m. record { call = m; ret = (o.ret + n) - n; thread = o.thread; kind = o.kind }) (let same : (o.call + n) - n ≡ o.call = omega arith in same)
     ∙ ap (λ m. record { call = o.call; ret = m; thread = o.thread; kind = o.kind }) (let same : (o.ret + n) - n ≡ o.ret = omega arith in same)

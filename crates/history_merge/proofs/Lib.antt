@@ -10,7 +10,7 @@
 -- Searching, Clashes: the first event with a property, and what contradicts what.
 -- OneFault: there is one first fault.
 -- Cancelling, Leading: enqueues that precede all other operations stand first in each linearization.
--- Later, Timelines, Enqueued, TimelineOperations: a history whose initial values are enqueued before all else is complete, and has the
+-- Later, Timelines, TimelineOperations: a history whose initial values are enqueued before all else is complete, and has the
 -- same linearizations.
 -- Runs, Places: what a run of the sequential specification enqueued and dequeued, and where.
 -- DistinctValues: values that no two calls share.
@@ -38,6 +38,5 @@ pub mod Cancelling
 pub mod Leading
 pub mod Later
 pub mod Timelines
-pub mod Enqueued
 pub mod TimelineOperations
 pub mod RisingValues

@@ -2,14 +2,15 @@
 use Rattle.std.proofs.Common.{◌≡◌, ◌++◌, ◌∷◌, ◌⊎◌, [], ℕ, zero, suc, ◌<◌, ◌≤◌, List, length, take, Option, Some, None, refl}
 use Rattle.std.proofs.Common.{sym, ◌∙◌, subst, inl, inr}
 use Rattle.std.proofs.Common.{arith, length-append}
-use Rattle.std.specs.Prelude.{slice_get, Err, IfSome, MatchOption, MatchResult, Ok, Result, is_some, true, false}
-use Rattle.std.specs.Result.{IsErrAnd}
+use Rattle.std.specs.Prelude.{slice_get, Err, IfErr, IfOk, IfSome, MatchOption, MatchResult, Ok, Result, is_some, true, false}
+use Rattle.std.specs.Result.{IsErrAnd, result_err}
 use Rattle.std.proofs.Math.Seq.{take-append_seam}
 use Rattle.std.proofs.lemmas.Bool.{cases_lt}
-use Rattle.std.proofs.lemmas.List.{take-append-le}
+use Rattle.std.proofs.lemmas.List.{append-nil, take-append-le}
 use Rattle.std.proofs.lemmas.Option.{slice_get_within}
 use Rattle.event_records.specs.declared.event.Event.{Event}
-use Rattle.event_records.specs.declared.limits.TheConstants.{MAX_EVENTS}
+use Rattle.event_records.specs.declared.limits.TheConstants.{MAX_EVENTS, MAX_INITIAL}
+use Rattle.history_merge.specs.declared.called.CalledValues.{CalledValues}
 use Rattle.history_merge.specs.declared.fault.HistoryFault.{HistoryFault}
 use Rattle.history_merge.specs.declared.fault.HistoryFault.TheVariants.{Memory}
 use Rattle.history_merge.specs.declared.forming.Forming.{Forming}
@@ -17,7 +18,7 @@ use Rattle.history_merge.specs.declared.gathering.Gathering.{Gathering}
 use Rattle.history_merge.specs.Clashes.{IsClash}
 use Rattle.history_merge.specs.Complete.{AreDistinct}
 use Rattle.history_merge.specs.Faults.{fault_at, NoFaultBefore, IsFirstFault}
-use Rattle.history_merge.specs.Gathering.{HasFormed, HasGathered, HasMetFault, IsForming}
+use Rattle.history_merge.specs.Gathering.{HasFormed, HasGathered, HasMetFault, HasRefusedInitial, IsForming, Knows}
 use Rattle.history_merge.specs.Inner.History.{IsRunOf}
 use Rattle.history_merge.proofs.ExactFaults.{run_without_fault}
 use Rattle.history_merge.proofs.FirstFaults.{first_fault_at}
@@ -121,10 +122,10 @@ kept_is_met initial events g fault kept known =
 
 -- without a fault, the operations are those of a run
 pub run_of_formed : (initial : List ℕ) (events : List Event) (forming : Forming) → HasFormed events forming → AreDistinct initial
-    → NoFaultBefore initial events (length events) → IsRunOf events forming.operations.items
+    → NoFaultBefore initial events (length events) → IsRunOf events forming.timeline.operations
 run_of_formed initial events forming formed distinct none = rw formed.operations (run_without_fault initial events distinct none)
 
-pub run_of_forming : (initial : List ℕ) (events : List Event) (g : Gathering) → IsForming initial events g → IsRunOf events g.forming.operations.items
+pub run_of_forming : (initial : List ℕ) (events : List Event) (g : Gathering) → IsForming initial events g → IsRunOf events g.forming.timeline.operations
 run_of_forming initial events g known = run_of_formed initial events g.forming known.formed known.distinct known.no_fault
 
 -- what holds of the fault of a result that is one
@@ -132,3 +133,27 @@ pub of_err : {T E : Type 0} (P : T → Type 0) (Q R : E → Type 0) (result : Re
     → MatchResult result P Q
 of_err P Q R (Ok made) is told = absurd is
 of_err P Q R (Err fault) is told = told fault is
+
+-- what a builder begins with: its values are noted and distinct, or one stands twice
+pub begun : (g : Gathering) (initial : List ℕ) (called : CalledValues) (r : Result (Unit {0}) HistoryFault) → length initial ≤ MAX_INITIAL
+    → HasFormed [] g.forming → g.count ≡ 0 → g.forming.timeline.initial ≡ initial → g.called ≡ called → g.fault ≡ result_err r
+    → IfOk r (λ _. Knows initial called × AreDistinct initial) → IfErr r (HasRefusedInitial initial) → IfSome g.clash (IsClash initial [])
+    → HasGathered initial [] g
+begun g initial called r few formed count is same fault noted refused clash = record {
+  few_initial = few;
+  few = omega arith;
+  gathered = subst (λ f. MatchOption f (IsForming initial [] g) (HasMetFault initial [])) (sym fault) (by_result r noted refused);
+  clash = clash;
+}
+  where
+    by_result : (r : Result (Unit {0}) HistoryFault) → IfOk r (λ _. Knows initial called × AreDistinct initial) → IfErr r (HasRefusedInitial initial)
+        → MatchOption (result_err r) (IsForming initial [] g) (HasMetFault initial [])
+    by_result (Err f) noted' refused' = inl refused'
+    by_result (Ok t) noted' refused' = record {
+      initial_is = is;
+      distinct = noted'.1;
+      called = subst (λ values. Knows values g.called) (sym (append-nil initial)) (subst (Knows initial) (sym same) noted'.0);
+      formed = formed;
+      count = count;
+      no_fault = λ i e below. absurd (omega arith);
+    }

@@ -1,25 +1,24 @@
--- How many operations a timeline has, which they are by their tickets, and which where there are no initial values.
-use Rattle.std.proofs.Common.{true, ◌≡◌, ℕ, suc, ◌+◌, ◌*◌, ◌≤◌, List, [], ◌∷◌, length, drop, map, refl, sym, ◌∙◌, ap, subst, arith}
+-- How many operations a timeline has, which they are by their tickets, and one more of them.
+use Rattle.std.proofs.Common.{true, ◌≡◌, ℕ, suc, ◌+◌, ◌-◌, ◌*◌, ◌<◌, ◌≤◌, List, [], ◌∷◌, ◌++◌, length, drop, get_or, map, set, take}
+use Rattle.std.proofs.Common.{refl, sym, ◌∙◌, ap, subst, arith, append_assoc, length-take-le, Option, Some, None, Result, Ok, Err, ◌⊎◌, inl, inr}
 use Rattle.std.specs.Bool.{◌==◌}
-use Rattle.std.specs.Prelude.{All}
+use Rattle.std.specs.Prelude.{All, OnErr, OnOk, option_map, slice_get}
 use Rattle.std.proofs.lemmas.Bool.Decides.{nat_tests}
 use Rattle.std.proofs.Math.Seq.{drop-append_seam}
-use Rattle.std.proofs.lemmas.List.{length-append, length-map}
+use Rattle.std.proofs.lemmas.List.{get_or-drop, get_or-map, length-append, length-map, map-append, map-set, set-append_right, take_more}
 use Rattle.std.proofs.lemmas.List.Elements.{All-map}
+use Rattle.std.proofs.lemmas.Option.{slice_get-map}
+use Rattle.event_records.specs.declared.limits.TheConstants.{MAX_INITIAL}
+use Rattle.history_merge.specs.declared.operation.OpKind.{OpKind}
 use Rattle.history_merge.specs.declared.operation.Operation.{Operation}
-use Rattle.history_merge.specs.Initial.{timeline, enqueues_from, later_by}
-use Rattle.history_merge.specs.Inner.Timeline.{earlier_by, operations_on}
-use Rattle.history_merge.proofs.Later.{all_back, not_later}
-use Rattle.history_merge.proofs.Timelines.{timeline_with_none}
+use Rattle.history_merge.specs.Initial.{enqueue_at, timeline, enqueues_from, later_by}
+use Rattle.history_merge.specs.Inner.Timeline.{IsTimeline, earlier_by, operations_on}
+use Rattle.history_merge.proofs.Later.{all_back}
 
 -- a list without elements
 pub no_elements : (xs : List ℕ) → true ≡ (length xs == 0) → xs ≡ []
 no_elements [] none = refl
 no_elements (x ∷ xs) none = absurd (grind (arith, nat_tests))
-
--- with no initial values the operations of the timeline are the operations
-pub none_timeline : (initial : List ℕ) (operations : List Operation) → initial ≡ [] → timeline initial operations ≡ operations
-none_timeline initial operations none = ap (λ (i : List ℕ). timeline i operations) none ∙ timeline_with_none operations
 
 -- an enqueue for each initial value
 pub length_enqueues : (n : ℕ) (initial : List ℕ) → length (enqueues_from n initial) ≡ length initial
@@ -54,6 +53,72 @@ all_late n operations late is =
     subst (All (λ o. (n ≤ o.call) × (n ≤ o.ret))) (sym is)
     (All-map (λ o. (n ≤ o.call) × (n ≤ o.ret)) (later_by n) operations (λ k d below. (omega arith, omega arith)))
 
--- operations that come earlier by nothing
-pub none_earlier : (operations : List Operation) → map (earlier_by 0) operations ≡ operations
-none_earlier operations = ap (map (earlier_by 0)) (sym (not_later operations)) ∙ all_back 0 operations
+-- if a list is a timeline, its operations are those
+pub is_timeline : (initial : List ℕ) (all operations : List Operation) → length initial ≤ MAX_INITIAL → all ≡ timeline initial operations → IsTimeline initial all
+is_timeline initial all operations few is = record { few = few; is = is ∙ ap (timeline initial) (sym (operations_back initial all operations is)) }
+
+-- ---- one more
+
+enqueues_push : (clock : ℕ) (values : List ℕ) (v : ℕ)
+    → enqueues_from clock (values ++ v ∷ []) ≡ enqueues_from clock values ++ enqueue_at (clock + 2 * length values) v ∷ []
+enqueues_push clock [] v = ap (λ n. enqueue_at n v ∷ []) (let same : clock ≡ clock + 2 * 0 = omega arith in same)
+enqueues_push clock (w ∷ values) v =
+    let same : clock + 2 + 2 * length values ≡ clock + 2 * length (w ∷ values) = omega arith in
+    let rest = enqueues_push (clock + 2) values v in
+    ap (λ os. enqueue_at clock w ∷ os) (rest ∙ ap (λ n. enqueues_from (clock + 2) values ++ enqueue_at n v ∷ []) same)
+
+-- one value more
+pub enqueues_more : (values : List ℕ) (i : ℕ) → i < length values
+    → enqueues_from 0 (take (i + 1) values) ≡ enqueues_from 0 (take i values) ++ enqueue_at (2 * i) (get_or values i 0) ∷ []
+enqueues_more values i below =
+    let long = length-take-le i values (omega arith) in
+    let clock : 0 + 2 * length (take i values) ≡ 2 * i = omega (arith, long) in
+    ap (enqueues_from 0) (take_more values i 0 below) ∙ enqueues_push 0 (take i values) (get_or values i 0)
+    ∙ ap (λ n. enqueues_from 0 (take i values) ++ enqueue_at n (get_or values i 0) ∷ []) clock
+
+-- one operation more
+pub timeline_push : (initial : List ℕ) (operations : List Operation) (o : Operation)
+    → timeline initial operations ++ later_by (2 * length initial) o ∷ [] ≡ timeline initial (operations ++ o ∷ [])
+timeline_push initial operations o =
+    append_assoc (enqueues_from 0 initial) (map (later_by (2 * length initial)) operations) (later_by (2 * length initial) o ∷ [])
+    ∙ ap (λ os. enqueues_from 0 initial ++ os) (sym (map-append (later_by (2 * length initial)) operations (o ∷ [])))
+
+-- another operation in the place of one
+pub timeline_set : (initial : List ℕ) (operations : List Operation) (place : ℕ) (o : Operation)
+    → set (timeline initial operations) (length initial + place) (later_by (2 * length initial) o) ≡ timeline initial (set operations place o)
+timeline_set initial operations place o =
+    let n = 2 * length initial in
+    let front = enqueues_from 0 initial in
+    set-append_right front (map (later_by n) operations) (length initial) (length initial + place) (later_by n o) (length_enqueues 0 initial) (omega arith)
+    ∙ ap (λ i. front ++ set (map (later_by n) operations) i (later_by n o)) (let same : length initial + place - length initial ≡ place = omega arith in same)
+    ∙ ap (λ os. front ++ os) (sym (map-set (later_by n) operations place o))
+
+-- an operation behind the enqueues is one of the operations, later
+pub later_at : (n : ℕ) (operations : List Operation) (place : ℕ) (later : Operation) → slice_get (map (later_by n) operations) place ≡ Some later
+    → (o : Operation) × (slice_get operations place ≡ Some o) × (later_by n o ≡ later)
+later_at n operations place later at = pick (slice_get operations place) refl (sym (slice_get-map (later_by n) operations place) ∙ at)
+  where
+    pick : (o : Option Operation) → slice_get operations place ≡ o → option_map (later_by n) o ≡ Some later
+        → (o : Operation) × (slice_get operations place ≡ Some o) × (later_by n o ≡ later)
+    pick None is found = cc
+    pick (Some o) is found = (o, is, cc)
+
+-- ---- what is pushed and completed
+
+-- after a push there is one more, or the list is as it was
+pub pushed : {T E : Type 0} (r : Result T E) (old new more : List Operation) → OnOk r (new ≡ more) → OnErr r (new ≡ old) → (new ≡ more) ⊎ (new ≡ old)
+pushed (Ok t) old new more added kept = inl added
+pushed (Err e) old new more added kept = inr kept
+
+-- the operation at a place, completed
+pub completed : (initial : List ℕ) (all own : List Operation) (place ret : ℕ) (kind : OpKind) (d later : Operation) → all ≡ timeline initial own
+    → place < length own → later ≡ get_or all (length initial + place) d
+    → set all (length initial + place) (record later { ret = ret + 2 * length initial; kind = kind })
+    ≡ timeline initial (set own place (record (get_or own place d) { ret = ret; kind = kind }))
+completed initial all own place ret kind d later is within at =
+    let n = 2 * length initial in
+    let behind = sym (get_or-drop (length initial) all place d) ∙ ap (λ os. get_or os place d) (behind_enqueues initial all own is)
+    ∙ get_or-map (later_by n) own place d d within in
+    ap (λ os. set os (length initial + place) (record later { ret = ret + n; kind = kind })) is
+    ∙ ap (λ (o : Operation). set (timeline initial own) (length initial + place) (record o { ret = ret + n; kind = kind })) (at ∙ behind)
+    ∙ timeline_set initial own place (record (get_or own place d) { ret = ret; kind = kind })

@@ -17,7 +17,7 @@ use Rattle.history_merge.specs.Complete.{AreComplete, AreDistinct, IsCompleteUpT
 use Rattle.history_merge.specs.Initial.{IsCompleteFrom, event_later_by, timeline, timeline_events, enqueue_events_from, enqueues_from, later_by}
 use Rattle.history_merge.specs.Legal.{IsLegalOrder, IsLinearizable}
 use Rattle.history_merge.specs.Operations.{operation_of, operations_of}
-use Rattle.history_merge.proofs.Later.{later_injective, legal_earlier, legal_later, not_later}
+use Rattle.history_merge.proofs.Later.{later_injective, legal_earlier, legal_later}
 use Rattle.history_merge.proofs.Later.{operations_later, projection_later, rise_later, turns_later, values_later}
 use Rattle.history_merge.proofs.Leading.{Enqueue, LeadAll, enqueues_begin, enqueues_put}
 
@@ -84,10 +84,6 @@ linearizable_from_exactly initial operations = (
   λ found. (timeline initial found.0, timeline_order initial operations found.0 found.1),
   λ found. let order = all_timeline_orders initial operations found.0 found.1 in (order.0, order.2),
 )
-
--- with no initial values the timeline is the history
-pub timeline_with_none : (operations : List Operation) → timeline [] operations ≡ operations
-timeline_with_none operations = not_later operations
 
 -- ---- complete histories
 

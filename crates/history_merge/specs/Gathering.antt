@@ -1,8 +1,7 @@
 -- What a history builder keeps of what its queue holds at first, and of its events.
-use Rattle.std.specs.Prelude.{◌≡◌, ℕ, ◌+◌, ◌<◌, ◌≤◌, ◌/◌, ◌%◌, ◌⊎◌, true, List, [], length, IfSome, MatchOption, MatchResult}
-use Rattle.std.specs.Prelude.{◌||◌, option_map, slice_index_or, All, IsSome, None, Some, Result, ◌∷◌, ◌++◌}
-use Rattle.std.specs.List.{last_or}
-use Rattle.std.specs.List.Sorted.{IsNonDecreasingBy}
+use Rattle.std.specs.Prelude.{◌≡◌, Bool, ℕ, ◌+◌, ◌<◌, ◌≤◌, ◌/◌, ◌⊎◌, min, nat_eq, true, List, [], length, IfSome, MatchOption, MatchResult}
+use Rattle.std.specs.Prelude.{option_map, slice_index_or, All, IsSome, None, Some, Result, ◌∷◌, ◌++◌}
+use Rattle.std.specs.List.{last_or, list_any}
 use Rattle.std.specs.Option.{option_map_or}
 use Rattle.std.specs.Ordering.{nat_cmp}
 use Rattle.std.specs.BTreeSet.{contains}
@@ -13,25 +12,28 @@ use Rattle.history_merge.specs.declared.fault.HistoryFault.TheVariants.{Memory, 
 use Rattle.history_merge.specs.declared.called.CalledValues.{CalledValues}
 use Rattle.history_merge.specs.declared.forming.Forming.{Forming}
 use Rattle.history_merge.specs.declared.gathering.Gathering.{Gathering}
-use Rattle.history_merge.specs.declared.initial_values.InitialValues.{InitialValues}
 use Rattle.history_merge.specs.Clashes.{IsClash}
-use Rattle.history_merge.specs.Complete.{AreDistinct}
-use Rattle.history_merge.specs.Faults.{fault_at, was_called, pending_call, NoFaultBefore, IsFirstFaultAt, is_initial, IsFirstTwice}
+use Rattle.history_merge.specs.Complete.{AreDistinct, called_values}
+use Rattle.history_merge.specs.Faults.{fault_at, pending_call, NoFaultBefore, IsFirstFaultAt, IsFirstTwice}
 use Rattle.history_merge.specs.Forming.{operations_so_far, waiting}
 
--- the thread, of all that there may be, in the upper half of a value's bits
-abbrev pub name_in : ℕ → ℕ
-name_in v = v / NAMES_OF_A_THREAD % MAX_THREADS
+-- whether the value is one of these
+abbrev pub is_among : List ℕ → ℕ → Bool
+is_among values v = list_any (λ w. nat_eq w v) values
 
--- it is known which values were called: each is below the least that its name may have next, or they stand in a set
-pub record KnowsCalled (events : List Event) (values : CalledValues) : Type 0 where
-  pub one_each : length values.least ≡ MAX_THREADS
-  pub known : MatchOption values.others ((v : ℕ) → was_called events v ≡ true → v < slice_index_or values.least (name_in v) 0)
-      (λ others. (v : ℕ) → contains nat_cmp others v ≡ was_called events v)
+-- the upper half of a value's bits, up to the first number that no thread has
+abbrev pub name_in : ℕ → ℕ
+name_in v = min (v / NAMES_OF_A_THREAD) MAX_THREADS
+
+-- it is known which these values are: each is below the least that its name may have next, or they stand in a set
+pub record Knows (values : List ℕ) (called : CalledValues) : Type 0 where
+  pub one_each : length called.least ≡ MAX_THREADS + 1
+  pub known : MatchOption called.others ((v : ℕ) → is_among values v ≡ true → v < slice_index_or called.least (name_in v) 0)
+      (λ others. (v : ℕ) → contains nat_cmp others v ≡ is_among values v)
 
 -- the operations of the events are there, the least ticket above theirs, and the place of each thread's pending call
 pub record HasFormed (events : List Event) (forming : Forming) : Type 0 where
-  pub operations : forming.operations.items ≡ operations_so_far events
+  pub operations : forming.timeline.operations ≡ operations_so_far events
   pub least_ticket : forming.least_ticket ≡ option_map_or (λ e. e.ticket + 1) (last_or None events) 0
   pub one_per_thread : length forming.pending ≡ MAX_THREAD + 1
   pub waits : (thread : ℕ) → option_map (λ found. found.1) (waiting thread events) ≡ pending_call thread events
@@ -44,22 +46,11 @@ IsTaken initial events e place result forming =
     MatchResult result (λ _. HasFormed (events ++ e ∷ []) forming × (fault_at initial events place e ≡ None))
     (λ fault. HasFormed events forming × ((fault ≡ Memory) ⊎ (fault_at initial events place e ≡ Some fault)))
 
--- these values stand in a list that rises, or in a set
-pub record HoldsInitial (initial : List ℕ) (known : InitialValues) : Type 0 where
-  pub rises : IsNonDecreasingBy (λ v. v) known.rising.items
-  pub values : (v : ℕ) → (is_initial known.rising.items v || contains nat_cmp known.others v) ≡ is_initial initial v
-
--- and none is below the least of them or above the greatest
-pub record KnowsInitial (initial : List ℕ) (known : InitialValues) : Type 0 where
-  pub holds : HoldsInitial initial known
-  pub range : (v : ℕ) → is_initial initial v ≡ true → (known.least ≤ v) × (v ≤ known.greatest)
-
 -- the initial values are distinct, the events have no fault so far, and all that a next event is judged by is there
 pub record IsForming (initial : List ℕ) (events : List Event) (gathering : Gathering) : Type 0 where
-  pub initial_is : gathering.initial.items ≡ initial
+  pub initial_is : gathering.forming.timeline.initial ≡ initial
   pub distinct : AreDistinct initial
-  pub known : KnowsInitial initial gathering.known
-  pub called : KnowsCalled events gathering.called
+  pub called : Knows (initial ++ called_values events) gathering.called
   pub formed : HasFormed events gathering.forming
   pub count : gathering.count ≡ length events
   pub no_fault : NoFaultBefore initial events (length events)
@@ -77,7 +68,7 @@ abbrev pub IsFollowed : List ℕ → List Event → Event → Result (Unit {0}) 
 IsFollowed initial events e result gathering =
     MatchResult result (λ _. IsForming initial (events ++ e ∷ []) gathering)
     (λ fault. HasMetFault initial (events ++ e ∷ []) fault
-    × ((gathering.initial.items ≡ initial) × HasFormed events gathering.forming × (gathering.count ≡ length events)))
+    × ((gathering.forming.timeline.initial ≡ initial) × HasFormed events gathering.forming × (gathering.count ≡ length events)))
 
 -- a history builder started with these initial values, and these events were added, one after another
 pub record HasGathered (initial : List ℕ) (events : List Event) (gathering : Gathering) : Type 0 where

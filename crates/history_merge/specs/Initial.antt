@@ -35,6 +35,11 @@ later_by n o = record { call = o.call + n; ret = o.ret + n; thread = o.thread; k
 abbrev pub timeline : List ℕ → List Operation → List Operation
 timeline initial operations = enqueues_from 0 initial ++ map (later_by (2 * length initial)) operations
 
+-- what a timeline is of: initial values and operations
+pub record TimelineView : Type 0 where
+  pub initial : List ℕ
+  pub operations : List Operation
+
 -- ---- the events of the timeline
 
 -- the calls and returns of these enqueues

@@ -5,4 +5,3 @@ pub mod Forming
 pub mod History
 pub mod Packed
 pub mod Timeline
-pub mod Rising

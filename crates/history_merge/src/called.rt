@@ -1,53 +1,70 @@
-//! The values that calls had so far.
-ghost use Rattle.std.specs.Prelude.{◌≡◌, ◌/◌, ◌%◌, ℕ, List, [], ◌∷◌, ◌++◌, Some, None, IfOk};
+//! The values that a queue holds first and that calls had so far.
+ghost use Rattle.std.specs.Prelude.{◌≡◌, ◌++◌, ◌∷◌, [], ℕ, List, None, false, IfErr, IfOk, MatchOption, min};
+ghost use Rattle.std.specs.List.{cons_option};
 ghost use Rattle.std.specs.Ordering.{nat_cmp};
+ghost use Rattle.std.specs.Option.{option_map_or};
 ghost use Rattle.std.specs.BTreeSet.{contains};
-ghost use Rattle.event_records.specs.declared.event.Event.{Event};
-ghost use Rattle.event_records.specs.declared.limits.TheConstants.{MAX_THREADS, NAMES_OF_A_THREAD};
-ghost use Rattle.history_merge.specs.Complete.{called_value};
-ghost use Rattle.history_merge.specs.Faults.{repeats_value, was_called};
-ghost use Rattle.history_merge.specs.Forming.{operations_so_far};
-ghost use Rattle.history_merge.specs.Inner.Forming.{is_called_in};
-ghost use Rattle.history_merge.specs.Gathering.{KnowsCalled};
+ghost use Rattle.history_merge.specs.Complete.{AreDistinct, called_value};
+ghost use Rattle.history_merge.specs.Gathering.{HasRefusedInitial, Knows, is_among, name_in};
+ghost use Rattle.history_merge.specs.Inner.Forming.{AreCalledIn, is_called_in};
 
+use crate::fault::HistoryFault;
 use crate::packed::PackedOperation;
+use crate::timeline::Timeline;
 use event_records::{MAX_THREADS, NAMES_OF_A_THREAD, What};
 use std::alloc::{AllocError, Global};
 use std::collections::BTreeSet;
 
-/// The values that calls had so far.
+/// The values that a queue holds first and that calls had so far.
 ///
-/// A recorder puts the thread into the upper half of a value's bits, and the values of one thread rise. As long as
-/// they do, one number for each thread shows that a value is new. From the first value that doesn't rise, a set holds
-/// them.
+/// A recorder puts the thread into the upper half of a value's bits, and the values of one thread rise; so may those that
+/// the queue holds first, whose upper half is above all threads. As long as they do, one number for each upper half shows
+/// that a value is new. From the first value that doesn't rise, a set holds them.
 #[derive(Drop)]
 pub(crate) struct CalledValues {
     alloc: Global,
-    least: [u64; MAX_THREADS],
+    // For each thread, and for all upper halves above the threads.
+    least: [u64; MAX_THREADS + 1],
     others: Option<BTreeSet<u64>>,
 }
 
 impl CalledValues {
     pub(crate) fn new(alloc: Global) -> CalledValues
-        ensures { KnowsCalled [] result }
+        ensures { Knows [] result }
     {
         CalledValues {
             alloc,
-            least: [0; MAX_THREADS],
+            least: [0; MAX_THREADS + 1],
             others: None,
         }
     }
 
-    /// Whether the event calls with a value that an earlier one called with; it notes the value. The operations are
-    /// those of the events before.
+    /// Notes what the queue holds first, up to the first value that stands twice, whose fault it returns.
+    pub(crate) fn note_initial(&mut self, timeline: &Timeline) -> Result<(), HistoryFault>
+        requires new { Knows [] self.old }
+        ensures noted { IfOk result (λ _. Knows timeline.now.initial self.new × AreDistinct timeline.now.initial) }
+        ensures refused { IfErr result (HasRefusedInitial timeline.now.initial) }
+    {
+        let operations = timeline.all();
+        for (place, value) in timeline.initial().iter().enumerate() {
+            if self.note_value(*value, &operations[..place])? {
+                return Err(HistoryFault::InitialTwice(place));
+            }
+        }
+        Ok(())
+    }
+
+    /// Whether the event calls with a value that was noted before; it notes the value. The operations called with all
+    /// values that were noted.
     #[inline(always)]
     pub(crate) fn note(
         &mut self,
         what: What,
         operations: &[PackedOperation],
     ) -> Result<bool, AllocError>
-        ensures { (events : List Event) (e : Event) → e.what ≡ what → KnowsCalled events self.old → operations.now ≡ operations_so_far events
-            → IfOk result (λ repeats. (repeats ≡ repeats_value events e) × KnowsCalled (events ++ e ∷ []) self.new) }
+        ensures { (values : List ℕ) → Knows values self.old → AreCalledIn operations.now values
+            → IfOk result (λ repeats. (repeats ≡ option_map_or (is_among values) (called_value what) false)
+            × Knows (values ++ cons_option (called_value what) []) self.new) }
     {
         match called_value(what) {
             Some(value) => self.note_value(value, operations),
@@ -57,8 +74,8 @@ impl CalledValues {
 
     #[inline(always)]
     fn note_value(&mut self, value: u64, operations: &[PackedOperation]) -> Result<bool, AllocError>
-        ensures { (events : List Event) (e : Event) → called_value e.what ≡ Some value → KnowsCalled events self.old → operations.now ≡ operations_so_far events
-            → IfOk result (λ repeats. (repeats ≡ was_called events value) × KnowsCalled (events ++ e ∷ []) self.new) }
+        ensures { (values : List ℕ) → Knows values self.old → AreCalledIn operations.now values
+            → IfOk result (λ repeats. (repeats ≡ is_among values value) × Knows (values ++ value ∷ []) self.new) }
     {
         match &mut self.others {
             Some(values) => Ok(!values.insert(value)?),
@@ -74,8 +91,8 @@ impl CalledValues {
         operations: &[PackedOperation],
     ) -> Result<bool, AllocError>
         requires { self.old.others ≡ None }
-        ensures { (events : List Event) (e : Event) → called_value e.what ≡ Some value → KnowsCalled events self.old → operations.now ≡ operations_so_far events
-            → IfOk result (λ repeats. (repeats ≡ was_called events value) × KnowsCalled (events ++ e ∷ []) self.new) }
+        ensures { (values : List ℕ) → Knows values self.old → AreCalledIn operations.now values
+            → IfOk result (λ repeats. (repeats ≡ is_among values value) × Knows (values ++ value ∷ []) self.new) }
     {
         let name = name_in(value);
         if self.least[name] <= value && value < u64::MAX {
@@ -92,8 +109,8 @@ impl CalledValues {
         value: u64,
         operations: &[PackedOperation],
     ) -> Result<bool, AllocError>
-        ensures { (events : List Event) (e : Event) → called_value e.what ≡ Some value → KnowsCalled events self.old → operations.now ≡ operations_so_far events
-            → IfOk result (λ repeats. (repeats ≡ was_called events value) × KnowsCalled (events ++ e ∷ []) self.new) }
+        ensures { (values : List ℕ) → Knows values self.old → AreCalledIn operations.now values
+            → IfOk result (λ repeats. (repeats ≡ is_among values value) × Knows (values ++ value ∷ []) self.new) }
     {
         let mut values = values_of(self.alloc, operations)?;
         let is_new = values.insert(value)?;
@@ -102,11 +119,11 @@ impl CalledValues {
     }
 }
 
-/// Returns the thread, of all that there may be, in the upper half of a value's bits.
+/// Returns the upper half of a value's bits, up to the first number that no thread has.
 fn name_in(value: u64) -> usize
-    ensures { result ≡ value / NAMES_OF_A_THREAD % MAX_THREADS }
+    ensures { result ≡ name_in value }
 {
-    (value / NAMES_OF_A_THREAD % MAX_THREADS as u64) as usize
+    (value / NAMES_OF_A_THREAD).min(MAX_THREADS as u64) as usize
 }
 
 /// Returns the value that a call enqueues.

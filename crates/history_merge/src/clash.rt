@@ -93,8 +93,8 @@ fn first_of(events: Events<'_>, sought: Sought) -> Option<Placed>
 
 /// The first of the events of these operations that is looked for. Time O(n).
 pub(crate) fn first_event(forming: &Forming, sought: Sought) -> Option<Placed>
-    requires { AreOfRun forming.now.operations.items }
-    ensures { (events : List Event) → IsRunOf events forming.now.operations.items → length events ≤ MAX_EVENTS
+    requires { AreOfRun forming.now.timeline.operations }
+    ensures { (events : List Event) → IsRunOf events forming.now.timeline.operations → length events ≤ MAX_EVENTS
         → IfSome result (IsFirstSought events sought) }
 {
     first_of(forming.events(), sought)
@@ -102,15 +102,10 @@ pub(crate) fn first_event(forming: &Forming, sought: Sought) -> Option<Placed>
 
 /// What an event that has this fault contradicts, of the events before it and the initial values. Time O(n).
 #[inline(never)]
-pub(crate) fn clash_of(
-    fault: HistoryFault,
-    later: Placed,
-    initial: &[u64],
-    forming: &Forming,
-) -> Option<Clash>
-    requires { AreOfRun forming.now.operations.items }
-    ensures { (events : List Event) → HasFormed events forming.now → IsRunOf events forming.now.operations.items → length events ≤ MAX_EVENTS
-        → later.place ≡ length events → IfSome result (IsClash initial.now (events ++ later.event ∷ [])) }
+pub(crate) fn clash_of(fault: HistoryFault, later: Placed, forming: &Forming) -> Option<Clash>
+    requires { AreOfRun forming.now.timeline.operations }
+    ensures { (events : List Event) → HasFormed events forming.now → IsRunOf events forming.now.timeline.operations → length events ≤ MAX_EVENTS
+        → later.place ≡ length events → IfSome result (IsClash forming.now.timeline.initial (events ++ later.event ∷ [])) }
 {
     match fault {
         HistoryFault::TicketOrder(_) => {
@@ -124,7 +119,7 @@ pub(crate) fn clash_of(
         }
         HistoryFault::DuplicateValue(_) => {
             let value = called_value(later.event.what)?;
-            if let Some(place) = first_place(initial, value) {
+            if let Some(place) = first_place(forming.timeline().initial(), value) {
                 return Some(Clash::Initial(place, later));
             }
             let earlier = first_event(forming, Sought::Value(value))?;
@@ -147,10 +142,10 @@ fn first_place(values: &[u64], value: u64) -> Option<usize>
 }
 
 /// What initial values that have this fault contradict. Time O(k) for k values.
-pub(crate) fn clash_of_initial(fault: HistoryFault, initial: &[u64]) -> Option<Clash>
+pub(crate) fn clash_of_initial(fault: Option<HistoryFault>, initial: &[u64]) -> Option<Clash>
     ensures { (events : List Event) → IfSome result (IsClash initial.now events) }
 {
-    let HistoryFault::InitialTwice(later) = fault else {
+    let Some(HistoryFault::InitialTwice(later)) = fault else {
         return None;
     };
     let value = *initial.get(later)?;

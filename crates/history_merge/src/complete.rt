@@ -1,7 +1,6 @@
 ghost use Rattle.std.specs.Prelude.{◌≡◌, ◌+◌, ◌≤◌, List, length};
 ghost use Rattle.event_records.specs.declared.event.Event.{Event};
 ghost use Rattle.event_records.specs.declared.limits.TheConstants.{MAX_EVENTS, MAX_INITIAL};
-ghost use Rattle.history_merge.specs.declared.operation.Operation.{Operation};
 ghost use Rattle.history_merge.specs.Complete.{AreComplete, IsCompleteHistory};
 ghost use Rattle.history_merge.specs.Initial.{IsCompleteFrom, timeline};
 ghost use Rattle.history_merge.specs.Inner.Forming.{IsFormedOf};
@@ -10,6 +9,7 @@ ghost use Rattle.history_merge.specs.Operations.{operations_of};
 use crate::events::Events;
 use crate::operations::Operations;
 use crate::packed::PackedOperation;
+use crate::timeline::Timeline;
 use event_records::{MAX_EVENTS, MAX_INITIAL};
 use std::marker::Model;
 
@@ -23,38 +23,30 @@ use std::marker::Model;
 /// each operation, and 28 for each initial value.
 #[derive(Debug, Drop)]
 pub struct History {
-    initial: Vec<u64>,
-    timeline: Vec<PackedOperation>,
+    timeline: Timeline,
 }
 
 impl Model for History {
-    ghost use Rattle.std.specs.Prelude.{length};
     ghost use Rattle.history_merge.specs.Initial.{HistoryView};
     ghost use Rattle.history_merge.specs.Events.{events_of};
     ghost use Rattle.history_merge.specs.Inner.History.{IsKept};
-    ghost use Rattle.history_merge.specs.Inner.Timeline.{operations_on};
 
     ghost Value = { HistoryView };
 
-    ghost view = { λ a. record { initial = a.initial.items; events = events_of (operations_on (length a.initial.items) a.timeline.items) } };
+    ghost view = { λ a. record { initial = a.timeline.initial; events = events_of a.timeline.operations } };
 
-    ghost invariant = { λ a. IsKept a.initial.items a.timeline.items (operations_on (length a.initial.items) a.timeline.items) };
+    ghost invariant = { λ a. IsKept a.timeline.initial a.timeline.operations };
 }
 
 impl History {
-    /// Makes the history of these initial values and this timeline.
-    pub(crate) fn new(initial: Vec<u64>, all: Vec<PackedOperation>) -> History
-        requires formed { (events : List Event) × (operations : List Operation) × (all.items ≡ timeline initial.items operations)
-            × IsFormedOf events operations × IsCompleteFrom initial.items events × (length events ≤ MAX_EVENTS) }
-        requires few_initial { length initial.items ≤ MAX_INITIAL }
-        ensures initial { result.initial ≡ initial.items }
-        ensures events { (events : List Event) (operations : List Operation) → all.items ≡ timeline initial.items operations
-            → IsFormedOf events operations → result.events ≡ events }
+    /// Makes the history of this timeline.
+    pub(crate) fn new(timeline: Timeline) -> History
+        requires formed { (events : List Event) × IsFormedOf events timeline.operations × IsCompleteFrom timeline.initial events
+            × (length events ≤ MAX_EVENTS) }
+        ensures initial { result.initial ≡ timeline.initial }
+        ensures events { (events : List Event) → IsFormedOf events timeline.operations → result.events ≡ events }
     {
-        History {
-            initial,
-            timeline: all,
-        }
+        History { timeline }
     }
 
     /// Returns the values that the queue holds before the first event, front first.
@@ -63,7 +55,7 @@ impl History {
         ensures complete { IsCompleteFrom self.now.initial self.now.events }
         ensures few { length self.now.initial ≤ MAX_INITIAL }
     {
-        self.initial.as_slice()
+        self.timeline.initial()
     }
 
     /// Returns the events, by rising ticket. It counts them, in time O(n), restores them from the operations one by one,
@@ -85,9 +77,7 @@ impl History {
         ensures few { length result ≤ MAX_EVENTS }
         ensures few_events { length self.now.events ≤ MAX_EVENTS }
     {
-        let initial_count = self.initial.len();
-        let (_, later) = self.timeline.as_slice().split_at(initial_count);
-        Operations::new(2 * initial_count as u64, later)
+        self.timeline.operations()
     }
 
     /// Returns the operations on one scale of time: the enqueues of the initial values, one after another, two ticks
@@ -99,6 +89,6 @@ impl History {
         ensures from { IsCompleteFrom self.now.initial self.now.events }
         ensures few { length result.now ≤ MAX_EVENTS + MAX_INITIAL }
     {
-        self.timeline.as_slice()
+        self.timeline.all()
     }
 }

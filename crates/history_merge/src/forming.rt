@@ -12,16 +12,14 @@ ghost use Rattle.history_merge.specs.Gathering.{HasFormed, IsTaken};
 use crate::events::Events;
 use crate::fault::HistoryFault;
 use crate::matching::{is_call, kind_of};
-use crate::operation::{OpId, OpKind, Operation};
-use crate::operations::Operations;
-use crate::packed::{PackedOperation, operation_at};
+use crate::operation::{OpKind, Operation};
+use crate::timeline::Timeline;
 use event_records::{Event, MAX_THREAD, MAX_THREADS, MAX_TICKET, What};
-use std::alloc::{AllocError, Global};
 
 /// The operations of the events so far, in the order of their calls, and what the next event is judged by.
 #[derive(Drop)]
 pub(crate) struct Forming {
-    operations: Vec<PackedOperation>,
+    timeline: Timeline,
     // One above the last ticket: the least that the next event may have.
     least_ticket: u64,
     // The place of each thread's pending call.
@@ -29,40 +27,45 @@ pub(crate) struct Forming {
 }
 
 impl Forming {
-    pub(crate) fn new(alloc: Global) -> Forming
-        ensures { HasFormed [] result }
+    /// Begins with a timeline without operations.
+    pub(crate) fn new(timeline: Timeline) -> Forming
+        requires { timeline.operations ≡ [] }
+        ensures formed { HasFormed [] result }
+        ensures initial { result.timeline.initial ≡ timeline.initial }
     {
         Forming {
-            operations: Vec::new(alloc),
+            timeline,
             least_ticket: 0,
             pending: [None; MAX_THREADS],
         }
     }
 
-    /// Returns the operations; a pending one has the return 0, and counts as a successful enqueue or as empty.
-    pub(crate) fn operations(&self) -> &[PackedOperation]
-        ensures { (events : List Event) → HasFormed events self.now → result.now ≡ operations_so_far events }
+    /// What the queue holds first, and the operations; a pending one has the return 0, and counts as a successful enqueue
+    /// or as empty.
+    #[inline(always)]
+    pub(crate) fn timeline(&self) -> &Timeline
+        ensures { result.now ≡ self.now.timeline }
     {
-        self.operations.as_slice()
+        &self.timeline
     }
 
     /// The events so far.
     pub(crate) fn events(&self) -> Events<'_>
-        requires { AreOfRun self.now.operations.items }
-        ensures { (events : List Event) → IsRunOf events self.now.operations.items → result ≡ events }
+        requires { AreOfRun self.now.timeline.operations }
+        ensures { (events : List Event) → IsRunOf events self.now.timeline.operations → result ≡ events }
     {
-        Events::new(Operations::new(0, self.operations.as_slice()))
+        Events::new(self.timeline.operations())
     }
 
-    pub(crate) fn into_operations(self) -> Vec<PackedOperation>
-        ensures { (events : List Event) → HasFormed events self → result.items ≡ operations_so_far events }
+    pub(crate) fn into_timeline(self) -> Timeline
+        ensures { result ≡ self.timeline }
     {
         let Forming {
-            operations,
+            timeline,
             least_ticket: _least_ticket,
             pending: _pending,
         } = self;
-        operations
+        timeline
     }
 
     /// Adds the event at this place, unless it has a fault; `repeats` says whether it calls with a value that an event
@@ -74,9 +77,10 @@ impl Forming {
         place: usize,
         repeats: bool,
     ) -> Result<(), HistoryFault>
-        ensures { (initial : List ℕ) (events : List Event) → HasFormed events self.old
+        ensures taken { (initial : List ℕ) (events : List Event) → HasFormed events self.old
             → repeats ≡ (repeats_value events event || calls_initial initial event)
             → IsTaken initial events event place result self.new }
+        ensures initial { self.new.timeline.initial ≡ self.old.timeline.initial }
     {
         if self.breaks_order(event.ticket) {
             return Err(HistoryFault::TicketOrder(place));
@@ -105,9 +109,10 @@ impl Forming {
     fn call(&mut self, event: Event, place: usize, repeats: bool) -> Result<(), HistoryFault>
         requires thread { event.thread ≤ MAX_THREAD }
         requires ticket { event.ticket ≤ MAX_TICKET }
-        ensures { (initial : List ℕ) (events : List Event) → HasFormed events self.old → breaks_ticket_order events event ≡ false
+        ensures taken { (initial : List ℕ) (events : List Event) → HasFormed events self.old → breaks_ticket_order events event ≡ false
             → is_call event.what ≡ true → repeats ≡ (repeats_value events event || calls_initial initial event)
             → IsTaken initial events event place result self.new }
+        ensures initial { self.new.timeline.initial ≡ self.old.timeline.initial }
     {
         let thread = usize::from(event.thread);
         if self.pending[thread].is_some() {
@@ -116,12 +121,12 @@ impl Forming {
         if repeats {
             return Err(HistoryFault::DuplicateValue(place));
         }
-        let added = self.operations.len();
+        let added = self.timeline.len();
         // More operations than a place can name have no memory.
         if added > u32::MAX as usize {
             return Err(HistoryFault::Memory);
         }
-        push(&mut self.operations, begun(event))?;
+        self.timeline.push(begun(event))?;
         self.pending[thread] = Some(added as u32);
         self.least_ticket = event.ticket + 1;
         Ok(())
@@ -132,26 +137,22 @@ impl Forming {
     fn answer(&mut self, event: Event, place: usize) -> Result<(), HistoryFault>
         requires thread { event.thread ≤ MAX_THREAD }
         requires ticket { event.ticket ≤ MAX_TICKET }
-        ensures { (initial : List ℕ) (events : List Event) → HasFormed events self.old → breaks_ticket_order events event ≡ false
+        ensures taken { (initial : List ℕ) (events : List Event) → HasFormed events self.old → breaks_ticket_order events event ≡ false
             → is_call event.what ≡ false → IsTaken initial events event place result self.new }
+        ensures initial { self.new.timeline.initial ≡ self.old.timeline.initial }
     {
         let thread = usize::from(event.thread);
         let Some(called) = self.pending[thread] else {
             return Err(HistoryFault::ReturnWithoutCall(place));
         };
         let called = called as usize;
-        if called >= self.operations.len() {
+        let Some(operation) = self.timeline.get(called) else {
             return Err(HistoryFault::ReturnWithoutCall(place));
-        }
-        let operation = self.operations[called].unpack();
+        };
         let Some(kind) = kind_of(operation.kind.called(), event.what) else {
             return Err(HistoryFault::WrongReturn(place));
         };
-        self.operations[called] = PackedOperation::new(Operation {
-            ret: event.ticket,
-            kind,
-            ..operation
-        });
+        self.timeline.complete(called, event.ticket, kind);
         self.pending[thread] = None;
         self.least_ticket = event.ticket + 1;
         Ok(())
@@ -164,8 +165,8 @@ impl Forming {
         if thread > MAX_THREAD {
             return None;
         }
-        let place = OpId::new(self.pending[usize::from(thread)]?);
-        let operation = operation_at(self.operations.as_slice(), place)?;
+        let place = self.pending[usize::from(thread)]?;
+        let operation = self.timeline.get(place as usize)?;
         Some(operation.call_event())
     }
 
@@ -185,26 +186,12 @@ impl Forming {
     }
 }
 
-/// Adds an operation. Only where the list has to grow is this more than a store.
-#[inline(always)]
-fn push(operations: &mut Vec<PackedOperation>, operation: PackedOperation) -> Result<(), AllocError>
-    ensures added { OnOk result (operations.new.items ≡ operations.old.items ++ operation ∷ []) }
-    ensures kept { OnErr result (operations.new.items ≡ operations.old.items) }
-{
-    if operations.len() == operations.capacity() {
-        operations.reserve(1)?;
-    }
-    operations.push_reserved(operation);
-    Ok(())
-}
-
 /// Returns the operation of a call while it is pending.
 #[inline(always)]
-fn begun(call: Event) -> PackedOperation
-    requires { call.ticket ≤ MAX_TICKET }
+fn begun(call: Event) -> Operation
     ensures { result ≡ judged.operation_so_far call None }
 {
-    PackedOperation::new(Operation {
+    Operation {
         call: call.ticket,
         ret: 0,
         thread: call.thread,
@@ -212,5 +199,5 @@ fn begun(call: Event) -> PackedOperation
             What::CallEnq(value) => OpKind::Enq(value),
             _ => OpKind::Empty,
         },
-    })
+    }
 }

@@ -6,7 +6,7 @@ ghost use Rattle.event_records.specs.declared.limits.TheConstants.{MAX_EVENTS, M
 ghost use Rattle.history_merge.specs.Clashes.{IsClash};
 ghost use Rattle.history_merge.specs.Faults.{IsFirstFault, calls_initial, repeats_value};
 ghost use Rattle.history_merge.specs.Forming.{operations_so_far};
-ghost use Rattle.history_merge.specs.Gathering.{HasFormed, HasGathered, IsFollowed, IsForming, KnowsCalled, KnowsInitial};
+ghost use Rattle.history_merge.specs.Gathering.{HasFormed, HasGathered, IsFollowed, IsForming, Knows};
 ghost use Rattle.history_merge.specs.Inner.History.{AreOfRun, IsRunOf};
 
 use crate::called::CalledValues;
@@ -14,17 +14,13 @@ use crate::clash::{Clash, Placed, Sought, clash_of, clash_of_initial, first_even
 use crate::complete::History;
 use crate::fault::HistoryFault;
 use crate::forming::Forming;
-use crate::initial_values::InitialValues;
-use crate::packed::PackedOperation;
-use crate::timeline::timeline_of;
-use event_records::{Event, MAX_EVENTS, What};
-use std::alloc::{AllocError, Global};
+use crate::timeline::Timeline;
+use event_records::{Event, MAX_EVENTS};
+use std::alloc::Global;
 
 /// The initial values and the operations of the events so far, or the first fault and what contradicts what there.
 #[derive(Drop)]
 pub(crate) struct Gathering {
-    initial: Vec<u64>,
-    known: InitialValues,
     called: CalledValues,
     forming: Forming,
     count: usize,
@@ -38,20 +34,18 @@ impl Gathering {
         requires { vec_len initial ≤ MAX_INITIAL }
         ensures { HasGathered initial.items [] result }
     {
-        let values = initial.as_slice();
-        let (known, fault, clash) = match InitialValues::new(alloc, values) {
-            Ok(known) => (known, None, None),
-            Err(fault) => (
-                InitialValues::none(alloc),
-                Some(fault),
-                clash_of_initial(fault, values),
-            ),
+        let mut called = CalledValues::new(alloc);
+        let (timeline, fault, clash) = match Timeline::new(alloc, initial) {
+            Ok(timeline) => {
+                let fault = called.note_initial(&timeline).err();
+                let clash = clash_of_initial(fault, timeline.initial());
+                (timeline, fault, clash)
+            }
+            Err(_) => (Timeline::none(alloc), Some(HistoryFault::Memory), None),
         };
         Gathering {
-            initial,
-            known,
-            called: CalledValues::new(alloc),
-            forming: Forming::new(alloc),
+            called,
+            forming: Forming::new(timeline),
             count: 0,
             fault,
             clash,
@@ -88,8 +82,8 @@ impl Gathering {
             → IsFollowed initial events event result self.new }
         ensures kept { (self.new.fault ≡ self.old.fault) × (self.new.clash ≡ self.old.clash) }
     {
-        let operations = self.forming.operations();
-        let repeats = repeats(&self.known, &mut self.called, event.what, operations)?;
+        let operations = self.forming.timeline().all();
+        let repeats = self.called.note(event.what, operations)?;
         self.forming.take(event, self.count, repeats)?;
         self.count = self.count.wrapping_add(1);
         Ok(())
@@ -98,18 +92,18 @@ impl Gathering {
     /// Keeps the fault of an event, and what it contradicts. Time O(n).
     #[inline(never)]
     fn keep(&mut self, fault: HistoryFault, event: Event)
-        requires { AreOfRun self.old.forming.operations.items }
-        ensures clash { (events : List Event) → HasFormed events self.old.forming → IsRunOf events self.old.forming.operations.items
+        requires { AreOfRun self.old.forming.timeline.operations }
+        ensures clash { (events : List Event) → HasFormed events self.old.forming → IsRunOf events self.old.forming.timeline.operations
             → length events < MAX_EVENTS → self.old.count ≡ length events
-            → IfSome self.new.clash (IsClash self.old.initial.items (events ++ event ∷ [])) }
+            → IfSome self.new.clash (IsClash self.old.forming.timeline.initial (events ++ event ∷ [])) }
         ensures fault { self.new.fault ≡ Some fault }
-        ensures initial { self.new.initial ≡ self.old.initial }
+        ensures forming { self.new.forming ≡ self.old.forming }
     {
         let placed = Placed {
             place: self.count,
             event,
         };
-        self.clash = clash_of(fault, placed, self.initial.as_slice(), &self.forming);
+        self.clash = clash_of(fault, placed, &self.forming);
         self.fault = Some(fault);
     }
 
@@ -134,8 +128,6 @@ impl Gathering {
         ensures kept { IsSome self.fault → IsErr result }
     {
         let Gathering {
-            initial,
-            known: _known,
             called: _called,
             forming,
             count: _count,
@@ -148,26 +140,6 @@ impl Gathering {
         if let Some(ticket) = forming.least_pending() {
             return Err(HistoryFault::Pending(ticket));
         }
-        let timeline = timeline_of(initial.as_slice(), forming.into_operations())?;
-        Ok(History::new(initial, timeline))
+        Ok(History::new(forming.into_timeline()))
     }
-}
-
-/// Whether the event calls with an initial value, or with one that an event before it called with; otherwise it notes
-/// the value. The operations are those of the events before.
-#[inline(always)]
-fn repeats(
-    known: &InitialValues,
-    called: &mut CalledValues,
-    what: What,
-    operations: &[PackedOperation],
-) -> Result<bool, AllocError>
-    ensures { (initial : List ℕ) (events : List Event) (e : Event) → e.what ≡ what → KnowsInitial initial known.now → KnowsCalled events called.old
-        → operations.now ≡ operations_so_far events
-        → IfOk result (λ repeats. (repeats ≡ (repeats_value events e || calls_initial initial e)) × (repeats ≡ false → KnowsCalled (events ++ e ∷ []) called.new)) }
-{
-    if known.are_called(what) {
-        return Ok(true);
-    }
-    called.note(what, operations)
 }

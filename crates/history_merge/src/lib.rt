@@ -10,7 +10,6 @@ mod events;
 mod fault;
 mod forming;
 mod gathering;
-mod initial_values;
 mod laws;
 mod matching;
 mod merging;

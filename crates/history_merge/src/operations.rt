@@ -96,7 +96,7 @@ impl<'a> FusedIterator for Operations<'a> {}
 
 /// The operation, this much earlier.
 #[inline(always)]
-fn earlier(operation: Operation, ticks: u64) -> Operation
+pub(crate) fn earlier(operation: Operation, ticks: u64) -> Operation
     requires { (ticks ≤ operation.call) × (ticks ≤ operation.ret) }
     ensures { result ≡ earlier_by ticks operation }
 {

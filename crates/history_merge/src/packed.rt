@@ -1,9 +1,9 @@
 //! Operations as a history keeps them.
-ghost use Rattle.std.specs.Prelude.{◌≡◌, ◌<◌, slice_get};
+ghost use Rattle.std.specs.Prelude.{◌≡◌, ◌<◌};
 ghost use Rattle.history_merge.specs.declared.packed.TheConstants.{PACKED_LIMIT};
 ghost use Rattle.history_merge.specs.Inner.Packed.{tag_of, value_of};
 
-use crate::operation::{OpId, OpKind, Operation};
+use crate::operation::{OpKind, Operation};
 use std::fmt::{Debug, Error, Formatter, Write};
 use std::marker::Model;
 
@@ -123,17 +123,6 @@ impl PackedOperation {
 impl Debug for PackedOperation {
     fn fmt<W: Write>(&self, f: &mut Formatter<W>) -> Result<(), Error> {
         self.unpack().fmt(f)
-    }
-}
-
-/// Returns the operation at the place, if there is one.
-#[inline(always)]
-pub(crate) fn operation_at(operations: &[PackedOperation], place: OpId) -> Option<Operation>
-    ensures { result ≡ slice_get operations.now place }
-{
-    match operations.get(place.place()) {
-        Some(operation) => Some(operation.unpack()),
-        None => None,
     }
 }
 

@@ -1,78 +1,189 @@
 //! The operations of a history on one scale of time.
-ghost use Rattle.std.specs.Prelude.{◌≡◌, ◌≤◌, ◌-◌, ◌*◌, ◌+◌, ◌<◌, ◌++◌, All, IfOk, drop, length, map, take};
+ghost use Rattle.std.specs.Prelude.{◌≡◌, ◌≤◌, ◌*◌, ◌+◌, ◌<◌, ◌++◌, ◌∷◌, [], IfOk, OnErr, OnOk, Some, length, map, slice_get, slice_set, vec_len};
 ghost use Rattle.event_records.specs.declared.limits.TheConstants.{MAX_INITIAL, MAX_TICKET};
 ghost use Rattle.history_merge.specs.declared.packed.TheConstants.{PACKED_LIMIT};
-ghost use Rattle.history_merge.specs.Initial.{enqueue_at, enqueues_from, later_by, timeline};
+ghost use Rattle.history_merge.specs.declared.operation.Operation.{Operation};
+ghost use Rattle.history_merge.specs.Initial.{enqueue_at, later_by, timeline};
 
 use crate::operation::{OpKind, Operation};
+use crate::operations::{Operations, earlier};
 use crate::packed::PackedOperation;
 use event_records::{MAX_INITIAL, MAX_TICKET};
-use std::alloc::AllocError;
+use std::alloc::{AllocError, Global};
+use std::marker::Model;
 
-/// Makes the timeline: thread 0 enqueues the initial values alone, one after another, and then the operations follow,
-/// each later by two ticks for each initial value.
+/// What a queue holds first, and operations, which come and change by their tickets.
 ///
-/// Time O(n). It takes memory for the enqueues, and moves the operations in place.
-pub(crate) fn timeline_of(
-    initial: &[u64],
-    operations: Vec<PackedOperation>,
-) -> Result<Vec<PackedOperation>, AllocError>
-    requires operations { All (λ o. (o.call ≤ MAX_TICKET) × (o.ret ≤ MAX_TICKET)) operations.items }
-    requires few { length initial.now ≤ MAX_INITIAL }
-    ensures { IfOk result (λ all. all.items ≡ timeline initial.now operations.items) }
-{
-    let mut all = operations;
-    if initial.is_empty() {
-        return Ok(all);
-    }
-    let count = all.len();
-    all.reserve_exact(initial.len())?;
-    all.resize(count + initial.len(), enqueue_of(0, 0))?;
-    move_behind(all.as_mut_slice(), initial.len());
-    put_enqueues(all.as_mut_slice(), initial);
-    Ok(all)
+/// Thread 0 enqueues the initial values alone, one after another and two ticks each; then the operations follow, later by
+/// all these ticks.
+#[derive(Debug, Drop)]
+pub(crate) struct Timeline {
+    initial: Vec<u64>,
+    all: Vec<PackedOperation>,
 }
 
-/// Moves all but the last operations behind as many places as these take, and later by two ticks for each place.
-fn move_behind(all: &mut [PackedOperation], ahead: usize)
-    requires ahead { ahead ≤ length all.old }
-    requires few { ahead ≤ MAX_INITIAL }
-    requires operations { All (λ o. (o.call ≤ MAX_TICKET) × (o.ret ≤ MAX_TICKET)) (take (length all.old - ahead) all.old) }
-    ensures moved { drop ahead all.new ≡ map (later_by (2 * ahead)) (take (length all.old - ahead) all.old) }
-    ensures len { length all.new ≡ length all.old }
+impl Model for Timeline {
+    ghost use Rattle.std.specs.Prelude.{length};
+    ghost use Rattle.history_merge.specs.Initial.{TimelineView};
+    ghost use Rattle.history_merge.specs.Inner.Timeline.{IsTimeline, operations_on};
+
+    ghost Value = { TimelineView };
+
+    ghost view = { λ t. record { initial = t.initial.items; operations = operations_on (length t.initial.items) t.all.items } };
+
+    ghost invariant = { λ t. IsTimeline t.initial.items t.all.items };
+}
+
+impl Timeline {
+    /// Begins with the enqueues of these values.
+    pub(crate) fn new(alloc: Global, initial: Vec<u64>) -> Result<Timeline, AllocError>
+        requires few { vec_len initial ≤ MAX_INITIAL }
+        ensures { IfOk result (λ t. (t.initial ≡ initial.items) × (t.operations ≡ [])) }
+    {
+        let mut all = Vec::with_capacity(alloc, initial.len())?;
+        for (place, value) in initial.iter().enumerate() {
+            all.push(enqueue_of(place, *value))?;
+        }
+        Ok(Timeline { initial, all })
+    }
+
+    /// No values and no operations.
+    pub(crate) fn none(alloc: Global) -> Timeline
+        ensures initial { result.initial ≡ [] }
+        ensures operations { result.operations ≡ [] }
+    {
+        Timeline {
+            initial: Vec::new(alloc),
+            all: Vec::new(alloc),
+        }
+    }
+
+    /// The values that the queue holds first.
+    pub(crate) fn initial(&self) -> &[u64]
+        ensures initial { result.now ≡ self.now.initial }
+        ensures few { length self.now.initial ≤ MAX_INITIAL }
+    {
+        self.initial.as_slice()
+    }
+
+    /// The enqueues of the initial values, and then the operations, later.
+    pub(crate) fn all(&self) -> &[PackedOperation]
+        ensures timeline { result.now ≡ timeline self.now.initial self.now.operations }
+        ensures few { length self.now.initial ≤ MAX_INITIAL }
+    {
+        self.all.as_slice()
+    }
+
+    /// The operations, by their tickets.
+    pub(crate) fn operations(&self) -> Operations<'_>
+        ensures { result ≡ self.now.operations }
+    {
+        Operations::new(self.ticks(), self.behind())
+    }
+
+    /// How many operations there are.
+    #[inline(always)]
+    pub(crate) fn len(&self) -> usize
+        ensures { result ≡ length self.now.operations }
+    {
+        self.behind().len()
+    }
+
+    /// The operations, later.
+    #[inline(always)]
+    fn behind(&self) -> &[PackedOperation]
+        ensures { result.now ≡ map (later_by (2 * length self.now.initial)) self.now.operations }
+    {
+        let (_, operations) = self.all.as_slice().split_at(self.initial.len());
+        operations
+    }
+
+    /// By how much the operations are later.
+    #[inline(always)]
+    fn ticks(&self) -> u64
+        ensures { result ≡ 2 * length self.now.initial }
+    {
+        2 * self.initial.len() as u64
+    }
+
+    /// The operation at this place.
+    #[inline(always)]
+    pub(crate) fn get(&self, place: usize) -> Option<Operation>
+        ensures { result ≡ slice_get self.now.operations place }
+    {
+        let later = operation_at(self.behind(), place)?;
+        Some(earlier(later, self.ticks()))
+    }
+
+    /// Gives the operation at this place its return and what it did.
+    #[inline(always)]
+    pub(crate) fn complete(&mut self, place: usize, ret: u64, kind: OpKind)
+        requires place { place < length self.old.operations }
+        requires ret { ret ≤ MAX_TICKET }
+        ensures initial { self.new.initial ≡ self.old.initial }
+        ensures operations { (o : Operation) → slice_get self.old.operations place ≡ Some o
+            → self.new.operations ≡ slice_set self.old.operations place (record o { ret = ret; kind = kind }) }
+    {
+        let ret = ret + self.ticks();
+        let place = self.initial.len() + place;
+        let pending = self.all[place].unpack();
+        self.all[place] = PackedOperation::new(Operation {
+            ret,
+            kind,
+            ..pending
+        });
+    }
+
+    /// Adds an operation.
+    #[inline(always)]
+    pub(crate) fn push(&mut self, operation: Operation) -> Result<(), AllocError>
+        requires call { operation.call ≤ MAX_TICKET }
+        requires ret { operation.ret ≤ MAX_TICKET }
+        ensures initial { self.new.initial ≡ self.old.initial }
+        ensures added { OnOk result (self.new.operations ≡ self.old.operations ++ operation ∷ []) }
+        ensures kept { OnErr result (self.new.operations ≡ self.old.operations) }
+    {
+        let later = later(operation, self.ticks());
+        push(&mut self.all, later)
+    }
+}
+
+/// Adds an operation. Only where the list has to grow is this more than a store.
+#[inline(always)]
+fn push(operations: &mut Vec<PackedOperation>, operation: PackedOperation) -> Result<(), AllocError>
+    ensures added { OnOk result (operations.new.items ≡ operations.old.items ++ operation ∷ []) }
+    ensures kept { OnErr result (operations.new.items ≡ operations.old.items) }
 {
-    let ticks = 2 * ahead as u64;
-    let mut place = all.len();
-    while place > ahead {
-        place -= 1;
-        all[place] = later(all[place - ahead], ticks);
+    if operations.len() == operations.capacity() {
+        operations.reserve(1)?;
+    }
+    operations.push_reserved(operation);
+    Ok(())
+}
+
+/// Returns the operation at the place, if there is one.
+#[inline(always)]
+fn operation_at(operations: &[PackedOperation], place: usize) -> Option<Operation>
+    ensures { result ≡ slice_get operations.now place }
+{
+    match operations.get(place) {
+        Some(operation) => Some(operation.unpack()),
+        None => None,
     }
 }
 
 /// The operation, later by this many ticks.
 #[inline(always)]
-fn later(packed: PackedOperation, ticks: u64) -> PackedOperation
-    requires call { packed.call + ticks < PACKED_LIMIT }
-    requires ret { packed.ret + ticks < PACKED_LIMIT }
-    ensures { result ≡ later_by ticks packed }
+fn later(operation: Operation, ticks: u64) -> PackedOperation
+    requires call { operation.call + ticks < PACKED_LIMIT }
+    requires ret { operation.ret + ticks < PACKED_LIMIT }
+    ensures { result ≡ later_by ticks operation }
 {
-    let operation = packed.unpack();
     PackedOperation::new(Operation {
         call: operation.call + ticks,
         ret: operation.ret + ticks,
         ..operation
     })
-}
-
-/// Puts an enqueue of each value over the first operations, one after another.
-fn put_enqueues(all: &mut [PackedOperation], values: &[u64])
-    requires few { length values.now ≤ MAX_INITIAL }
-    requires room { length values.now ≤ length all.old }
-    ensures { all.new ≡ enqueues_from 0 values.now ++ drop (length values.now) all.old }
-{
-    for (place, value) in values.iter().enumerate() {
-        all[place] = enqueue_of(place, *value);
-    }
 }
 
 /// The enqueue of the initial value at this place.

@@ -7,6 +7,7 @@ use Rattle.event_records.specs.Turns.{is_call, answers}
 use Rattle.history_merge.specs.declared.operation.Operation.{Operation}
 use Rattle.history_merge.specs.Events.{events_of}
 use Rattle.history_merge.specs.Faults.{pending_call}
+use Rattle.history_merge.specs.Gathering.{is_among}
 use Rattle.history_merge.specs.Operations.{enqueued_value, operations_of}
 
 -- the event may come next in its thread: a call if none is pending, otherwise the answer of the pending one
@@ -26,3 +27,7 @@ pub record IsFormedOf (events : List Event) (operations : List Operation) : Type
 -- whether one of the operations called to enqueue this value
 abbrev pub is_called_in : List Operation → ℕ → Bool
 is_called_in operations v = list_any (λ o. option_map_or (λ w. nat_eq w v) (enqueued_value o.kind) false) operations
+
+-- these are the values that the operations called to enqueue
+abbrev pub AreCalledIn : List Operation → List ℕ → Type 0
+AreCalledIn operations values = (v : ℕ) → is_called_in operations v ≡ is_among values v

@@ -4,21 +4,19 @@ use Rattle.std.specs.Prelude.{find, length, option_and_then, slice_index_or}
 use Rattle.std.specs.Bool.{then_some}
 use Rattle.std.specs.Option.{option_map_or}
 use Rattle.event_records.specs.declared.event.Event.{Event}
-use Rattle.event_records.specs.declared.limits.TheConstants.{MAX_EVENTS, MAX_INITIAL, MAX_THREAD}
+use Rattle.event_records.specs.declared.limits.TheConstants.{MAX_EVENTS, MAX_THREAD}
 use Rattle.event_records.specs.Turns.{TicketsRise, answers, is_call}
 use Rattle.history_merge.specs.declared.operation.Operation.{Operation}
 use Rattle.history_merge.specs.Events.{events_of}
 use Rattle.history_merge.specs.Forming.{operations_so_far}
-use Rattle.history_merge.specs.Initial.{IsCompleteFrom, timeline}
+use Rattle.history_merge.specs.Initial.{IsCompleteFrom}
 use Rattle.history_merge.specs.Operations.{operations_of}
 
--- the timeline is that of these operations of a complete history with these initial values, within its limits
-pub record IsKept (initial : List ℕ) (all operations : List Operation) : Type 0 where
-  pub all_is : all ≡ timeline initial operations
+-- the operations are those of a complete history with these initial values, within its limits
+pub record IsKept (initial : List ℕ) (operations : List Operation) : Type 0 where
   pub complete : IsCompleteFrom initial (events_of operations)
   pub formed : operations ≡ operations_of (events_of operations)
   pub few_events : length (events_of operations) ≤ MAX_EVENTS
-  pub few_initial : length initial ≤ MAX_INITIAL
 
 -- ---- the events from some place on
 

@@ -1,8 +1,7 @@
-use Rattle.std.proofs.Common.{◌∙◌, ap, arith, length, subst, sym}
+use Rattle.std.proofs.Common.{ap, arith, length, subst, sym, ◌∙◌}
 use Rattle.history_merge.specs.Complete.{AreComplete}
 use Rattle.history_merge.specs.Events.{events_of}
 use Rattle.history_merge.specs.Initial.{timeline}
-use Rattle.history_merge.specs.Inner.Timeline.{operations_on}
 use Rattle.history_merge.proofs.Completeness.{few_operations}
 use Rattle.history_merge.proofs.TimelineOperations.{length_timeline}
 use Rattle.history_merge.proofs.Timelines.{timeline_is_of_complete}
@@ -11,18 +10,18 @@ use Rattle.history_merge.proofs.complete.History.timeline.Goals as goal
 pub returns-clause-complete : goal.returns-clause-complete
 returns-clause-complete c =
     let kept = c.self.invariant in
-    let initial = c.self.inside.initial.items in
-    let own = operations_on (length initial) c.self.inside.timeline.items in
-    subst AreComplete (sym (c.as_slice.ensures.value ∙ kept.all_is ∙ ap (timeline initial) kept.formed))
-    (timeline_is_of_complete initial (events_of own) kept.complete kept.few_initial)
+    let initial = c.self.inside.timeline.initial in
+    let own = c.self.inside.timeline.operations in
+    subst AreComplete (sym (c.all.ensures.timeline ∙ ap (timeline initial) kept.formed))
+    (timeline_is_of_complete initial (events_of own) kept.complete c.all.ensures.few)
 
 pub returns-clause-few : goal.returns-clause-few
 returns-clause-few c =
     let kept = c.self.invariant in
-    let initial = c.self.inside.initial.items in
-    let own = operations_on (length initial) c.self.inside.timeline.items in
+    let initial = c.self.inside.timeline.initial in
+    let own = c.self.inside.timeline.operations in
     let many = length_timeline initial own in
     let half = few_operations (events_of own) in
-    let same = ap length (c.as_slice.ensures.value ∙ kept.all_is) in
+    let same = ap length c.all.ensures.timeline in
     let formed = ap length kept.formed in
-    omega (arith, many, half, same, formed, kept.few_events, kept.few_initial)
+    omega (arith, many, half, same, formed, kept.few_events, c.all.ensures.few)

@@ -8,11 +8,10 @@ returns-then-thread-gt-MAX_THREAD c = λ events known. sym (pending_call-above e
 
 pub returns-in_err-operation : goal.returns-in_err-operation
 returns-in_err-operation c = λ events known.
-    c.from_residual-in_err-operation.ensures ∙ call_at events c.args.thread c.args.self.now c.in_ok-self.field-0 None c.if-thread-gt-MAX_THREAD.false known
-    (rw c.from.ensures at c.in_ok-self.was) (rw (c.as_slice.ensures.value, c.new-place.ensures) at c.in_err-operation.ensures)
+    c.from_residual-in_err-operation.ensures ∙ call_at events c.args.thread c.args.self.now c.in_ok-place.place None c.if-thread-gt-MAX_THREAD.false known
+    (rw c.from.ensures at c.in_ok-place.was) c.in_err-operation.ensures
 
 pub returns : goal.returns
 returns c = λ events known.
-    rw c.call_event.ensures (call_at events c.args.thread c.args.self.now c.in_ok-self.field-0 (Some c.in_ok-operation.operation)
-    c.if-thread-gt-MAX_THREAD.false known (rw c.from.ensures at c.in_ok-self.was)
-    (rw (c.as_slice.ensures.value, c.new-place.ensures) at c.in_ok-operation.ensures))
+    rw c.call_event.ensures (call_at events c.args.thread c.args.self.now c.in_ok-place.place (Some c.in_ok-operation.operation)
+    c.if-thread-gt-MAX_THREAD.false known (rw c.from.ensures at c.in_ok-place.was) c.in_ok-operation.ensures)

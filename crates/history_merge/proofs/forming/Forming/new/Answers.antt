@@ -3,9 +3,9 @@ use Rattle.event_records.specs.declared.limits.TheConstants.{MAX_THREADS}
 use Rattle.history_merge.proofs.NextEvents.{nothing_at}
 use Rattle.history_merge.proofs.forming.Forming.new.Goals as goal
 
-pub returns : goal.returns
-returns c = record {
-  operations = c.new.ensures.items;
+pub returns-clause-formed : goal.returns-clause-formed
+returns-clause-formed c = record {
+  operations = c.requires;
   least_ticket = refl;
   one_per_thread = refl;
   waits = λ thread. refl;

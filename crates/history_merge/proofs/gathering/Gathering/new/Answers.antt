@@ -1,27 +1,33 @@
-use Rattle.std.proofs.Common.{arith, inl, refl, rules, []}
+use Rattle.std.proofs.Common.{[], ap, arith, inl, refl, subst, sym, ◌∙◌}
+use Rattle.std.specs.Prelude.{IfSome}
+use Rattle.history_merge.specs.declared.gathering.Gathering.{Gathering}
+use Rattle.history_merge.specs.Clashes.{IsClash}
+use Rattle.history_merge.specs.Gathering.{HasGathered}
+use Rattle.history_merge.proofs.MetFaults.{begun}
 use Rattle.history_merge.proofs.gathering.Gathering.new.Goals as goal
-use Rattle.history_merge.proofs.gathering.Gathering.new.Goals.{in-Ok, in-Err}
+use Rattle.history_merge.proofs.gathering.Gathering.new.Goals.{in-Err, in-Ok}
 
 pub returns : goal.returns
 returns c = elim c.match-new.branch [
-  | in-Ok w ↦ rw w.known-is (record {
-    few_initial = search rules;
+  | in-Ok w ↦
+      let made = w.in-Ok.ensures in
+      let values = w.in-Ok.timeline.initial in
+      let g : Gathering = record {
+        called = c.match-new.called;
+        forming = c.new-2.result;
+        count = 0;
+        fault = c.match-new.timeline.1;
+        clash = c.match-new.timeline.2;
+      } in
+      let clash = subst (λ vs. IfSome w.clash_of_initial-clash.result (IsClash vs [])) w.initial.ensures.initial (w.clash_of_initial-clash.ensures []) in
+      subst (λ vs. HasGathered vs [] g) made.0 (begun g values w.note_initial.new.self w.note_initial.result w.initial.ensures.few
+      c.new-2.ensures.formed refl (c.new-2.ensures.initial ∙ ap (λ t. t.0.initial) w.timeline-is) w.called-is
+      (ap (λ t. t.1) w.timeline-is ∙ w.err-fault.ensures.value) w.note_initial.ensures.noted w.note_initial.ensures.refused
+      (subst (λ o. IfSome o (IsClash values [])) (sym (ap (λ t. t.2) w.timeline-is)) clash))
+  | in-Err w ↦ rw w.timeline-is (record {
+    few_initial = omega (arith, c.requires);
     few = omega arith;
-    gathered = record {
-      initial_is = refl;
-      distinct = rw c.as_slice-values.ensures.value at w.in-Ok.ensures.distinct;
-      known = rw c.as_slice-values.ensures.value at w.in-Ok.ensures.outcome;
-      called = c.new-2.ensures;
-      formed = c.new-3.ensures;
-      count = refl;
-      no_fault = λ i e below. absurd (omega arith);
-    };
+    gathered = inl (inl refl);
     clash = tt;
-  })
-  | in-Err w ↦ rw w.known-is (record {
-    few_initial = search rules;
-    few = omega arith;
-    gathered = inl (rw c.as_slice-values.ensures.value at w.in-Err.ensures.outcome);
-    clash = rw c.as_slice-values.ensures.value at (w.clash_of_initial.ensures []);
   })
 ]

@@ -1,0 +1,22 @@
+use Rattle.std.proofs.Common.{◌≡◌, ◌*◌, ap, arith, drop, length, map, ◌∙◌}
+use Rattle.history_merge.specs.Initial.{TimelineView, later_by}
+use Rattle.history_merge.specs.Inner.Timeline.{operations_on}
+use Rattle.history_merge.proofs.TimelineOperations.{behind_enqueues, length_timeline}
+use Rattle.history_merge.proofs.timeline.Timeline.behind.Goals as goal
+
+pub split_at-requires : goal.split_at-requires
+split_at-requires c =
+    let initial = c.self.inside.initial.items in
+    let long = length_timeline initial (operations_on (length initial) c.self.inside.all.items) in
+    let same = ap length c.self.invariant.is in
+    let slice = ap length c.as_slice.ensures.value in
+    omega (arith, long, same, slice, c.len.ensures)
+
+pub returns : goal.returns
+returns c =
+    let initial = c.self.inside.initial.items in
+    let all = c.self.inside.all.items in
+    let count : c.len.result ≡ length initial = omega (arith, c.len.ensures) in
+    c.split_at.ensures.back ∙ ap (drop c.len.result) c.as_slice.ensures.value ∙ ap (λ n. drop n all) count
+    ∙ behind_enqueues initial all (operations_on (length initial) all) c.self.invariant.is
+    ∙ ap (λ (view : TimelineView). map (later_by (2 * length view.initial)) view.operations) c.self.view_is

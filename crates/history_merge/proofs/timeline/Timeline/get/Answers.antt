@@ -1,0 +1,24 @@
+use Rattle.std.proofs.Common.{◌≡◌, ◌*◌, ◌+◌, Some, ap, arith, length, sym, ◌∙◌}
+use Rattle.history_merge.specs.declared.operation.Operation.{Operation}
+use Rattle.history_merge.specs.Inner.Timeline.{earlier_by}
+use Rattle.history_merge.proofs.Later.{there_and_back}
+use Rattle.history_merge.proofs.TimelineOperations.{later_at}
+use Rattle.std.specs.Prelude.{slice_get}
+use Rattle.history_merge.proofs.timeline.Timeline.get.Goals as goal
+
+pub earlier-requires : goal.earlier-requires
+earlier-requires c =
+    let view = c.args.self.now in
+    let found = later_at (2 * length view.initial) view.operations c.args.place c.in_ok-later.later
+    (ap (λ os. slice_get os c.args.place) (sym c.behind.ensures) ∙ sym c.operation_at.ensures ∙ c.in_ok-later.was) in
+    let call : found.0.call + 2 * length view.initial ≡ c.in_ok-later.later.call = ap (λ (o : Operation). o.call) found.2 in
+    let ret : found.0.ret + 2 * length view.initial ≡ c.in_ok-later.later.ret = ap (λ (o : Operation). o.ret) found.2 in
+    (omega (arith, call, c.ticks.ensures), omega (arith, ret, c.ticks.ensures))
+
+pub returns : goal.returns
+returns c =
+    let view = c.args.self.now in
+    let found = later_at (2 * length view.initial) view.operations c.args.place c.in_ok-later.later
+    (ap (λ os. slice_get os c.args.place) (sym c.behind.ensures) ∙ sym c.operation_at.ensures ∙ c.in_ok-later.was) in
+    ap (λ o. Some o) (c.earlier.ensures ∙ ap (λ n. earlier_by n c.in_ok-later.later) c.ticks.ensures
+    ∙ ap (earlier_by (2 * length view.initial)) (sym found.2) ∙ there_and_back (2 * length view.initial) found.0) ∙ sym found.1
