@@ -53,8 +53,8 @@ pub fn history(alloc: Global, events: &[Event]) -> Result<History, HistoryFault>
 /// the events as [`history`] does, and a call with an initial value has the fault `DuplicateValue` too. `Memory`
 /// comes if memory runs out, and then says nothing of the values and the events.
 ///
-/// It takes 28 bytes for each initial value. Time is that of [`history`], O(n + k) for k initial values, if these rise too and
-/// their upper halves name no thread, as a recorder's do.
+/// It takes 28 bytes for each initial value. Time is that of [`history`], and O(k) more for k initial values if these rise
+/// and their upper halves name no thread, as a recorder's do.
 ///
 /// The queue holds 7 at first, and `events` dequeue it:
 ///

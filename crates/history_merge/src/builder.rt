@@ -18,8 +18,8 @@ use std::marker::Model;
 /// Builds a complete history (Herlihy and Wing 1990, section 2.1): it takes events one by one, and `finish` returns
 /// the history or the first fault.
 ///
-/// It keeps the operations alone, behind an enqueue for each initial value, as long as the values of each thread have its
-/// name and rise and the initial values rise too; otherwise also a set of all values.
+/// It keeps the operations alone, after an enqueue for each initial value, as long as the values of each thread have
+/// its name and rise, and the initial values rise too; otherwise also a set of all values.
 ///
 /// The builder takes `events` one by one:
 ///
@@ -66,8 +66,8 @@ impl HistoryBuilder {
     /// There is room for [`event_records::MAX_EVENTS`] events. The builder doesn't take one more, and `finish` then
     /// returns `Memory` unless the builder keeps another fault.
     ///
-    /// Time O(1) as long as the values rise, otherwise O(log n) after n events and initial values; sometimes it grows its
-    /// memory.
+    /// Time O(1) as long as the values rise, otherwise O(log n) after n events and initial values; sometimes it grows
+    /// its memory.
     #[inline(always)]
     pub fn add(&mut self, event: Event)
         ensures added { (initial : List ℕ) (events : List Event) → HasGathered initial events self.old → length events < MAX_EVENTS

@@ -17,9 +17,9 @@ use std::collections::BTreeSet;
 
 /// The values that a queue holds first and that calls had so far.
 ///
-/// A recorder puts the thread into the upper half of a value's bits, and the values of one thread rise; so may those that
-/// the queue holds first, whose upper half is above all threads. As long as they do, one number for each upper half shows
-/// that a value is new. From the first value that doesn't rise, a set holds them.
+/// A recorder puts the thread into the upper half of a value's bits, and the values of one thread rise. So may those
+/// that the queue holds first, whose upper halves are above all threads. As long as they do, one number for each thread
+/// shows that a value is new, and one for all other values. From the first value that doesn't rise, a set holds them.
 #[derive(Drop)]
 pub(crate) struct CalledValues {
     alloc: Global,

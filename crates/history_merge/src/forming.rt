@@ -40,8 +40,8 @@ impl Forming {
         }
     }
 
-    /// What the queue holds first, and the operations; a pending one has the return 0, and counts as a successful enqueue
-    /// or as empty.
+    /// What the queue holds first, and the operations. A pending one has the return 0, and counts as a successful
+    /// enqueue or as empty.
     #[inline(always)]
     pub(crate) fn timeline(&self) -> &Timeline
         ensures { result.now ≡ self.now.timeline }

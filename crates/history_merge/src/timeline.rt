@@ -14,8 +14,8 @@ use std::marker::Model;
 
 /// What a queue holds first, and operations, which come and change by their tickets.
 ///
-/// Thread 0 enqueues the initial values alone, one after another and two ticks each; then the operations follow, later by
-/// all these ticks.
+/// Thread 0 enqueues the initial values alone, one after another and two ticks each. Then the operations follow, later
+/// by all these ticks.
 #[derive(Debug, Drop)]
 pub(crate) struct Timeline {
     initial: Vec<u64>,
