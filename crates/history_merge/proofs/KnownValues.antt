@@ -1,18 +1,20 @@
 -- Which values were noted, after one more.
 use Rattle.std.proofs.Common.{◌≡◌, ℕ, zero, suc, ◌+◌, ◌||◌, Bool, true, false, not, cond, List, [], ◌∷◌, ◌++◌, length, get_or, Option, Some, None, take}
-use Rattle.std.proofs.Common.{refl, sym, ◌∙◌, ap, subst, arith, nat_eq, append_assoc}
-use Rattle.std.specs.Prelude.{MatchOption, map, ◌*◌, ◌<◌}
+use Rattle.std.proofs.Common.{◌-◌, ◌≢◌, ◌⊎◌, inl, inr, refl, sym, ◌∙◌, ap, subst, set, arith, nat_eq, append_assoc, length-set, get_or-set_same, get_or-set_other}
+use Rattle.std.specs.Prelude.{map, ◌*◌, ◌<◌, ◌≤◌, ◌&&◌}
 use Rattle.std.specs.List.{cons_option}
 use Rattle.std.specs.Option.{option_map_or}
 use Rattle.std.specs.Ordering.{nat_cmp, is_eq}
-use Rattle.std.specs.BTreeSet.{BTreeSet, contains}
-use Rattle.std.proofs.lemmas.Bool.Decides.{nat_tests}
+use Rattle.std.specs.BTreeSet.{contains}
+use Rattle.std.proofs.lemmas.Bool.{eqb-true, ne_eqb}
+use Rattle.std.proofs.lemmas.Bool.Decides.{eqb_tells, nat_tests}
 use Rattle.std.proofs.lemmas.List.{take-append-le}
 use Rattle.std.proofs.lemmas.List.Elements.{filter_map-append}
 use Rattle.std.proofs.lemmas.List.Folds.{list_any-append}
 use Rattle.event_records.specs.declared.limits.TheConstants.{MAX_THREADS}
 use Rattle.event_records.specs.declared.event.Event.{Event}
 use Rattle.history_merge.specs.declared.called.CalledValues.{CalledValues}
+use Rattle.history_merge.specs.declared.called.TheConstants.{LOOSE}
 use Rattle.history_merge.specs.declared.operation.Operation.{Operation}
 use Rattle.history_merge.specs.Complete.{called_value, called_values}
 use Rattle.history_merge.specs.Faults.{calls_initial, is_initial, repeats_value, was_called}
@@ -37,22 +39,42 @@ is_eq-nat_cmp v q = grind (arith, nat_tests)
 pub among-push : (values : List ℕ) (v w : ℕ) → is_among (values ++ v ∷ []) w ≡ (is_among values w || nat_eq v w)
 among-push values v w = list_any-append (λ x. nat_eq x w) values (v ∷ []) ∙ ap (λ b. is_among values w || b) (or_false (nat_eq v w))
 
--- if they stand in a set, that has one more
-pub knows_set : (values : List ℕ) (least : List ℕ) (old new : BTreeSet ℕ) (called : CalledValues) (v : ℕ) → length least ≡ MAX_THREADS + 1
-    → ((q : ℕ) → contains nat_cmp old q ≡ is_among values q) → ((q : ℕ) → contains nat_cmp new q ≡ cond (is_eq (nat_cmp v q)) true (contains nat_cmp old q))
-    → called.least ≡ least → called.others ≡ Some new → Knows (values ++ v ∷ []) called
-knows_set values least old new called v long has adds same others = record {
-  one_each = rw same long;
-  known = subst (λ o. MatchOption o ((w : ℕ) → is_among (values ++ v ∷ []) w ≡ true → w < get_or called.least (name_in w) 0)
-      (λ s. (w : ℕ) → contains nat_cmp s w ≡ is_among (values ++ v ∷ []) w)) (sym others) each;
+-- ---- one value more
+
+or_true : (a b : Bool) → (a || b) ≡ true → (a ≡ true) ⊎ (b ≡ true)
+or_true true b is = inl refl
+or_true false b is = inr is
+
+or_left : (a b : Bool) → a ≡ true → (a || b) ≡ true
+or_left a b is = rw is refl
+
+-- a value of a loose name
+pub knows_loose : (values : List ℕ) (old new : CalledValues) (v : ℕ) → Knows values old → get_or old.least (name_in v) 0 ≡ LOOSE
+    → ((q : ℕ) → contains nat_cmp new.loose q ≡ cond (is_eq (nat_cmp v q)) true (contains nat_cmp old.loose q)) → new.least ≡ old.least
+    → Knows (values ++ v ∷ []) new
+knows_loose values old new v knows is adds same = record {
+  one_each = rw same knows.one_each;
+  rising = λ w among rises. elim (or_true (is_among values w) (nat_eq v w) (sym (among-push values v w) ∙ among)) [
+    | inl before ↦ rw same (knows.rising w before (rw same at rises))
+    | inr own ↦ absurd (let at : get_or old.least (name_in w) 0 ≡ LOOSE = subst (λ x. get_or old.least (name_in x) 0 ≡ LOOSE) (eqb-true v w own) is in
+        let less = rw same at rises in omega (arith, at, less))
+  ];
+  loose = λ w loose. held w ∙ ap (λ b. b || nat_eq v w) (knows.loose w (rw same at loose)) ∙ sym (among-push values v w);
+  only = λ w there. elim (or_true (contains nat_cmp old.loose w) (nat_eq v w) (sym (held w) ∙ there)) [
+    | inl before ↦ among-push values v w ∙ or_left (is_among values w) (nat_eq v w) (knows.only w before)
+    | inr own ↦ among-push values v w ∙ ap (λ b. is_among values w || b) own ∙ or_right (is_among values w)
+  ];
 }
   where
+    or_right : (a : Bool) → (a || true) ≡ true
+    or_right true = refl
+    or_right false = refl
+
     or_cond : (here before : Bool) → cond here true before ≡ (before || here)
     or_cond here before = grind (arith, nat_tests)
 
-    each : (q : ℕ) → contains nat_cmp new q ≡ is_among (values ++ v ∷ []) q
-    each q = adds q ∙ ap (λ b. cond b true (contains nat_cmp old q)) (is_eq-nat_cmp v q) ∙ ap (cond (nat_eq v q) true) (has q)
-        ∙ or_cond (nat_eq v q) (is_among values q) ∙ sym (among-push values v q)
+    held : (w : ℕ) → contains nat_cmp new.loose w ≡ (contains nat_cmp old.loose w || nat_eq v w)
+    held w = adds w ∙ ap (λ b. cond b true (contains nat_cmp old.loose w)) (is_eq-nat_cmp v w) ∙ or_cond (nat_eq v w) (contains nat_cmp old.loose w)
 
 -- the set decides whether the value is new
 pub repeats_by_set : (added has was : Bool) → added ≡ not has → has ≡ was → not added ≡ was

@@ -10,6 +10,7 @@ use Rattle.event_records.specs.declared.limits.TheConstants.{MAX_EVENTS, MAX_INI
 use Rattle.history_merge.specs.declared.fault.HistoryFault.{HistoryFault}
 use Rattle.history_merge.specs.declared.fault.HistoryFault.TheVariants.{Memory, InitialTwice}
 use Rattle.history_merge.specs.declared.called.CalledValues.{CalledValues}
+use Rattle.history_merge.specs.declared.called.TheConstants.{LOOSE}
 use Rattle.history_merge.specs.declared.forming.Forming.{Forming}
 use Rattle.history_merge.specs.declared.gathering.Gathering.{Gathering}
 use Rattle.history_merge.specs.Clashes.{IsClash}
@@ -25,11 +26,12 @@ is_among values v = list_any (λ w. nat_eq w v) values
 abbrev pub name_in : ℕ → ℕ
 name_in v = min (v / NAMES_OF_A_THREAD) MAX_THREADS
 
--- it is known which these values are: each is below the least that its name may have next, or they stand in a set
+-- it is known which these values are: each is below the least that its name may have next, or that is LOOSE and a set has it
 pub record Knows (values : List ℕ) (called : CalledValues) : Type 0 where
   pub one_each : length called.least ≡ MAX_THREADS + 1
-  pub known : MatchOption called.others ((v : ℕ) → is_among values v ≡ true → v < slice_index_or called.least (name_in v) 0)
-      (λ others. (v : ℕ) → contains nat_cmp others v ≡ is_among values v)
+  pub rising : (v : ℕ) → is_among values v ≡ true → slice_index_or called.least (name_in v) 0 < LOOSE → v < slice_index_or called.least (name_in v) 0
+  pub loose : (v : ℕ) → slice_index_or called.least (name_in v) 0 ≡ LOOSE → contains nat_cmp called.loose v ≡ is_among values v
+  pub only : (v : ℕ) → contains nat_cmp called.loose v ≡ true → is_among values v ≡ true
 
 -- the operations of the events are there, the least ticket above theirs, and the place of each thread's pending call
 pub record HasFormed (events : List Event) (forming : Forming) : Type 0 where

@@ -18,7 +18,7 @@ use std::alloc::Global;
 /// memory runs out, and then says nothing of the events.
 ///
 /// The history takes 20 bytes for each operation. Time O(n) for n events whose values have a recorder's names,
-/// otherwise O(n log n) and memory for a set of the values.
+/// otherwise O(n log n) and memory for a set of the others.
 ///
 /// An enqueue of 7 is a history of one operation:
 ///
@@ -54,7 +54,7 @@ pub fn history(alloc: Global, events: &[Event]) -> Result<History, HistoryFault>
 /// comes if memory runs out, and then says nothing of the values and the events.
 ///
 /// It takes 28 bytes for each initial value. Time is that of [`history`], and O(k) more for k initial values if these rise
-/// and their upper halves name no thread, as a recorder's do.
+/// and their upper halves name no thread, as a recorder's do; otherwise O(k log k), and memory for a set of them.
 ///
 /// The queue holds 7 at first, and `events` dequeue it:
 ///

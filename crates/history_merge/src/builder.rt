@@ -19,7 +19,7 @@ use std::marker::Model;
 /// the history or the first fault.
 ///
 /// It keeps the operations alone, after an enqueue for each initial value, as long as the values of each thread have
-/// its name and rise, and the initial values rise too; otherwise also a set of all values.
+/// its name and rise, and the initial values rise too; otherwise also a set of the values of the names that don't.
 ///
 /// The builder takes `events` one by one:
 ///

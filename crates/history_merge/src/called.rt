@@ -1,5 +1,7 @@
 //! The values that a queue holds first and that calls had so far.
-ghost use Rattle.std.specs.Prelude.{◌≡◌, ◌++◌, ◌∷◌, [], ℕ, List, None, false, IfErr, IfOk, MatchOption, min};
+ghost use Rattle.std.specs.Prelude.{◌≡◌, ◌++◌, ◌∷◌, [], ℕ, List, ◌||◌, ◌&&◌, ◌+◌, ◌<◌, false, nat_eq, slice_index_or, IfErr, IfOk, OnOk};
+ghost use Rattle.event_records.specs.declared.limits.TheConstants.{MAX_THREADS};
+ghost use Rattle.history_merge.specs.declared.called.TheConstants.{LOOSE};
 ghost use Rattle.std.specs.List.{cons_option};
 ghost use Rattle.std.specs.Ordering.{nat_cmp};
 ghost use Rattle.std.specs.Option.{option_map_or};
@@ -18,24 +20,26 @@ use std::collections::BTreeSet;
 /// The values that a queue holds first and that calls had so far.
 ///
 /// A recorder puts the thread into the upper half of a value's bits, and the values of one thread rise. So may those
-/// that the queue holds first, whose upper halves are above all threads. As long as they do, one number for each thread
-/// shows that a value is new, and one for all other values. From the first value that doesn't rise, a set holds them.
+/// that the queue holds first, whose upper halves are above all threads. As long as the values of a thread rise, one
+/// number shows that the next one is new; so does one for all values that no thread names. Once one doesn't rise, a set
+/// holds the values of that name.
 #[derive(Drop)]
 pub(crate) struct CalledValues {
-    alloc: Global,
-    // For each thread, and for all upper halves above the threads.
+    // The least that may come next, of each thread and of all values that no thread names; LOOSE if a set holds them.
     least: [u64; MAX_THREADS + 1],
-    others: Option<BTreeSet<u64>>,
+    loose: BTreeSet<u64>,
 }
+
+/// Above all that may come next of values that rise.
+const LOOSE: u64 = u64::MAX;
 
 impl CalledValues {
     pub(crate) fn new(alloc: Global) -> CalledValues
         ensures { Knows [] result }
     {
         CalledValues {
-            alloc,
             least: [0; MAX_THREADS + 1],
-            others: None,
+            loose: BTreeSet::new(alloc),
         }
     }
 
@@ -77,45 +81,36 @@ impl CalledValues {
         ensures { (values : List ℕ) → Knows values self.old → AreCalledIn operations.now values
             → IfOk result (λ repeats. (repeats ≡ is_among values value) × Knows (values ++ value ∷ []) self.new) }
     {
-        match &mut self.others {
-            Some(values) => Ok(!values.insert(value)?),
-            None => self.note_rising(value, operations),
-        }
-    }
-
-    /// Does so as long as the values rise.
-    #[inline(always)]
-    fn note_rising(
-        &mut self,
-        value: u64,
-        operations: &[PackedOperation],
-    ) -> Result<bool, AllocError>
-        requires { self.old.others ≡ None }
-        ensures { (values : List ℕ) → Knows values self.old → AreCalledIn operations.now values
-            → IfOk result (λ repeats. (repeats ≡ is_among values value) × Knows (values ++ value ∷ []) self.new) }
-    {
         let name = name_in(value);
-        if self.least[name] <= value && value < u64::MAX {
+        if self.least[name] <= value && value < LOOSE - 1 {
             self.least[name] = value + 1;
             return Ok(false);
         }
-        self.note_in_set(value, operations)
+        self.note_loose(value, operations)
     }
 
-    /// Does so from the first value on that doesn't rise.
+    /// Does so for a value that doesn't rise, or after one of the same name.
     #[inline(never)]
-    fn note_in_set(
-        &mut self,
-        value: u64,
-        operations: &[PackedOperation],
-    ) -> Result<bool, AllocError>
+    fn note_loose(&mut self, value: u64, operations: &[PackedOperation]) -> Result<bool, AllocError>
         ensures { (values : List ℕ) → Knows values self.old → AreCalledIn operations.now values
             → IfOk result (λ repeats. (repeats ≡ is_among values value) × Knows (values ++ value ∷ []) self.new) }
     {
-        let mut values = values_of(self.alloc, operations)?;
-        let is_new = values.insert(value)?;
-        self.others = Some(values);
-        Ok(!is_new)
+        self.loosen(name_in(value), operations)?;
+        Ok(!self.loose.insert(value)?)
+    }
+
+    /// Has the set hold the values of this name.
+    fn loosen(&mut self, name: usize, operations: &[PackedOperation]) -> Result<(), AllocError>
+        requires { name < MAX_THREADS + 1 }
+        ensures { (values : List ℕ) → Knows values self.old → AreCalledIn operations.now values
+            → OnOk result (Knows values self.new × (slice_index_or self.new.least name 0 ≡ LOOSE)) }
+    {
+        if self.least[name] == LOOSE {
+            return Ok(());
+        }
+        add_named(&mut self.loose, name, operations)?;
+        self.least[name] = LOOSE;
+        Ok(())
     }
 }
 
@@ -136,15 +131,21 @@ pub(crate) fn called_value(what: What) -> Option<u64>
     }
 }
 
-/// Returns the values of the calls of these operations.
-fn values_of(alloc: Global, operations: &[PackedOperation]) -> Result<BTreeSet<u64>, AllocError>
-    ensures { IfOk result (λ values. (v : ℕ) → contains nat_cmp values v ≡ is_called_in operations.now v) }
+/// Adds those values of the calls of these operations that have this name.
+fn add_named(
+    values: &mut BTreeSet<u64>,
+    name: usize,
+    operations: &[PackedOperation],
+) -> Result<(), AllocError>
+    ensures { OnOk result ((v : ℕ) → contains nat_cmp values.new v
+        ≡ (contains nat_cmp values.old v || (nat_eq (name_in v) name && is_called_in operations.now v))) }
 {
-    let mut values = BTreeSet::new(alloc);
     for operation in operations {
-        if let Some(value) = operation.unpack().kind.enqueued_value() {
+        if let Some(value) = operation.unpack().kind.enqueued_value()
+            && name_in(value) == name
+        {
             values.insert(value)?;
         }
     }
-    Ok(values)
+    Ok(())
 }
