@@ -23,18 +23,17 @@ fn errors_show_their_names_and_places(rt: HostRuntime) -> Result<(), Fail> {
 }
 
 #[test]
-fn faults_tell_their_names_and_places(rt: HostRuntime) -> Result<(), Fail> {
+fn faults_tell_their_names_and_places(rt: HostRuntime) {
     let names = [
         TextFault::Limit(7).name(),
         HistoryFault::BadThread(5).name(),
         StepRefused::NoAnswer.name(),
     ];
-    assert_eq!(rt; names, ["Limit", "BadThread", "NoAnswer"]);
     let places = [
         TextFault::Limit(7).line(),
         TextFault::Trailing.line(),
         HistoryFault::BadThread(5).place(),
     ];
-    assert_eq!(rt; places, [Some(7), None, Some(5)]);
-    Ok(())
+    assert!(rt; names == ["Limit", "BadThread", "NoAnswer"]);
+    assert!(rt; places == [Some(7), None, Some(5)]);
 }

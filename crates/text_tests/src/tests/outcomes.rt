@@ -1,11 +1,27 @@
 //! What the tests of the readers share.
-ghost use Rattle.std.specs.Prelude.{◌≡◌, ◌<◌, IfOk};
+ghost use Rattle.std.specs.Prelude.{◌≡◌, ◌<◌, IfOk, Some};
 
-use history_text::{MemorySource, TextFault};
+use history_text::{MemorySource, ReadFailed, TextFault, TextSource};
 use std::alloc::{AllocError, Global};
-use std::fmt::Debug;
 use std::process::Abort;
+use std::sync::atomic::{AtomicUsize, Ordering};
 use std::test::Fail;
+
+/// A source that counts its reads.
+#[derive(Drop)]
+pub(crate) struct Counted<'a> {
+    pub(crate) source: MemorySource<'a>,
+    pub(crate) reads: &'a AtomicUsize,
+}
+
+impl TextSource for Counted<'_> {
+    ghost ahead = { λ s. Some s.source.ahead };
+
+    fn read(&mut self, piece: &mut [u8]) -> Result<usize, ReadFailed> {
+        self.reads.fetch_add(1, Ordering::SeqCst);
+        self.source.read(piece)
+    }
+}
 
 /// What a reader returned. Out of memory is an error of its own.
 pub(crate) fn known<T>(answer: Result<T, TextFault>) -> Result<Result<T, TextFault>, AllocError>
@@ -17,34 +33,27 @@ pub(crate) fn known<T>(answer: Result<T, TextFault>) -> Result<Result<T, TextFau
     }
 }
 
-/// Checks that each prefix of a text gives this fault, in pieces of this many bytes. The source fails after the
-/// prefix if the fault is `Read`, and ends there otherwise.
-/// is `Read`, and ends there otherwise.
-pub(crate) fn check_fronts<T, F>(
+/// How many lines were read of an input, of the kind that the reader counts, or its fault.
+pub(crate) type Outcome = Result<Result<usize, TextFault>, AllocError>;
+
+/// Asserts that each prefix of a text, in pieces of this many bytes, has the fault `Read` if its source fails after
+/// it.
+pub(crate) fn assert_failures<F>(
     rt: &impl Abort,
     alloc: Global,
     text: &[u8],
     most: usize,
-    fault: TextFault,
     outcome: F,
 ) -> Result<(), Fail>
 where
-    T: PartialEq + Debug + Drop,
-    F: Fn(Global, MemorySource<'_>) -> Result<Result<T, TextFault>, AllocError>,
+    F: Fn(Global, MemorySource<'_>) -> Outcome,
     requires pieces { 0 < most }
     requires outcome { F.IsAlwaysCallable outcome }
 {
     for given in 0..text.len() {
-        let front = &text[..given];
-        let source = match fault {
-            TextFault::Read => MemorySource::failing(front),
-            _ => MemorySource::new(front),
-        };
-        assert_eq!(rt;
-            outcome(alloc, source.in_pieces(most))?,
-            Err(fault),
-            "after {given}"
-        );
+        let source = MemorySource::failing(&text[..given]).in_pieces(most);
+        let found = outcome(alloc, source)?;
+        assert!(rt; found == Err(TextFault::Read), "after {given}");
     }
     Ok(())
 }
