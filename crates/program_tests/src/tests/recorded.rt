@@ -1,57 +1,53 @@
-ghost use Rattle.std.specs.Prelude.{◌≡◌, [], IfOk};
-
+//! Runs of queues in this process: what `check` writes of each.
 use super::run;
+use Entry::{Empty, Got, Taken};
 use commands::built_ins;
 use history_text::{MemorySource, Version, Watched, write_history};
-use queue_interface::{LockedQueue, TestQueue};
-use std::alloc::{AllocError, Global};
-use std::process::Abort;
+use queue_interface::{Entry, ScriptQueue, TestQueue};
+use std::alloc::Global;
 use std::sync::Wait;
 use std::test::Fail;
 use std::thread::Threads;
-use stress_run::{Recorded, RunFault};
 use workloads::Plan;
 
-/// What `check` writes of a recorded run of a queue that was empty first, and the status.
-fn checked<R: AllocGlobal + Threads + Wait + Sync>(
+/// The text of the history of a run of this plan, if there is one.
+fn recorded<R: AllocGlobal + Threads + Wait + Sync>(
     rt: &R,
-    recorded: &Recorded,
-) -> Result<(Vec<u8>, u8), Fail>
-    requires { recorded.now.initial ≡ [] }
-{
-    let history = recorded.history(rt.alloc())?;
-    let mut text = Watched::new(Vec::new(rt.alloc()));
-    write_history(Version::One, &history, &mut text)?;
-    let text = text.into_inner();
-    let source = MemorySource::new(text.as_slice());
-    Ok(run(rt, &["fifobench", "check"], source, &[])?)
+    queue: &dyn TestQueue,
+    plan: &str,
+) -> Option<Vec<u8>> {
+    let alloc = rt.alloc();
+    let plan = Plan::from_text(alloc, plan).ok()?;
+    let recorded = stress_run::run(rt, alloc, queue, &plan, 64, 1_000_000).ok()?;
+    let history = recorded.history(alloc).ok()?;
+    let mut text = Watched::new(Vec::new(alloc));
+    write_history(Version::One, &history, &mut text).ok()?;
+    Some(text.into_inner())
 }
 
-/// How many events a run of this plan had, what `check` writes of them, and the status.
+/// What `check` writes of it.
 fn judged<R: AllocGlobal + Threads + Wait + Sync>(
     rt: &R,
     queue: &dyn TestQueue,
     plan: &str,
-    ring: usize,
-    tries: u32,
-) -> Result<(u64, Vec<u8>, u8), Fail> {
-    let alloc = rt.alloc();
-    let plan = Plan::from_text(alloc, plan)?;
-    let recorded = stress_run::run(rt, alloc, queue, &plan, ring, tries)?;
-    let (written, status) = checked(rt, &recorded)?;
-    Ok((recorded.total(), written, status))
+) -> Option<Vec<u8>> {
+    let text = recorded(rt, queue, plan)?;
+    let source = MemorySource::new(text.as_slice());
+    let (written, _) = run(rt, "fifobench check", source, &[]).ok()?;
+    Some(written)
 }
 
-/// Asserts what `check` writes of a run of this plan.
-fn assert_verdict<R: AllocGlobal + Threads + Wait + Sync + Abort>(
+/// Whether `check` writes this of it.
+fn is_judged<R: AllocGlobal + Threads + Wait + Sync>(
     rt: &R,
     queue: &dyn TestQueue,
     plan: &str,
-    text: &str,
-) -> Result<(), Fail> {
-    let (_, written, _) = judged(rt, queue, plan, 64, 1_000_000)?;
-    assert!(rt; written.as_slice() == text.as_bytes(), "{plan}");
-    Ok(())
+    verdict: &str,
+) -> bool {
+    match judged(rt, queue, plan) {
+        Some(written) => written.as_slice() == verdict.as_bytes(),
+        None => false,
+    }
 }
 
 const OVERTAKEN: &str = "NO VOrd\n0 1 0 enq 0\n2 3 0 enq 1\n4 5 0 deq 1\n6 7 0 deq 0\n";
@@ -82,58 +78,75 @@ const FOUND: [(&str, &str, &str); 9] = [
 #[test]
 fn queues_of_the_shelf_are_what_they_are_called(rt: HostRuntime) -> Result<(), Fail> {
     let queues = built_ins(rt, rt.alloc())?;
-    assert_eq!(rt; queues.len(), FOUND.len());
+    assert!(rt; queues.len() == FOUND.len());
     for (queue, (name, plan, text)) in queues.iter().zip(FOUND) {
-        assert_eq!(rt; queue.name(), name);
-        assert_verdict(&rt, queue, plan, text)?;
+        let right = queue.name() == name && is_judged(&rt, queue, plan, text);
+        assert!(rt; right, "{name}");
     }
     Ok(())
 }
 
-/// A plan of four workers with 5,000 operations each, enqueues and dequeues in turn.
-fn four_rows(alloc: Global) -> Result<String, AllocError> {
-    let mut text = String::new(alloc);
-    for _ in 0..4 {
-        for _ in 0..2500 {
-            text.push_str("ED")?;
-        }
-        text.push_str("\n")?;
+/// A queue that answers each thread by its row.
+fn script(alloc: Global, rows: &[&[Entry]]) -> Result<ScriptQueue, Fail> {
+    let mut script = Vec::new(alloc);
+    for row in rows {
+        script.push(Vec::from_slice(alloc, row)?)?;
     }
-    Ok(text)
+    Ok(ScriptQueue::new(script))
 }
 
-// Rings of two have room for a small part of the 40,000 events: they are drained while the workers run.
+const LIES: [(&[Entry], &str, &str); 5] = [
+    (
+        &[Got(u64::MAX)],
+        "D\n",
+        "NO VFresh\n0 1 0 deq 18446744073709551615\n",
+    ),
+    (
+        &[Taken, Got(0), Got(0)],
+        "EDD\n",
+        "NO VRepeat\n0 1 0 enq 0\n2 3 0 deq 0\n4 5 0 deq 0\n",
+    ),
+    (
+        &[Taken, Taken, Got(1)],
+        "EED\n",
+        "NO VOrd\n0 1 0 enq 0\n2 3 0 enq 1\n4 5 0 deq 1\n",
+    ),
+    (
+        &[Taken, Empty],
+        "ED\n",
+        "NO VWit\n2 3 0 empty\n0 1 0 enq 0\n",
+    ),
+    (
+        &[Got(0), Got(0)],
+        "ED\n",
+        "NO VFresh\n2 3 0 deq 0\n0 1 0 not 0\n",
+    ),
+];
+
 #[test]
-fn a_sound_queue_over_small_rings_is_not_reported(rt: HostRuntime) -> Result<(), Fail> {
-    let plan = four_rows(rt.alloc())?;
-    let queue = LockedQueue::new(rt.alloc(), rt);
-    let (total, written, status) = judged(&rt, &queue, &plan, 2, 10_000_000)?;
-    assert!(rt; total == 40_000 && status == 0 && written.starts_with(b"YES\n"));
+fn scripts_that_lie_are_caught(rt: HostRuntime) -> Result<(), Fail> {
+    for (row, plan, text) in LIES {
+        let queue = script(rt.alloc(), &[row])?;
+        assert!(rt; is_judged(&rt, &queue, plan, text), "{plan}");
+    }
     Ok(())
 }
 
-/// Whether a run of a sound queue ended as it may where some growth was refused: out of memory or with a lost close
-/// token, with a worker that stalled since no thread could be started, or with a record that gets `YES`.
-fn ends_well<R: AllocGlobal + Threads + Wait + Sync>(
-    rt: &R,
-    ended: Result<Recorded, RunFault>,
-) -> Result<bool, Fail>
-    requires { IfOk ended (λ recorded. recorded.initial ≡ []) }
-{
-    match ended {
-        Ok(recorded) => Ok(checked(rt, &recorded)?.1 == 0),
-        Err(RunFault::Memory | RunFault::CloseLost(_) | RunFault::Stalled(_)) => Ok(true),
-        Err(RunFault::Limit | RunFault::Uncertified(_) | RunFault::Preload(_)) => Ok(false),
+/// Whether a verdict says of a value that it was dequeued before it was enqueued, by the first operation, or that
+/// it was dequeued twice, and not by the first operation.
+fn is_caught(verdict: &[u8]) -> bool {
+    match str::from_utf8(verdict) {
+        Ok(text) if text.contains("\n0 1 1 deq 0\n") => text.starts_with("NO VFresh\n"),
+        Ok(text) => text.starts_with("NO VRepeat\n"),
+        Err(_) => false,
     }
 }
 
-// With ample memory it gets `YES`; it is of use where each allocation fails in turn.
+// Both threads dequeue the one value: whichever comes first, the answer is `NO`.
 #[test]
-fn a_refused_growth_is_not_reported_as_the_queues(rt: HostRuntime) -> Result<(), Fail> {
-    let alloc = rt.alloc();
-    let plan = Plan::from_text(alloc, "EED\nEED\n")?;
-    let queue = LockedQueue::new(alloc, rt);
-    let ended = stress_run::run(&rt, alloc, &queue, &plan, 2, 1_000_000);
-    assert!(rt; ends_well(&rt, ended)?);
+fn a_value_given_to_two_threads_is_caught(rt: HostRuntime) -> Result<(), Fail> {
+    let queue = script(rt.alloc(), &[&[Taken, Got(0)], &[Got(0)]])?;
+    let verdict = judged(&rt, &queue, "ED\nD\n").ok_or("no verdict")?;
+    assert!(rt; is_caught(verdict.as_slice()));
     Ok(())
 }

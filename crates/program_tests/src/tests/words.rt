@@ -1,9 +1,7 @@
-ghost use Rattle.std.specs.Prelude.{◌≤◌, IfOk, length};
-
 use commands::{StartFault, Terminals, print_start_fault, words_of};
 use history_text::Watched;
+use std::alloc::Global;
 use std::env::{Env, FillError};
-use std::test::Fail;
 
 /// Words of a command line, and no variables.
 #[derive(Drop)]
@@ -32,44 +30,36 @@ impl Env for Given<'_> {
     }
 }
 
-#[test]
-fn words_are_read_as_text(rt: HostRuntime) -> Result<(), Fail> {
-    let words: [&[u8]; 3] = [b"fifobench", b"\xc3\xa9", b""];
-    match words_of(&(Given { words: &words }, rt.alloc())) {
-        Err(StartFault::Memory) => return Err(Fail::from("want of memory")),
-        Err(fault) => assert!(rt; false, "{fault:?}"),
-        Ok(read) => {
-            assert_eq!(rt; read.len(), 3);
-            assert_eq!(rt; read[1].as_str(), "\u{e9}");
-        }
-    }
-    Ok(())
+/// How many arguments of these bytes there are, and whether the second is a word, or why there are none.
+fn read(alloc: Global, words: &[&[u8]], word: &str) -> Result<(usize, bool), StartFault> {
+    let words = words_of(&(Given { words }, alloc))?;
+    let second = words.as_slice().get(1);
+    Ok((
+        words.len(),
+        second.is_some_and(|second| second.as_str() == word),
+    ))
 }
 
 #[test]
-fn words_that_are_no_text_are_a_mistake(rt: HostRuntime) -> Result<(), Fail> {
-    let words: [&[u8]; 3] = [b"fifobench", b"check", b"\xff"];
-    match words_of(&(Given { words: &words }, rt.alloc())) {
-        Err(StartFault::Memory) => return Err(Fail::from("want of memory")),
-        Err(fault) => assert_eq!(rt; fault, StartFault::NoText),
-        Ok(_) => assert!(rt; false),
-    }
-    let mut writer = Watched::new(Vec::new(rt.alloc()));
-    let mut errors = Watched::new(Vec::new(rt.alloc()));
-    let status = print_start_fault(
-        StartFault::NoText,
-        &mut writer,
-        &mut errors,
-        Terminals::NONE,
-    );
-    let written = writer.into_inner();
-    if written.is_empty() {
-        return Err(Fail::from("want of memory"));
-    }
-    assert_eq!(rt;
-        written.as_slice(),
-        b"error: a word is not valid UTF-8\n".as_slice()
-    );
-    assert_eq!(rt; status, 2);
-    Ok(())
+fn words_are_read_as_text(rt: HostRuntime) {
+    let text = read(rt.alloc(), &[b"fifobench", b"\xc3\xa9", b""], "\u{e9}");
+    assert!(rt; text == Ok((3, true)));
+    let no_text = read(rt.alloc(), &[b"fifobench", b"check", b"\xff"], "check");
+    assert!(rt; no_text == Err(StartFault::NoText));
+}
+
+/// What is written if an argument isn't UTF-8, and the status.
+fn explained(alloc: Global) -> (Vec<u8>, u8) {
+    let mut writer = Watched::new(Vec::new(alloc));
+    let mut errors = Watched::new(Vec::new(alloc));
+    let fault = StartFault::NoText;
+    let status = print_start_fault(fault, &mut writer, &mut errors, Terminals::NONE);
+    (writer.into_inner(), status)
+}
+
+#[test]
+fn words_that_are_no_text_are_a_mistake(rt: HostRuntime) {
+    let (written, status) = explained(rt.alloc());
+    let wanted = b"error: a word is not valid UTF-8\n".as_slice();
+    assert!(rt; status == 2 && written.as_slice() == wanted);
 }
