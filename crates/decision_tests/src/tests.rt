@@ -1,9 +1,5 @@
-mod claiming;
+mod claims;
 mod histories;
-mod initial;
 mod matching;
-mod pieces;
-mod places;
-mod searching;
+mod searches;
 mod small_histories;
-mod told_sources;

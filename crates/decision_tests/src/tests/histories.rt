@@ -1,89 +1,234 @@
-ghost use Rattle.std.specs.Prelude.{◌≤◌, length};
+//! Histories that are made of events, and what they show.
+ghost use Rattle.std.specs.Prelude.{◌≤◌, length, vec_len};
 
-use super::small_histories::{at, by, hidden, history_of, overlapping};
-use event_records::{Event, Lists, MAX_EVENTS, What};
-use history_merge::{History, HistoryFault, OpId, OpKind, Operation, history, merge};
+use super::small_histories::{HIDDEN, OVERLAPPING, Row, are_rows, at, events_of, is_timeline};
+use event_records::{Event, Lists, MAX_EVENTS, MAX_INITIAL, What};
+use history_merge::OpKind::{Deq, Empty, Enq, Not};
+use history_merge::{History, HistoryBuilder, HistoryFault, history, history_from, merge};
 use std::alloc::{AllocError, Global};
 use std::test::Fail;
 
-/// What `history` returns for these events; out of memory ends the test.
-fn history_or_fault(
-    alloc: Global,
-    events: &[Event],
-) -> Result<Result<History, HistoryFault>, AllocError>
-    requires { length events.now ≤ MAX_EVENTS }
+/// What makes a history.
+#[derive(Clone, Copy)]
+enum Maker {
+    History,
+    HistoryFrom,
+    Builder,
+}
+
+/// The history that a builder makes of these values and events.
+fn gathered(alloc: Global, initial: Vec<u64>, events: &[Event]) -> Result<History, HistoryFault>
+    requires initial { vec_len initial ≤ MAX_INITIAL }
+    requires events { length events.now ≤ MAX_EVENTS }
 {
-    match history(alloc, events) {
-        Err(HistoryFault::Memory) => Err(AllocError),
-        judgement => Ok(judgement),
+    let mut builder = HistoryBuilder::new(alloc, initial);
+    for event in events {
+        builder.add(*event);
+    }
+    builder.finish()
+}
+
+/// The history that is made of these values, if they are asked for, and events.
+fn made(
+    alloc: Global,
+    maker: Maker,
+    initial: &[u64],
+    events: &[Event],
+) -> Result<History, HistoryFault>
+    requires initial { length initial.now ≤ MAX_INITIAL }
+    requires events { length events.now ≤ MAX_EVENTS }
+{
+    match maker {
+        Maker::History => history(alloc, events),
+        Maker::HistoryFrom => history_from(alloc, initial.to_vec(alloc)?, events),
+        Maker::Builder => gathered(alloc, initial.to_vec(alloc)?, events),
     }
 }
 
-/// What no text can tell: tickets and threads above the greatest.
+/// What makes a history of a queue that starts with these values.
+fn makers(initial: &[u64]) -> [Maker; 2] {
+    if initial.is_empty() {
+        [Maker::History, Maker::Builder]
+    } else {
+        [Maker::HistoryFrom, Maker::Builder]
+    }
+}
+
+/// An event: its ticket, its thread, and what it is.
+type Mark = (u64, u8, What);
+
+/// Faults that no text shows, of initial values and events: tickets and threads above the greatest.
+static FAULTS: [(&[u64], [Mark; 2], (&str, Option<u64>)); 6] = [
+    (
+        &[],
+        [(5, 0, What::CallDeq), (4, 64, What::CallDeq)],
+        ("TicketOrder", Some(1)),
+    ),
+    (
+        &[],
+        [
+            (1_000_000_000_000, 0, What::CallDeq),
+            (0, 64, What::CallDeq),
+        ],
+        ("TicketOrder", Some(0)),
+    ),
+    (
+        &[],
+        [(0, 64, What::CallDeq), (1, 0, What::RetEnq)],
+        ("BadThread", Some(0)),
+    ),
+    (
+        &[],
+        [(0, 64, What::RetEnq), (1, 0, What::CallDeq)],
+        ("BadThread", Some(0)),
+    ),
+    (
+        &[5, 5],
+        [
+            (1_000_000_000_000, 0, What::CallDeq),
+            (0, 0, What::RetEmpty),
+        ],
+        ("InitialTwice", Some(1)),
+    ),
+    (
+        &[7],
+        [(0, 64, What::CallEnq(7)), (1, 64, What::RetEnq)],
+        ("BadThread", Some(0)),
+    ),
+];
+
+/// The name and the place of the fault of these values and events, or another name.
+fn fault_of(
+    alloc: Global,
+    maker: Maker,
+    initial: &[u64],
+    events: &[Event],
+) -> (&'static str, Option<u64>)
+    requires initial { length initial.now ≤ MAX_INITIAL }
+    requires events { length events.now ≤ MAX_EVENTS }
+{
+    match made(alloc, maker, initial, events) {
+        Ok(_) => ("none", None),
+        Err(fault) => (fault.name(), fault.place()),
+    }
+}
+
+/// Whether this is their fault, whatever makes the history.
+fn has_fault(alloc: Global, initial: &[u64], marks: [Mark; 2], fault: (&str, Option<u64>)) -> bool {
+    let events = marks.map(|(ticket, thread, what)| at(ticket, thread, what));
+    if initial.len() > MAX_INITIAL {
+        return false;
+    }
+    let [one, other] = makers(initial);
+    fault_of(alloc, one, initial, &events) == fault
+        && fault_of(alloc, other, initial, &events) == fault
+}
+
 #[test]
-fn names_the_first_fault(rt: HostRuntime) -> Result<(), Fail> {
-    let cases: [(&[Event], HistoryFault); 4] = [
-        (
-            &[at(5, 0, What::CallDeq), at(4, 64, What::CallDeq)],
-            HistoryFault::TicketOrder(1),
-        ),
-        (
-            &[at(1_000_000_000_000, 0, What::CallDeq)],
-            HistoryFault::TicketOrder(0),
-        ),
-        (&[at(0, 64, What::CallDeq)], HistoryFault::BadThread(0)),
-        (&[at(0, 64, What::RetEnq)], HistoryFault::BadThread(0)),
-    ];
-    for (events, fault) in cases {
-        assert!(rt; events.len() <= MAX_EVENTS);
-        assert_eq!(rt; history_or_fault(rt.alloc(), events)?.err(), Some(fault));
+fn names_the_first_fault(rt: HostRuntime) {
+    for (initial, marks, fault) in &FAULTS {
+        assert!(rt; has_fault(rt.alloc(), initial, *marks, *fault), "{fault:?}");
     }
-    Ok(())
 }
 
-/// Whether the history of these operations shows them.
-fn shows(alloc: Global, operations: &[Operation]) -> Result<bool, Fail> {
-    let history = history_of(alloc, operations)?;
-    let shown: Vec<Operation> = history.operations().collect(alloc)?;
-    Ok(shown.as_slice() == operations)
+/// The enqueue of the greatest value fails at the greatest tickets, and a dequeue overlaps it.
+const GREATEST: &[Row] = &[
+    (999_999_999_996, 999_999_999_998, 63, Not(u64::MAX)),
+    (999_999_999_997, 999_999_999_999, 0, Empty),
+];
+
+/// Two operations after three initial values.
+const OF_THREE: &[Row] = &[(3, 5, 2, Deq(u64::MAX)), (4, 6, 0, Not(6))];
+
+/// Four operations after the initial values 5 and 6, of which the first two overlap.
+const OF_TWO: &[Row] = &[
+    (0, 4, 1, Deq(5)),
+    (3, 7, 2, Enq(8)),
+    (9, 10, 1, Not(9)),
+    (20, 999_999_999_999, 63, Empty),
+];
+
+type Shown<'a> = (&'a [u64], &'a [Row], &'a [Row]);
+
+/// Initial values, operations, and these on the timeline, which begins with the enqueues of the initial values.
+static SHOWN: [Shown<'static>; 6] = [
+    (&[], &[], &[]),
+    (&[], OVERLAPPING, OVERLAPPING),
+    (&[], HIDDEN, HIDDEN),
+    (&[], GREATEST, GREATEST),
+    (
+        &[u64::MAX, 5, 0],
+        OF_THREE,
+        &[
+            (0, 1, 0, Enq(u64::MAX)),
+            (2, 3, 0, Enq(5)),
+            (4, 5, 0, Enq(0)),
+            (9, 11, 2, Deq(u64::MAX)),
+            (10, 12, 0, Not(6)),
+        ],
+    ),
+    (
+        &[5, 6],
+        OF_TWO,
+        &[
+            (0, 1, 0, Enq(5)),
+            (2, 3, 0, Enq(6)),
+            (4, 8, 1, Deq(5)),
+            (7, 11, 2, Enq(8)),
+            (13, 14, 1, Not(9)),
+            (24, 1_000_000_000_003, 63, Empty),
+        ],
+    ),
+];
+
+/// Whether the history has these events.
+fn are_events(history: &History, events: &[Event]) -> bool {
+    let mut left = history.events();
+    for event in events {
+        if left.next() != Some(*event) {
+            return false;
+        }
+    }
+    left.next().is_none()
+}
+
+/// What of the history that is made isn't as it should be; none if all is.
+fn wrong_part(alloc: Global, maker: Maker, shown: &Shown) -> Result<Option<&'static str>, Fail> {
+    let (initial, rows, timeline) = *shown;
+    let events = events_of(alloc, rows)?;
+    if initial.len() > MAX_INITIAL || events.len() > MAX_EVENTS {
+        return Err("too many values or events")?;
+    }
+    let history = made(alloc, maker, initial, &events)?;
+    Ok(if history.initial() != initial {
+        Some("initial values")
+    } else if !are_events(&history, &events) {
+        Some("events")
+    } else if !are_rows(&history.operations(), rows) {
+        Some("operations")
+    } else if !is_timeline(history.timeline(), timeline) {
+        Some("timeline")
+    } else {
+        None
+    })
+}
+
+/// The same of the histories that all of them make.
+fn wrong_in_any(alloc: Global, shown: &Shown) -> Result<Option<&'static str>, Fail> {
+    let [one, other] = makers(shown.0);
+    let wrong = wrong_part(alloc, one, shown)?;
+    if wrong.is_some() {
+        return Ok(wrong);
+    }
+    wrong_part(alloc, other, shown)
 }
 
 #[test]
-fn shows_operations_by_their_calls(rt: HostRuntime) -> Result<(), Fail> {
-    let refused = by(63, 999_999_999_996, 999_999_999_998, OpKind::Not(u64::MAX));
-    let empty = by(0, 999_999_999_997, 999_999_999_999, OpKind::Empty);
-    for operations in [[].as_slice(), &overlapping(), &hidden(), &[refused, empty]] {
-        assert!(rt; shows(rt.alloc(), operations)?, "{operations:?}");
+fn shows_what_it_is_made_of(rt: HostRuntime) -> Result<(), Fail> {
+    for shown in &SHOWN {
+        let wrong = wrong_in_any(rt.alloc(), shown)?;
+        assert!(rt; wrong.is_none(), "{wrong:?} of {shown:?}");
     }
-    Ok(())
-}
-
-/// Enqueues of thread 0, each followed by a dequeue of its value by thread 63.
-fn long_run(alloc: Global, values: u32) -> Result<Vec<Event>, AllocError> {
-    let mut events = Vec::with_capacity(alloc, 4 * values as usize)?;
-    for i in 0..values {
-        let value = u64::from(i);
-        let ticket = 4 * value;
-        events.push(at(ticket, 0, What::CallEnq(value)))?;
-        events.push(at(ticket + 1, 0, What::RetEnq))?;
-        events.push(at(ticket + 2, 63, What::CallDeq))?;
-        events.push(at(ticket + 3, 63, What::RetDeq(value)))?;
-    }
-    Ok(events)
-}
-
-#[test]
-fn takes_two_hundred_thousand_events(rt: HostRuntime) -> Result<(), Fail> {
-    let events = long_run(rt.alloc(), 50_000)?;
-    assert_eq!(rt; events.len(), 200_000);
-    let history = history_or_fault(rt.alloc(), events.as_slice())?.expect(
-        &rt,
-        "a complete history",
-    );
-    let operations = history.operations();
-    assert_eq!(rt; operations.len(), 100_000);
-    let last = by(63, 199_998, 199_999, OpKind::Deq(49_999));
-    assert_eq!(rt; operations.get(OpId::new(99_999)), Some(last));
     Ok(())
 }
 
@@ -101,16 +246,18 @@ fn merged(alloc: Global) -> Result<Vec<Event>, AllocError> {
     merge(alloc, &Lists::from_vec(lists))
 }
 
+/// What is merged: rising tickets, and the same ones in the order of the lists.
+const MERGED: [Mark; 5] = [
+    (0, 1, What::CallDeq),
+    (1, 0, What::CallDeq),
+    (1, 2, What::CallDeq),
+    (4, 0, What::RetEmpty),
+    (4, 1, What::RetEmpty),
+];
+
 #[test]
 fn merges_by_ticket_and_keeps_ties_in_order(rt: HostRuntime) -> Result<(), Fail> {
-    let expected = [
-        at(0, 1, What::CallDeq),
-        at(1, 0, What::CallDeq),
-        at(1, 2, What::CallDeq),
-        at(4, 0, What::RetEmpty),
-        at(4, 1, What::RetEmpty),
-    ];
-    let merged = merged(rt.alloc())?;
-    assert_eq!(rt; merged.as_slice(), expected.as_slice());
+    let wanted = MERGED.map(|(ticket, thread, what)| at(ticket, thread, what));
+    assert!(rt; merged(rt.alloc())?.as_slice() == wanted.as_slice());
     Ok(())
 }

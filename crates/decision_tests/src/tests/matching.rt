@@ -1,141 +1,269 @@
-use super::small_histories::{by, history_of, in_turn, matching_of, op};
+use super::small_histories::{
+    HIDDEN, Row, are_rows, history_behind, is_row, is_timeline, matching_of,
+};
 use history_merge::OpKind::{Deq, Empty, Enq, Not};
 use history_merge::{OpId, Operation};
-use std::alloc::{AllocError, Global};
-use std::process::Abort;
+use std::alloc::Global;
 use std::test::Fail;
 use value_match::{
-    Life, LongestTable, Matched, MatchedValue, Source, Values, Violation, match_values,
+    LongestTable, Matched, Matching, Places, Source, Values, Violation, match_values,
 };
 
+/// The operations that a violation of the first two kinds names, by their places: the enqueue, and the dequeues.
+type Named = (Option<usize>, usize, Option<usize>);
+
 /// The place of the enqueue, if the value isn't an initial one.
-fn enqueue_of(source: Source) -> Option<OpId> {
+fn enqueue_of(source: Source) -> Option<usize> {
     match source {
-        Source::Enq(id) => Some(id),
+        Source::Enq(id) => Some(id.place()),
         Source::Initial(_) => None,
     }
 }
 
-/// The places that a violation of the first two kinds names.
-fn places(matched: &Matched) -> Option<[Option<OpId>; 3]> {
+fn place_of(id: Option<OpId>) -> Option<usize> {
+    match id {
+        Some(id) => Some(id.place()),
+        None => None,
+    }
+}
+
+/// The operations that the violation names, if it is of the first two kinds.
+fn named(matched: &Matched) -> Option<Named> {
     match matched {
-        Matched::Fresh(Violation::Fresh { deq, enq }) => Some([Some(*deq), *enq, None]),
+        Matched::Fresh(Violation::Fresh { deq, enq }) => {
+            Some((place_of(*enq), deq.place(), None))
+        }
         Matched::Repeat(Violation::Repeat { enq, first, second }) => {
-            Some([enqueue_of(*enq), Some(*first), Some(*second)])
+            Some((enqueue_of(*enq), first.place(), Some(second.place())))
         }
         _ => None,
     }
 }
 
-/// Checks that the history of these operations breaks a rule of the first two kinds, and which places are named.
-fn check_places(
-    rt: &(impl Abort + AllocGlobal),
-    operations: &[Operation],
-    named: [Option<u32>; 3],
-) -> Result<(), Fail> {
-    let history = history_of(rt.alloc(), operations)?;
-    let named = named.map(|place| place.map(OpId::new));
-    let matched = match_values(rt.alloc(), &history)?;
-    assert_eq!(rt; places(&matched), Some(named), "{operations:?}");
-    Ok(())
+/// What matching names of these operations.
+fn named_of(alloc: Global, rows: &[Row]) -> Result<Option<Named>, Fail> {
+    let history = history_behind(alloc, &[], rows)?;
+    let matched = match_values(alloc, &history)?;
+    Ok(named(&matched))
 }
 
+/// Histories that break a rule of the first two kinds, or none of them.
+static NAMED: [(&[Row], Option<Named>); 3] = [
+    (
+        &[(0, 1, 0, Not(7)), (2, 3, 0, Deq(7))],
+        Some((Some(0), 1, None)),
+    ),
+    // of three dequeues the one that is called first returns last
+    (
+        &[
+            (0, 1, 0, Enq(7)),
+            (2, 7, 0, Deq(7)),
+            (3, 4, 1, Deq(7)),
+            (5, 6, 2, Deq(7)),
+        ],
+        Some((Some(0), 2, Some(3))),
+    ),
+    (HIDDEN, None),
+];
+
 #[test]
-fn names_the_dequeue_of_a_value_that_was_not_there(rt: HostRuntime) -> Result<(), Fail> {
-    let (early, first) = (op(0, 3, Deq(9)), by(1, 1, 2, Deq(8)));
-    let repeated_before = in_turn([Enq(7), Deq(7), Deq(7), Deq(9)]);
-    let cases: [(&[Operation], u32, Option<u32>); 5] = [
-        // never enqueued
-        (&in_turn([Deq(9)]), 0, None),
-        // enqueued only afterwards
-        (&in_turn([Deq(7), Enq(7)]), 0, Some(1)),
-        // refused
-        (&in_turn([Not(7), Deq(7)]), 1, Some(0)),
-        // two of them, of which the one that is called last returns first
-        (&[early, first], 1, None),
-        // a value is dequeued twice before
-        (&repeated_before, 3, None),
-    ];
-    for (operations, deq, enq) in cases {
-        check_places(&rt, operations, [Some(deq), enq, None])?;
+fn names_a_value_that_was_not_there_or_came_twice(rt: HostRuntime) -> Result<(), Fail> {
+    for (rows, wanted) in &NAMED {
+        assert!(rt; named_of(rt.alloc(), rows)? == *wanted, "{rows:?}");
     }
     Ok(())
 }
 
-#[test]
-fn names_the_first_two_dequeues_of_a_value(rt: HostRuntime) -> Result<(), Fail> {
-    let twice = in_turn([Enq(7), Deq(7), Deq(7)]);
-    check_places(&rt, &twice, [0, 1, 2].map(Some))?;
-    // the first that is called returns last
-    let (enq, last) = (op(0, 1, Enq(7)), op(2, 7, Deq(7)));
-    let thrice = [enq, last, by(1, 3, 4, Deq(7)), by(2, 5, 6, Deq(7))];
-    check_places(&rt, &thrice, [0, 2, 3].map(Some))?;
-    // of two values the greater comes back first
-    let both_twice = in_turn([Enq(5), Enq(7), Deq(5), Deq(7), Deq(7), Deq(5)]);
-    check_places(&rt, &both_twice, [1, 3, 4].map(Some))
+/// What the matching of a history shows.
+struct Shown {
+    initial: &'static [u64],
+    rows: &'static [Row],
+    /// The operations on the timeline, which begins with the enqueues of the initial values.
+    timeline: &'static [Row],
+    /// The accepted values, by the places of their enqueues and dequeues on the timeline.
+    values: &'static [(usize, Option<usize>)],
+    /// The empty dequeues and the failed enqueues, by their places among the operations.
+    empties: &'static [usize],
+    refused: &'static [usize],
+    /// The tickets at which the first clocks stand.
+    tickets: [i64; 6],
+}
+
+static SHOWN: [Shown; 3] = [
+    Shown {
+        initial: &[],
+        rows: &[
+            (0, 4, 0, Enq(7)),
+            (1, 3, 1, Deq(7)),
+            (2, 5, 2, Enq(9)),
+            (6, 8, 0, Not(8)),
+            (7, 9, 1, Empty),
+        ],
+        timeline: &[
+            (0, 4, 0, Enq(7)),
+            (1, 3, 1, Deq(7)),
+            (2, 5, 2, Enq(9)),
+            (6, 8, 0, Not(8)),
+            (7, 9, 1, Empty),
+        ],
+        values: &[(0, Some(1)), (2, None)],
+        empties: &[4],
+        refused: &[3],
+        tickets: [0, 1, 2, 3, 4, 5],
+    },
+    Shown {
+        initial: &[5],
+        rows: &[(0, 1, 0, Deq(5)), (2, 3, 0, Empty), (4, 5, 0, Not(8))],
+        timeline: &[
+            (0, 1, 0, Enq(5)),
+            (2, 3, 0, Deq(5)),
+            (4, 5, 0, Empty),
+            (6, 7, 0, Not(8)),
+        ],
+        values: &[(0, Some(1))],
+        empties: &[1],
+        refused: &[2],
+        tickets: [-1, -1, 0, 1, 2, 3],
+    },
+    Shown {
+        initial: &[5, 6],
+        rows: &[(0, 1, 0, Deq(5))],
+        timeline: &[(0, 1, 0, Enq(5)), (2, 3, 0, Enq(6)), (4, 5, 0, Deq(5))],
+        values: &[(0, Some(2)), (1, None)],
+        empties: &[],
+        refused: &[],
+        tickets: [-2, -2, -1, -1, 0, 1],
+    },
+];
+
+/// Whether the operation of a value stands at this place of the timeline, or there is none.
+fn is_part(
+    id: Option<OpId>,
+    operation: Option<Operation>,
+    timeline: &[Row],
+    place: Option<usize>,
+) -> bool {
+    match place {
+        None => id.is_none() && operation.is_none(),
+        Some(place) => place_of(id) == Some(place) && is_row(operation, timeline.get(place)),
+    }
 }
 
 /// Whether these are the accepted values.
-fn are(values: &Values, expected: &[MatchedValue]) -> bool {
-    if values.len() != expected.len() {
+fn are_values(values: &Values, shown: &Shown) -> bool {
+    if values.len() != shown.values.len() {
         return false;
     }
-    for place in 0..expected.len() {
-        if values.get(place) != expected[place] {
+    for place in 0..values.len() {
+        let value = values.get(place);
+        let (enqueue, dequeue) = shown.values[place];
+        if !is_part(
+            Some(value.enqueue),
+            Some(value.life.enqueue),
+            shown.timeline,
+            Some(enqueue),
+        ) || !is_part(value.dequeue, value.life.dequeue, shown.timeline, dequeue)
+        {
             return false;
         }
     }
     true
 }
 
-/// Whether these are the accepted values of the operations.
-fn accepts(
-    alloc: Global,
-    operations: &[Operation],
-    expected: &[MatchedValue],
-) -> Result<bool, Fail> {
-    let history = history_of(alloc, operations)?;
-    let matching = matching_of(alloc, &history)?;
-    Ok(are(&matching.values(), expected))
+/// Whether these are the places of operations after this many initial values, also on the timeline.
+fn are_places(timeline: &[OpId], places: &Places, first: usize, wanted: &[usize]) -> bool {
+    if timeline.len() != wanted.len() || places.len() != wanted.len() {
+        return false;
+    }
+    for (index, place) in wanted.iter().enumerate() {
+        if timeline[index].place() != first.saturating_add(*place)
+            || places.get(index).place() != *place
+        {
+            return false;
+        }
+    }
+    true
 }
 
-/// How many operations the matching of these has, the places of the empty answers, and those of the refused enqueues.
-fn others(alloc: Global, operations: &[Operation]) -> Result<(usize, [Vec<OpId>; 2]), Fail> {
-    let history = history_of(alloc, operations)?;
-    let matching = matching_of(alloc, &history)?;
-    let empties = matching.timeline_empties().to_vec(alloc)?;
-    let refused = matching.timeline_refused().to_vec(alloc)?;
-    Ok((matching.operations().len(), [empties, refused]))
+/// Whether the first clocks stand at these tickets.
+fn are_tickets(matching: &Matching, tickets: [i64; 6]) -> bool {
+    for clock in 0..6usize {
+        if matching.ticket(clock as u64) != tickets[clock] {
+            return false;
+        }
+    }
+    true
 }
 
-/// A value of these operations, with their places.
-fn value_of(enqueue: (u32, Operation), dequeue: Option<(u32, Operation)>) -> MatchedValue {
-    MatchedValue {
-        life: Life {
-            enqueue: enqueue.1,
-            dequeue: dequeue.map(|(_, operation)| operation),
-        },
-        enqueue: OpId::new(enqueue.0),
-        dequeue: dequeue.map(|(place, _)| OpId::new(place)),
+/// What of the matching isn't as it should be; none if all is.
+fn wrong_part(matching: &Matching, shown: &Shown) -> Option<&'static str> {
+    let first = shown.initial.len();
+    if matching.initial() != shown.initial {
+        Some("initial values")
+    } else if !are_rows(&matching.operations(), shown.rows) {
+        Some("operations")
+    } else if !is_timeline(matching.timeline(), shown.timeline) {
+        Some("timeline")
+    } else if !are_values(&matching.values(), shown) {
+        Some("values")
+    } else if !are_places(
+        matching.timeline_empties(),
+        &matching.empties(),
+        first,
+        shown.empties,
+    ) {
+        Some("empty dequeues")
+    } else if !are_places(
+        matching.timeline_refused(),
+        &matching.refused(),
+        first,
+        shown.refused,
+    ) {
+        Some("failed enqueues")
+    } else if !are_tickets(matching, shown.tickets) {
+        Some("tickets")
+    } else {
+        None
     }
 }
 
+/// What of the matching of the history isn't as it should be; none if all is.
+fn wrong_part_of(alloc: Global, shown: &Shown) -> Result<Option<&'static str>, Fail> {
+    let history = history_behind(alloc, shown.initial, shown.rows)?;
+    let matching = matching_of(alloc, &history)?;
+    Ok(wrong_part(&matching, shown))
+}
+
 #[test]
-fn matches_a_history_without_such_violations(rt: HostRuntime) -> Result<(), Fail> {
-    let (enq_7, deq_7) = (by(0, 0, 4, Enq(7)), by(1, 1, 3, Deq(7)));
-    let (enq_9, refused) = (by(2, 2, 5, Enq(9)), by(0, 6, 8, Not(8)));
-    let operations = [enq_7, deq_7, enq_9, refused, by(1, 7, 9, Empty)];
-    let values = [
-        value_of((0, enq_7), Some((1, deq_7))),
-        value_of((2, enq_9), None),
-    ];
-    assert!(rt; accepts(rt.alloc(), &operations, &values)?);
-    let (count, [empties, refused]) = others(rt.alloc(), &operations)?;
-    assert_eq!(rt; count, 5);
-    assert_eq!(rt; empties.as_slice(), [OpId::new(4)].as_slice());
-    assert_eq!(rt; refused.as_slice(), [OpId::new(3)].as_slice());
+fn a_matching_shows_its_history(rt: HostRuntime) -> Result<(), Fail> {
+    for shown in &SHOWN {
+        let wrong = wrong_part_of(rt.alloc(), shown)?;
+        assert!(rt; wrong.is_none(), "{wrong:?}");
+    }
     Ok(())
 }
+
+/// Four values, of which the two that are enqueued last stay.
+const STAYING: &[Row] = &[
+    (0, 2, 0, Enq(1)),
+    (1, 4, 1, Enq(2)),
+    (5, 8, 0, Enq(3)),
+    (6, 10, 1, Enq(4)),
+    (20, 21, 0, Deq(1)),
+    (30, 31, 0, Deq(2)),
+];
+
+/// The call of the enqueue of the value that stays longest, of those whose enqueues returned before each limit.
+static LONGEST: [(u64, Option<u64>); 8] = [
+    (0, None),
+    (2, None),
+    (3, Some(0)),
+    (4, Some(0)),
+    (5, Some(1)),
+    (8, Some(1)),
+    (9, Some(5)),
+    (11, Some(5)),
+];
 
 /// The call of the enqueue of the value that stays longest, of those whose enqueues returned before the limit.
 fn longest_call(table: &LongestTable, limit: u64) -> Option<u64> {
@@ -145,51 +273,26 @@ fn longest_call(table: &LongestTable, limit: u64) -> Option<u64> {
     }
 }
 
-/// Returns that call for each limit.
-fn longest_calls(
-    alloc: Global,
-    table: &LongestTable,
-    limits: &[u64],
-) -> Result<Vec<Option<u64>>, AllocError> {
-    let mut calls = Vec::new(alloc);
-    for limit in limits {
-        calls.push(longest_call(table, *limit))?;
+/// Whether the table finds these of four values.
+fn are_longest(table: &LongestTable) -> bool {
+    for (limit, call) in &LONGEST {
+        if longest_call(table, *limit) != *call {
+            return false;
+        }
     }
-    Ok(calls)
+    table.values().len() == 4
 }
 
-/// Returns how many of these accepted values there are, and that call for each limit.
-fn longest_of(
-    alloc: Global,
-    values: Values<'_>,
-    limits: &[u64],
-) -> Result<(usize, Vec<Option<u64>>), AllocError> {
-    let table = LongestTable::new(alloc, values)?;
-    let calls = longest_calls(alloc, &table, limits)?;
-    Ok((table.values().len(), calls))
-}
-
-/// Returns both for the accepted values of these operations.
-fn longest_among(
-    alloc: Global,
-    operations: &[Operation],
-    limits: &[u64],
-) -> Result<(usize, Vec<Option<u64>>), Fail> {
-    let history = history_of(alloc, operations)?;
+/// Whether the table of the four values finds them.
+fn finds_longest(alloc: Global) -> Result<bool, Fail> {
+    let history = history_behind(alloc, &[], STAYING)?;
     let matching = matching_of(alloc, &history)?;
-    Ok(longest_of(alloc, matching.values(), limits)?)
+    let table = LongestTable::new(alloc, matching.values())?;
+    Ok(are_longest(&table))
 }
 
 #[test]
 fn finds_the_longest_of_the_values_before_a_ticket(rt: HostRuntime) -> Result<(), Fail> {
-    let (enq_1, enq_2) = (op(0, 2, Enq(1)), by(1, 1, 4, Enq(2)));
-    let (enq_3, enq_4) = (op(5, 8, Enq(3)), by(1, 6, 10, Enq(4)));
-    let (deq_1, deq_2) = (op(20, 21, Deq(1)), op(30, 31, Deq(2)));
-    let operations = [enq_1, enq_2, enq_3, enq_4, deq_1, deq_2];
-    let (values, calls) = longest_among(rt.alloc(), &operations, &[0, 2, 3, 4, 5, 8, 9, 11])?;
-    let [first, second, third] = [0, 1, 5].map(Some);
-    let expected = [None, None, first, first, second, second, third, third];
-    assert_eq!(rt; values, 4);
-    assert_eq!(rt; calls.as_slice(), expected.as_slice());
+    assert!(rt; finds_longest(rt.alloc())?);
     Ok(())
 }

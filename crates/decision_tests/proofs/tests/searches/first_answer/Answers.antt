@@ -1,6 +1,6 @@
 use Rattle.std.proofs.Common.{arith}
 use Rattle.empty_witness.proofs.Answers.{answer_is_empty, places_are_empty}
-use Rattle.decision_tests.proofs.tests.places.first_answer.Goals as goal
+use Rattle.decision_tests.proofs.tests.searches.first_answer.Goals as goal
 
 pub gap_for-requires : goal.gap_for-requires
 gap_for-requires c =
