@@ -4,18 +4,18 @@ mod plain_gaps;
 mod plain_order;
 mod plain_pairs;
 
-use crate::tests::comparing::compare;
+use crate::tests::comparing::{Compared, compare, kind_of};
 use crate::tests::histories::{
     MOST_OPERATIONS, Sort, covered_history, honest_history, seeded_history,
 };
 use empty_witness::{GapAnswer, gap_for};
 use event_records::MAX_THREAD_OPERATIONS;
 use history_merge::History;
-use std::alloc::Global;
+use std::alloc::{AllocError, Global};
 use std::process::Abort;
 use std::test::Fail;
 use value_match::{Matched, Matching, match_values};
-use verdicts::{Claimed, Verdict, ViolationKind, claim, decide, verify};
+use verdicts::{ViolationKind, claim, decide, verify};
 
 /// The histories of each sort.
 const HISTORIES: u32 = 100;
@@ -27,7 +27,7 @@ const SEEDS: u64 = 300;
 const ENOUGH: u32 = 15;
 
 /// How many histories had which answer.
-#[derive(Clone, Copy, Debug, Default, PartialEq, Eq)]
+#[derive(Clone, Copy, Debug, Default)]
 struct Met {
     legal: u32,
     fresh: u32,
@@ -48,21 +48,41 @@ impl Met {
     }
 }
 
+/// What is compared about the history of this seed, if some answer was told in it.
+fn compare_seed(rt: &impl AllocGlobal, seed: u64, sort: Sort) -> Result<Option<Compared>, Fail> {
+    let Some(history) = seeded_history(rt.alloc(), seed, sort)? else {
+        return Ok(None);
+    };
+    if history.operations().len() as u64 > MOST_OPERATIONS {
+        return Err(Fail::from("too many operations"));
+    }
+    Ok(Some(compare(rt, &history)?))
+}
+
 /// Compares the answers about histories of this sort in each of which some answer was told, and counts them.
-fn compare_all(rt: &impl Abort, alloc: Global, sort: Sort, met: &mut Met) -> Result<(), Fail> {
+fn compare_all(rt: &(impl Abort + AllocGlobal), sort: Sort, met: &mut Met) -> Result<(), Fail> {
     let mut compared = 0u32;
     for seed in 0..SEEDS {
         if compared == HISTORIES {
             break;
         }
-        if let Some(history) = seeded_history(alloc, seed, sort)? {
-            assert!(rt; history.operations().len() as u64 <= MOST_OPERATIONS);
-            met.count(compare(rt, alloc, &history)?);
+        if let Some((kind, difference)) = compare_seed(rt, seed, sort)? {
+            assert!(rt; difference.is_none(), "{difference:?} of seed {seed}");
+            met.count(kind);
             compared = compared.saturating_add(1);
         }
     }
-    assert_eq!(rt; compared, HISTORIES);
+    assert!(rt; compared == HISTORIES, "{compared} histories");
     Ok(())
+}
+
+/// Compares histories with these parts of told answers, of a queue that holds this many values first, and counts them.
+fn met_in(rt: &(impl Abort + AllocGlobal), lies: &[u64], first: u8) -> Result<Met, Fail> {
+    let mut met = Met::default();
+    for lies in lies {
+        compare_all(rt, Sort { lies: *lies, first }, &mut met)?;
+    }
+    Ok(met)
 }
 
 /// Whether enough histories of each kind were met.
@@ -74,39 +94,30 @@ fn are_enough(met: Met) -> bool {
 
 #[test]
 fn sweeps_answer_as_plain_scans(rt: HostRuntime) -> Result<(), Fail> {
-    let mut met = Met::default();
-    for lies in [1, 2, 3, 4, 5] {
-        compare_all(&rt, rt.alloc(), Sort { lies, first: 0 }, &mut met)?;
-    }
+    let met = met_in(&rt, &[1, 2, 3, 4, 5], 0)?;
     assert!(rt; are_enough(met), "{met:?}");
     Ok(())
 }
 
 #[test]
 fn sweeps_answer_as_plain_scans_behind_initial_values(rt: HostRuntime) -> Result<(), Fail> {
-    let mut met = Met::default();
-    for lies in [1, 2] {
-        compare_all(&rt, rt.alloc(), Sort { lies, first: 3 }, &mut met)?;
-    }
+    let met = met_in(&rt, &[1, 2], 3)?;
     assert!(rt; are_enough(met), "{met:?}");
     Ok(())
 }
 
-#[test]
-fn a_large_history_is_legal(rt: HostRuntime) -> Result<(), Fail> {
-    let history = honest_history(rt.alloc(), 0, MAX_THREAD_OPERATIONS)?;
-    assert_eq!(rt; history.operations().len(), 400_000);
-    assert!(rt; matches!(&decide(rt.alloc(), &history)?, Verdict::Yes(_)));
-    Ok(())
-}
+/// How many operations a history has, the kind of its violation if it has one, and whether the claim is true.
+type Judged = (usize, Option<ViolationKind>, bool);
 
-#[test]
-fn the_claim_of_a_large_verdict_is_true(rt: HostRuntime) -> Result<(), Fail> {
-    let history = honest_history(rt.alloc(), 0, MAX_THREAD_OPERATIONS)?;
-    let verdict = decide(rt.alloc(), &history)?;
-    let claimed = claim(rt.alloc(), &history, &verdict)?;
-    assert!(rt; verify(rt.alloc(), &history, &claimed)?);
-    Ok(())
+fn judged(alloc: Global, history: &History) -> Result<Judged, AllocError> {
+    let verdict = decide(alloc, history)?;
+    let claimed = claim(alloc, history, &verdict)?;
+    let kind = kind_of(&claimed);
+    Ok((
+        history.operations().len(),
+        kind,
+        verify(alloc, history, &claimed)?,
+    ))
 }
 
 /// What is found of the window of the first empty answer of a matching.
@@ -118,29 +129,35 @@ fn first_gap_in(alloc: Global, matching: &Matching) -> Result<GapAnswer, Fail> {
     Ok(gap_for(alloc, matching, empties.get(0))?)
 }
 
-/// Returns the answer for a history's first empty dequeue.
-fn first_gap(alloc: Global, history: &History) -> Result<GapAnswer, Fail> {
+/// Whether there is a gap for a history's first empty dequeue.
+fn has_gap(alloc: Global, history: &History) -> Result<bool, Fail> {
     match match_values(alloc, history)? {
-        Matched::Clear(matching) => first_gap_in(alloc, &matching),
+        Matched::Clear(matching) => match first_gap_in(alloc, &matching)? {
+            GapAnswer::Free(_) => Ok(true),
+            GapAnswer::Covered(_) => Ok(false),
+        },
         _ => Err(Fail::from("a value that was not there, or came twice")),
     }
 }
 
 #[test]
+fn a_large_history_is_legal_and_its_claim_true(rt: HostRuntime) -> Result<(), Fail> {
+    let history = honest_history(rt.alloc(), 0, MAX_THREAD_OPERATIONS)?;
+    assert!(rt; judged(rt.alloc(), &history)? == (400_000, None, true));
+    Ok(())
+}
+
+#[test]
 fn a_gap_of_a_large_history_is_found(rt: HostRuntime) -> Result<(), Fail> {
     let history = honest_history(rt.alloc(), 2, MAX_THREAD_OPERATIONS)?;
-    assert!(rt; matches!(first_gap(rt.alloc(), &history)?, GapAnswer::Free(_)));
+    assert!(rt; has_gap(rt.alloc(), &history)?);
     Ok(())
 }
 
 #[test]
 fn a_large_cover_is_found_and_claimed(rt: HostRuntime) -> Result<(), Fail> {
     let history = covered_history(rt.alloc(), 40_000)?;
-    assert_eq!(rt; history.operations().len(), 80_000);
-    assert!(rt; matches!(first_gap(rt.alloc(), &history)?, GapAnswer::Covered(_)));
-    let verdict = decide(rt.alloc(), &history)?;
-    let claimed = claim(rt.alloc(), &history, &verdict)?;
-    assert!(rt; matches!(&claimed, Claimed::No(ViolationKind::VWit, _)));
-    assert!(rt; verify(rt.alloc(), &history, &claimed)?);
+    assert!(rt; !has_gap(rt.alloc(), &history)?);
+    assert!(rt; judged(rt.alloc(), &history)? == (80_000, Some(ViolationKind::VWit), true));
     Ok(())
 }

@@ -7,81 +7,77 @@ use empty_witness::{GapAnswer, WitnessAnswer, find_witness, gap_for};
 use history_merge::{History, OpId};
 use order_violation::{OrderPair, find_order};
 use std::alloc::{AllocError, Global};
-use std::process::Abort;
 use std::test::Fail;
 use value_match::{
     CoverStep, Matched, MatchedValue, Matching, Source, Values, Violation, match_values,
 };
 use verdicts::{Claimed, Verdict, ViolationKind, claim, decide};
 
-/// What plain scans answer of a matching.
-#[derive(Drop)]
-enum Plain {
-    Legal(Vec<OpId>),
-    Order(OrderPair),
-    Witness(OpId, Vec<CoverStep>),
-}
+/// The kind of a history's violation, and which answer differs.
+pub(crate) type Compared = (Option<ViolationKind>, Option<&'static str>);
 
-/// The verdict on a history, and the kind of violation that it claims, if it claims one.
-fn decided(
-    alloc: Global,
-    history: &History,
-) -> Result<(Verdict, Option<ViolationKind>), AllocError> {
-    let verdict = decide(alloc, history)?;
-    let kind = match claim(alloc, history, &verdict)? {
+/// The kind of violation that is claimed, if one is.
+pub(crate) fn kind_of(claimed: &Claimed) -> Option<ViolationKind> {
+    match claimed {
         Claimed::Yes(_) => None,
-        Claimed::No(kind, _) => Some(kind),
-    };
-    Ok((verdict, kind))
-}
-
-/// Compares the answers about the matching of a history, or gives the kind of the violation for which there is none.
-fn compare_matched(
-    rt: &impl Abort,
-    alloc: Global,
-    history: &History,
-    verdict: &Verdict,
-) -> Result<Option<ViolationKind>, Fail> {
-    match match_values(alloc, history)? {
-        Matched::Fresh(_) => Ok(Some(ViolationKind::VFresh)),
-        Matched::Repeat(_) => Ok(Some(ViolationKind::VRepeat)),
-        Matched::Clear(matching) => {
-            compare_clear(rt, alloc, &matching, verdict)?;
-            Ok(None)
-        }
+        Claimed::No(kind, _) => Some(*kind),
     }
 }
 
-/// Compares the answers about this history, and gives the kind of its violation, if it has one.
-pub(crate) fn compare(
-    rt: &impl Abort,
-    alloc: Global,
+/// Which answer about a history of this verdict differs from that of plain scans, if one does.
+fn difference(
+    rt: &impl AllocGlobal,
     history: &History,
-) -> Result<Option<ViolationKind>, Fail> {
-    let (verdict, kind) = decided(alloc, history)?;
-    let unmatched = compare_matched(rt, alloc, history, &verdict)?;
-    assert!(rt; unmatched.is_none() || unmatched == kind, "{kind:?}");
-    Ok(kind)
+    verdict: &Verdict,
+    kind: Option<ViolationKind>,
+) -> Result<Option<&'static str>, Fail> {
+    let unmatched = match match_values(rt.alloc(), history)? {
+        Matched::Fresh(_) => ViolationKind::VFresh,
+        Matched::Repeat(_) => ViolationKind::VRepeat,
+        Matched::Clear(matching) => return difference_of_clear(rt, &matching, verdict),
+    };
+    Ok(if kind == Some(unmatched) {
+        None
+    } else {
+        Some("kind")
+    })
 }
 
-/// Compares the answers about the matching of a history.
-fn compare_clear(
-    rt: &impl Abort,
-    alloc: Global,
+/// The kind of a history's violation, if it has one, and which answer differs from that of plain scans, if one does.
+pub(crate) fn compare(rt: &impl AllocGlobal, history: &History) -> Result<Compared, Fail> {
+    let verdict = decide(rt.alloc(), history)?;
+    let kind = kind_of(&claim(rt.alloc(), history, &verdict)?);
+    Ok((kind, difference(rt, history, &verdict, kind)?))
+}
+
+/// Which answer about a matching differs from that of plain scans, if one does.
+fn difference_of_clear(
+    rt: &impl AllocGlobal,
     matching: &Matching,
     verdict: &Verdict,
-) -> Result<(), Fail> {
-    let first = matching.initial().len();
-    let values = listed(alloc, matching)?;
-    let pair = told_pair_of(first, &values);
-    assert_eq!(rt; find_order(alloc, matching)?, pair);
-    let witness = plain_witness(alloc, matching, &values)?;
-    let found = find_witness(alloc, matching)?;
-    assert!(rt; is_same_witness(&found, &told_witness(alloc, first, &witness)?));
-    compare_gaps(rt, alloc, matching, &values)?;
-    let plain = plain_answer(alloc, matching, &values, pair, witness)?;
-    assert!(rt; is_same_verdict(verdict, &plain));
-    Ok(())
+) -> Result<Option<&'static str>, Fail> {
+    let values = listed(rt.alloc(), matching)?;
+    difference_among(rt, matching, &values, verdict)
+}
+
+/// The same, of a matching of these values.
+fn difference_among(
+    rt: &impl AllocGlobal,
+    matching: &Matching,
+    values: &[MatchedValue],
+    verdict: &Verdict,
+) -> Result<Option<&'static str>, Fail> {
+    Ok(if !is_same_pair(rt, matching, values)? {
+        Some("pair")
+    } else if !are_same_windows(rt.alloc(), matching, values)? {
+        Some("windows")
+    } else if !are_same_gaps(rt.alloc(), matching, values)? {
+        Some("gap")
+    } else if !is_same_verdict(rt.alloc(), matching, values, verdict)? {
+        Some("verdict")
+    } else {
+        None
+    })
 }
 
 /// Returns the operation at a place of the timeline, which begins with this many enqueues of initial values.
@@ -124,20 +120,18 @@ fn told_pair_of(first: usize, values: &[MatchedValue]) -> Option<OrderPair> {
     }
 }
 
-/// The cover of a timeline.
-fn told_cover(
-    alloc: Global,
-    first: usize,
-    cover: &[CoverStep],
-) -> Result<Vec<CoverStep>, AllocError> {
-    let mut told = Vec::new(alloc);
-    for step in cover {
-        told.push(CoverStep {
-            source: told_source(first, step.source),
-            dequeue: step.dequeue.map(|id| told_id(first, id)),
-        })?;
+/// Whether the cover is that of a timeline.
+fn is_told_cover(first: usize, cover: &[CoverStep], plain: &[CoverStep]) -> bool {
+    if cover.len() != plain.len() {
+        return false;
     }
-    Ok(told)
+    for (found, step) in cover.iter().zip(plain) {
+        let dequeue = step.dequeue.map(|id| told_id(first, id));
+        if found.source != told_source(first, step.source) || found.dequeue != dequeue {
+            return false;
+        }
+    }
+    true
 }
 
 /// The ticket of a gap of the timeline, whose first tickets are those of the initial values.
@@ -145,22 +139,28 @@ fn told_gap(first: usize, gap: u64) -> u64 {
     gap.saturating_sub((first as u64).saturating_mul(2))
 }
 
-/// What plain scans of a timeline find of all empty answers.
-fn told_witness(
-    alloc: Global,
-    first: usize,
-    witness: &PlainWitness,
-) -> Result<PlainWitness, AllocError> {
-    match witness {
-        PlainWitness::Gaps(gaps) => {
-            let told = gaps.iter().map(|gap| told_gap(first, *gap)).collect(alloc)?;
-            Ok(PlainWitness::Gaps(told))
-        }
-        PlainWitness::Covered(empty, cover) => {
-            let told = told_cover(alloc, first, cover)?;
-            Ok(PlainWitness::Covered(told_id(first, *empty), told))
+/// Whether the gaps are those of a timeline.
+fn are_told_gaps(first: usize, gaps: &[u64], plain: &[u64]) -> bool {
+    if gaps.len() != plain.len() {
+        return false;
+    }
+    for (found, gap) in gaps.iter().zip(plain) {
+        if *found != told_gap(first, *gap) {
+            return false;
         }
     }
+    true
+}
+
+/// Whether the order is that of a timeline without the enqueues of initial values.
+fn is_told_order(first: usize, order: &[OpId], plain: &[OpId]) -> bool {
+    let mut left = order.iter();
+    for id in plain {
+        if id.place() >= first && left.next().copied() != Some(told_id(first, *id)) {
+            return false;
+        }
+    }
+    left.next().is_none()
 }
 
 /// The value at this place, if there is one.
@@ -180,96 +180,141 @@ fn listed(alloc: Global, matching: &Matching) -> Result<Vec<MatchedValue>, Alloc
         .collect(alloc)
 }
 
-/// The plain answer, from the pair and the gaps that plain scans found.
-fn plain_answer(
+/// Whether the pair that is found is that of a plain scan.
+fn is_same_pair(
+    rt: &impl AllocGlobal,
+    matching: &Matching,
+    values: &[MatchedValue],
+) -> Result<bool, AllocError> {
+    let plain = told_pair_of(matching.initial().len(), values);
+    Ok(find_order(rt.alloc(), matching)? == plain)
+}
+
+/// Whether what is found of all empty answers is what plain scans find.
+fn are_same_windows(
     alloc: Global,
     matching: &Matching,
     values: &[MatchedValue],
-    pair: Option<OrderPair>,
-    witness: PlainWitness,
-) -> Result<Plain, Fail> {
-    if let Some(pair) = pair {
-        return Ok(Plain::Order(pair));
+) -> Result<bool, Fail> {
+    let plain = plain_witness(alloc, matching, values)?;
+    let found = find_witness(alloc, matching)?;
+    Ok(is_same_witness(matching.initial().len(), &found, &plain))
+}
+
+fn is_same_witness(first: usize, found: &WitnessAnswer, plain: &PlainWitness) -> bool {
+    match (found, plain) {
+        (WitnessAnswer::Gaps(gaps), PlainWitness::Gaps(plain_gaps)) => {
+            are_told_gaps(first, gaps.as_slice(), plain_gaps)
+        }
+        (WitnessAnswer::Covered { empty, cover }, PlainWitness::Covered(plain_empty, steps)) => {
+            *empty == told_id(first, *plain_empty) && is_told_cover(first, cover.as_slice(), steps)
+        }
+        _ => false,
     }
+}
+
+/// Whether what is found of the window of each empty answer is what plain scans find.
+fn are_same_gaps(
+    alloc: Global,
+    matching: &Matching,
+    values: &[MatchedValue],
+) -> Result<bool, Fail> {
+    let empties = matching.empties();
+    for index in 0..empties.len() {
+        let empty = empties.get(index);
+        let found = gap_for(alloc, matching, empty)?;
+        if !is_same_gap(alloc, matching, values, empty, &found)? {
+            return Ok(false);
+        }
+    }
+    Ok(true)
+}
+
+/// Whether plain scans find this of the window of an empty answer.
+fn is_same_gap(
+    alloc: Global,
+    matching: &Matching,
+    values: &[MatchedValue],
+    empty: OpId,
+    found: &GapAnswer,
+) -> Result<bool, Fail> {
     let first = matching.initial().len();
-    match witness {
-        PlainWitness::Covered(empty, cover) => {
-            let told = told_cover(alloc, first, &cover)?;
-            Ok(Plain::Witness(told_id(first, empty), told))
+    let timeline = matching.timeline();
+    let place = first.saturating_add(empty.place()) & 0xffff_ffff;
+    let answer = clocks_at(timeline, OpId::new(place as u32))?;
+    match (found, plain_gap(timeline, values, &answer)) {
+        (GapAnswer::Free(gap), Some(clock)) => Ok(*gap == told_gap(first, clock)),
+        (GapAnswer::Covered(cover), None) => {
+            let steps = plain_cover(alloc, values, &answer)?.ok_or("no cover")?;
+            Ok(is_told_cover(first, cover.as_slice(), &steps))
+        }
+        _ => Ok(false),
+    }
+}
+
+/// Whether the verdict is what plain scans find.
+fn is_same_verdict(
+    alloc: Global,
+    matching: &Matching,
+    values: &[MatchedValue],
+    verdict: &Verdict,
+) -> Result<bool, Fail> {
+    match told_pair_of(matching.initial().len(), values) {
+        Some(pair) => Ok(shows_pair(verdict, pair)),
+        None => is_same_without_pair(alloc, matching, values, verdict),
+    }
+}
+
+/// The same, if no value overtakes another.
+fn is_same_without_pair(
+    alloc: Global,
+    matching: &Matching,
+    values: &[MatchedValue],
+    verdict: &Verdict,
+) -> Result<bool, Fail> {
+    let first = matching.initial().len();
+    match plain_witness(alloc, matching, values)? {
+        PlainWitness::Covered(empty, steps) => {
+            Ok(shows_cover(verdict, first, empty, steps.as_slice()))
         }
         PlainWitness::Gaps(gaps) => {
             let order = plain_linearization(alloc, matching, values, &gaps)?;
-            let own = order.iter().filter(|id| id.place() >= first);
-            Ok(Plain::Legal(own.map(|id| told_id(first, *id)).collect(alloc)?))
+            Ok(shows_order(verdict, first, &order))
         }
     }
 }
 
-fn is_same_verdict(verdict: &Verdict, plain: &Plain) -> bool {
-    match (verdict, plain) {
-        (Verdict::Yes(order), Plain::Legal(places)) => order.as_slice() == places.as_slice(),
-        (
-            Verdict::No(
-                Violation::Order {
-                    enq_a,
-                    enq_b,
-                    deq_b,
-                    deq_a,
-                },
-            ),
-            Plain::Order(pair),
+fn shows_pair(verdict: &Verdict, pair: OrderPair) -> bool {
+    match verdict {
+        Verdict::No(
+            Violation::Order {
+                enq_a,
+                enq_b,
+                deq_b,
+                deq_a,
+            },
         ) => {
             *enq_a == pair.enq_a
                 && *enq_b == pair.enq_b
                 && *deq_b == pair.deq_b
                 && *deq_a == pair.deq_a
         }
-        (Verdict::No(Violation::Witness { empty, cover }), Plain::Witness(plain_empty, steps)) => {
-            *empty == *plain_empty && cover.as_slice() == steps.as_slice()
+        _ => false,
+    }
+}
+
+fn shows_cover(verdict: &Verdict, first: usize, plain_empty: OpId, steps: &[CoverStep]) -> bool {
+    match verdict {
+        Verdict::No(Violation::Witness { empty, cover }) => {
+            *empty == told_id(first, plain_empty) && is_told_cover(first, cover.as_slice(), steps)
         }
         _ => false,
     }
 }
 
-fn is_same_witness(found: &WitnessAnswer, plain: &PlainWitness) -> bool {
-    match (found, plain) {
-        (WitnessAnswer::Gaps(gaps), PlainWitness::Gaps(plain_gaps)) => {
-            gaps.as_slice() == plain_gaps.as_slice()
-        }
-        (WitnessAnswer::Covered { empty, cover }, PlainWitness::Covered(plain_empty, steps)) => {
-            *empty == *plain_empty && cover.as_slice() == steps.as_slice()
-        }
-        _ => false,
+fn shows_order(verdict: &Verdict, first: usize, plain: &[OpId]) -> bool {
+    match verdict {
+        Verdict::Yes(order) => is_told_order(first, order.as_slice(), plain),
+        Verdict::No(_) => false,
     }
-}
-
-/// Compares what is found of the window of each empty answer.
-fn compare_gaps(
-    rt: &impl Abort,
-    alloc: Global,
-    matching: &Matching,
-    values: &[MatchedValue],
-) -> Result<(), Fail> {
-    let first = matching.initial().len();
-    let timeline = matching.timeline();
-    let empties = matching.empties();
-    for index in 0..empties.len() {
-        let empty = empties.get(index);
-        let found = gap_for(alloc, matching, empty)?;
-        let place = first.saturating_add(empty.place()) & 0xffff_ffff;
-        let answer = clocks_at(timeline, OpId::new(place as u32))?;
-        let plain = plain_gap(timeline, values, &answer);
-        match found {
-            GapAnswer::Free(gap) => {
-                assert_eq!(rt; plain.map(|clock| told_gap(first, clock)), Some(gap));
-            }
-            GapAnswer::Covered(cover) => {
-                assert_eq!(rt; plain, None);
-                let steps = plain_cover(alloc, values, &answer)?.ok_or("no cover")?;
-                let told = told_cover(alloc, first, &steps)?;
-                assert_eq!(rt; cover.as_slice(), told.as_slice());
-            }
-        }
-    }
-    Ok(())
 }

@@ -106,28 +106,49 @@ pub(crate) fn clocks_at(timeline: &[PackedOperation], id: OpId) -> Result<Operat
     Ok(operation.unpack())
 }
 
+/// The least free gap of each empty answer on the timeline that has one.
+fn free_gaps(
+    alloc: Global,
+    matching: &Matching,
+    values: &[MatchedValue],
+) -> Result<Vec<u64>, Fail> {
+    let timeline = matching.timeline();
+    let mut gaps = Vec::new(alloc);
+    for empty in matching.timeline_empties() {
+        if let Some(gap) = plain_gap(timeline, values, &clocks_at(timeline, *empty)?) {
+            gaps.push(gap)?;
+        }
+    }
+    Ok(gaps)
+}
+
+/// The covered empty answer that returned first, if one is covered.
+fn first_covered(matching: &Matching, values: &[MatchedValue]) -> Result<Option<OpId>, Fail> {
+    let timeline = matching.timeline();
+    let mut first = None;
+    let mut least = u64::MAX;
+    for empty in matching.timeline_empties() {
+        let answer = clocks_at(timeline, *empty)?;
+        if answer.ret < least && plain_gap(timeline, values, &answer).is_none() {
+            first = Some(*empty);
+            least = answer.ret;
+        }
+    }
+    Ok(first)
+}
+
 /// The least free gap of each empty answer on the timeline, or the covered one that returned first with its cover.
 pub(crate) fn plain_witness(
     alloc: Global,
     matching: &Matching,
     values: &[MatchedValue],
 ) -> Result<PlainWitness, Fail> {
-    let mut gaps = Vec::new(alloc);
-    let mut first: Option<(OpId, Operation)> = None;
-    let timeline = matching.timeline();
-    for empty in matching.timeline_empties() {
-        let answer = clocks_at(timeline, *empty)?;
-        match plain_gap(timeline, values, &answer) {
-            Some(gap) => gaps.push(gap)?,
-            None if first.is_none_or(|so_far| answer.ret < so_far.1.ret) => {
-                first = Some((*empty, answer));
-            }
-            None => {}
+    match first_covered(matching, values)? {
+        None => Ok(PlainWitness::Gaps(free_gaps(alloc, matching, values)?)),
+        Some(empty) => {
+            let answer = clocks_at(matching.timeline(), empty)?;
+            let cover = plain_cover(alloc, values, &answer)?.ok_or("no cover")?;
+            Ok(PlainWitness::Covered(empty, cover))
         }
     }
-    let Some((empty, answer)) = first else {
-        return Ok(PlainWitness::Gaps(gaps));
-    };
-    let cover = plain_cover(alloc, values, &answer)?.ok_or("no cover")?;
-    Ok(PlainWitness::Covered(empty, cover))
 }

@@ -80,10 +80,10 @@ fn ordered(alloc: Global, values: &[MatchedValue]) -> Result<Vec<MatchedValue>, 
     Ok(order)
 }
 
-/// Returns the gap just before the first of the values from this rank on is definitely enqueued.
-fn entry_gap(order: &[MatchedValue], rank: usize) -> u64 {
+/// Returns the gap just before the first of these values is definitely enqueued.
+fn entry_gap(rest: &[MatchedValue]) -> u64 {
     let mut least = u64::MAX;
-    for value in order.iter().skip(rank) {
+    for value in rest {
         least = least.min(entered_by(&value.life));
     }
     least.saturating_sub(1)
@@ -96,8 +96,9 @@ fn value_positions(
 ) -> Result<Vec<(Position, OpId)>, AllocError> {
     let mut placed = Vec::new(alloc);
     let mut left = 0;
-    for (rank, value) in order.iter().enumerate() {
-        let enqueue_gap = entry_gap(order, rank);
+    for rank in 0..order.len() {
+        let value = order[rank];
+        let enqueue_gap = entry_gap(&order[rank..]);
         placed.push(((enqueue_gap, 2, rank as u64), value.enqueue))?;
         left = leaves_from(&value.life).max(left);
         let gap = left.max(enqueue_gap);
@@ -109,6 +110,36 @@ fn value_positions(
     Ok(placed)
 }
 
+/// Places each empty dequeue at its gap.
+fn place_empties(
+    matching: &Matching,
+    gaps: &[u64],
+    placed: &mut Vec<(Position, OpId)>,
+) -> Result<(), AllocError> {
+    let timeline = matching.timeline();
+    for (id, gap) in matching.timeline_empties().iter().zip(gaps) {
+        if let Some(operation) = timeline.get(id.place()) {
+            placed.push(((*gap, 1, operation.unpack().call), *id))?;
+        }
+    }
+    Ok(())
+}
+
+/// Places each failed enqueue at its call.
+fn place_refused(
+    matching: &Matching,
+    placed: &mut Vec<(Position, OpId)>,
+) -> Result<(), AllocError> {
+    let timeline = matching.timeline();
+    for id in matching.timeline_refused() {
+        if let Some(operation) = timeline.get(id.place()) {
+            let call = operation.unpack().call;
+            placed.push(((call, 1, call), *id))?;
+        }
+    }
+    Ok(())
+}
+
 /// The chosen order of all operations on the timeline, if each empty dequeue has its gap.
 pub(crate) fn plain_linearization(
     alloc: Global,
@@ -118,18 +149,8 @@ pub(crate) fn plain_linearization(
 ) -> Result<Vec<OpId>, AllocError> {
     let order = ordered(alloc, values)?;
     let mut placed = value_positions(alloc, &order)?;
-    let timeline = matching.timeline();
-    for (id, gap) in matching.timeline_empties().iter().zip(gaps) {
-        if let Some(operation) = timeline.get(id.place()) {
-            placed.push(((*gap, 1, operation.unpack().call), *id))?;
-        }
-    }
-    for id in matching.timeline_refused() {
-        if let Some(operation) = timeline.get(id.place()) {
-            let call = operation.unpack().call;
-            placed.push(((call, 1, call), *id))?;
-        }
-    }
+    place_empties(matching, gaps, &mut placed)?;
+    place_refused(matching, &mut placed)?;
     placed.sort_by_key(|placed| placed.0)?;
     placed.iter().map(|placed| placed.1).collect(alloc)
 }
