@@ -31,18 +31,65 @@ struct Case<'a> {
 /// Compares what is answered of one history.
 fn compare<R: Abort + AllocGlobal + Threads + Sync>(rt: &R, case: &Case) -> Result<(), Fail> {
     let history = history_of(rt.alloc(), case.operations)?;
-    let verdict = decided(rt.alloc(), &history)?;
-    let claimed = claim_of(rt.alloc(), &history, &verdict)?;
-    assert!(rt; is_wanted(case, &claimed), "{claimed:?}");
-    let in_pieces = decided_in_pieces(rt, &history)?;
-    assert!(rt; is_wanted(case, &claim_of(rt.alloc(), &history, &in_pieces)?));
-    assert!(rt; is_evidence_again(rt.alloc(), &history, case.kind, case.lines)?);
-    assert!(rt; !is_evidence_again(rt.alloc(), &history, case.kind, &[])?);
-    if let Verdict::No(violation) = &verdict {
-        let small = shrunk(rt.alloc(), &history, violation)?;
-        assert_eq!(rt; kept(rt.alloc(), &small)?.as_slice(), case.kept);
-    }
+    assert!(rt; is_decided(rt.alloc(), &history, case)?, "decided");
+    assert!(rt; is_decided_in_pieces(rt, &history, case)?, "in pieces");
+    assert!(rt;
+        is_evidence_again(rt.alloc(), &history, case.kind, case.lines)?,
+        "evidence"
+    );
+    assert!(rt;
+        !is_evidence_again(rt.alloc(), &history, case.kind, &[])?,
+        "no evidence"
+    );
     Ok(())
+}
+
+/// Whether a history gets the verdict that its case wants, and is shrunk as that wants.
+fn is_decided(alloc: Global, history: &History, case: &Case) -> Result<bool, AllocError> {
+    let verdict = decided(alloc, history)?;
+    let is_wanted = is_claim_wanted(alloc, history, &verdict, case)?;
+    Ok(is_wanted && is_shrunk(alloc, history, &verdict, case.kept)?)
+}
+
+/// Whether it gets that verdict by searches in pieces.
+fn is_decided_in_pieces<R: AllocGlobal + Threads + Sync>(
+    rt: &R,
+    history: &History,
+    case: &Case,
+) -> Result<bool, AllocError> {
+    let verdict = decided_in_pieces(rt, history)?;
+    is_claim_wanted(rt.alloc(), history, &verdict, case)
+}
+
+/// Whether what a verdict claims is what a case wants.
+fn is_claim_wanted(
+    alloc: Global,
+    history: &History,
+    verdict: &Verdict,
+    case: &Case,
+) -> Result<bool, AllocError>
+    requires { IsWithin history.now.initial (operations_of history.now.events) verdict.now }
+{
+    let claimed = claim_of(alloc, history, verdict)?;
+    Ok(is_wanted(case, &claimed))
+}
+
+/// Whether the history of a violation alone keeps these operations; a linearizable one keeps none.
+fn is_shrunk(
+    alloc: Global,
+    history: &History,
+    verdict: &Verdict,
+    wanted: &[Operation],
+) -> Result<bool, AllocError>
+    requires { IsVerdict history.now.initial (operations_of history.now.events) verdict.now }
+{
+    match verdict {
+        Verdict::Yes(_) => Ok(wanted.is_empty()),
+        Verdict::No(violation) => {
+            let small = shrunk(alloc, history, violation)?;
+            Ok(kept(alloc, &small)?.as_slice() == wanted)
+        }
+    }
 }
 
 /// An empty answer while first one value and then another was in the queue.
@@ -140,11 +187,12 @@ fn is_wanted(case: &Case, claimed: &Claimed) -> bool {
 
 /// Whether the lines show these operations, one by one.
 fn are_operations(lines: &[ClaimLine], operations: &[Operation]) -> bool {
+    for (line, operation) in lines.iter().zip(operations) {
+        if *line != ClaimLine::Op(*operation) {
+            return false;
+        }
+    }
     lines.len() == operations.len()
-        && lines
-            .iter()
-            .zip(operations)
-            .all(|(line, operation)| *line == ClaimLine::Op(*operation))
 }
 
 /// Lines that show these operations.

@@ -4,7 +4,7 @@ ghost use Rattle.collector.specs.Ends.{rings_of};
 
 use collector::Collector;
 use event_records::{Event, Lists, Namer, Noted, ThreadNo, What};
-use event_rings::{CloseToken, ring};
+use event_rings::{CloseToken, PushEnd, ring};
 use std::alloc::{AllocError, Global};
 use std::test::Fail;
 use tickets::Tickets;
@@ -51,20 +51,38 @@ fn sealed(alloc: Global, collector: Collector, token: CloseToken) -> Result<List
     }
 }
 
-/// Whether a round gives both events of a ring, the first round or the one after a refused one, and the sealed list has both.
+/// Pushes the first two calls of a thread into its ring, and returns whether there was room.
+fn push_two(alloc: Global, push: &mut PushEnd, thread: ThreadNo) -> Result<bool, AllocError>
+    requires { push.old.thread ≡ thread }
+    ensures same { push.new.thread ≡ push.old.thread }
+    ensures ring { push.new.ring ≡ push.old.ring }
+{
+    let (first, second) = two_calls(alloc, thread)?;
+    Ok(push.push(first).is_ok() && push.push(second).is_ok())
+}
+
+/// Whether a round gives both events of a ring, the first round or the one after a refused one, and the sealed list has
+/// both.
 fn gives_both(alloc: Global, thread: ThreadNo) -> Result<bool, AllocError>
     requires { thread ≡ 0 }
 {
     let (mut push, drain) = ring(alloc, thread, 2)?;
-    let (first, second) = two_calls(alloc, thread)?;
     let mut collector = Collector::new(alloc, vec![in alloc; drain]?)?;
-    if push.push(first).is_err() || push.push(second).is_err() {
+    if !push_two(alloc, &mut push, thread)? {
         return Ok(false);
     }
     let drained = drain_two(&mut collector)?;
     let token = push.close().map_err(|_| AllocError)?;
-    let lists = sealed(alloc, collector, token)?.into_vec();
-    Ok(drained == 2 && lists.len() == 1 && lists[0].as_slice() == [call(0), call(1)].as_slice())
+    let lists = sealed(alloc, collector, token)?;
+    Ok(drained == 2 && are_both(&lists))
+}
+
+/// Whether the one list has both events.
+fn are_both(lists: &Lists) -> bool {
+    match lists.as_slice() {
+        [events] => events.as_slice() == [call(0), call(1)].as_slice(),
+        _ => false,
+    }
 }
 
 #[test]

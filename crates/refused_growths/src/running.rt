@@ -2,20 +2,19 @@
 use crate::deciding::decided;
 use event_records::{Event, Lists, What};
 use history_merge::History;
-use queue_interface::{Entry, LockedQueue, ScriptQueue};
+use queue_interface::{Entry, LockedQueue, ScriptQueue, TestQueue};
 use std::alloc::{AllocError, Global};
 use std::test::Fail;
 use std::thread::Threads;
 use stress_run::{Recorded, RunFault, run};
 use verdicts::Verdict;
-use workloads::Plan;
+use workloads::{Plan, PlanFault};
 
 /// How often a push is tried: a refused round leaves the rings full, and the workers use all their tries up.
 const TRIES: u32 = 20_000;
 
 /// Whether a run that gives no history may have this fault: it is out of memory; a ring gave no token; or, if a
 /// thread couldn't be started, a worker stalled.
-/// that a worker stalled.
 fn is_allowed(fault: RunFault) -> bool {
     match fault {
         RunFault::Memory => true,
@@ -24,89 +23,101 @@ fn is_allowed(fault: RunFault) -> bool {
     }
 }
 
-/// The plan of a text.
-fn plan_of(alloc: Global, text: &str) -> Result<Plan, AllocError> {
-    Plan::from_text(alloc, text).map_err(|_| AllocError)
-}
-
-/// A plan of two workers, and a queue that answers them from a table.
-fn script(alloc: Global) -> Result<(Plan, ScriptQueue), AllocError> {
-    let plan = plan_of(alloc, "EDD\nDEE\n")?;
+/// A queue that answers two workers from a table.
+fn script(alloc: Global) -> Result<ScriptQueue, AllocError> {
     let first = vec![in alloc; Entry::Taken, Entry::Got(0), Entry::Empty]?;
     let second = vec![in alloc; Entry::Empty, Entry::Taken, Entry::NotTaken]?;
-    Ok((plan, ScriptQueue::new(vec![in alloc; first, second]?)))
+    Ok(ScriptQueue::new(vec![in alloc; first, second]?))
 }
 
-/// A run of the script over rings of two.
-fn run_script<R: Threads + Sync>(
+/// A run of the plan of this text.
+fn run_text<R: Threads + Sync>(
     rt: &R,
     alloc: Global,
-) -> Result<Result<Recorded, RunFault>, AllocError> {
-    let (plan, queue) = match script(alloc) {
-        Ok(made) => made,
-        Err(_) => script(alloc)?,
+    queue: &dyn TestQueue,
+    text: &str,
+    ring: usize,
+) -> Result<Result<Recorded, RunFault>, PlanFault> {
+    let plan = match Plan::from_text(alloc, text) {
+        Ok(plan) => plan,
+        Err(_) => Plan::from_text(alloc, text)?,
     };
-    Ok(run(rt, alloc, &queue, &plan, 2, TRIES))
+    Ok(run(rt, alloc, queue, &plan, ring, TRIES))
 }
 
 /// Whether these are the events of a list, whatever their tickets.
 fn are_events(list: &[Event], whats: &[What]) -> bool {
+    for (event, what) in list.iter().zip(whats) {
+        if event.what != *what {
+            return false;
+        }
+    }
     list.len() == whats.len()
-        && list
-            .iter()
-            .zip(whats)
-            .all(|(event, what)| event.what == *what)
 }
+
+/// What the first worker of the script records.
+const FIRST: [What; 6] = [
+    What::CallEnq(0),
+    What::RetEnq,
+    What::CallDeq,
+    What::RetDeq(0),
+    What::CallDeq,
+    What::RetEmpty,
+];
+
+/// What the second one records.
+const SECOND: [What; 6] = [
+    What::CallDeq,
+    What::RetEmpty,
+    What::CallEnq(4_294_967_297),
+    What::RetEnq,
+    What::CallEnq(4_294_967_298),
+    What::RetNot,
+];
 
 /// Whether these are the lists of the script.
 fn are_scripted(lists: &Lists) -> bool {
-    let first = [
-        What::CallEnq(0),
-        What::RetEnq,
-        What::CallDeq,
-        What::RetDeq(0),
-        What::CallDeq,
-        What::RetEmpty,
-    ];
-    let second = [
-        What::CallDeq,
-        What::RetEmpty,
-        What::CallEnq(4_294_967_297),
-        What::RetEnq,
-        What::CallEnq(4_294_967_298),
-        What::RetNot,
-    ];
     match lists.as_slice() {
-        [one, other] => are_events(one, &first) && are_events(other, &second),
+        [one, other] => are_events(one, &FIRST) && are_events(other, &SECOND),
         _ => false,
     }
 }
 
+/// Over rings of two.
 #[test]
 fn a_scripted_run_is_recorded_or_fails(rt: HostRuntime) -> Result<(), Fail> {
-    let recorded = match run_script(&rt, rt.alloc())? {
+    let queue = match script(rt.alloc()) {
+        Ok(queue) => queue,
+        Err(_) => script(rt.alloc())?,
+    };
+    let recorded = match run_text(&rt, rt.alloc(), &queue, "EDD\nDEE\n", 2)? {
         Ok(recorded) => recorded,
         Err(fault) => {
             assert!(rt; is_allowed(fault), "{fault:?}");
-            run_script(&rt, rt.alloc())??
+            run_text(&rt, rt.alloc(), &queue, "EDD\nDEE\n", 2)??
         }
     };
-    assert_eq!(rt; recorded.total(), 12);
-    assert!(rt; are_scripted(recorded.lists()));
+    assert!(rt; recorded.total() == 12 && are_scripted(recorded.lists()));
     Ok(())
 }
 
-/// How many values were not taken.
-fn refusals(lists: &Lists) -> usize {
+/// How many values of a list were not taken.
+fn refusals(list: &[Event]) -> usize {
     let mut count = 0usize;
-    for list in lists.as_slice() {
-        let refused = list
-            .iter()
-            .filter(|event| event.what == What::RetNot)
-            .count();
-        count = count.saturating_add(refused);
+    for event in list {
+        if event.what == What::RetNot {
+            count = count.saturating_add(1);
+        }
     }
     count
+}
+
+/// Whether two workers' lists have this many values at most that were not taken.
+fn has_refusals(lists: &Lists, most: usize) -> bool {
+    match lists.as_slice() {
+        [one, other] => refusals(one).saturating_add(refusals(other)) <= most,
+        _ => false,
+    }
 }
 
 /// The history of a run.
@@ -117,26 +128,30 @@ fn history_of(alloc: Global, recorded: &Recorded) -> Result<History, AllocError>
     }
 }
 
+/// Whether a run's history has this many operations and is linearizable.
+fn is_linearizable(
+    alloc: Global,
+    recorded: &Recorded,
+    operations: usize,
+) -> Result<bool, AllocError> {
+    let history = history_of(alloc, recorded)?;
+    let verdict = decided(alloc, &history)?;
+    Ok(history.operations().len() == operations && matches!(verdict, Verdict::Yes(_)))
+}
+
 #[test]
 fn a_run_over_a_growing_queue_is_legal_or_fails(rt: HostRuntime) -> Result<(), Fail> {
-    let plan = match plan_of(rt.alloc(), "EED\nEED\n") {
-        Ok(plan) => plan,
-        Err(_) => plan_of(rt.alloc(), "EED\nEED\n")?,
-    };
     let queue = LockedQueue::new(rt.alloc(), rt);
-    let recorded = match run(&rt, rt.alloc(), &queue, &plan, 64, TRIES) {
+    let recorded = match run_text(&rt, rt.alloc(), &queue, "EED\nEED\n", 64)? {
         Ok(recorded) => recorded,
         Err(fault) => {
             assert!(rt; is_allowed(fault), "{fault:?}");
             let queue = LockedQueue::new(rt.alloc(), rt);
-            run(&rt, rt.alloc(), &queue, &plan, 64, TRIES)?
+            run_text(&rt, rt.alloc(), &queue, "EED\nEED\n", 64)??
         }
     };
     // The queue takes all values, but for one whose growth is refused.
-    assert!(rt; refusals(recorded.lists()) <= 1);
-    let history = history_of(rt.alloc(), &recorded)?;
-    assert_eq!(rt; history.operations().len(), 6);
-    let verdict = decided(rt.alloc(), &history)?;
-    assert!(rt; matches!(verdict, Verdict::Yes(_)));
+    assert!(rt; has_refusals(recorded.lists(), 1));
+    assert!(rt; is_linearizable(rt.alloc(), &recorded, 6)?);
     Ok(())
 }

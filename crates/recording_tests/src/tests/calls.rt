@@ -33,6 +33,15 @@ pub(crate) fn call(n: u64) -> Event {
     }
 }
 
+// The call of a thread's first operation, an enqueue.
+fn first_call(alloc: Global, thread: ThreadNo) -> Result<Noted, AllocError>
+    ensures { IfOk result (λ noted. noted.thread ≡ thread) }
+{
+    let (tickets, mut pass) = Tickets::new(alloc, 1)?;
+    let mut namer = Namer::new(thread);
+    Ok(namer.ask_enq(pass.draw(&tickets)).1)
+}
+
 // Pushes the first call of a thread so often.
 pub(crate) fn push_calls(
     alloc: Global,
@@ -45,8 +54,8 @@ pub(crate) fn push_calls(
     ensures ring { push.new.ring ≡ push.old.ring }
 {
     for _ in 0..count {
-        let (first, _, _) = three_calls(alloc, thread)?;
-        push.push(first).ok().ok_or("full")?;
+        let noted = first_call(alloc, thread)?;
+        push.push(noted).ok().ok_or("full")?;
     }
     Ok(())
 }

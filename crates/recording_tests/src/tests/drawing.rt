@@ -1,21 +1,10 @@
 ghost use Rattle.std.specs.Prelude.{◌≡◌, ◌+◌, ◌*◌, ◌<◌, ◌≤◌};
 
+use std::alloc::{AllocError, Global};
 use std::test::Fail;
 use std::thread;
+use std::thread::Threads;
 use tickets::{Pass, Tickets};
-
-// Draws this many tickets.
-fn draw_all(tickets: &Tickets, mut pass: Pass, count: u64) -> Pass
-    requires key { pass.key ≡ tickets.now.key }
-    requires room { count ≤ pass.left }
-    ensures key { result.key ≡ pass.key }
-    ensures left { result.left + count ≡ pass.left }
-{
-    for _ in 0..count {
-        let _ticket = pass.draw(tickets).ticket();
-    }
-    pass
-}
 
 // Cuts one ticket off, draws it and another one, and joins, this many times.
 fn split_and_join(tickets: &Tickets, mut pass: Pass, count: u64) -> Pass
@@ -25,54 +14,57 @@ fn split_and_join(tickets: &Tickets, mut pass: Pass, count: u64) -> Pass
     ensures left { result.left + 2 * count ≡ pass.left }
 {
     for _ in 0..count {
-        let (kept, cut) = pass.split(tickets, 1);
-        let cut = draw_all(tickets, cut, 1);
-        let kept = draw_all(tickets, kept, 1);
+        let (mut kept, mut cut) = pass.split(tickets, 1);
+        let _first = cut.draw(tickets).ticket();
+        let _second = kept.draw(tickets).ticket();
         pass = kept.join(tickets, cut);
     }
     pass
 }
 
-#[test]
-fn two_threads_draw_each_number_once(rt: HostRuntime) -> Result<(), Fail> {
-    let (tickets, pass) = Tickets::new(rt.alloc(), 2000)?;
+// Two threads draw 1,000 tickets each of 2,001. Returns what is left of the joined pass, the ticket that it draws then,
+// and how many were drawn in all; none if the pass hasn't the share of both.
+fn draw_in_two<R: Threads + Sync>(
+    rt: &R,
+    alloc: Global,
+) -> Result<Option<(u64, u64, u64)>, AllocError> {
+    let (tickets, pass) = Tickets::new(alloc, 2001)?;
     let (first, second) = pass.split(&tickets, 1000);
     let (first, second) = thread::join(
-        &rt,
-        || draw_all(&tickets, first, 1000),
-        || draw_all(&tickets, second, 1000),
+        rt,
+        || split_and_join(&tickets, first, 500),
+        || split_and_join(&tickets, second, 500),
     );
-    let pass = first.join(&tickets, second);
-    assert!(rt; pass.share() == 2000 && pass.left() == 0);
-    assert!(rt; tickets.close(pass) == 2000);
-    Ok(())
+    let mut pass = first.join(&tickets, second);
+    if pass.share() != 2001 {
+        return Ok(None);
+    }
+    let left = pass.left();
+    let last = pass.draw(&tickets).ticket();
+    Ok(Some((left, last, tickets.close(pass))))
 }
 
 #[test]
-fn tickets_rise(rt: HostRuntime) -> Result<(), Fail> {
-    let (tickets, mut pass) = Tickets::new(rt.alloc(), 3)?;
+fn two_threads_draw_each_number_once(rt: HostRuntime) -> Result<(), Fail> {
+    assert!(rt; draw_in_two(&rt, rt.alloc())? == Some((1, 2000, 2001)));
+    Ok(())
+}
+
+// The first two tickets of a budget, what is left then, and how many were drawn.
+fn first_two(alloc: Global, budget: u64) -> Result<(u64, u64, u64, u64), AllocError>
+    requires { (2 ≤ budget) × (budget ≤ 1000000000000) }
+{
+    let (tickets, mut pass) = Tickets::new(alloc, budget)?;
     let first = pass.draw(&tickets).ticket();
     let second = pass.draw(&tickets).ticket();
-    assert!(rt; first == 0 && second == 1);
-    assert!(rt; pass.left() == 1 && pass.share() == 3);
-    assert!(rt; tickets.close(pass) == 2);
-    Ok(())
+    let left = pass.left();
+    Ok((first, second, left, tickets.close(pass)))
 }
 
 #[test]
-fn a_pass_is_split_and_joined_many_times(rt: HostRuntime) -> Result<(), Fail> {
-    let (tickets, pass) = Tickets::new(rt.alloc(), 1001)?;
-    let mut pass = split_and_join(&tickets, pass, 500);
-    assert!(rt; pass.share() == 1001 && pass.left() == 1);
-    assert!(rt; pass.draw(&tickets).ticket() == 1000);
-    assert!(rt; tickets.close(pass) == 1001);
-    Ok(())
-}
-
-#[test]
-fn the_greatest_budget_is_given(rt: HostRuntime) -> Result<(), Fail> {
-    let (tickets, pass) = Tickets::new(rt.alloc(), 1_000_000_000_000)?;
-    assert!(rt; pass.left() == 1_000_000_000_000);
-    assert!(rt; tickets.close(pass) == 0);
+fn tickets_rise_from_0_in_the_greatest_budget_too(rt: HostRuntime) -> Result<(), Fail> {
+    assert!(rt; first_two(rt.alloc(), 3)? == (0, 1, 1, 2));
+    let greatest = first_two(rt.alloc(), 1_000_000_000_000)?;
+    assert!(rt; greatest == (0, 1, 999_999_999_998, 2));
     Ok(())
 }

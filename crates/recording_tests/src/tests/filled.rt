@@ -1,6 +1,6 @@
-// Queues that keep the order, filled and emptied.
-use event_records::{Namer, ThreadNo, What};
-use queue_interface::{ArrayBack, LockedQueue, SegBack, TestQueue, TwoLockQueue};
+// Queues, filled and emptied.
+use event_records::{LEAST_INITIAL_NAME, Namer, ThreadNo, What};
+use queue_interface::{ArrayBack, Lifo, LockedQueue, SegBack, TestQueue, TwoLockQueue};
 use std::alloc::Global;
 use std::test::Fail;
 use tickets::Tickets;
@@ -8,10 +8,15 @@ use tickets::Tickets;
 // As many values as a run has operations.
 const MANY: u64 = 1_000_000;
 
+// The two values that a queue holds beforehand.
+const FIRST: u64 = LEAST_INITIAL_NAME;
+
+const SECOND: u64 = LEAST_INITIAL_NAME + 1;
+
 // Asks a queue to take the first value of this thread.
-pub(crate) fn put(alloc: Global, queue: &dyn TestQueue, thread: u8) -> Result<What, Fail> {
+fn put(alloc: Global, queue: &dyn TestQueue, thread: ThreadNo) -> Result<What, Fail> {
     let (tickets, mut pass) = Tickets::new(alloc, 2)?;
-    let mut namer = Namer::new(ThreadNo::new(thread).ok_or("thread")?);
+    let mut namer = Namer::new(thread);
     let (ask, _) = namer.ask_enq(pass.draw(&tickets));
     let answered = queue.enqueue(ask);
     Ok(answered.stamp(&mut pass, &tickets).event().what)
@@ -19,76 +24,86 @@ pub(crate) fn put(alloc: Global, queue: &dyn TestQueue, thread: u8) -> Result<Wh
 
 // Asks a queue for a value.
 pub(crate) fn take(alloc: Global, queue: &dyn TestQueue) -> Result<What, Fail> {
+    let thread = ThreadNo::new(0).ok_or("thread")?;
     let (tickets, mut pass) = Tickets::new(alloc, 2)?;
-    let mut namer = Namer::new(ThreadNo::new(0).ok_or("thread")?);
+    let mut namer = Namer::new(thread);
     let (ask, _) = namer.ask_deq(pass.draw(&tickets));
     let answered = queue.dequeue(ask);
     Ok(answered.stamp(&mut pass, &tickets).event().what)
 }
 
-// Whether a queue takes the first values of this many threads.
-fn takes(alloc: Global, queue: &dyn TestQueue, threads: u8) -> Result<bool, Fail> {
-    for thread in 0..threads {
-        if put(alloc, queue, thread)? != What::RetEnq {
-            return Ok(false);
+// How many of this many values a queue takes, up to the first that it refuses: the first values of threads in turn.
+fn put_in(alloc: Global, queue: &dyn TestQueue, values: u64) -> Result<u64, Fail> {
+    for n in 0..values {
+        let thread = ThreadNo::new((n % 64) as u8).ok_or("thread")?;
+        match put(alloc, queue, thread)? {
+            What::RetEnq => {}
+            _ => return Ok(n),
         }
     }
-    Ok(true)
+    Ok(values)
 }
 
-// Whether a queue gives them out again, in their order, and then none.
-fn gives(alloc: Global, queue: &dyn TestQueue, threads: u8) -> Result<bool, Fail> {
-    for thread in 0..threads {
-        if take(alloc, queue)? != What::RetDeq((thread as u64) << 32) {
-            return Ok(false);
+// How many of these values a queue gives out in their order, and what it answers then.
+fn taken_out(alloc: Global, queue: &dyn TestQueue, values: u64) -> Result<(u64, What), Fail> {
+    for n in 0..values {
+        let found = take(alloc, queue)?;
+        if found != What::RetDeq((n % 64) << 32) {
+            return Ok((n, found));
         }
     }
-    Ok(take(alloc, queue)? == What::RetEmpty)
+    Ok((values, take(alloc, queue)?))
 }
 
-// Whether a queue takes this many values, and gives as many out again.
-fn holds(alloc: Global, queue: &dyn TestQueue, values: u64) -> Result<bool, Fail> {
-    for _ in 0..values {
-        if put(alloc, queue, 0)? != What::RetEnq {
-            return Ok(false);
-        }
-    }
-    for _ in 0..values {
-        if take(alloc, queue)? != What::RetDeq(0) {
-            return Ok(false);
-        }
-    }
-    Ok(take(alloc, queue)? == What::RetEmpty)
+// Whether a queue takes this many values, and no more if it is asked to take more, then gives them out in their order,
+// and is empty.
+fn holds(alloc: Global, queue: &dyn TestQueue, values: u64, asked: u64) -> Result<bool, Fail> {
+    let put = put_in(alloc, queue, asked)?;
+    Ok(put == values && taken_out(alloc, queue, values)? == (values, What::RetEmpty))
 }
 
-// Whether a queue takes four values, and no fifth.
-fn takes_exactly_four(alloc: Global, queue: &dyn TestQueue) -> Result<bool, Fail> {
-    Ok(takes(alloc, queue, 4)? && put(alloc, queue, 4)? == What::RetNot)
+// What two dequeues answer of a queue into which two values were put beforehand.
+fn preloaded(alloc: Global, queue: &dyn TestQueue) -> Result<(What, What), Fail> {
+    if !queue.preload(FIRST) || !queue.preload(SECOND) {
+        return Err("no room".into());
+    }
+    Ok((take(alloc, queue)?, take(alloc, queue)?))
+}
+
+// Whether a queue gives its two initial values out in their order, and then holds what it is asked to.
+fn keeps(alloc: Global, queue: &dyn TestQueue, values: u64, asked: u64) -> Result<bool, Fail> {
+    let in_order = (What::RetDeq(FIRST), What::RetDeq(SECOND));
+    Ok(preloaded(alloc, queue)? == in_order && holds(alloc, queue, values, asked)?)
 }
 
 #[test]
 fn a_full_array_takes_exactly_its_capacity(rt: HostRuntime) -> Result<(), Fail> {
     let queue = ArrayBack::new(rt.alloc(), rt, 4)?;
-    assert!(rt; takes_exactly_four(rt.alloc(), &queue)?);
-    assert!(rt; gives(rt.alloc(), &queue, 4)?);
-    assert!(rt; takes_exactly_four(rt.alloc(), &queue)?);
+    assert!(rt; keeps(rt.alloc(), &queue, 4, 5)?);
+    assert!(rt; holds(rt.alloc(), &queue, 4, 5)?);
     Ok(())
 }
 
 #[test]
-fn an_unbounded_queue_loses_nothing(rt: HostRuntime) -> Result<(), Fail> {
+fn queues_hold_a_runs_values_in_their_order(rt: HostRuntime) -> Result<(), Fail> {
     let alloc = rt.alloc();
-    let queue = SegBack::new(alloc, rt)?;
-    assert!(rt; takes(alloc, &queue, 64)? && gives(alloc, &queue, 64)?);
+    assert!(rt;
+        keeps(
+            alloc,
+            &ArrayBack::new(alloc, rt, MANY as usize)?,
+            MANY,
+            MANY
+        )?
+    );
+    assert!(rt; keeps(alloc, &SegBack::new(alloc, rt)?, MANY, MANY)?);
+    assert!(rt; keeps(alloc, &LockedQueue::new(alloc, rt), MANY, MANY)?);
+    assert!(rt; keeps(alloc, &TwoLockQueue::new(alloc, rt), MANY, MANY)?);
     Ok(())
 }
 
 #[test]
-fn queues_hold_a_runs_values(rt: HostRuntime) -> Result<(), Fail> {
-    let alloc = rt.alloc();
-    assert!(rt; holds(alloc, &ArrayBack::new(alloc, rt, MANY as usize)?, MANY)?);
-    assert!(rt; holds(alloc, &SegBack::new(alloc, rt)?, MANY)?);
-    assert!(rt; holds(alloc, &LockedQueue::new(alloc, rt), MANY)?);
-    assert!(rt; holds(alloc, &TwoLockQueue::new(alloc, rt), MANY)?);
+fn a_lifo_gives_the_last_first(rt: HostRuntime) -> Result<(), Fail> {
+    let found = preloaded(rt.alloc(), &Lifo::new(rt.alloc(), rt))?;
+    assert!(rt; found == (What::RetDeq(SECOND), What::RetDeq(FIRST)));
     Ok(())
 }

@@ -1,20 +1,22 @@
 use event_records::OwnedSlice;
+use std::alloc::{AllocError, Global};
 use std::test::Fail;
 
-#[test]
-fn a_list_gives_its_items_back_in_their_order(rt: HostRuntime) -> Result<(), Fail> {
-    let listed = OwnedSlice::from_vec(vec![in rt.alloc(); 7u64, 2, 9]?);
-    assert_eq!(rt; listed.as_slice(), [7, 2, 9].as_slice());
-    assert_eq!(rt; listed.len(), 3);
-    assert!(rt; !listed.is_empty());
-    assert_eq!(rt; listed.into_vec().as_slice(), [7, 2, 9].as_slice());
-    Ok(())
+// How long the list of these items is, whether it is empty, and whether it shows them and gives them back in order.
+fn seen(alloc: Global, items: &[u64]) -> Result<(usize, bool, bool), AllocError> {
+    let listed = OwnedSlice::from_vec(Vec::from_slice(alloc, items)?);
+    let (len, is_empty) = (listed.len(), listed.is_empty());
+    let is_shown = listed.as_slice() == items;
+    Ok((
+        len,
+        is_empty,
+        is_shown && listed.into_vec().as_slice() == items,
+    ))
 }
 
 #[test]
-fn a_list_of_nothing_is_empty(rt: HostRuntime) -> Result<(), Fail> {
-    let listed: OwnedSlice<u64> = OwnedSlice::from_vec(Vec::new(rt.alloc()));
-    assert!(rt; listed.is_empty());
-    assert_eq!(rt; listed.len(), 0);
+fn a_list_gives_its_items_back_in_their_order(rt: HostRuntime) -> Result<(), Fail> {
+    assert!(rt; seen(rt.alloc(), &[7, 2, 9])? == (3, false, true));
+    assert!(rt; seen(rt.alloc(), &[])? == (0, true, true));
     Ok(())
 }

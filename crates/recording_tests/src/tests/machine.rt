@@ -1,73 +1,23 @@
 ghost use Rattle.std.specs.Prelude.{◌≡◌, length};
 
-use event_records::{Event, MAX_THREAD_OPERATIONS, What};
+use event_records::{Event, LEAST_INITIAL_NAME, MAX_THREAD_OPERATIONS, What};
 use recorder_core::{Answer, Done, Machine, Step, StepRefused};
+use std::alloc::Global;
 use std::process::Abort;
 use std::test::Fail;
 
 /// A step, and what it must be answered.
 type Case = (Step, Result<Done, StepRefused>);
 
-/// Takes the step. If its growth is refused, which happens once, it is taken again, as if nothing had happened.
-fn take(machine: &mut Machine, step: Step) -> Result<Done, StepRefused>
-    ensures { length machine.new.threads ≡ length machine.old.threads }
-{
-    let answer = machine.step(step);
-    if answer == Err(StepRefused::Memory) {
-        return machine.step(step);
-    }
-    answer
-}
-
 /// Takes the steps of a table and compares each answer.
 fn take_all(rt: &impl Abort, machine: &mut Machine, cases: &[Case])
     ensures { length machine.new.threads ≡ length machine.old.threads }
 {
     for (step, expected) in cases {
-        let answer = take(machine, *step);
-        assert_eq!(rt; answer, *expected, "{step:?}");
+        let answer = machine.step(*step);
+        assert!(rt; answer == *expected, "{step:?}: {answer:?}");
     }
 }
-
-fn event(ticket: u64, what: What) -> Event {
-    Event {
-        ticket,
-        thread: 0,
-        what,
-    }
-}
-
-/// A dequeue of this thread, told that the queue is empty, from the ask to the drain of its events.
-fn operate(machine: &mut Machine, thread: u8) -> Result<(), StepRefused> {
-    machine.step(Step::AskDeq(thread))?;
-    machine.step(Step::Push(thread))?;
-    machine.step(Step::Say(thread, Answer::Empty))?;
-    machine.step(Step::Ret(thread))?;
-    machine.step(Step::Push(thread))?;
-    machine.step(Step::Drain(thread, 2))?;
-    Ok(())
-}
-
-fn operate_up_to_limit(machine: &mut Machine, thread: u8) -> Result<(), StepRefused> {
-    for _ in 0..MAX_THREAD_OPERATIONS {
-        operate(machine, thread)?;
-    }
-    Ok(())
-}
-
-/// An operation that gets its answer from outside.
-const TOLD: [Case; 7] = [
-    (Step::AskDeq(0), Ok(Done::Ticket(0))),
-    (Step::Push(0), Ok(Done::Pushed)),
-    (
-        Step::Say(0, Answer::Got(5)),
-        Ok(Done::Answered(Answer::Got(5))),
-    ),
-    (Step::Ret(0), Ok(Done::Ticket(1))),
-    (Step::Push(0), Ok(Done::Pushed)),
-    (Step::Drain(0, 2), Ok(Done::Drained(2))),
-    (Step::Close(0), Ok(Done::Closed)),
-];
 
 /// Steps of a thread that the machine hasn't.
 const UNKNOWN: [Case; 8] = [
@@ -94,7 +44,8 @@ const CLOSED: [Case; 9] = [
     (Step::Drain(1, 3), Ok(Done::Drained(0))),
 ];
 
-/// Steps of thread 0, each refused because it is too early or too late.
+/// An enqueue and a dequeue of thread 0, with steps that are refused because they are too early or too late. The
+/// machine begins with one value.
 const OPEN: [Case; 28] = [
     (Step::Push(0), Err(StepRefused::NothingHeld)),
     (Step::Effect(0), Err(StepRefused::NotPending)),
@@ -123,46 +74,114 @@ const OPEN: [Case; 28] = [
     (Step::Say(0, Answer::Not), Err(StepRefused::WrongAnswer)),
     (Step::Drain(0, 1), Ok(Done::Drained(1))),
     (Step::Push(0), Ok(Done::Pushed)),
-    (Step::Effect(0), Ok(Done::Answered(Answer::Got(0)))),
+    (
+        Step::Effect(0),
+        Ok(Done::Answered(Answer::Got(LEAST_INITIAL_NAME))),
+    ),
 ];
 
-#[test]
-fn an_answer_that_was_told(rt: HostRuntime) -> Result<(), Fail> {
-    let mut machine = Machine::new(rt.alloc(), 1, 2)?;
-    take_all(&rt, &mut machine, &TOLD);
-    assert!(rt; machine.done());
-    let expected = [event(0, What::CallDeq), event(1, What::RetDeq(5))];
-    assert_eq!(rt; machine.collected(0), expected.as_slice());
-    Ok(())
+/// The end of that dequeue, then one that gets the enqueued value, and one that gets its answer from outside.
+const ENDED: [Case; 18] = [
+    (Step::Ret(0), Ok(Done::Ticket(3))),
+    (Step::Push(0), Err(StepRefused::RingFull)),
+    (Step::Drain(0, 3), Ok(Done::Drained(2))),
+    (Step::Push(0), Ok(Done::Pushed)),
+    (Step::AskDeq(0), Ok(Done::Ticket(4))),
+    (Step::Push(0), Ok(Done::Pushed)),
+    (Step::Effect(0), Ok(Done::Answered(Answer::Got(0)))),
+    (Step::Ret(0), Ok(Done::Ticket(5))),
+    (Step::Drain(0, 2), Ok(Done::Drained(2))),
+    (Step::Push(0), Ok(Done::Pushed)),
+    (Step::AskDeq(0), Ok(Done::Ticket(6))),
+    (Step::Push(0), Ok(Done::Pushed)),
+    (
+        Step::Say(0, Answer::Got(5)),
+        Ok(Done::Answered(Answer::Got(5))),
+    ),
+    (Step::Ret(0), Ok(Done::Ticket(7))),
+    (Step::Drain(0, 2), Ok(Done::Drained(2))),
+    (Step::Push(0), Ok(Done::Pushed)),
+    (Step::Drain(0, 2), Ok(Done::Drained(1))),
+    (Step::Close(0), Ok(Done::Closed)),
+];
+
+/// What these steps leave of thread 0.
+const COLLECTED: [What; 8] = [
+    What::CallEnq(0),
+    What::RetEnq,
+    What::CallDeq,
+    What::RetDeq(LEAST_INITIAL_NAME),
+    What::CallDeq,
+    What::RetDeq(0),
+    What::CallDeq,
+    What::RetDeq(5),
+];
+
+/// Whether these are the events that are to be collected of thread 0.
+fn are_collected(events: &[Event]) -> bool {
+    for (n, event) in events.iter().enumerate() {
+        if event.ticket != n as u64 || event.thread != 0 || COLLECTED.get(n) != Some(&event.what) {
+            return false;
+        }
+    }
+    events.len() == COLLECTED.len()
 }
 
 #[test]
-fn each_refusal_of_each_step(rt: HostRuntime) -> Result<(), Fail> {
-    let mut machine = Machine::new(rt.alloc(), 2, 2)?;
+fn each_answer_to_each_step(rt: HostRuntime) -> Result<(), Fail> {
+    let initial = vec![in rt.alloc(); LEAST_INITIAL_NAME]?;
+    let mut machine = Machine::with_initial(rt.alloc(), 2, 2, initial)?;
     take_all(&rt, &mut machine, &UNKNOWN);
     take_all(&rt, &mut machine, &CLOSED);
     take_all(&rt, &mut machine, &OPEN);
-    let expected = [event(0, What::CallEnq(0))];
-    assert_eq!(rt; machine.collected(0), expected.as_slice());
+    assert!(rt; !machine.done());
+    take_all(&rt, &mut machine, &ENDED);
+    assert!(rt; machine.done() && are_collected(machine.collected(0)));
     Ok(())
 }
 
-#[test]
-fn no_thread_asks_more_than_its_limit(rt: HostRuntime) -> Result<(), Fail> {
-    let mut machine = Machine::new(rt.alloc(), 1, 2)?;
+/// A dequeue of this thread, told that the queue is empty, from the ask to the drain of its events.
+fn operate(machine: &mut Machine, thread: u8) -> Result<(), StepRefused> {
+    let steps = [
+        Step::AskDeq(thread),
+        Step::Push(thread),
+        Step::Say(thread, Answer::Empty),
+        Step::Ret(thread),
+        Step::Push(thread),
+        Step::Drain(thread, 2),
+    ];
+    for step in steps {
+        machine.step(step)?;
+    }
+    Ok(())
+}
+
+fn operate_up_to_limit(machine: &mut Machine, thread: u8) -> Result<(), StepRefused> {
+    for _ in 0..MAX_THREAD_OPERATIONS {
+        operate(machine, thread)?;
+    }
+    Ok(())
+}
+
+/// Whether the limit refuses a further operation of a thread, whichever it is.
+fn is_limited(machine: &mut Machine, thread: u8) -> bool {
+    let limit = Err(StepRefused::Limit);
+    machine.step(Step::AskEnq(thread)) == limit && machine.step(Step::AskDeq(thread)) == limit
+}
+
+/// Whether a thread that made all its operations is limited, and one that made none after ten threads made all theirs.
+fn are_limited(alloc: Global) -> Result<(bool, bool), Fail> {
+    let mut machine = Machine::new(alloc, 11, 2)?;
     operate_up_to_limit(&mut machine, 0)?;
-    assert_eq!(rt; machine.step(Step::AskDeq(0)), Err(StepRefused::Limit));
-    assert_eq!(rt; machine.step(Step::AskEnq(0)), Err(StepRefused::Limit));
-    Ok(())
-}
-
-#[test]
-fn all_threads_ask_no_more_than_their_limit(rt: HostRuntime) -> Result<(), Fail> {
-    let mut machine = Machine::new(rt.alloc(), 11, 2)?;
-    for thread in 0..10 {
+    let is_first_limited = is_limited(&mut machine, 0);
+    for thread in 1..10 {
         operate_up_to_limit(&mut machine, thread)?;
     }
-    assert_eq!(rt; machine.step(Step::AskEnq(10)), Err(StepRefused::Limit));
-    assert_eq!(rt; machine.step(Step::AskDeq(10)), Err(StepRefused::Limit));
+    Ok((is_first_limited, is_limited(&mut machine, 10)))
+}
+
+#[test]
+fn a_thread_and_all_threads_ask_no_more_than_their_limits(rt: HostRuntime) -> Result<(), Fail> {
+    assert!(rt; are_limited(rt.alloc())? == (true, true));
     Ok(())
 }

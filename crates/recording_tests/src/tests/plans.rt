@@ -4,7 +4,7 @@ use rand_core::{Rng, SeedableRng};
 use rand_pcg::Pcg64;
 use std::alloc::{AllocError, Global};
 use std::test::Fail;
-use workloads::{Kind, MAX_WORKERS, Plan, PlanFault, Row};
+use workloads::{Kind, Plan, PlanFault, Row};
 
 // The first words of the generator after some seeds, as other implementations of it give them.
 const FIRST_WORDS: [(u64, u64); 3] = [
@@ -28,116 +28,107 @@ fn written(alloc: Global, plan: &Plan) -> Result<String, AllocError> {
     Ok(text)
 }
 
-#[test]
-fn texts_are_read(rt: HostRuntime) -> Result<(), Fail> {
-    for (text, workers, operations) in [("EDE\nD\n", 2, 4), ("\n", 1, 0), ("E\n\nDD\n", 3, 3)] {
-        let plan = Plan::from_text(rt.alloc(), text)?;
-        let again = written(rt.alloc(), &plan)?;
-        let found = (plan.rows().len(), plan.operations(), again.as_str());
-        assert_eq!(rt; found, (workers, operations, text));
-    }
-    Ok(())
+// How many workers and operations the plan of a text has, and whether it is written as this text again.
+fn read(alloc: Global, text: &str) -> Result<(usize, u64, bool), PlanFault> {
+    let plan = Plan::from_text(alloc, text)?;
+    let is_again = written(alloc, &plan)?.as_str() == text;
+    Ok((plan.rows().len(), plan.operations(), is_again))
 }
 
-#[test]
-fn other_texts_are_refused(rt: HostRuntime) {
-    let table = [
-        ("", PlanFault::Limit),
-        ("ED", PlanFault::Cut),
-        ("EX", PlanFault::Cut),
-        ("EX\n", PlanFault::Letter(0)),
-        ("E\n\nD D\nX\n", PlanFault::Letter(2)),
-        ("ED\r\n", PlanFault::Letter(0)),
-        (
-            "\n\n\n\n\n\n\n\n\n\n\n\n\n\n\n\n\n\n\n\n\n\n\n\n\n\n\n\n\n\n\n\n\n",
-            PlanFault::Limit,
-        ),
-        (
-            "\n\n\n\n\n\n\n\n\n\n\n\n\n\n\n\n\n\n\n\n\n\n\n\n\n\n\n\n\n\n\n\n\nX\n",
-            PlanFault::Letter(33),
-        ),
-    ];
-    for (text, fault) in table {
-        let answer = Plan::from_text(rt.alloc(), text).err();
-        assert_eq!(rt; answer, Some(fault), "at {text:?}");
-    }
-}
+// A text, and what is read of it.
+const TEXTS: [(&str, Result<(usize, u64, bool), PlanFault>); 11] = [
+    ("EDE\nD\n", Ok((2, 4, true))),
+    ("\n", Ok((1, 0, true))),
+    ("E\n\nDD\n", Ok((3, 3, true))),
+    ("", Err(PlanFault::Limit)),
+    ("ED", Err(PlanFault::Cut)),
+    ("EX", Err(PlanFault::Cut)),
+    ("EX\n", Err(PlanFault::Letter(0))),
+    ("E\n\nD D\nX\n", Err(PlanFault::Letter(2))),
+    ("ED\r\n", Err(PlanFault::Letter(0))),
+    (
+        "\n\n\n\n\n\n\n\n\n\n\n\n\n\n\n\n\n\n\n\n\n\n\n\n\n\n\n\n\n\n\n\n\n",
+        Err(PlanFault::Limit),
+    ),
+    (
+        "\n\n\n\n\n\n\n\n\n\n\n\n\n\n\n\n\n\n\n\n\n\n\n\n\n\n\n\n\n\n\n\n\nX\n",
+        Err(PlanFault::Letter(33)),
+    ),
+];
 
 #[test]
-fn all_or_none_are_enqueues(rt: HostRuntime) -> Result<(), Fail> {
-    for (percent, text) in [(100, "EEE\nEEE\n"), (0, "DDD\nDDD\n")] {
-        let plan = Plan::from_seed(rt.alloc(), 1, 2, 3, percent)?;
-        assert_eq!(rt; written(rt.alloc(), &plan)?.as_str(), text);
+fn texts_are_read_or_refused(rt: HostRuntime) {
+    for (text, expected) in TEXTS {
+        let found = read(rt.alloc(), text);
+        assert!(rt; found == expected, "at {text:?}: {found:?}");
     }
-    Ok(())
 }
 
 #[test]
 fn first_words_are_the_published_ones(rt: HostRuntime) {
     for (seed, word) in FIRST_WORDS {
-        assert_eq!(rt; Pcg64::seed_from_u64(seed).next_u64(), word, "after {seed}");
-    }
-}
-
-// The text of the plan of one operation after this seed.
-fn seeded(alloc: Global, seed: u64, percent: u8) -> Result<String, AllocError>
-    requires { percent ≤ 100 }
-{
-    let plan = Plan::from_seed(alloc, seed, 1, 1, percent)?;
-    written(alloc, &plan)
-}
-
-// Enqueues if and only if the word's last two digits are below the percentage.
-#[test]
-fn first_words_decide_first_kinds(rt: HostRuntime) -> Result<(), Fail> {
-    let cases = [
-        (0, 75, "D\n"),
-        (0, 76, "E\n"),
-        (1, 99, "D\n"),
-        (1, 100, "E\n"),
-        (42, 37, "D\n"),
-        (42, 38, "E\n"),
-    ];
-    for (seed, percent, text) in cases {
-        assert_eq!(rt;
-            seeded(rt.alloc(), seed, percent)?.as_str(),
-            text,
+        assert!(rt;
+            Pcg64::seed_from_u64(seed).next_u64() == word,
             "after {seed}"
         );
     }
-    Ok(())
 }
+
+// The text of the plan of this many workers, each with one dequeue, if there is one.
+fn planned(alloc: Global, workers: usize) -> Result<Option<String>, AllocError> {
+    let mut rows = Vec::new(alloc);
+    for _ in 0..workers {
+        rows.push(Row::from_vec(vec![in alloc; Kind::Deq]?))?;
+    }
+    match Plan::of_rows(rows) {
+        Some(plan) => Ok(Some(written(alloc, &plan)?)),
+        None => Ok(None),
+    }
+}
+
+// How many workers have a plan, with its text.
+const PLANNED: [(usize, Option<&str>); 4] = [
+    (0, None),
+    (2, Some("D\nD\n")),
+    (
+        32,
+        Some(
+            "D\nD\nD\nD\nD\nD\nD\nD\nD\nD\nD\nD\nD\nD\nD\nD\nD\nD\nD\nD\nD\nD\nD\nD\nD\nD\nD\nD\nD\nD\nD\nD\n",
+        ),
+    ),
+    (33, None),
+];
 
 #[test]
 fn rows_within_the_limits_are_a_plan(rt: HostRuntime) -> Result<(), Fail> {
-    let mut rows = Vec::new(rt.alloc());
-    for _ in 0..=MAX_WORKERS {
-        rows.push(Row::from_vec(Vec::new(rt.alloc())))?;
+    for (workers, expected) in PLANNED {
+        let found = planned(rt.alloc(), workers)?;
+        assert!(rt; found.as_deref() == expected, "{workers} workers");
     }
-    assert!(rt; Plan::of_rows(rows).is_none(), "17 workers");
-    let rows = vec![in rt.alloc(); Row::from_vec(vec![in rt.alloc(); Kind::Deq]?)]?;
-    let plan = Plan::of_rows(rows).ok_or("one worker")?;
-    assert_eq!(rt; written(rt.alloc(), &plan)?.as_str(), "D\n");
     Ok(())
 }
 
-// The text of a plan of this many workers, each of which makes this many enqueues.
-fn enqueues(alloc: Global, workers: usize, operations: usize) -> Result<String, AllocError> {
-    let mut line = String::new(alloc);
-    for _ in 0..operations {
-        line.push('E')?;
-    }
-    line.push('\n')?;
+// The text of a plan of this many workers, each of which makes 100,000 enqueues.
+fn enqueues(alloc: Global, workers: usize) -> Result<String, AllocError>
+    requires { workers ≤ 32 }
+{
     let mut text = String::new(alloc);
-    for _ in 0..workers {
-        text.push_str(&line)?;
+    for n in 1..=workers * 100_001 {
+        text.push(if n % 100_001 == 0 { '\n' } else { 'E' })?;
     }
     Ok(text)
 }
 
+// How many operations the plan of that text has.
+fn operations_of(alloc: Global, workers: usize) -> Result<u64, PlanFault>
+    requires { workers ≤ 32 }
+{
+    let text = enqueues(alloc, workers)?;
+    Ok(Plan::from_text(alloc, &text)?.operations())
+}
+
 #[test]
 fn the_longest_text_is_read(rt: HostRuntime) -> Result<(), Fail> {
-    let text = enqueues(rt.alloc(), 10, 100_000)?;
-    assert_eq!(rt; Plan::from_text(rt.alloc(), &text)?.operations(), 1_000_000);
+    assert!(rt; operations_of(rt.alloc(), 10)? == 1_000_000);
     Ok(())
 }

@@ -1,59 +1,87 @@
 // Runs over the proved queue.
-use super::runs::are_events_of;
-use event_records::LEAST_INITIAL_NAME;
 use event_records::What::{CallDeq, CallEnq, RetDeq, RetEmpty, RetEnq};
+use event_records::{Event, LEAST_INITIAL_NAME, Lists, What};
+use std::alloc::Global;
+use std::sync::Wait;
 use std::test::Fail;
-use stress_run::{RunFault, run_proved};
+use std::thread::Threads;
+use stress_run::run_proved;
 use workloads::Plan;
+
+// The events of a worker's plan `EDEDDD` on a queue that holds one value.
+const EVENTS: [What; 12] = [
+    CallEnq(0),
+    RetEnq,
+    CallDeq,
+    RetDeq(LEAST_INITIAL_NAME),
+    CallEnq(2),
+    RetEnq,
+    CallDeq,
+    RetDeq(0),
+    CallDeq,
+    RetDeq(2),
+    CallDeq,
+    RetEmpty,
+];
+
+// Whether a list has these events.
+fn are_wanted(list: &[Event]) -> bool {
+    for (n, event) in list.iter().enumerate() {
+        if EVENTS.get(n) != Some(&event.what) {
+            return false;
+        }
+    }
+    list.len() == EVENTS.len()
+}
+
+// Whether the one list of a run of that plan has these events, whether the run tells that value, and how many tickets
+// it drew.
+fn run_alone<R: Threads + Wait + Sync>(rt: &R, alloc: Global) -> Result<(bool, bool, u64), Fail> {
+    let plan = Plan::from_text(alloc, "EDEDDD\n")?;
+    let recorded = run_proved(rt, alloc, &[LEAST_INITIAL_NAME], &plan, 64, 1_000)?;
+    let is_wanted = match recorded.lists().as_slice() {
+        [list] => are_wanted(list.as_slice()),
+        _ => false,
+    };
+    let is_held = recorded.initial() == [LEAST_INITIAL_NAME].as_slice();
+    Ok((is_wanted, is_held, recorded.total()))
+}
 
 #[test]
 fn the_proved_queue_gives_the_first_value(rt: HostRuntime) -> Result<(), Fail> {
-    let alloc = rt.alloc();
-    let plan = Plan::from_text(alloc, "EDEDDD\n")?;
-    let initial = [LEAST_INITIAL_NAME];
-    let recorded = run_proved(&rt, alloc, &initial, &plan, 64, 1_000)?;
-    let want = [
-        CallEnq(0),
-        RetEnq,
-        CallDeq,
-        RetDeq(LEAST_INITIAL_NAME),
-        CallEnq(2),
-        RetEnq,
-        CallDeq,
-        RetDeq(0),
-        CallDeq,
-        RetDeq(2),
-        CallDeq,
-        RetEmpty,
-    ];
-    assert!(rt; are_events_of(alloc, &recorded, 0, &want)?);
-    assert_eq!(rt; recorded.total(), 12);
+    assert!(rt; run_alone(&rt, rt.alloc())? == (true, true, 12));
     Ok(())
 }
 
-#[test]
-fn values_of_the_proved_queue_go_to_other_threads(rt: HostRuntime) -> Result<(), Fail> {
-    let alloc = rt.alloc();
-    let plan = Plan::from_seed(alloc, 7, 4, 2_000, 50)?;
-    let recorded = run_proved(&rt, alloc, &[], &plan, 1024, 10_000_000)?;
-    let mut is_dequeued = false;
-    for list in recorded.lists().as_slice() {
-        for event in list.as_slice() {
-            is_dequeued |= matches!(event.what, RetDeq(_));
+// Whether a dequeue of a list got a value.
+fn is_one_dequeued(list: &[Event]) -> bool {
+    for event in list {
+        if matches!(event.what, RetDeq(_)) {
+            return true;
         }
     }
-    assert!(rt; is_dequeued);
-    assert_eq!(rt; recorded.total(), 16_000);
-    Ok(())
+    false
+}
+
+// Whether a dequeue of these lists got a value.
+fn is_any_dequeued(lists: &Lists) -> bool {
+    for list in lists.as_slice() {
+        if is_one_dequeued(list) {
+            return true;
+        }
+    }
+    false
+}
+
+// Whether a dequeue of four workers got a value, and how many tickets they drew.
+fn run_four<R: Threads + Wait + Sync>(rt: &R, alloc: Global) -> Result<(bool, u64), Fail> {
+    let plan = Plan::from_seed(alloc, 7, 4, 2_000, 50)?;
+    let recorded = run_proved(rt, alloc, &[], &plan, 1024, 10_000_000)?;
+    Ok((is_any_dequeued(recorded.lists()), recorded.total()))
 }
 
 #[test]
-fn a_run_over_the_proved_queue_has_limits(rt: HostRuntime) -> Result<(), Fail> {
-    let alloc = rt.alloc();
-    let plan = Plan::from_text(alloc, "E\n")?;
-    let small = run_proved(&rt, alloc, &[], &plan, 1, 1);
-    assert!(rt; matches!(&small, Err(RunFault::Limit)));
-    let named = run_proved(&rt, alloc, &[0], &plan, 64, 1);
-    assert!(rt; matches!(&named, Err(RunFault::Limit)));
+fn values_of_the_proved_queue_are_dequeued(rt: HostRuntime) -> Result<(), Fail> {
+    assert!(rt; run_four(&rt, rt.alloc())? == (true, 16_000));
     Ok(())
 }

@@ -1,31 +1,31 @@
 use event_records::{Event, Namer, ThreadNo, What};
-use std::alloc::Global;
+use std::alloc::{AllocError, Global};
 use std::test::Fail;
 use tickets::Tickets;
 
-// The values of the first two enqueues of a thread.
-fn first_values(alloc: Global, thread: u8) -> Result<(u64, u64), Fail> {
+// The value and the events of a thread's first enqueue, which is answered so.
+fn enqueued(
+    alloc: Global,
+    thread: ThreadNo,
+    taken: bool,
+) -> Result<(u64, Event, Event), AllocError> {
     let (tickets, mut pass) = Tickets::new(alloc, 2)?;
-    let mut namer = Namer::new(ThreadNo::new(thread).ok_or("thread")?);
-    let (first, _) = namer.ask_enq(pass.draw(&tickets));
-    let (second, _) = namer.ask_enq(pass.draw(&tickets));
-    Ok((first.value(), second.value()))
-}
-
-// The events of thread 5's first enqueue, which is answered so.
-fn enqueue_events(alloc: Global, taken: bool) -> Result<(Event, Event), Fail> {
-    let (tickets, mut pass) = Tickets::new(alloc, 2)?;
-    let mut namer = Namer::new(ThreadNo::new(5).ok_or("thread")?);
+    let mut namer = Namer::new(thread);
     let (ask, call) = namer.ask_enq(pass.draw(&tickets));
+    let value = ask.value();
     let answered = if taken { ask.taken() } else { ask.not_taken() };
     let returned = answered.stamp(&mut pass, &tickets);
-    Ok((call.event(), returned.event()))
+    Ok((value, call.event(), returned.event()))
 }
 
-// The events of thread 5's first dequeue, which is answered so.
-fn dequeue_events(alloc: Global, got: Option<u64>) -> Result<(Event, Event), Fail> {
+// The events of a thread's first dequeue, which is answered so.
+fn dequeued(
+    alloc: Global,
+    thread: ThreadNo,
+    got: Option<u64>,
+) -> Result<(Event, Event), AllocError> {
     let (tickets, mut pass) = Tickets::new(alloc, 2)?;
-    let mut namer = Namer::new(ThreadNo::new(5).ok_or("thread")?);
+    let mut namer = Namer::new(thread);
     let (ask, call) = namer.ask_deq(pass.draw(&tickets));
     let answered = match got {
         Some(value) => ask.got(value),
@@ -35,43 +35,51 @@ fn dequeue_events(alloc: Global, got: Option<u64>) -> Result<(Event, Event), Fai
     Ok((call.event(), returned.event()))
 }
 
-fn event(ticket: u64, what: What) -> Event {
-    Event {
-        ticket,
-        thread: 5,
-        what,
-    }
+// Whether these are the call and the return of an operation of this thread, at tickets 0 and 1.
+fn are_noted(events: (Event, Event), thread: u8, call: What, ret: What) -> bool {
+    let (called, returned) = events;
+    called
+        == Event {
+            ticket: 0,
+            thread,
+            what: call,
+        }
+        && returned
+            == Event {
+                ticket: 1,
+                thread,
+                what: ret,
+            }
 }
 
-#[test]
-fn values_are_named_by_thread_and_number(rt: HostRuntime) -> Result<(), Fail> {
-    let cases = [
-        (0, (0, 1)),
-        (1, (4_294_967_296, 4_294_967_297)),
-        (63, (270_582_939_648, 270_582_939_649)),
-    ];
-    for (thread, values) in cases {
-        assert_eq!(rt; first_values(rt.alloc(), thread)?, values);
-    }
-    Ok(())
-}
+// A thread, the value of its first enqueue, whether that is taken, and the return.
+const ENQUEUES: [(u8, u64, bool, What); 4] = [
+    (0, 0, true, What::RetEnq),
+    (1, 4_294_967_296, false, What::RetNot),
+    (5, 21_474_836_480, true, What::RetEnq),
+    (63, 270_582_939_648, false, What::RetNot),
+];
 
 #[test]
 fn enqueues_are_noted(rt: HostRuntime) -> Result<(), Fail> {
-    let call = event(0, What::CallEnq(21_474_836_480));
-    let taken = enqueue_events(rt.alloc(), true)?;
-    assert_eq!(rt; taken, (call, event(1, What::RetEnq)));
-    let not_taken = enqueue_events(rt.alloc(), false)?;
-    assert_eq!(rt; not_taken, (call, event(1, What::RetNot)));
+    for (number, value, taken, ret) in ENQUEUES {
+        let thread = ThreadNo::new(number).ok_or("thread")?;
+        let (found, call, returned) = enqueued(rt.alloc(), thread, taken)?;
+        let is_noted = are_noted((call, returned), number, What::CallEnq(value), ret);
+        assert!(rt; is_noted && found == value, "thread {number}");
+    }
     Ok(())
 }
 
+// What a dequeue gets, and its return.
+const DEQUEUES: [(Option<u64>, What); 2] = [(Some(9), What::RetDeq(9)), (None, What::RetEmpty)];
+
 #[test]
 fn dequeues_are_noted(rt: HostRuntime) -> Result<(), Fail> {
-    let call = event(0, What::CallDeq);
-    let got = dequeue_events(rt.alloc(), Some(9))?;
-    assert_eq!(rt; got, (call, event(1, What::RetDeq(9))));
-    let empty = dequeue_events(rt.alloc(), None)?;
-    assert_eq!(rt; empty, (call, event(1, What::RetEmpty)));
+    let thread = ThreadNo::new(5).ok_or("thread")?;
+    for (got, ret) in DEQUEUES {
+        let events = dequeued(rt.alloc(), thread, got)?;
+        assert!(rt; are_noted(events, 5, What::CallDeq, ret), "{got:?}");
+    }
     Ok(())
 }

@@ -1,156 +1,181 @@
-use event_records::{Namer, ThreadNo};
+use super::filled::take;
+use event_records::{LEAST_INITIAL_NAME, What};
 use queue_interface::{
-    DoublingList, Fifo, GateQueue, InventingList, LockedQueue, LosingList, ScriptQueue, ShyList,
-    Stack, TestQueue, ValueList,
+    DoublingList, Fifo, GateQueue, InventingList, LosingList, ScriptQueue, ShyList, Stack,
+    TestQueue, ValueList,
 };
 use std::alloc::{AllocError, Global};
 use std::test::Fail;
-use tickets::Tickets;
 
-// What a list gives out if these values are put in, `None` standing for a call that takes one out.
-fn taken_out<L: ValueList>(
-    alloc: Global,
-    calls: &[Option<u64>],
-) -> Result<Vec<Option<u64>>, AllocError> {
+// A call of a list.
+#[derive(Clone, Copy)]
+enum Call {
+    Preload(u64),
+    Put(u64),
+    Take,
+}
+
+// The first take finds nothing. Two values are given beforehand, calls that no list counts, and then five are put in.
+const CALLS: [Call; 18] = [
+    Call::Take,
+    Call::Preload(8),
+    Call::Preload(9),
+    Call::Put(0),
+    Call::Put(1),
+    Call::Put(2),
+    Call::Put(3),
+    Call::Put(4),
+    Call::Take,
+    Call::Take,
+    Call::Take,
+    Call::Take,
+    Call::Take,
+    Call::Take,
+    Call::Take,
+    Call::Take,
+    Call::Take,
+    Call::Take,
+];
+
+type Taken = [Option<u64>; 11];
+
+const IN_ORDER: Taken = [
+    None,
+    Some(8),
+    Some(9),
+    Some(0),
+    Some(1),
+    Some(2),
+    Some(3),
+    Some(4),
+    None,
+    None,
+    None,
+];
+
+const LAST_FIRST: Taken = [
+    None,
+    Some(4),
+    Some(3),
+    Some(2),
+    Some(1),
+    Some(0),
+    Some(9),
+    Some(8),
+    None,
+    None,
+    None,
+];
+
+// Each 4th value that is found stays; the first take finds none.
+const DOUBLED: Taken = [
+    None,
+    Some(8),
+    Some(9),
+    Some(0),
+    Some(1),
+    Some(1),
+    Some(2),
+    Some(3),
+    Some(4),
+    Some(4),
+    None,
+];
+
+// Each 4th take invents a value.
+const INVENTED: Taken = [
+    None,
+    Some(8),
+    Some(9),
+    Some(9_223_372_036_854_775_808),
+    Some(0),
+    Some(1),
+    Some(2),
+    Some(9_223_372_036_854_775_809),
+    Some(3),
+    Some(4),
+    None,
+];
+
+// Each 4th take finds nothing.
+const SHY: Taken = [
+    None,
+    Some(8),
+    Some(9),
+    None,
+    Some(0),
+    Some(1),
+    Some(2),
+    None,
+    Some(3),
+    Some(4),
+    None,
+];
+
+// Each 4th value that is put in is lost.
+const LOST: Taken = [
+    None,
+    Some(8),
+    Some(9),
+    Some(0),
+    Some(1),
+    Some(2),
+    Some(4),
+    None,
+    None,
+    None,
+    None,
+];
+
+// What a list gives out in these calls, if it takes all values.
+fn taken_out<L: ValueList>(alloc: Global) -> Result<Vec<Option<u64>>, AllocError> {
     let mut list = L::empty(alloc);
     let mut out = Vec::new(alloc);
-    for call in calls {
-        match call {
-            Some(value) => {
-                list.put(*value);
+    for call in CALLS {
+        let is_done = match call {
+            Call::Preload(value) => list.preload(value),
+            Call::Put(value) => list.put(value),
+            Call::Take => {
+                out.push(list.take())?;
+                true
             }
-            None => out.push(list.take())?,
+        };
+        if !is_done {
+            return Err(AllocError);
         }
     }
     Ok(out)
 }
 
-// Whether a list gives out in their order two values that it held first.
-fn gives_the_first_first<L: ValueList>(alloc: Global) -> bool {
-    let mut list = L::empty(alloc);
-    list.preload(8) && list.preload(9) && list.take() == Some(8) && list.take() == Some(9)
+// Whether a list gives these out.
+fn gives<L: ValueList>(alloc: Global, taken: &Taken) -> Result<bool, AllocError> {
+    Ok(taken_out::<L>(alloc)?.as_slice() == taken.as_slice())
 }
 
 #[test]
-fn lists_that_are_wrong_later_give_the_first_first(rt: HostRuntime) {
+fn lists_keep_the_order_or_break_it_as_they_are_called(rt: HostRuntime) -> Result<(), Fail> {
     let alloc = rt.alloc();
-    assert!(rt; gives_the_first_first::<DoublingList>(alloc));
-    assert!(rt; gives_the_first_first::<InventingList>(alloc));
-    assert!(rt; gives_the_first_first::<ShyList>(alloc));
-}
-
-// Asks a queue to dequeue, as the first operation of this thread.
-pub(crate) fn ask_first(alloc: Global, queue: &dyn TestQueue, thread: u8) -> Result<(), Fail> {
-    let (tickets, mut pass) = Tickets::new(alloc, 1)?;
-    let mut namer = Namer::new(ThreadNo::new(thread).ok_or("thread")?);
-    let (ask, _) = namer.ask_deq(pass.draw(&tickets));
-    let _ = queue.dequeue(ask);
+    assert!(rt; gives::<Fifo>(alloc, &IN_ORDER)?);
+    assert!(rt; gives::<Stack>(alloc, &LAST_FIRST)?);
+    assert!(rt; gives::<DoublingList>(alloc, &DOUBLED)?);
+    assert!(rt; gives::<InventingList>(alloc, &INVENTED)?);
+    assert!(rt; gives::<ShyList>(alloc, &SHY)?);
+    assert!(rt; gives::<LosingList>(alloc, &LOST)?);
     Ok(())
 }
 
-#[test]
-fn a_fifo_keeps_the_order_and_a_stack_gives_the_last_first(rt: HostRuntime) -> Result<(), Fail> {
-    let calls = [Some(5), Some(6), None, Some(7), None, None, None];
-    let in_order = taken_out::<Fifo>(rt.alloc(), &calls)?;
-    let want = [Some(5), Some(6), Some(7), None];
-    assert_eq!(rt; in_order.as_slice(), want.as_slice());
-    let last_first = taken_out::<Stack>(rt.alloc(), &calls)?;
-    let want = [Some(6), Some(7), Some(5), None];
-    assert_eq!(rt; last_first.as_slice(), want.as_slice());
-    Ok(())
+// Whether a queue takes a value beforehand, and answers empty then.
+fn ignores_a_value(alloc: Global, queue: &dyn TestQueue) -> Result<bool, Fail> {
+    Ok(queue.preload(LEAST_INITIAL_NAME) && take(alloc, queue)? == What::RetEmpty)
 }
 
 #[test]
-fn each_4th_value_found_is_doubled(rt: HostRuntime) -> Result<(), Fail> {
-    // The empty answer at the start is no find.
-    let calls = [
-        None,
-        Some(0),
-        Some(1),
-        Some(2),
-        Some(3),
-        None,
-        None,
-        None,
-        None,
-        None,
-        None,
-    ];
-    let out = taken_out::<DoublingList>(rt.alloc(), &calls)?;
-    let want = [None, Some(0), Some(1), Some(2), Some(3), Some(3), None];
-    assert_eq!(rt; out.as_slice(), want.as_slice());
-    Ok(())
-}
-
-#[test]
-fn each_4th_dequeue_invents(rt: HostRuntime) -> Result<(), Fail> {
-    let calls = [None, None, None, Some(5), None, None, None, None, None];
-    let out = taken_out::<InventingList>(rt.alloc(), &calls)?;
-    let want = [
-        None,
-        None,
-        None,
-        Some(9_223_372_036_854_775_808),
-        Some(5),
-        None,
-        None,
-        Some(9_223_372_036_854_775_809),
-    ];
-    assert_eq!(rt; out.as_slice(), want.as_slice());
-    Ok(())
-}
-
-#[test]
-fn each_4th_dequeue_is_shy(rt: HostRuntime) -> Result<(), Fail> {
-    let calls = [None, None, None, Some(3), None, None];
-    let out = taken_out::<ShyList>(rt.alloc(), &calls)?;
-    assert_eq!(rt;
-        out.as_slice(),
-        [None, None, None, None, Some(3)].as_slice()
-    );
-    Ok(())
-}
-
-#[test]
-fn each_4th_enqueue_is_lost(rt: HostRuntime) -> Result<(), Fail> {
-    let calls = [
-        Some(0),
-        Some(1),
-        Some(2),
-        Some(3),
-        Some(4),
-        None,
-        None,
-        None,
-        None,
-        None,
-    ];
-    let out = taken_out::<LosingList>(rt.alloc(), &calls)?;
-    assert_eq!(rt;
-        out.as_slice(),
-        [Some(0), Some(1), Some(2), Some(4), None].as_slice()
-    );
-    Ok(())
-}
-
-#[test]
-fn a_gate_counts_who_saw_all_arrive(rt: HostRuntime) -> Result<(), Fail> {
+fn a_script_and_a_gate_ignore_initial_values(rt: HostRuntime) -> Result<(), Fail> {
+    let script = ScriptQueue::new(Vec::new(rt.alloc()));
+    assert!(rt; ignores_a_value(rt.alloc(), &script)?);
+    // The gate counts the calls that saw all arrive: not the first, but the second.
     let gate = GateQueue::new(2, 3);
-    ask_first(rt.alloc(), &gate, 0)?;
-    assert_eq!(rt; gate.passed(), 0);
-    ask_first(rt.alloc(), &gate, 1)?;
-    assert_eq!(rt; gate.passed(), 1);
-    Ok(())
-}
-
-// Boxed queues stand in one list, one that waits with the runtime that it waits by.
-#[test]
-fn queues_of_several_kinds_are_boxed(rt: HostRuntime) -> Result<(), Fail> {
-    let alloc = rt.alloc();
-    let mut shelf: Vec<Box<dyn TestQueue>> = Vec::new(alloc);
-    shelf.push(Box::new(alloc, LockedQueue::new(alloc, rt))?)?;
-    shelf.push(Box::new(alloc, ScriptQueue::new(Vec::new(alloc)))?)?;
-    shelf.push(Box::new(alloc, GateQueue::new(2, 0))?)?;
-    assert_eq!(rt; shelf.len(), 3);
+    assert!(rt; ignores_a_value(rt.alloc(), &gate)? && gate.passed() == 0);
+    assert!(rt; ignores_a_value(rt.alloc(), &gate)? && gate.passed() == 1);
     Ok(())
 }

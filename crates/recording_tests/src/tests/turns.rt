@@ -1,54 +1,100 @@
 use event_records::{Event, ThreadNo, What, alternates};
-use std::test::Fail;
 
-/// An event of thread 0.
-fn event(ticket: u64, what: What) -> Event {
-    Event {
-        ticket,
-        thread: 0,
-        what,
-    }
-}
+const CALL: Event = Event {
+    ticket: 0,
+    thread: 0,
+    what: What::CallEnq(7),
+};
+
+const TAKEN: Event = Event {
+    ticket: 1,
+    thread: 0,
+    what: What::RetEnq,
+};
+
+const NOT_TAKEN: Event = Event {
+    ticket: 5,
+    thread: 0,
+    what: What::RetNot,
+};
+
+const EMPTY: Event = Event {
+    ticket: 1,
+    thread: 0,
+    what: What::RetEmpty,
+};
+
+const TAKEN_AT_0: Event = Event {
+    ticket: 0,
+    thread: 0,
+    what: What::RetEnq,
+};
+
+const DEQUEUE: Event = Event {
+    ticket: 2,
+    thread: 0,
+    what: What::CallDeq,
+};
+
+const GOT: Event = Event {
+    ticket: 3,
+    thread: 0,
+    what: What::RetDeq(7),
+};
+
+const AGAIN: Event = Event {
+    ticket: 4,
+    thread: 0,
+    what: What::CallDeq,
+};
+
+const EMPTY_AT_3: Event = Event {
+    ticket: 3,
+    thread: 0,
+    what: What::RetEmpty,
+};
+
+const EMPTY_AT_9: Event = Event {
+    ticket: 9,
+    thread: 0,
+    what: What::RetEmpty,
+};
+
+const LISTS: [(&[Event], bool, &str); 11] = [
+    (&[], true, "no events"),
+    (&[CALL], false, "a call without its return"),
+    (&[CALL, TAKEN], true, "an enqueue"),
+    (&[CALL, NOT_TAKEN], true, "a failed enqueue"),
+    (&[CALL, TAKEN_AT_0], false, "equal tickets"),
+    (&[CALL, EMPTY], false, "a return of the other kind"),
+    (&[TAKEN_AT_0], false, "a return first"),
+    (&[DEQUEUE, GOT, AGAIN, EMPTY_AT_9], true, "two dequeues"),
+    (&[DEQUEUE, GOT, AGAIN], false, "a call last"),
+    (
+        &[DEQUEUE, AGAIN, GOT, EMPTY_AT_9],
+        false,
+        "two calls in a row",
+    ),
+    (
+        &[DEQUEUE, GOT, AGAIN, EMPTY_AT_3],
+        false,
+        "a ticket that falls",
+    ),
+];
 
 #[test]
 fn calls_and_returns_take_turns(rt: HostRuntime) {
-    assert!(rt; alternates(&[]));
-    let call = event(0, What::CallEnq(7));
-    assert!(rt; !alternates(&[call]), "a call without its return");
-    assert!(rt; alternates(&[call, event(1, What::RetEnq)]));
-    assert!(rt; alternates(&[call, event(5, What::RetNot)]));
-    assert!(rt;
-        !alternates(&[call, event(0, What::RetEnq)]),
-        "equal tickets"
-    );
-    assert!(rt;
-        !alternates(&[call, event(1, What::RetEmpty)]),
-        "a return of the other kind"
-    );
-    assert!(rt; !alternates(&[event(0, What::RetEnq)]), "a return first");
+    for (events, expected, what) in LISTS {
+        assert!(rt; alternates(events) == expected, "{what}");
+    }
 }
 
-#[test]
-fn a_list_ends_in_a_return(rt: HostRuntime) {
-    let call = event(2, What::CallDeq);
-    let taken = event(3, What::RetDeq(7));
-    let again = event(4, What::CallDeq);
-    assert!(rt; alternates(&[call, taken, again, event(9, What::RetEmpty)]));
-    assert!(rt; !alternates(&[call, taken, again]));
-    assert!(rt;
-        !alternates(&[call, again, taken, event(9, What::RetEmpty)]),
-        "two calls in a row"
-    );
-    assert!(rt;
-        !alternates(&[call, taken, again, event(3, What::RetEmpty)]),
-        "a ticket that falls"
-    );
-}
+const NUMBERS: [(u8, Option<u8>); 3] = [(0, Some(0)), (63, Some(63)), (64, None)];
 
 #[test]
-fn threads_are_numbered_to_63(rt: HostRuntime) -> Result<(), Fail> {
-    assert!(rt; ThreadNo::new(0).ok_or("thread 0")?.get() == 0);
-    assert!(rt; ThreadNo::new(63).ok_or("thread 63")?.get() == 63);
-    assert!(rt; ThreadNo::new(64).is_none());
-    Ok(())
+fn threads_are_numbered_to_63(rt: HostRuntime) {
+    for (number, expected) in NUMBERS {
+        let found = ThreadNo::new(number).map(|thread| thread.get());
+        assert!(rt; found == expected, "{number}");
+    }
 }

@@ -1,16 +1,17 @@
 ghost use Rattle.std.specs.Prelude.{◌≡◌, ◌+◌, ◌≤◌, ◌<◌, IfOk};
 ghost use Rattle.event_records.specs.declared.limits.TheConstants.{NAMES_OF_A_THREAD};
 
+use super::askings::CountingQueue;
 use event_records::{Kind, Namer, ThreadNo};
 use event_rings::{DrainEnd, ring};
-use queue_interface::{ScriptQueue, TestQueue};
+use queue_interface::TestQueue;
 use std::alloc::Global;
 use std::test::Fail;
 use stress_run::{Worker, WorkerFault, one_call};
 use tickets::Tickets;
 
 // A worker with ten tickets, a ring of two and three tries, and the other end of the ring, which nobody drains.
-pub(crate) fn lone_worker(alloc: Global) -> Result<(Tickets, Worker, DrainEnd), Fail>
+fn lone_worker(alloc: Global) -> Result<(Tickets, Worker, DrainEnd), Fail>
     ensures key { IfOk result (λ made. made.1.pass.key ≡ made.0.key) }
     ensures left { IfOk result (λ made. made.1.pass.left ≡ 10) }
     ensures asked { IfOk result (λ made. made.1.asked ≡ 0) }
@@ -23,7 +24,7 @@ pub(crate) fn lone_worker(alloc: Global) -> Result<(Tickets, Worker, DrainEnd), 
 }
 
 // One operation, which draws two tickets at most whatever it answers.
-pub(crate) fn operate(
+fn operate(
     worker: &mut Worker,
     tickets: &Tickets,
     queue: &dyn TestQueue,
@@ -42,35 +43,47 @@ pub(crate) fn operate(
     }
 }
 
-// How many tickets a worker has drawn that nobody drains, when it is closed after the call that stalls or after one more.
-fn tickets_drawn(alloc: Global, one_more: bool) -> Result<u64, Fail> {
-    let (tickets, mut worker, _drain) = lone_worker(alloc)?;
-    if !stalls(alloc, &mut worker, &tickets, one_more) {
-        return Err("no stall".into());
-    }
-    let (_token, pass) = worker.close().ok().ok_or("closed")?;
-    Ok(pass.share() - pass.left())
-}
-
-// Whether a worker makes an enqueue, and stalls in the dequeue after it, or in one more too.
-fn stalls(alloc: Global, worker: &mut Worker, tickets: &Tickets, one_more: bool) -> bool
+// Whether a worker makes an enqueue, and stalls in the operation after it, or in one more too.
+fn stalls(
+    worker: &mut Worker,
+    tickets: &Tickets,
+    queue: &dyn TestQueue,
+    kind: Kind,
+    one_more: bool,
+) -> bool
     requires left { 6 ≤ worker.old.pass.left }
     requires room { worker.old.asked ≡ 0 }
     requires key { worker.old.pass.key ≡ tickets.now.key }
 {
-    let queue = ScriptQueue::new(Vec::new(alloc));
-    let first = operate(worker, tickets, &queue, Kind::Enq);
+    let first = operate(worker, tickets, queue, Kind::Enq);
     let stalled = Err(WorkerFault::Stalled);
-    let mut last = operate(worker, tickets, &queue, Kind::Deq);
+    let mut last = operate(worker, tickets, queue, kind);
     if one_more && last == stalled {
-        last = operate(worker, tickets, &queue, Kind::Deq);
+        last = operate(worker, tickets, queue, kind);
     }
     first.is_ok() && last == stalled && worker.is_stopped()
 }
 
+// What a worker does that nobody drains, if its second operation is of this kind: how many questions its queue was
+// asked, and how many tickets it has drawn, if it is closed after the call that stalls or after one more.
+fn asked_and_drawn(alloc: Global, kind: Kind, one_more: bool) -> Result<(Option<u64>, u64), Fail> {
+    let (tickets, mut worker, _drain) = lone_worker(alloc)?;
+    let queue = CountingQueue::new();
+    if !stalls(&mut worker, &tickets, &queue, kind, one_more) {
+        return Err("no stall".into());
+    }
+    let (_token, pass) = worker.close().ok().ok_or("closed")?;
+    Ok((queue.asked(), pass.share() - pass.left()))
+}
+
+// A queue is not asked before the call is pushed.
 #[test]
 fn a_worker_stalls_where_nobody_drains(rt: HostRuntime) -> Result<(), Fail> {
-    assert_eq!(rt; tickets_drawn(rt.alloc(), false)?, 3);
-    assert_eq!(rt; tickets_drawn(rt.alloc(), true)?, 3);
+    for kind in [Kind::Enq, Kind::Deq] {
+        for one_more in [false, true] {
+            let found = asked_and_drawn(rt.alloc(), kind, one_more)?;
+            assert!(rt; found == (Some(1), 3), "{kind:?} {one_more}: {found:?}");
+        }
+    }
     Ok(())
 }
