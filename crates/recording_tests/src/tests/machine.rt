@@ -80,8 +80,9 @@ const OPEN: [Case; 28] = [
     ),
 ];
 
-/// The end of that dequeue, then one that gets the enqueued value, and one that gets its answer from outside.
-const ENDED: [Case; 18] = [
+/// The end of that dequeue, one that gets the enqueued value, one that finds none, and one that gets its answer from
+/// outside.
+const ENDED: [Case; 24] = [
     (Step::Ret(0), Ok(Done::Ticket(3))),
     (Step::Push(0), Err(StepRefused::RingFull)),
     (Step::Drain(0, 3), Ok(Done::Drained(2))),
@@ -94,11 +95,17 @@ const ENDED: [Case; 18] = [
     (Step::Push(0), Ok(Done::Pushed)),
     (Step::AskDeq(0), Ok(Done::Ticket(6))),
     (Step::Push(0), Ok(Done::Pushed)),
+    (Step::Effect(0), Ok(Done::Answered(Answer::Empty))),
+    (Step::Ret(0), Ok(Done::Ticket(7))),
+    (Step::Drain(0, 2), Ok(Done::Drained(2))),
+    (Step::Push(0), Ok(Done::Pushed)),
+    (Step::AskDeq(0), Ok(Done::Ticket(8))),
+    (Step::Push(0), Ok(Done::Pushed)),
     (
         Step::Say(0, Answer::Got(5)),
         Ok(Done::Answered(Answer::Got(5))),
     ),
-    (Step::Ret(0), Ok(Done::Ticket(7))),
+    (Step::Ret(0), Ok(Done::Ticket(9))),
     (Step::Drain(0, 2), Ok(Done::Drained(2))),
     (Step::Push(0), Ok(Done::Pushed)),
     (Step::Drain(0, 2), Ok(Done::Drained(1))),
@@ -106,13 +113,15 @@ const ENDED: [Case; 18] = [
 ];
 
 /// What these steps leave of thread 0.
-const COLLECTED: [What; 8] = [
+const COLLECTED: [What; 10] = [
     What::CallEnq(0),
     What::RetEnq,
     What::CallDeq,
     What::RetDeq(LEAST_INITIAL_NAME),
     What::CallDeq,
     What::RetDeq(0),
+    What::CallDeq,
+    What::RetEmpty,
     What::CallDeq,
     What::RetDeq(5),
 ];

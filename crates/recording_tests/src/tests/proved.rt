@@ -34,7 +34,7 @@ fn are_wanted(list: &[Event]) -> bool {
     list.len() == EVENTS.len()
 }
 
-// Whether the one list of a run of that plan has these events, whether the run tells that value, and how many tickets
+// Whether the one list of a run of that plan has these events, whether it begins with that value, and how many tickets
 // it drew.
 fn run_alone<R: Threads + Wait + Sync>(rt: &R, alloc: Global) -> Result<(bool, bool, u64), Fail> {
     let plan = Plan::from_text(alloc, "EDEDDD\n")?;

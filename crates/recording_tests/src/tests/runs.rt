@@ -7,7 +7,8 @@ use std::thread::Threads;
 use stress_run::run;
 use workloads::Plan;
 
-// How many calls of two dequeues of each worker saw those of all workers arrive at a gate.
+// How many calls of two dequeues of each worker saw those of all workers arrive at a gate. The rings have room for one
+// dequeue.
 fn run_through_gate<R: Threads + Sync>(
     rt: &R,
     alloc: Global,
@@ -15,7 +16,7 @@ fn run_through_gate<R: Threads + Sync>(
     plan: &str,
 ) -> Result<u64, Fail> {
     let plan = Plan::from_text(alloc, plan)?;
-    run(rt, alloc, gate, &plan, 4, 1_000_000)?;
+    run(rt, alloc, gate, &plan, 2, 1_000_000)?;
     Ok(gate.passed())
 }
 
