@@ -4,11 +4,12 @@ use event_records::{Event, Lists, What};
 use history_merge::History;
 use queue_interface::{Entry, LockedQueue, ScriptQueue, TestQueue};
 use std::alloc::{AllocError, Global};
+use std::process::Abort;
 use std::test::Fail;
 use std::thread::Threads;
 use stress_run::{Recorded, RunFault, run};
 use verdicts::Verdict;
-use workloads::{Plan, PlanFault};
+use workloads::Plan;
 
 /// How often a push is tried: a refused round leaves the rings full, and the workers use all their tries up.
 const TRIES: u32 = 20_000;
@@ -30,19 +31,26 @@ fn script(alloc: Global) -> Result<ScriptQueue, AllocError> {
     Ok(ScriptQueue::new(vec![in alloc; first, second]?))
 }
 
-/// A run of the plan of this text.
-fn run_text<R: Threads + Sync>(
+/// A run of the plan of this text on a queue; if it fails, as it may, one on another queue, which may not fail.
+fn recorded_of<R: Threads + Sync + Abort>(
     rt: &R,
     alloc: Global,
     queue: &dyn TestQueue,
+    other: &dyn TestQueue,
     text: &str,
     ring: usize,
-) -> Result<Result<Recorded, RunFault>, PlanFault> {
+) -> Result<Recorded, Fail> {
     let plan = match Plan::from_text(alloc, text) {
         Ok(plan) => plan,
         Err(_) => Plan::from_text(alloc, text)?,
     };
-    Ok(run(rt, alloc, queue, &plan, ring, TRIES))
+    match run(rt, alloc, queue, &plan, ring, TRIES) {
+        Ok(recorded) => Ok(recorded),
+        Err(fault) => {
+            assert!(rt; is_allowed(fault), "{fault:?}");
+            Ok(run(rt, alloc, other, &plan, ring, TRIES)?)
+        }
+    }
 }
 
 /// Whether these are the events of a list, whatever their tickets.
@@ -83,20 +91,13 @@ fn are_scripted(lists: &Lists) -> bool {
     }
 }
 
-/// Over rings of two.
 #[test]
 fn a_scripted_run_is_recorded_or_fails(rt: HostRuntime) -> Result<(), Fail> {
     let queue = match script(rt.alloc()) {
         Ok(queue) => queue,
         Err(_) => script(rt.alloc())?,
     };
-    let recorded = match run_text(&rt, rt.alloc(), &queue, "EDD\nDEE\n", 2)? {
-        Ok(recorded) => recorded,
-        Err(fault) => {
-            assert!(rt; is_allowed(fault), "{fault:?}");
-            run_text(&rt, rt.alloc(), &queue, "EDD\nDEE\n", 2)??
-        }
-    };
+    let recorded = recorded_of(&rt, rt.alloc(), &queue, &queue, "EDD\nDEE\n", 2)?;
     assert!(rt; recorded.total() == 12 && are_scripted(recorded.lists()));
     Ok(())
 }
@@ -142,14 +143,8 @@ fn is_linearizable(
 #[test]
 fn a_run_over_a_growing_queue_is_legal_or_fails(rt: HostRuntime) -> Result<(), Fail> {
     let queue = LockedQueue::new(rt.alloc(), rt);
-    let recorded = match run_text(&rt, rt.alloc(), &queue, "EED\nEED\n", 64)? {
-        Ok(recorded) => recorded,
-        Err(fault) => {
-            assert!(rt; is_allowed(fault), "{fault:?}");
-            let queue = LockedQueue::new(rt.alloc(), rt);
-            run_text(&rt, rt.alloc(), &queue, "EED\nEED\n", 64)??
-        }
-    };
+    let other = LockedQueue::new(rt.alloc(), rt);
+    let recorded = recorded_of(&rt, rt.alloc(), &queue, &other, "EED\nEED\n", 64)?;
     // The queue takes all values, but for one whose growth is refused.
     assert!(rt; has_refusals(recorded.lists(), 1));
     assert!(rt; is_linearizable(rt.alloc(), &recorded, 6)?);
