@@ -5,8 +5,6 @@ use crate::{
 };
 use event_records::MAX_EVENTS;
 use std::alloc::{AllocError, Global};
-use std::process::Abort;
-use std::str;
 use std::test::Fail;
 
 const OVERTAKEN: &str =
@@ -16,6 +14,14 @@ const ITS_VERDICT: &str = "NO VOrd\n0 1 0 enq 7\n2 3 0 enq 9\n4 5 0 deq 9\n";
 
 const ONE_MORE: &str =
     "fifo-history 1\n0 0 call-enq 7\n1 0 ret-enq\n2 0 call-enq 9\n3 0 ret-enq\n4 0 call-deq\n5 0 ret-deq 9\n6 1 call-enq 8\n7 1 ret-not\nend 8\n";
+
+const SHRUNK: &str =
+    "fifo-history 1\n0 0 call-enq 7\n1 0 ret-enq\n2 0 call-enq 9\n3 0 ret-enq\n4 0 call-deq\n5 0 ret-deq 9\nend 6\n\
+    NO VOrd\n0 1 0 enq 7\n2 3 0 enq 9\n4 5 0 deq 9\n";
+
+const COUNTED: &str =
+    "events 0\noperations 0\nthreads 0\nenqueued 0\nrefused 0\ndequeued 0\nempty 0\ninitial 0\nthread-changes 0\n\
+    overlapping 0\noverlapping-percent 0.0\nmost-pending 0\nmost-in-queue 0\n";
 
 /// Which of the functions over a text is called.
 #[derive(Clone, Copy)]
@@ -39,212 +45,211 @@ fn call(alloc: Global, command: Command, text: &str, answer: &mut [u8], needed: 
     }
 }
 
-/// Asserts that a call answers the text so, in a buffer with room for more.
-fn assert_answer<R: AllocGlobal + Abort>(
-    rt: &R,
-    command: Command,
-    text: &str,
-    wanted: &str,
-    status: u8,
-) {
+/// Whether a call answers the text so, in a buffer with room for more.
+fn is_answered(alloc: Global, command: Command, text: &str, wanted: &str, status: u8) -> bool {
     let mut answer = [b'-'; 300];
     let mut needed = 0;
-    let told = call(rt.alloc(), command, text, &mut answer, &mut needed);
-    assert_eq!(rt; told, status, "status");
-    assert_eq!(rt; needed, wanted.len(), "needed");
-    assert!(rt; answer.starts_with(wanted.as_bytes()), "text");
-    assert!(rt;
-        answer.iter().skip(needed).all(|byte| *byte == b'-'),
-        "behind the text"
-    );
+    let told = call(alloc, command, text, &mut answer, &mut needed);
+    told == status && is_filled(&answer, needed, wanted)
 }
 
-#[test]
-fn checks(rt: HostRuntime) {
-    assert_answer(&rt, Command::Check, "fifo-history 1\nend 0\n", "YES\n", 0);
-    assert_answer(&rt, Command::Check, OVERTAKEN, ITS_VERDICT, 1);
-    assert_answer(&rt, Command::Check, "", "REFUSED Cut\n", 2);
-    let pending = "fifo-history 1\n0 0 call-deq\nend 1\n";
-    assert_answer(&rt, Command::Check, pending, "REFUSED Pending 0\n", 2);
+/// Whether the buffer holds this text, and what was there behind it.
+fn is_filled(answer: &[u8], needed: usize, wanted: &str) -> bool {
+    needed == wanted.len()
+        && answer.starts_with(wanted.as_bytes())
+        && answer.iter().skip(needed).all(|byte| *byte == b'-')
 }
 
-#[test]
-fn shrinks(rt: HostRuntime) {
-    assert_answer(&rt, Command::Shrink, "fifo-history 1\nend 0\n", "YES\n", 0);
-    let shown =
-        "fifo-history 1\n0 0 call-enq 7\n1 0 ret-enq\n2 0 call-enq 9\n3 0 ret-enq\n4 0 call-deq\n5 0 ret-deq 9\nend 6\n\
-         NO VOrd\n0 1 0 enq 7\n2 3 0 enq 9\n4 5 0 deq 9\n";
-    assert_answer(&rt, Command::Shrink, ONE_MORE, shown, 1);
-    assert_answer(&rt, Command::Shrink, "fifo\n", "REFUSED Header\n", 2);
-}
+const EMPTY: &str = "fifo-history 1\nend 0\n";
 
-#[test]
-fn verifies(rt: HostRuntime) {
-    let right = "fifo-history 1\n0 0 call-deq\n1 0 ret-empty\nend 2\nYES\n0 1 0 empty\n";
-    assert_answer(&rt, Command::Verify, right, "VALID\n", 0);
-    let wrong = "fifo-history 1\n0 0 call-deq\n1 0 ret-empty\nend 2\nYES\n";
-    assert_answer(&rt, Command::Verify, wrong, "INVALID\n", 1);
-    assert_answer(
-        &rt,
-        Command::Verify,
-        "fifo-history 1\nend 0\n",
-        "REFUSED Cut\n",
+const UNSHOWN: &str = "fifo-history 1\n0 0 call-deq\n1 0 ret-empty\nend 2\nYES\n";
+
+/// What is called, the text, the answer and the status.
+static ANSWERED: [(Command, &str, &str, u8); 14] = [
+    (Command::Check, EMPTY, "YES\n", 0),
+    (Command::Check, OVERTAKEN, ITS_VERDICT, 1),
+    (Command::Check, "", "REFUSED Cut\n", 2),
+    (
+        Command::Check,
+        "fifo-history 1\n0 0 call-deq\nend 1\n",
+        "REFUSED Pending 0\n",
         2,
-    );
-}
+    ),
+    (Command::Shrink, EMPTY, "YES\n", 0),
+    (Command::Shrink, ONE_MORE, SHRUNK, 1),
+    (Command::Shrink, "fifo\n", "REFUSED Header\n", 2),
+    (
+        Command::Verify,
+        "fifo-history 1\n0 0 call-deq\n1 0 ret-empty\nend 2\nYES\n0 1 0 empty\n",
+        "VALID\n",
+        0,
+    ),
+    (Command::Verify, UNSHOWN, "INVALID\n", 1),
+    (Command::Verify, EMPTY, "REFUSED Cut\n", 2),
+    (Command::Draw, UNSHOWN, "INVALID\n", 1),
+    (Command::DrawText, UNSHOWN, "INVALID\n", 1),
+    (Command::Draw, "", "REFUSED Cut\n", 2),
+    (Command::Stats, EMPTY, COUNTED, 0),
+];
 
 #[test]
-fn draws(rt: HostRuntime) {
-    let wrong = "fifo-history 1\n0 0 call-deq\n1 0 ret-empty\nend 2\nYES\n";
-    assert_answer(&rt, Command::Draw, wrong, "INVALID\n", 1);
-    assert_answer(&rt, Command::DrawText, wrong, "INVALID\n", 1);
-    assert_answer(&rt, Command::Draw, "", "REFUSED Cut\n", 2);
+fn answers_texts(rt: HostRuntime) {
+    for (command, text, wanted, status) in &ANSWERED {
+        assert!(rt;
+            is_answered(rt.alloc(), *command, text, wanted, *status),
+            "{wanted} {text}"
+        );
+    }
 }
 
-#[test]
-fn counts(rt: HostRuntime) {
-    let counted =
-        "events 0\noperations 0\nthreads 0\nenqueued 0\nrefused 0\ndequeued 0\nempty 0\ninitial 0\nthread-changes 0\n\
-        overlapping 0\noverlapping-percent 0.0\nmost-pending 0\nmost-in-queue 0\n";
-    assert_answer(&rt, Command::Stats, "fifo-history 1\nend 0\n", counted, 0);
-}
-
-/// Asserts that a buffer of this many bytes stays as it was, and the status and the length are right.
-fn assert_nothing<R: AllocGlobal + Abort>(rt: &R, room: usize) -> Result<(), AllocError> {
-    let mut answer = Vec::from_elem(rt.alloc(), b'-', room)?;
+/// Whether a buffer of this many bytes gets the verdict if it fits, and else stays as it was. The length and the status
+/// are right either way.
+fn fills(alloc: Global, room: usize) -> Result<bool, AllocError> {
+    let mut answer = Vec::from_elem(alloc, b'-', room)?;
     let mut needed = 0;
     let told = call(
-        rt.alloc(),
+        alloc,
         Command::Check,
         OVERTAKEN,
         answer.as_mut_slice(),
         &mut needed,
     );
-    assert_eq!(rt; told, 1, "{room}");
-    assert_eq!(rt; needed, ITS_VERDICT.len(), "{room}");
-    assert!(rt; answer.iter().all(|byte| *byte == b'-'), "{room}");
-    Ok(())
+    let is_right = if room < ITS_VERDICT.len() {
+        answer.iter().all(|byte| *byte == b'-')
+    } else {
+        answer.as_slice() == ITS_VERDICT.as_bytes()
+    };
+    Ok(told == 1 && needed == ITS_VERDICT.len() && is_right)
 }
 
 #[test]
-fn writes_nothing_of_what_does_not_fit(rt: HostRuntime) -> Result<(), Fail> {
-    assert_nothing(&rt, 0)?;
-    assert_nothing(&rt, 1)?;
-    assert_nothing(&rt, ITS_VERDICT.len() - 1)?;
-    Ok(())
-}
-
-#[test]
-fn fills_a_buffer_that_just_fits(rt: HostRuntime) -> Result<(), Fail> {
-    let mut answer = Vec::from_elem(rt.alloc(), b'-', ITS_VERDICT.len())?;
-    let mut needed = 0;
-    let told = fifobench_check(
-        rt.alloc(),
-        OVERTAKEN.as_bytes(),
-        answer.as_mut_slice(),
-        &mut needed,
-    );
-    assert_eq!(&rt; told, 1);
-    assert_eq!(&rt; str::from_utf8(answer.as_slice()), Ok(ITS_VERDICT));
-    Ok(())
-}
-
-fn event(ticket: u64, thread: u32, what: u32, value: u64) -> RecordedEvent {
-    RecordedEvent {
-        ticket,
-        value,
-        thread,
-        what,
+fn fills_a_buffer_that_fits_and_no_other(rt: HostRuntime) -> Result<(), Fail> {
+    for room in [0, 1, ITS_VERDICT.len() - 1, ITS_VERDICT.len()] {
+        assert!(rt; fills(rt.alloc(), room)?, "{room}");
     }
+    Ok(())
 }
 
-/// Asserts that the events are answered so.
-fn assert_events<R: AllocGlobal + Abort>(
-    rt: &R,
-    events: &[RecordedEvent],
-    wanted: &str,
-    status: u8,
-) {
+/// An event: its ticket, its thread, its kind, and its value.
+type Row = (u64, u32, u32, u64);
+
+fn events_of(alloc: Global, rows: &[Row]) -> Result<Vec<RecordedEvent>, AllocError> {
+    let mut events = Vec::new(alloc);
+    for (ticket, thread, what, value) in rows {
+        events.push(RecordedEvent {
+            ticket: *ticket,
+            value: *value,
+            thread: *thread,
+            what: *what,
+        })?;
+    }
+    Ok(events)
+}
+
+/// Whether the events are answered so, in a buffer with room for more.
+fn are_answered(alloc: Global, events: &[RecordedEvent], wanted: &str, status: u8) -> bool {
     let mut answer = [b'-'; 120];
     let mut needed = 0;
-    let told = fifobench_check_events(rt.alloc(), events, &mut answer, &mut needed);
-    assert_eq!(rt; told, status, "status");
-    assert_eq!(rt; needed, wanted.len(), "needed");
-    assert!(rt; answer.starts_with(wanted.as_bytes()), "text");
+    let told = fifobench_check_events(alloc, events, &mut answer, &mut needed);
+    told == status && is_filled(&answer, needed, wanted)
 }
 
-#[test]
-fn checks_events_of_each_kind(rt: HostRuntime) {
-    // The value of an event that has none isn't read.
-    let events = [
-        event(0, 0, CALL_ENQ, 7),
-        event(1, 0, RET_ENQ, 5),
-        event(2, 63, CALL_DEQ, 5),
-        event(3, 63, RET_DEQ, 7),
-        event(4, 0, CALL_ENQ, 9),
-        event(5, 0, RET_NOT, 5),
-        event(6, 1, CALL_DEQ, 5),
-        event(7, 1, RET_EMPTY, 5),
-    ];
-    assert_events(
-        &rt,
-        &events,
+/// Whether the events of the rows are.
+fn are_rows_answered(
+    alloc: Global,
+    rows: &[Row],
+    wanted: &str,
+    status: u8,
+) -> Result<bool, AllocError> {
+    let events = events_of(alloc, rows)?;
+    Ok(are_answered(alloc, &events, wanted, status))
+}
+
+/// One event of each kind. The value of an event that has none isn't read.
+const OF_EACH_KIND: &[Row] = &[
+    (0, 0, CALL_ENQ, 7),
+    (1, 0, RET_ENQ, 5),
+    (2, 63, CALL_DEQ, 5),
+    (3, 63, RET_DEQ, 7),
+    (4, 0, CALL_ENQ, 9),
+    (5, 0, RET_NOT, 5),
+    (6, 1, CALL_DEQ, 5),
+    (7, 1, RET_EMPTY, 5),
+];
+
+/// Events, the answer and the status.
+static JUDGED: [(&[Row], &str, u8); 11] = [
+    (
+        OF_EACH_KIND,
         "YES\n0 1 0 enq 7\n2 3 63 deq 7\n4 5 0 not 9\n6 7 1 empty\n",
         0,
-    );
-    assert_events(&rt, &[], "YES\n", 0);
-    assert_events(&rt, &[events[2], events[3]], "NO VFresh\n2 3 63 deq 7\n", 1);
-}
-
-#[test]
-fn refuses_events(rt: HostRuntime) {
-    let call = event(0, 0, CALL_DEQ, 0);
-    assert_events(&rt, &[call], "REFUSED Pending 0\n", 2);
-    assert_events(
-        &rt,
-        &[call, event(1, 64, RET_EMPTY, 0)],
+    ),
+    (&[], "YES\n", 0),
+    (
+        &[(2, 63, CALL_DEQ, 5), (3, 63, RET_DEQ, 7)],
+        "NO VFresh\n2 3 63 deq 7\n",
+        1,
+    ),
+    (&[(0, 0, CALL_DEQ, 0)], "REFUSED Pending 0\n", 2),
+    (
+        &[(0, 0, CALL_DEQ, 0), (1, 64, RET_EMPTY, 0)],
         "REFUSED BadThread 1\n",
         2,
-    );
-    assert_events(
-        &rt,
-        &[call, event(1, 256, RET_EMPTY, 0)],
+    ),
+    (
+        &[(0, 0, CALL_DEQ, 0), (1, 256, RET_EMPTY, 0)],
         "REFUSED BadThread 1\n",
         2,
-    );
-    assert_events(
-        &rt,
-        &[call, event(1, u32::MAX, RET_EMPTY, 0)],
+    ),
+    (
+        &[(0, 0, CALL_DEQ, 0), (1, u32::MAX, RET_EMPTY, 0)],
         "REFUSED BadThread 1\n",
         2,
-    );
-    assert_events(
-        &rt,
-        &[call, event(0, 0, RET_EMPTY, 0)],
+    ),
+    (
+        &[(0, 0, CALL_DEQ, 0), (0, 0, RET_EMPTY, 0)],
         "REFUSED TicketOrder 1\n",
         2,
-    );
+    ),
     // An unknown kind comes before all else.
-    assert_events(
-        &rt,
-        &[event(0, 64, 1, 0), event(1, 0, 0, 0)],
+    (&[(0, 64, 1, 0), (1, 0, 0, 0)], "REFUSED BadWhat 1\n", 2),
+    (
+        &[(0, 0, CALL_DEQ, 0), (1, 0, 7, 0), (2, 0, 8, 0)],
         "REFUSED BadWhat 1\n",
         2,
-    );
-    assert_events(
-        &rt,
-        &[call, event(1, 0, 7, 0), event(2, 0, 8, 0)],
-        "REFUSED BadWhat 1\n",
-        2,
-    );
-    assert_events(&rt, &[event(0, 0, u32::MAX, 0)], "REFUSED BadWhat 0\n", 2);
+    ),
+    (&[(0, 0, u32::MAX, 0)], "REFUSED BadWhat 0\n", 2),
+];
+
+#[test]
+fn judges_events(rt: HostRuntime) -> Result<(), Fail> {
+    for (rows, wanted, status) in &JUDGED {
+        assert!(rt;
+            are_rows_answered(rt.alloc(), rows, wanted, *status)?,
+            "{wanted} {rows:?}"
+        );
+    }
+    Ok(())
+}
+
+/// Whether the most events and one more are refused for their number, and the most of them for the kind of the first.
+fn refuses_one_more(alloc: Global) -> Result<bool, AllocError> {
+    let none = RecordedEvent {
+        ticket: 0,
+        value: 0,
+        thread: 0,
+        what: 0,
+    };
+    let mut events = Vec::from_elem(alloc, none, MAX_EVENTS + 1)?;
+    if !are_answered(alloc, events.as_slice(), "REFUSED Limit\n", 2) {
+        return Ok(false);
+    }
+    events.truncate(MAX_EVENTS);
+    Ok(are_answered(alloc, events.as_slice(), "REFUSED BadWhat 0\n", 2))
 }
 
 #[test]
 fn refuses_too_many_events(rt: HostRuntime) -> Result<(), Fail> {
-    let mut events = Vec::from_elem(rt.alloc(), event(0, 0, 0, 0), MAX_EVENTS + 1)?;
-    assert_events(&rt, events.as_slice(), "REFUSED Limit\n", 2);
-    events.truncate(MAX_EVENTS);
-    assert_events(&rt, events.as_slice(), "REFUSED BadWhat 0\n", 2);
+    assert!(rt; refuses_one_more(rt.alloc())?);
     Ok(())
 }
