@@ -53,7 +53,7 @@ fn is_answered(alloc: Global, command: Command, text: &str, wanted: &str, status
     told == status && is_filled(&answer, needed, wanted)
 }
 
-/// Whether the buffer holds this text, and what was there behind it.
+/// Whether the buffer holds this text, and after it what was there before.
 fn is_filled(answer: &[u8], needed: usize, wanted: &str) -> bool {
     needed == wanted.len()
         && answer.starts_with(wanted.as_bytes())
