@@ -1,5 +1,5 @@
 -- The chosen violation is a violation, and the only one chosen.
-use Rattle.verdicts.proofs.Common.{[], ◌<◌, ◌∙◌, ◌∷◌, ◌≡◌, ◌⊎◌, ap, arith, Bool, Contains, false, inl, inr, List}
+use Rattle.verdicts.proofs.Common.{IsRepeatViolation, cases_lt, ◌≤◌, [], ◌∙◌, ◌∷◌, ◌≡◌, ap, arith, Bool, Contains, false, inl, inr, List}
 use Rattle.verdicts.proofs.Common.{MatchBool, MatchOption, nat_lt, None, Option, refl, Some, subst, sym, true, ℕ}
 use Rattle.verdicts.proofs.Common.{AreComplete, call_or_never, CallsFor, chosen_cover_violates, Deq, dequeue_call, Did}
 use Rattle.verdicts.proofs.Common.{Enq, enqueue_of, enqueue_return, fresh, FullViolation, IsChosenCoverFrom}
@@ -62,6 +62,19 @@ one_fresh operations deq deq' enq enq' complete x y =
     let enqs = one_enqueue operations deq enq enq' complete x.violates (subst (λ d. IsFreshViolation operations d enq') (sym one) y.violates) in
     cc
 
+-- no other dequeue of the value returned before the first of the chosen two
+no_sooner : (operations : List Operation) (enq first second other : Operation) (v : ℕ) → IsChosenRepeat operations enq first second
+    → Did operations enq (Enq v) → Did operations first (Deq v) → Did operations other (Deq v) → first.ret ≤ other.ret
+no_sooner operations enq first second other v chosen enqueues dequeues dequeues' = elim (cases_lt other.ret first.ret) [
+  | inl less ↦
+      let repeats : IsRepeatViolation operations enq other first =
+      record { value = v; enqueues = enqueues; dequeues = dequeues'; dequeues_again = dequeues; in_order = less } in
+      let soonest = chosen.soonest enq other first repeats in
+      let in_order = chosen.violates.in_order in
+      absurd (omega arith)
+  | inr more ↦ more
+]
+
 one_repeat : (operations : List Operation) (enq enq' first first' second second' : Operation) → AreComplete operations
     → IsChosenRepeat operations enq first second → IsChosenRepeat operations enq' first' second' → repeat enq first second ≡ repeat enq' first' second'
 one_repeat operations enq enq' first first' second second' complete x y =
@@ -74,32 +87,11 @@ one_repeat operations enq enq' first first' second second' complete x y =
     let enqueues' : Did operations enq' (Enq v) = subst (λ w. Did operations enq' (Enq w)) values y.violates.enqueues in
     let dequeues' : Did operations first' (Deq v) = subst (λ w. Did operations first' (Deq w)) values y.violates.dequeues in
     let enqs = same_enqueue operations enq enq' v complete x.violates.enqueues enqueues' in
-    let cases : (first.ret < first'.ret) ⊎ ((first.ret ≡ first'.ret) ⊎ (first'.ret < first.ret)) = grind arith in
-    let firsts = same_first v x.violates.enqueues x.violates.dequeues dequeues' x.violates.in_order y.violates.in_order cases in
+    let sooner = no_sooner operations enq' first' second' first v y (subst (λ e. Did operations e (Enq v)) enqs x.violates.enqueues)
+    dequeues' x.violates.dequeues in
+    let sooner' = no_sooner operations enq first second first' v x x.violates.enqueues x.violates.dequeues dequeues' in
+    let firsts = same_return operations first first' complete x.violates.dequeues.0 dequeues'.0 (omega arith) in
     cc
-  where
-    same_first : (v : ℕ) → Did operations enq (Enq v) → Did operations first (Deq v) → Did operations first' (Deq v) → first.ret < second.ret
-        → first'.ret < second'.ret
-        → (first.ret < first'.ret) ⊎ ((first.ret ≡ first'.ret) ⊎ (first'.ret < first.ret)) → first ≡ first'
-    same_first v did did_first did_first' before before' (inl less) =
-        let sooner = y.soonest enq first first' (record {
-          value = v;
-          enqueues = did;
-          dequeues = did_first;
-          dequeues_again = did_first';
-          in_order =
-              less;
-        }) in absurd (omega arith)
-    same_first v did did_first did_first' before before' (inr (inl same)) = same_return operations first first' complete did_first.0 did_first'.0 same
-    same_first v did did_first did_first' before before' (inr (inr more)) =
-        let sooner = x.soonest enq first' first (record {
-          value = v;
-          enqueues = did;
-          dequeues = did_first';
-          dequeues_again = did_first;
-          in_order =
-              more;
-        }) in absurd (omega arith)
 
 -- values that stay at least as long as each other leave and enter at the same tickets
 both_stay : (x y : Life) → StaysAtLeast x y → StaysAtLeast y x → (dequeue_call x ≡ dequeue_call y) × (enqueue_return x ≡ enqueue_return y)
@@ -138,14 +130,11 @@ one_order operations enq_a enq_b deq_b enq_a' enq_b' deq_b' deq_a deq_a' complet
     (y.longest enq_a deq_a back) in
     let firsts = same_return operations enq_a enq_a' complete x.violates.enqueues_a.0 y.violates.enqueues_a.0 both.1 in
     let kinds : Enq x.violates.a ≡ Enq y.violates.a = sym x.violates.enqueues_a.1 ∙ ap (λ o. o.kind) firsts ∙ y.violates.enqueues_a.1 in
-    let alike : x.violates.a ≡ y.violates.a = value kinds in
+    let alike : x.violates.a ≡ y.violates.a = cc in
     let later = subst (λ d. MatchOption deq_a' (NoneDid operations (Deq y.violates.a)) (λ e. Did operations e (Deq y.violates.a) × Precedes d e))
     (sym deqs) y.violates.dequeued_later in
     let lasts = one_dequeue operations deq_b x.violates.a y.violates.a deq_a deq_a' complete alike x.violates.dequeued_later later both.0 in
     cc
-  where
-    value : {v w : ℕ} → Enq v ≡ Enq w → v ≡ w
-    value e = cc
 
 one_next : (operations : List Operation) (frontier : ℕ) (x y : Life) → IsClear operations → IsNextOfCover operations frontier x
     → IsNextOfCover operations frontier y → x ≡ y
@@ -187,19 +176,13 @@ one_witness operations empty empty' cover cover' clear x y =
 pub one_chosen_violation : (operations : List Operation) (x y : FullViolation) → AreComplete operations → IsChosenFullViolation operations x
     → IsChosenFullViolation operations y → x ≡ y
 one_chosen_violation operations (fresh deq enq) (fresh deq' enq') complete x y = one_fresh operations deq deq' enq enq' complete x y
-one_chosen_violation operations (fresh deq enq) (repeat e f s) complete x y = absurd (y.0 deq enq x.violates)
-one_chosen_violation operations (fresh deq enq) (order a b d c) complete x y = absurd (y.0 deq enq x.violates)
-one_chosen_violation operations (fresh deq enq) (witness o lives) complete x y = absurd (y.0 deq enq x.violates)
-one_chosen_violation operations (repeat e f s) (fresh deq enq) complete x y = absurd (x.0 deq enq y.violates)
+one_chosen_violation operations (fresh deq enq) _ complete x y = absurd (y.0 deq enq x.violates)
+one_chosen_violation operations _ (fresh deq enq) complete x y = absurd (x.0 deq enq y.violates)
 one_chosen_violation operations (repeat e f s) (repeat e' f' s') complete x y = one_repeat operations e e' f f' s s' complete x.1 y.1
-one_chosen_violation operations (repeat e f s) (order a b d c) complete x y = absurd (y.1 e f s x.1.violates)
-one_chosen_violation operations (repeat e f s) (witness o lives) complete x y = absurd (y.1 e f s x.1.violates)
-one_chosen_violation operations (order a b d c) (fresh deq enq) complete x y = absurd (x.0 deq enq y.violates)
-one_chosen_violation operations (order a b d c) (repeat e f s) complete x y = absurd (x.1 e f s y.1.violates)
+one_chosen_violation operations (repeat e f s) _ complete x y = absurd (y.1 e f s x.1.violates)
+one_chosen_violation operations _ (repeat e f s) complete x y = absurd (x.1 e f s y.1.violates)
 one_chosen_violation operations (order a b d c) (order a' b' d' c') complete x y = one_order operations a b d a' b' d' c c' complete x.2 y.2
 one_chosen_violation operations (order a b d c) (witness o lives) complete x y = absurd (y.2 a b d c x.2.violates)
-one_chosen_violation operations (witness o lives) (fresh deq enq) complete x y = absurd (x.0 deq enq y.violates)
-one_chosen_violation operations (witness o lives) (repeat e f s) complete x y = absurd (x.1 e f s y.1.violates)
 one_chosen_violation operations (witness o lives) (order a b d c) complete x y = absurd (x.2 a b d c y.2.violates)
 one_chosen_violation operations (witness o lives) (witness o' lives') complete x y =
     one_witness operations o o' lives lives' (are_clear operations complete x.0 x.1) x.3 y.3

@@ -1,13 +1,13 @@
 -- The names that most proofs of this crate cite, passed on from one place. Declares nothing.
-pub use Rattle.std.proofs.Common.{[], ◌*◌, ◌++◌, ◌+◌, ◌-◌, ◌/◌, ◌<◌, ◌||◌, ◌↔◌}
-pub use Rattle.std.proofs.Common.{◌∙◌, ◌∷◌, ◌≡◌, ◌≢◌, ◌≤◌, ◌⊎◌, add-one}
-pub use Rattle.std.proofs.Common.{All, AllPairs, ap, append-nil, append_assoc, ap₂, arith, Bool, BTreeSet, cond}
-pub use Rattle.std.proofs.Common.{Contains, Decides, drop, drop-cons, eq-eqb, eqb-true, Err, false, filter, filter_map}
-pub use Rattle.std.proofs.Common.{find, flat_map, get_or, HoldsAt, IfOk, inl, inr, is_eq, IsPermutation, IsSome, IsTrue}
-pub use Rattle.std.proofs.Common.{le-leb, le-ltb, length, length-append, length-drop, List, lt-ltb, ltb-false, ltb-true}
-pub use Rattle.std.proofs.Common.{map, MatchBool, MatchOption, MatchResult, max, nat_cmp, nat_eq, nat_lt, ne_eqb, None}
-pub use Rattle.std.proofs.Common.{not, Ok, Option, option_and_then, option_map, option_to_list, position, refl, Result}
-pub use Rattle.std.proofs.Common.{rules, slice_get, Some, subst, suc, sym, take, take_all, tests, true, zero, ℕ}
+pub use Rattle.std.proofs.Common.{[], ◌*◌, ◌++◌, ◌+◌, ◌-◌, ◌<◌, ◌||◌, ◌↔◌, ◌∙◌, ◌∷◌, ◌≡◌, ◌≢◌, ◌≤◌, ◌⊎◌, add-one, All}
+pub use Rattle.std.proofs.Common.{AllPairs, ap, append-nil, append_assoc, ap₂, arith, Bool, BTreeSet, cond, Contains}
+pub use Rattle.std.proofs.Common.{Decides, drop, drop-cons, eq-eqb, eqb-true, Err, false, filter, filter_map, find}
+pub use Rattle.std.proofs.Common.{flat_map, get_or, HoldsAt, IfOk, inl, inr, is_eq, IsPermutation, IsSome, IsTrue}
+pub use Rattle.std.proofs.Common.{le-leb, le-ltb, length, length-append, length-drop, List, lt-ltb, ltb-false}
+pub use Rattle.std.proofs.Common.{ltb-true, map, MatchBool, MatchOption, MatchResult, max, nat_cmp, nat_eq, nat_lt}
+pub use Rattle.std.proofs.Common.{ne_eqb, None, not, Ok, Option, option_and_then, option_map, option_to_list, position}
+pub use Rattle.std.proofs.Common.{refl, Result, rules, slice_get, Some, subst, suc, sym, take, take_all, tests, true}
+pub use Rattle.std.proofs.Common.{zero, ℕ}
 pub use Rattle.std.specs.Prelude.{⊤}
 pub use Rattle.std.proofs.lemmas.Bool.{cases_lt, cases_order, false≢true, not-true}
 pub use Rattle.std.proofs.lemmas.Bool.Decides.{Decides-at, nat_tests}
@@ -17,9 +17,9 @@ pub use Rattle.std.proofs.lemmas.Iterator.Consumers.{YieldsList-from_copied, Yie
 pub use Rattle.std.proofs.lemmas.Iterator.Consumers.{YieldsList-from_filter_map}
 pub use Rattle.std.proofs.lemmas.List.{append_cancel_left, flat_map_more, get_or_append_left, get_or_default}
 pub use Rattle.std.proofs.lemmas.List.{length-map, map-append, take_more, take_rest}
-pub use Rattle.std.proofs.lemmas.List.Elements.{All-cons, All-filter, All-head, All-map, All-nil, All-tail}
-pub use Rattle.std.proofs.lemmas.List.Elements.{Contains-append_cases, Contains-append_left, Contains-append_right}
-pub use Rattle.std.proofs.lemmas.List.Elements.{Contains-get_or, filter_agree, filter_map-append, filter_more}
+pub use Rattle.std.proofs.lemmas.List.Elements.{All-cons, All-filter, All-map, All-nil, Contains-append_cases}
+pub use Rattle.std.proofs.lemmas.List.Elements.{Contains-append_left, Contains-append_right, Contains-get_or}
+pub use Rattle.std.proofs.lemmas.List.Elements.{filter_agree, filter_map-append}
 pub use Rattle.std.proofs.lemmas.List.Folds.{Any-from_list_any, list_any-append, list_any-from_Any, map_fixed}
 pub use Rattle.std.proofs.lemmas.List.Kept.{AllPairs-cons, AllPairs-filter}
 pub use Rattle.std.proofs.lemmas.List.Sorted.{answers_always, Contains-permutation, IsNonDecreasingBy-from_sort_by_key}
@@ -36,12 +36,11 @@ pub use Rattle.event_records.specs.Turns.{answers, is_call, TakesTurns}
 pub use Rattle.event_records.specs.declared.event.Event.{Event}
 pub use Rattle.event_records.specs.declared.event.What.{What}
 pub use Rattle.event_records.specs.declared.event.What.TheVariants.{CallDeq, CallEnq, RetDeq, RetEmpty, RetEnq, RetNot}
-pub use Rattle.event_records.specs.declared.limits.TheConstants.{MAX_CLOCK, MAX_EVENTS, MAX_INITIAL, MAX_OPERATIONS}
-pub use Rattle.event_records.specs.declared.limits.TheConstants.{MAX_THREAD, MAX_TICKET}
+pub use Rattle.event_records.specs.declared.limits.TheConstants.{MAX_CLOCK, MAX_INITIAL, MAX_OPERATIONS, MAX_THREAD}
+pub use Rattle.event_records.specs.declared.limits.TheConstants.{MAX_TICKET}
 pub use Rattle.history_merge.specs.Complete.{AreComplete, AreDistinct, called_value, called_values, IsCompleteHistory}
 pub use Rattle.history_merge.specs.Complete.{IsCompleteUpTo}
-pub use Rattle.history_merge.specs.Initial.{event_later_by, timeline, timeline_events, enqueue_events_from, enqueues_from}
-pub use Rattle.history_merge.specs.Initial.{HistoryView, IsCompleteFrom, later_by}
+pub use Rattle.history_merge.specs.Initial.{timeline, enqueues_from, HistoryView, IsCompleteFrom, later_by}
 pub use Rattle.history_merge.specs.Legal.{ArePlacesOf, IsLegalOrder, IsLinearizable}
 pub use Rattle.history_merge.specs.Operations.{Did, IsAt, NoneDid, operation_of, operations_of, Precedes}
 pub use Rattle.history_merge.specs.Queue.{accept, accept_all, IsAccepted}
@@ -49,11 +48,10 @@ pub use Rattle.history_merge.specs.declared.operation.OpKind.{OpKind}
 pub use Rattle.history_merge.specs.declared.operation.OpKind.TheVariants.{Deq, Empty, Enq, Not}
 pub use Rattle.history_merge.specs.declared.operation.Operation.{Operation}
 pub use Rattle.history_merge.proofs.Distinct.{call_before_return, calls_rise, CallsFor, contains_at, contains_cons}
-pub use Rattle.history_merge.proofs.Distinct.{IsTraced, not_in_none, one_at, operation_within, pairs_at, place_of}
+pub use Rattle.history_merge.proofs.Distinct.{not_in_none, one_at, operation_within, pairs_at, place_of}
 pub use Rattle.history_merge.proofs.Distinct.{return_differs_from_call, return_in_range, same_call, same_enqueue}
 pub use Rattle.history_merge.proofs.Distinct.{same_event, same_return, same_value_call, traced}
-pub use Rattle.history_merge.proofs.Timelines.{timeline_is_of_complete, timeline_is_complete, timeline_operations}
-pub use Rattle.history_merge.proofs.Timelines.{linearizable_from_exactly}
+pub use Rattle.history_merge.proofs.Timelines.{timeline_is_of_complete, linearizable_from_exactly}
 pub use Rattle.history_merge.proofs.Later.{later_injective, legal_moved, map_map, not_later}
 pub use Rattle.value_match.specs.Choice.{IsChosenCover, IsChosenCoverFrom, IsChosenFresh, IsChosenFullViolation}
 pub use Rattle.value_match.specs.Choice.{IsChosenOrderViolation, IsChosenRepeat, IsChosenWitness, IsNextOfCover}
@@ -63,7 +61,7 @@ pub use Rattle.value_match.specs.Lives.{AreLeastFreeGaps, call_or_never, Covers,
 pub use Rattle.value_match.specs.Lives.{dequeue_return, enqueue_of, enqueue_return, is_empty_answer, IsCovered}
 pub use Rattle.value_match.specs.Lives.{IsLeastFreeGap, IsLife, IsMaybeAt, leaves_from, lives_of, operations_of_life}
 pub use Rattle.value_match.specs.Outcome.{IsChosenViolation, IsMatched, IsMaybeOperation, IsOperation, IsSource, Names}
-pub use Rattle.value_match.specs.Outcome.{NamesChosenFresh, NamesChosenRepeat, NamesCover, NamesStep}
+pub use Rattle.value_match.specs.Outcome.{NamesCover, NamesStep}
 pub use Rattle.value_match.specs.Violations.{CoversFrom, fresh, FullViolation, IsClear, IsEnqueuedTooLate}
 pub use Rattle.value_match.specs.Violations.{IsFreshViolation, IsNeverEnqueued, IsOrderViolation, IsRepeatViolation}
 pub use Rattle.value_match.specs.Violations.{IsViolationOf, IsWitnessViolation, lines_of, NoFreshViolation}
@@ -83,8 +81,8 @@ pub use Rattle.empty_witness.proofs.Covers.{chosen_cover, chosen_cover_is_shorte
 pub use Rattle.empty_witness.proofs.Covers.{violation_covers}
 pub use Rattle.linearizer.proofs.Keys.{AllPairs-tail, one_place}
 pub use Rattle.linearizer.proofs.OneOrder.{chosen_order_exists, chosen_order_is_one, operations_rise}
-pub use Rattle.verdicts.specs.Claiming.{is_operation, IsPlaceWithin, line_at, lines_at, lines_of_history, operations_at}
-pub use Rattle.verdicts.specs.Claiming.{operations_named, verdict_places, violation_kind}
+pub use Rattle.verdicts.specs.Claiming.{is_operation, IsPlaceWithin, line_at, lines_at, lines_of_history}
+pub use Rattle.verdicts.specs.Claiming.{operations_at, operations_named, verdict_places, violation_kind}
 pub use Rattle.verdicts.specs.Claims.{ShowsViolation, StandFor, stands_for}
 pub use Rattle.verdicts.specs.Decided.{IsDecided}
 pub use Rattle.verdicts.specs.Inner.Claims.{CallsRise, ShowsCover, ShowsKind, StandForCover, StandForLife}

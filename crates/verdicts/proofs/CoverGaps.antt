@@ -1,12 +1,17 @@
 -- Without any one of its values, a chosen cover leaves a gap of the window open.
-use Rattle.verdicts.proofs.Common.{[], ◌<◌, ◌∷◌, ◌≡◌, ◌≢◌, ◌≤◌, ◌⊎◌, ap, arith, Bool, Contains, false, inl, inr, List}
+use Rattle.verdicts.proofs.Common.{◌∙◌, [], ◌<◌, ◌∷◌, ◌≡◌, ◌≢◌, ◌≤◌, ap, arith, Bool, Contains, false, inl, inr, List}
 use Rattle.verdicts.proofs.Common.{ltb-false, MatchBool, MatchOption, nat_lt, refl, subst, sym, true, ℕ, call_or_never}
 use Rattle.verdicts.proofs.Common.{contains_cons, Covers, Deq, dequeue_call, dequeued_if_called, Did, Empty, enqueue_of}
 use Rattle.verdicts.proofs.Common.{enqueue_return, IsChosenCoverFrom, IsClear, IsCovered, IsLife, IsNextOfCover, Life}
 use Rattle.verdicts.proofs.Common.{NoneDid, not_in_none, Operation, return_differs_from_call, return_in_range}
 
 below_if_not_same : (m n : ℕ) → m ≤ n → m ≢ n → m < n
-below_if_not_same m n le differs = let cases : (m < n) ⊎ (m ≡ n) = grind arith in elim cases [ inl less ↦ less | inr same ↦ absurd (differs same) ]
+below_if_not_same m n le differs = grind arith
+
+-- what follows in each case of a test
+pub match_then : {P P' Q Q' : Type 0} (b : Bool) → MatchBool b P Q → (P → P') → (Q → Q') → MatchBool b P' Q'
+match_then true p first second = first p
+match_then false q first second = second q
 
 module _ (operations : List Operation) (empty : Operation) where
   -- where a value of the cover is not the last, the others are chosen from its dequeue on
@@ -20,13 +25,10 @@ module _ (operations : List Operation) (empty : Operation) where
   pub chosen_are_lives : (cover : List Life) (frontier : ℕ) (y : Life) → IsChosenCoverFrom operations empty frontier cover → Contains cover y
       → IsLife operations y
   chosen_are_lives [] frontier y chosen among = absurd chosen
-  chosen_are_lives (life ∷ rest) frontier y chosen among = by_place (λ chosen' later. chosen_are_lives rest (dequeue_call life) y chosen' later)
-      (contains_cons life rest y among)
-    where
-      by_place : (IsChosenCoverFrom operations empty (dequeue_call life) rest → Contains rest y → IsLife operations y) → (life ≡ y) ⊎ Contains rest y
-          → IsLife operations y
-      by_place more (inl same) = subst (IsLife operations) same chosen.0.is_life
-      by_place more (inr later) = more (others_chosen life rest y later (nat_lt empty.ret (dequeue_call life)) refl chosen.1).1 later
+  chosen_are_lives (life ∷ rest) frontier y chosen among = elim (contains_cons life rest y among) [
+    | inl same ↦ subst (IsLife operations) same chosen.0.is_life
+    | inr later ↦ chosen_are_lives rest (dequeue_call life) y (others_chosen life rest y later (nat_lt empty.ret (dequeue_call life)) refl chosen.1).1 later
+  ]
 
   module _ (clear : IsClear operations) (did : Did operations empty Empty) (covered : IsCovered operations empty) where
     -- an operation called while the empty answer was asked for
@@ -77,76 +79,60 @@ module _ (operations : List Operation) (empty : Operation) where
     pub all_stay : (cover : List Life) (before : Operation) (y : Life) → IsCalledInside before → IsChosenCoverFrom operations empty before.call cover
         → Contains cover y → before.call < dequeue_call y
     all_stay [] before y inside chosen among = absurd chosen
-    all_stay (life ∷ rest) before y inside chosen among = by_place (λ d inside' chosen' later. all_stay rest d y inside' chosen' later)
-        (contains_cons life rest y among)
-      where
-        by_place : ((d : Operation) → IsCalledInside d → IsChosenCoverFrom operations empty d.call rest → Contains rest y → d.call < dequeue_call y)
-            → (life ≡ y) ⊎ Contains rest y → before.call < dequeue_call y
-        by_place more (inl same) = subst (λ x. before.call < dequeue_call x) same (next_stays before life inside chosen.0)
-        by_place more (inr later) =
-            let next = handover before life rest y inside chosen later in
-            let past = next_stays before life inside chosen.0 in
-            let rest' = more next.0 next.1.inside next.1.further later in
-            omega (arith, next.1.calls)
+    all_stay (life ∷ rest) before y inside chosen among = elim (contains_cons life rest y among) [
+      | inl same ↦ subst (λ x. before.call < dequeue_call x) same (next_stays before life inside chosen.0)
+      | inr later ↦
+          let next = handover before life rest y inside chosen later in
+          let past = next_stays before life inside chosen.0 in
+          let rest' = all_stay rest next.0 y next.1.inside next.1.further later in
+          omega (arith, next.1.calls)
+    ]
 
     -- a gap of the window, from this ticket on, that of these values at most one covers
-    record IsLeftBy (cover : List Life) (from : ℕ) (x : Life) (c : ℕ) : Type 0 where
+    pub record IsLeftBy (cover : List Life) (from : ℕ) (x : Life) (c : ℕ) : Type 0 where
       pub after : from ≤ c
       pub before_return : c < empty.ret
       pub no_other : (y : Life) → Contains cover y → Covers y c → y ≡ x
 
-    left_by : (cover : List Life) (before : Operation) (x : Life) → IsCalledInside before → IsChosenCoverFrom operations empty before.call cover
+    -- without x the cover leaves a gap of the window open
+    pub left_by : (cover : List Life) (before : Operation) (x : Life) → IsCalledInside before → IsChosenCoverFrom operations empty before.call cover
         → Contains cover x → (c : ℕ) × IsLeftBy cover before.call x c
     left_by [] before x inside chosen among = absurd chosen
-    left_by (life ∷ rest) before x inside chosen among = by_place (λ d inside' chosen' later. left_by rest d x inside' chosen' later)
-        (contains_cons life rest x among)
+    left_by (life ∷ rest) before x inside chosen among = elim (contains_cons life rest x among) [
+      | inl same ↦ (
+        before.call,
+        record {
+          after = omega arith;
+          before_return = inside.before_return;
+          no_other = λ y among' covers. elim (contains_cons life rest y among') [
+            | inl here ↦ sym here ∙ same
+            | inr later ↦ absurd (not_yet y later covers)
+          ];
+        },
+      )
+      | inr later ↦
+          let next = handover before life rest x inside chosen later in
+          let left = left_by rest next.0 x next.1.inside next.1.further later in
+          let past = next_stays before life inside chosen.0 in (
+            left.0,
+            record {
+              after = omega (arith, left.1.after, next.1.calls);
+              before_return = left.1.before_return;
+              no_other = λ y among' covers. elim (contains_cons life rest y among') [
+                | inl here ↦
+                    let gone : left.0 < dequeue_call life = subst (λ z. left.0 < dequeue_call z) (sym here) covers.1 in
+                    absurd (omega (arith, left.1.after, next.1.calls))
+                | inr later' ↦ left.1.no_other y later' covers
+              ];
+            },
+          )
+    ]
       where
         -- no later value was there when the first took over
         not_yet : (y : Life) → Contains rest y → Covers y before.call → ⊥
         not_yet y later covers =
             let next = handover before life rest y inside chosen later in
             let stays = all_stay rest next.0 y next.1.inside next.1.further later in
-            let entered = enters_before before y inside (chosen_are_lives rest next.0.call y next.1.further later) covers in
-            let longest = chosen.0.longest y (chosen_are_lives rest next.0.call y next.1.further later) entered in
+            let is = chosen_are_lives rest next.0.call y next.1.further later in
+            let longest = chosen.0.longest y is (enters_before before y inside is covers) in
             omega (arith, next.1.calls, longest.0)
-
-        first_only : life ≡ x → (y : Life) → Covers y before.call → (life ≡ y) ⊎ Contains rest y → y ≡ x
-        first_only same y covers (inl here) = let back = sym here in cc
-        first_only same y covers (inr later) = absurd (not_yet y later covers)
-
-        not_first : (d : Operation) → dequeue_call life ≡ d.call → (c : ℕ) → IsLeftBy rest d.call x c → (y : Life) → Covers y c
-            → (life ≡ y) ⊎ Contains rest y → y ≡ x
-        not_first d calls c left y covers (inl here) =
-            let gone : c < dequeue_call life = subst (λ z. c < dequeue_call z) (sym here) covers.1 in
-            absurd (omega (arith, left.after))
-        not_first d calls c left y covers (inr later) = left.no_other y later covers
-
-        by_place : ((d : Operation) → IsCalledInside d → IsChosenCoverFrom operations empty d.call rest → Contains rest x
-            → (c : ℕ) × IsLeftBy rest d.call x c) → (life ≡ x) ⊎ Contains rest x
-            → (c : ℕ) × IsLeftBy (life ∷ rest) before.call x c
-        by_place more (inl same) = (
-          before.call,
-          record {
-            after = omega arith;
-            before_return = inside.before_return;
-            no_other = λ y among' covers. first_only same y covers (contains_cons life rest y among');
-          },
-        )
-        by_place more (inr later) =
-            let next = handover before life rest x inside chosen later in
-            let left = more next.0 next.1.inside next.1.further later in
-            let past = next_stays before life inside chosen.0 in (
-              left.0,
-              record {
-                after = omega (arith, left.1.after, next.1.calls);
-                before_return = left.1.before_return;
-                no_other = λ y among' covers. not_first next.0 next.1.calls left.0 left.1 y covers (contains_cons life rest y among');
-              },
-            )
-
-    -- without x the cover leaves a gap of the window open
-    pub gap_without : (cover : List Life) (x : Life) → empty.call < empty.ret → IsChosenCoverFrom operations empty empty.call cover → Contains cover x
-        → (c : ℕ) × (empty.call ≤ c) × (c < empty.ret) × ((y : Life) → Contains cover y → Covers y c → y ≡ x)
-    gap_without cover x window chosen among =
-        let left = left_by cover empty x (record { among = did.0; after_call = omega arith; before_return = window }) chosen among in
-        (left.0, left.1.after, left.1.before_return, left.1.no_other)

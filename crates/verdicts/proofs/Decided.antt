@@ -1,5 +1,5 @@
 -- A chosen violation decides a history, and so does a chosen order that is legal.
-use Rattle.verdicts.proofs.Common.{◌<◌, ◌≡◌, ◌⊎◌, All, All-map, inl, inr, length, List, map, subst, ℕ, AreComplete}
+use Rattle.verdicts.proofs.Common.{◌≡◌, ◌⊎◌, All-map, inl, inr, List, subst, ℕ, AreComplete}
 use Rattle.verdicts.proofs.Common.{CoverStep, timeline, timeline_is_of_complete, fresh, IsChosenViolation, IsClear, IsDecided}
 use Rattle.verdicts.proofs.Common.{IsMatched, IsPlaceWithin, IsWitnessAnswer, linearizable_from_exactly, lines_of, No}
 use Rattle.verdicts.proofs.Common.{NoOrderViolation, Operation, operations_of, order, OrderPair, repeat, Violation}
@@ -13,7 +13,7 @@ use Rattle.linearizer.specs.Order.{AreChosenAndLegal}
 use Rattle.verdicts.specs.declared.shown.LinePlace.TheVariants as place
 use Rattle.verdicts.specs.declared.verifying.Claimed.TheVariants as claimed
 use Rattle.verdicts.specs.Laws.{TrueClaimDecides}
-use Rattle.verdicts.proofs.Excludes.{violation_excludes_order}
+use Rattle.verdicts.proofs.Exactly.{violation_excludes_order}
 use Rattle.verdicts.proofs.Chosen.{chosen_is_violation}
 use Rattle.verdicts.proofs.NamedPlaces.{all_within, each_shown, in_range}
 
@@ -30,11 +30,6 @@ no_is_decided initial operations violation complete chosen =
       places = all_within initial operations (violation_places violation) (lines_of chosen.0) (each_shown initial operations violation chosen.0 chosen.1);
     }
 
--- places of operations
-all_operations : (initial : List ℕ) (operations : List Operation) (places : List ℕ) → All (λ p. p < length operations) places
-    → All (IsPlaceWithin initial operations) (map place.Op places)
-all_operations initial operations places each = All-map (IsPlaceWithin initial operations) place.Op places each
-
 -- a chosen order decides
 pub yes_is_decided : (initial : List ℕ) (operations : List Operation) (places : List ℕ) → AreChosenAndLegal initial operations places
     → IsDecided initial operations (Yes places)
@@ -42,7 +37,7 @@ yes_is_decided initial operations places chosen = record {
   chosen = (chosen.0, chosen.1, chosen.2);
   evidence = (chosen.0, chosen.1, chosen.3);
   exact = (chosen.0, chosen.3);
-  places = all_operations initial operations places (in_range operations places chosen.0 chosen.1);
+  places = All-map (IsPlaceWithin initial operations) place.Op places (in_range operations places chosen.0 chosen.1);
 }
 
 -- the chosen pair is the chosen violation where the first two kinds are absent
@@ -57,21 +52,14 @@ pub witness_is_chosen : (initial : List ℕ) (operations : List Operation) (empt
     → IsChosenViolation initial operations (violation.Witness empty cover)
 witness_is_chosen initial operations empty cover clear none is = (witness is.0 is.1, (is.2, is.3), (clear.no_fresh, clear.no_repeat, none, is.4))
 
--- what matching answers where it refuses is the chosen violation
-refused_is_chosen : (initial : List ℕ) (operations : List Operation) (answer : Matched) (violation : Violation)
-    → IsMatched initial operations answer → (answer ≡ matched.Fresh violation) ⊎ (answer ≡ matched.Repeat violation)
-    → IsChosenViolation initial operations violation
-refused_is_chosen initial operations answer violation is (inl same) =
-    let h = subst (IsMatched initial operations) same is in (fresh h.0 h.1, h.2, h.3)
-refused_is_chosen initial operations answer violation is (inr same) =
-    let h = subst (IsMatched initial operations) same is in (repeat h.0 h.1 h.2, h.3, h.4)
-
--- so the `NO` is decided
+-- what matching answers where it refuses is the chosen violation, so the `NO` is decided
 pub refused_is_decided : (initial : List ℕ) (operations : List Operation) (answer : Matched) (violation : Violation)
     → AreComplete (timeline initial operations) → IsMatched initial operations answer
     → (answer ≡ matched.Fresh violation) ⊎ (answer ≡ matched.Repeat violation) → IsDecided initial operations (No violation)
-refused_is_decided initial operations answer violation complete is refused =
-    no_is_decided initial operations violation complete (refused_is_chosen initial operations answer violation is refused)
+refused_is_decided initial operations answer violation complete is refused = no_is_decided initial operations violation complete (elim refused [
+  | inl same ↦ let h = subst (IsMatched initial operations) same is in (fresh h.0 h.1, h.2, h.3)
+  | inr same ↦ let h = subst (IsMatched initial operations) same is in (repeat h.0 h.1 h.2, h.3, h.4)
+])
 
 -- a true claim decides: a linearization that it lists exists, and a violation that it shows leaves none
 pub true_claim_decides : TrueClaimDecides

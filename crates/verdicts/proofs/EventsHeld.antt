@@ -2,10 +2,9 @@
 use Rattle.verdicts.proofs.Common.{[], ◌∙◌, ◌∷◌, ◌≡◌, ◌⊎◌, ap, Bool, cond, cons_option, Contains, eq-eqb, eqb-true}
 use Rattle.verdicts.proofs.Common.{false, find, inl, inr, List, MatchOption, nat_eq, None, Option, refl, slice_get}
 use Rattle.verdicts.proofs.Common.{Some, subst, sym, true, ℕ, ArePartOf, contains_at, contains_cons, Event}
-use Rattle.verdicts.proofs.Common.{IsCompleteHistory, IsCompleteUpTo, IsTraced, not_in_none, one_at, Operation}
-use Rattle.verdicts.proofs.Common.{operation_of, operations_of, passed_filter, place_of, projection, same_event}
-use Rattle.verdicts.proofs.Common.{TakesTurns, traced}
-use Rattle.verdicts.proofs.KeptEvents.{TurnsAfter, first_is_found, operation_made, among_later, among_first}
+use Rattle.verdicts.proofs.Common.{IsCompleteHistory, IsCompleteUpTo, not_in_none, one_at, Operation, operation_of}
+use Rattle.verdicts.proofs.Common.{operations_of, passed_filter, place_of, projection, same_event, TakesTurns, traced}
+use Rattle.verdicts.proofs.ShrunkEvents.{TurnsAfter, answered, among_later, among_first}
 use Rattle.verdicts.proofs.SameLists.{same_lists}
 
 -- an operation of these events is called or returns at this ticket
@@ -26,31 +25,15 @@ module _ (thread : ℕ) (x : Event) (later : List Event) (own : x.thread ≡ thr
   abbrev made : Option Operation
   made = operation_of x (find (λ r. nat_eq r.thread x.thread) later)
 
-  record Answered : Type 0 where
-    answer : Event
-    found : find (λ r. nat_eq r.thread thread) later ≡ Some answer
-    operation : Operation
-    is : made ≡ Some operation
-    called : operation.call ≡ x.ticket
-    returned : operation.ret ≡ answer.ticket
-
-  answered : (events : List Event) → projection thread later ≡ events → TakesTurns (x ∷ events) → Answered
-  answered [] same turns = elim turns [ ]
-  answered (answer ∷ rest) same turns =
-      let found = first_is_found (λ r. nat_eq r.thread thread) later answer rest same in
-      let o = operation_made x answer turns.0 in
-      let here : made ≡ Some o.0 = ap (λ t. operation_of x (find (λ r. nat_eq r.thread t) later)) own ∙ ap (operation_of x) found ∙ o.1 in
-      record { answer = answer; found = found; operation = o.0; is = here; called = o.2; returned = o.3 }
-
   call_is_held : TakesTurns (x ∷ projection thread later) → IsHeld (cons_option made (operations_of later)) x.ticket
   call_is_held turns =
-      let a = answered (projection thread later) refl turns in
+      let a = answered thread x later own turns in
       record { operation = a.operation; among = among_first made (operations_of later) a.operation a.is; at = inl a.called }
 
   answer_is_held : (e : Event) → TakesTurns (x ∷ projection thread later) → find (λ r. nat_eq r.thread thread) later ≡ Some e
       → IsHeld (cons_option made (operations_of later)) e.ticket
   answer_is_held e turns found =
-      let a = answered (projection thread later) refl turns in
+      let a = answered thread x later own turns in
       let one : a.answer ≡ e = let both : Some a.answer ≡ Some e = sym a.found ∙ found in cc in
       record { operation = a.operation; among = among_first made (operations_of later) a.operation a.is; at = inr (a.returned ∙ ap (λ r. r.ticket) one) }
 
@@ -98,12 +81,11 @@ each_is_held events e complete among = elim (held_or_answers e.thread events Non
 
 -- and where an operation holds a ticket there is an event at it
 pub event_held : (events : List Event) (ticket : ℕ) → IsHeld (operations_of events) ticket → (e : Event) × Contains events e × (e.ticket ≡ ticket)
-event_held events ticket held = by_ticket (traced events held.operation held.among) held.at
-  where
-    by_ticket : IsTraced events held.operation → (held.operation.call ≡ ticket) ⊎ (held.operation.ret ≡ ticket)
-        → (e : Event) × Contains events e × (e.ticket ≡ ticket)
-    by_ticket trace (inl called) = (trace.call, contains_at events trace.called_at trace.call trace.at_call, sym trace.made.called ∙ called)
-    by_ticket trace (inr returned) = (trace.answer, contains_at events trace.returned_at trace.answer trace.at_return, sym trace.made.returned ∙ returned)
+event_held events ticket held =
+    let trace = traced events held.operation held.among in elim held.at [
+      | inl called ↦ (trace.call, contains_at events trace.called_at trace.call trace.at_call, sym trace.made.called ∙ called)
+      | inr returned ↦ (trace.answer, contains_at events trace.returned_at trace.answer trace.at_return, sym trace.made.returned ∙ returned)
+    ]
 
 -- events with one ticket are one
 one_event : {n : ℕ} (events : List Event) (e r : Event) → IsCompleteUpTo n events → Contains events e → Contains events r → e.ticket ≡ r.ticket → e ≡ r

@@ -1,8 +1,302 @@
--- A complete history has a linearization if and only if it has no violation.
-use Rattle.verdicts.proofs.Common.{fresh, order, repeat, witness}
-use Rattle.verdicts.specs.Laws.{LinearizableExactly}
-use Rattle.verdicts.proofs.Linearizable.{linearizable_without_violations}
-use Rattle.verdicts.proofs.Excludes.{violation_excludes_order}
+-- A complete history has a linearization if and only if it has no violation: beside one no order is legal, and without one there is one.
+use Rattle.verdicts.proofs.Common.{IsLife, option_map, call_before_return, cases_order, [], ⊤, ◌++◌, ◌<◌, ◌∙◌, ◌∷◌}
+use Rattle.verdicts.proofs.Common.{◌≡◌, ◌≤◌, ◌⊎◌, ap, append-nil, arith, Contains, Contains-permutation, eq-eqb, inl}
+use Rattle.verdicts.proofs.Common.{inr, IsPermutation-sym, IsSome, List, map, MatchOption, None, Option, refl}
+use Rattle.verdicts.proofs.Common.{slice_get, Some, sym, take, ℕ, accept, accept_all, AreComplete, contains_at}
+use Rattle.verdicts.proofs.Common.{CoversFrom, Deq, dequeue_of, Did, Empty, Enq, enqueue_of, fresh, FullViolation}
+use Rattle.verdicts.proofs.Common.{IsAccepted, IsEnqueuedTooLate, IsLegalOrder, IsNeverEnqueued, IsOrderViolation}
+use Rattle.verdicts.proofs.Common.{IsRepeatViolation, IsViolationOf, Life, NoneDid, Not, Operation, OpKind, order}
+use Rattle.verdicts.proofs.Common.{pairs_at, Precedes, repeat, witness, AllZip, filter, rules, zero, AreLeastFreeGaps}
+use Rattle.verdicts.proofs.Common.{chosen_cover, chosen_order_exists, is_empty_answer, IsClear, IsLeastFreeGap}
+use Rattle.verdicts.proofs.Common.{IsLinearizable, NoOrderViolation, NoWitnessViolation, one_deeper}
+use Rattle.std.proofs.lemmas.Option.{slice_get-map}
+use Rattle.value_match.proofs.TimelineLines.{mapped_option}
+use Rattle.history_merge.proofs.Runs.{enqueued, dequeued, enqueued_is_dequeued, IsQueueBefore, queue_before}
+use Rattle.history_merge.proofs.Places.{Member, Member-right, StandsBefore, enqueue_of_member, dequeue_of_member}
+use Rattle.history_merge.proofs.Places.{split_at_enqueue, split_at_dequeue, count, count-append, count_here}
+use Rattle.history_merge.proofs.Places.{count-le-calls, calls_of_kind, same_place, same_front}
+use Rattle.history_merge.proofs.Distinct.{place_of as listed_place}
+use Rattle.history_merge.proofs.Completeness.{called_once, calls-IsPermutation}
+use Rattle.verdicts.specs.Laws.{ViolationExcludesOrder, LinearizableExactly}
+use Rattle.linearizer.proofs.EachPosition.{some_injective}
+use Rattle.empty_witness.proofs.FreeGaps.{free_gap_or_covered}
+use Rattle.empty_witness.proofs.Answers.{is_empty_did}
+use Rattle.linearizer.proofs.LegalOrder.{chosen_order_is_legal}
+
+kind_at : (xs : List Operation) (i : ℕ) (o : Operation) (k : OpKind) → slice_get xs i ≡ Some o → o.kind ≡ k → slice_get (map (λ o. o.kind) xs) i ≡ Some k
+kind_at xs i o k at is = slice_get-map (λ o. o.kind) xs i ∙ ap (option_map (λ o. o.kind)) at ∙ ap (λ k. Some k) is
+
+operation_at : (xs : List Operation) (i : ℕ) (k : OpKind) → slice_get (map (λ o. o.kind) xs) i ≡ Some k
+    → (o : Operation) × (slice_get xs i ≡ Some o) × (o.kind ≡ k)
+operation_at xs i k at = mapped_option (λ o. o.kind) (slice_get xs i) k (sym (slice_get-map (λ o. o.kind) xs i) ∙ at)
+
+left_queue : (start : List ℕ) (kinds : List OpKind) → IsAccepted start kinds → (left : List ℕ) × (accept_all start kinds ≡ Some left)
+left_queue start kinds accepted = pick (accept_all start kinds) accepted
+  where
+    pick : (o : Option (List ℕ)) → IsSome o → (left : List ℕ) × (o ≡ Some left)
+    pick None h = cc
+    pick (Some left) h = (left, refl)
+
+dequeued_front : (queue next : List ℕ) (v : ℕ) → accept queue (Deq v) ≡ Some next → queue ≡ v ∷ next
+dequeued_front [] next v e = cc
+dequeued_front (front ∷ rest) next v e = grind (arith)
+
+empty_queue : (queue next : List ℕ) → accept queue Empty ≡ Some next → queue ≡ []
+empty_queue [] next e = refl
+empty_queue (front ∷ rest) next e = cc
+
+abbrev kinds_of : List Operation → List OpKind
+kinds_of listed = map (λ o. o.kind) listed
+
+module _ (operations listed : List Operation) (complete : AreComplete operations) (legal : IsLegalOrder [] operations listed) where
+  -- each operation of the history has a place in the order, and the order has no other
+  place_of : (o : Operation) → Contains operations o → (i : ℕ) × (slice_get listed i ≡ Some o)
+  place_of o is = listed_place listed o (Contains-permutation operations listed o legal.holds_each_once is)
+
+  is_operation : (i : ℕ) (o : Operation) → slice_get listed i ≡ Some o → Contains operations o
+  is_operation i o at = Contains-permutation listed operations o (IsPermutation-sym operations listed legal.holds_each_once) (contains_at listed i o at)
+
+  -- an operation does not stand before one that precedes it
+  not_later : (i j : ℕ) (x y : Operation) → slice_get listed i ≡ Some x → slice_get listed j ≡ Some y → i < j → ¬ (Precedes y x)
+  not_later i j x y at_i at_j below before = pairs_at (λ earlier later. ¬ (Precedes later earlier)) listed i j x y legal.extends_precedence below at_i
+      at_j before
+
+  call_has_one_place : (i j v : ℕ) (x y : Operation) → slice_get listed i ≡ Some x → slice_get listed j ≡ Some y
+      → calls_of_kind v x.kind ≡ 1 → calls_of_kind v y.kind ≡ 1 → i ≡ j
+  call_has_one_place i j v x y at_i at_j is_x is_y =
+      let once = called_once operations v complete in
+      let moved = calls-IsPermutation v operations listed legal.holds_each_once in
+      same_place (kinds_of listed) i j v x.kind y.kind (kind_at listed i x x.kind at_i refl) (kind_at listed j y y.kind at_j refl) is_x is_y (omega arith)
+
+  -- the queue before the operation at a place, and what has gone through it
+  before : (j : ℕ) (o : Operation) → slice_get listed j ≡ Some o → IsQueueBefore [] (kinds_of listed) j o.kind
+  before j o at =
+      let left = left_queue [] (kinds_of listed) legal.is_accepted in
+      queue_before (kinds_of listed) [] left.0 j o.kind left.1 (kind_at listed j o o.kind at refl)
+
+  gone_through : (j : ℕ) (o : Operation) (at : slice_get listed j ≡ Some o)
+      → enqueued (take j (kinds_of listed)) ≡ dequeued (take j (kinds_of listed)) ++ (before j o at).queue
+  gone_through j o at = enqueued_is_dequeued (take j (kinds_of listed)) [] (before j o at).queue (before j o at).reached
+
+  -- what was taken out and what comes next, at a dequeue
+  gone_at_dequeue : (j v : ℕ) (o : Operation) → slice_get listed j ≡ Some o → o.kind ≡ Deq v
+      → (rest : List ℕ) × (enqueued (take j (kinds_of listed)) ≡ dequeued (take j (kinds_of listed)) ++ v ∷ rest)
+  gone_at_dequeue j v o at is =
+      let accepted : accept (before j o at).queue (Deq v) ≡ Some (before j o at).next = rw (← is) (before j o at).accepted in
+      let front = dequeued_front (before j o at).queue (before j o at).next v accepted in
+      ((before j o at).next, gone_through j o at ∙ ap (λ q. dequeued (take j (kinds_of listed)) ++ q) front)
+
+  -- before a dequeue stands an enqueue of its value
+  enqueue_before : (j v : ℕ) (o : Operation) → slice_get listed j ≡ Some o → o.kind ≡ Deq v
+      → (i : ℕ) × (x : Operation) × (i < j) × (slice_get listed i ≡ Some x) × (x.kind ≡ Enq v)
+  enqueue_before j v o at is =
+      let gone = gone_at_dequeue j v o at is in
+      let member : Member v (enqueued (take j (kinds_of listed))) = rw gone.1 (Member-right v (dequeued (take j (kinds_of listed))) (v ∷ gone.0) (inl refl)) in
+      let stands = enqueue_of_member (kinds_of listed) j v member in
+      let found = operation_at listed stands.0 (Enq v) stands.2 in
+      (stands.0, found.0, stands.1, found.1, found.2)
+
+  calls_it : (v : ℕ) (k : OpKind) → (k ≡ Enq v) ⊎ (k ≡ Not v) → calls_of_kind v k ≡ 1
+  calls_it v k (inl e) = rw (e, eq-eqb v v refl)
+  calls_it v k (inr e) = rw (e, eq-eqb v v refl)
+
+  no_repeat : (i j v : ℕ) (x y : Operation) → slice_get listed i ≡ Some x → slice_get listed j ≡ Some y → x.kind ≡ Deq v → y.kind ≡ Deq v → i < j → ⊥
+  no_repeat i j v x y at_i at_j is_x is_y below =
+      let gone = gone_at_dequeue j v y at_j is_y in
+      let taken = split_at_dequeue (kinds_of listed) i j v below (kind_at listed i x (Deq v) at_i is_x) in
+      let once = called_once operations v complete in
+      let moved = calls-IsPermutation v operations listed legal.holds_each_once in
+      let few = count-le-calls (kinds_of listed) j v in
+      let all = ap (count v) gone.1 in
+      let parts = count-append v (dequeued (take j (kinds_of listed))) (v ∷ gone.0) in
+      let here = count_here v gone.0 in
+      let out = ap (count v) taken.1 in
+      let out_parts = count-append v (dequeued (take i (kinds_of listed))) (v ∷ taken.0) in
+      let out_here = count_here v taken.0 in
+      omega arith
+
+  dequeue_has_one_place : (i j v : ℕ) (x y : Operation) → slice_get listed i ≡ Some x → slice_get listed j ≡ Some y → x.kind ≡ Deq v → y.kind ≡ Deq v → i ≡ j
+  dequeue_has_one_place i j v x y at_i at_j is_x is_y = elim (cases_order i j) [
+    | inl same ↦ same
+    | inr (inl below) ↦ absurd (no_repeat i j v x y at_i at_j is_x is_y below)
+    | inr (inr above) ↦ absurd (no_repeat j i v y x at_j at_i is_y is_x above)
+  ]
+
+  -- what stands at the place of a dequeue of a value is any dequeue of it
+  stands_there : (i v : ℕ) (o d : Operation) → slice_get listed i ≡ Some o → o.kind ≡ Deq v → Did operations d (Deq v) → slice_get listed i ≡ Some d
+  stands_there i v o d at is did =
+      let there = place_of d did.0 in ap (slice_get listed) (dequeue_has_one_place i there.0 v o d at there.1 is did.1) ∙ there.1
+
+  excludes_never : (deq : Operation) → IsNeverEnqueued operations deq → ⊥
+  excludes_never deq violation =
+      let place = place_of deq violation.dequeues.0 in
+      let enq = enqueue_before place.0 violation.value deq place.1 violation.dequeues.1 in
+      violation.not_accepted enq.1 (is_operation enq.0 enq.1 enq.3) enq.4
+
+  excludes_late : (deq enq : Operation) → IsEnqueuedTooLate operations deq enq → ⊥
+  excludes_late deq enq violation =
+      let v = violation.value in
+      let place = place_of deq violation.dequeues.0 in
+      let first = enqueue_before place.0 v deq place.1 violation.dequeues.1 in
+      elim violation.enqueues [
+        | inl refused ↦
+            let there = place_of enq refused.0 in
+            let same = call_has_one_place first.0 there.0 v first.1 enq first.3 there.1 (calls_it v first.1.kind (inl first.4))
+            (calls_it v enq.kind (inr refused.1)) in
+            let kinds_differ : first.1 ≡ enq = some_injective (sym first.3 ∙ ap (slice_get listed) same ∙ there.1) in
+            let clash : Enq v ≡ Not v = sym first.4 ∙ ap (λ o. o.kind) kinds_differ ∙ refused.1 in
+            cc
+        | inr late ↦
+            let there = place_of enq late.0.0 in
+            let same = call_has_one_place first.0 there.0 v first.1 enq first.3 there.1 (calls_it v first.1.kind (inl first.4))
+            (calls_it v enq.kind (inl late.0.1)) in
+            not_later there.0 place.0 enq deq there.1 place.1 (omega (arith, first.2)) late.1
+      ]
+
+  excludes_repeat : (enq first second : Operation) → IsRepeatViolation operations enq first second → ⊥
+  excludes_repeat enq first second violation =
+      let v = violation.value in
+      let x = place_of first violation.dequeues.0 in
+      let y = place_of second violation.dequeues_again.0 in
+      let same = dequeue_has_one_place x.0 y.0 v first second x.1 y.1 violation.dequeues.1 violation.dequeues_again.1 in
+      let one : first ≡ second = some_injective (sym x.1 ∙ ap (slice_get listed) same ∙ y.1) in
+      let rets = ap (λ o. o.ret) one in
+      let later = violation.in_order in
+      omega arith
+
+  -- where a is enqueued before b, a dequeue of a stands before that of b
+  dequeued_before : (i j k a b : ℕ) (x y z : Operation) → slice_get listed i ≡ Some x → x.kind ≡ Enq a → slice_get listed j ≡ Some y → y.kind ≡ Enq b
+      → slice_get listed k ≡ Some z → z.kind ≡ Deq b → i < j → j < k → StandsBefore (kinds_of listed) k (Deq a)
+  dequeued_before i j k a b x y z at_x is_x at_y is_y at_z is_z first below =
+      let gone = gone_at_dequeue k b z at_z is_z in
+      let put_b = split_at_enqueue (kinds_of listed) j k b below (kind_at listed j y (Enq b) at_y is_y) in
+      let put_a = split_at_enqueue (kinds_of listed) i j a first (kind_at listed i x (Enq a) at_x is_x) in
+      let once = called_once operations b complete in
+      let moved = calls-IsPermutation b operations listed legal.holds_each_once in
+      let few = count-le-calls (kinds_of listed) k b in
+      let all = ap (count b) put_b.1 in
+      let fronts = same_front (enqueued (take j (kinds_of listed))) put_b.0 (dequeued (take k (kinds_of listed))) gone.0 b (sym put_b.1 ∙ gone.1)
+      (omega arith) in
+      let member : Member a (dequeued (take k (kinds_of listed))) =
+      rw (← fronts, put_a.1) (Member-right a (enqueued (take i (kinds_of listed))) (a ∷ put_a.0) (inl refl)) in
+      dequeue_of_member (kinds_of listed) k a member
+
+  enqueues_differ : (i j : ℕ) (x y : Operation) → slice_get listed i ≡ Some x → slice_get listed j ≡ Some y → Precedes x y → i < j
+  enqueues_differ i j x y at_x at_y precedes = elim (cases_order i j) [
+    | inl same ↦
+        let one : x ≡ y = some_injective (sym at_x ∙ ap (slice_get listed) same ∙ at_y) in
+        let ordered = call_before_return operations x complete (is_operation i x at_x) in
+        let calls_same = ap (λ o. o.call) one in
+        absurd (omega arith)
+    | inr (inl below) ↦ below
+    | inr (inr above) ↦ absurd (not_later j i y x at_y at_x above precedes)
+  ]
+
+  -- a dequeue of a that stands before that of b is not the later one, and there is no other
+  not_dequeued_later : (a : ℕ) (deq_b : Operation) (later : Option Operation)
+      → MatchOption later (NoneDid operations (Deq a)) (λ d. Did operations d (Deq a) × Precedes deq_b d)
+      → (i k : ℕ) (o : Operation) → i < k → slice_get listed i ≡ Some o → o.kind ≡ Deq a → slice_get listed k ≡ Some deq_b → ⊥
+  not_dequeued_later a deq_b None none i k o below at is at_k = none o (is_operation i o at) is
+  not_dequeued_later a deq_b (Some d) said i k o below at is at_k = not_later i k d deq_b (stands_there i a o d at is said.0) at_k below said.1
+
+  excludes_order : (enq_a enq_b deq_b : Operation) (deq_a : Option Operation) → IsOrderViolation operations enq_a enq_b deq_b deq_a → ⊥
+  excludes_order enq_a enq_b deq_b deq_a violation =
+      let x = place_of enq_a violation.enqueues_a.0 in
+      let y = place_of enq_b violation.enqueues_b.0 in
+      let z = place_of deq_b violation.dequeues_b.0 in
+      let first = enqueues_differ x.0 y.0 enq_a enq_b x.1 y.1 violation.enqueued_first in
+      let put = enqueue_before z.0 violation.b deq_b z.1 violation.dequeues_b.1 in
+      let same = call_has_one_place put.0 y.0 violation.b put.1 enq_b put.3 y.1 (calls_it violation.b put.1.kind (inl put.4))
+      (calls_it violation.b enq_b.kind (inl violation.enqueues_b.1)) in
+      let stands = dequeued_before x.0 y.0 z.0 violation.a violation.b enq_a enq_b deq_b x.1 violation.enqueues_a.1 y.1 violation.enqueues_b.1 z.1
+      violation.dequeues_b.1 first (omega (arith, put.2)) in
+      let found = operation_at listed stands.0 (Deq violation.a) stands.2 in
+      not_dequeued_later violation.a deq_b deq_a violation.dequeued_later stands.0 z.0 found.0 stands.1 found.1 found.2 z.1
+
+  -- nothing that was put in before an empty answer is still there, so its dequeue stands before the answer
+  gone_at_empty : (j v : ℕ) (o : Operation) → slice_get listed j ≡ Some o → o.kind ≡ Empty → (i : ℕ) (x : Operation) → slice_get listed i ≡ Some x
+      → x.kind ≡ Enq v → i < j
+      → StandsBefore (kinds_of listed) j (Deq v)
+  gone_at_empty j v o at is i x at_x is_x below =
+      let accepted : accept (before j o at).queue Empty ≡ Some (before j o at).next = rw (← is) (before j o at).accepted in
+      let none = empty_queue (before j o at).queue (before j o at).next accepted in
+      let put = split_at_enqueue (kinds_of listed) i j v below (kind_at listed i x (Enq v) at_x is_x) in
+      let gone = gone_through j o at ∙ ap (λ q. dequeued (take j (kinds_of listed)) ++ q) none ∙ append-nil (dequeued (take j (kinds_of listed))) in
+      let member : Member v (dequeued (take j (kinds_of listed))) =
+      rw (← gone, put.1) (Member-right v (enqueued (take i (kinds_of listed))) (v ∷ put.0) (inl refl)) in
+      dequeue_of_member (kinds_of listed) j v member
+
+  -- a value of a cover that is in before an operation that doesn't stand behind the empty answer is dequeued before the answer
+  dequeued_first : (j : ℕ) (empty : Operation) → slice_get listed j ≡ Some empty → empty.kind ≡ Empty → (life : Life) (is : IsLife operations life)
+      (p : ℕ) (prior : Operation) → slice_get listed p ≡ Some prior → p ≤ j → Precedes (enqueue_of life) prior
+      → (i : ℕ) × (x : Operation) × (i < j) × (slice_get listed i ≡ Some x) × (x.kind ≡ Deq is.0)
+  dequeued_first j empty at answers life is p prior at_p near before =
+      let enq = place_of (enqueue_of life) is.1.0 in
+      let below = enqueues_differ enq.0 p (enqueue_of life) prior enq.1 at_p before in
+      let stands = gone_at_empty j is.0 empty at answers enq.0 (enqueue_of life) enq.1 is.1.1 (omega arith) in
+      let found = operation_at listed stands.0 (Deq is.0) stands.2 in
+      (stands.0, found.0, stands.1, found.1, found.2)
+
+  excludes_cover : (j : ℕ) (empty : Operation) → slice_get listed j ≡ Some empty → empty.kind ≡ Empty
+      → (cover : List Life) (p : ℕ) (prior : Operation) → slice_get listed p ≡ Some prior → p ≤ j → CoversFrom operations empty prior cover → ⊥
+  excludes_cover j empty at is [] p prior at_p near covers = covers
+  excludes_cover j empty at is (life ∷ []) p prior at_p near covers =
+      let gone = dequeued_first j empty at is life covers.0 p prior at_p near covers.1 in
+      last (dequeue_of life) covers.0.2 covers.2 gone.0 gone.1 gone.2 gone.3 gone.4
+    where
+      -- the named dequeue is the one that stands before the answer, and so comes no later
+      last : (dequeue : Option Operation) → MatchOption dequeue (NoneDid operations (Deq covers.0.0)) (λ d. Did operations d (Deq covers.0.0))
+          → MatchOption dequeue ⊤ (λ d. Precedes empty d) → (i : ℕ) (o : Operation) → i < j → slice_get listed i ≡ Some o → o.kind ≡ Deq covers.0.0 → ⊥
+      last None none after i o below at_i is_i = none o (is_operation i o at_i) is_i
+      last (Some d) did after i o below at_i is_i = not_later i j d empty (stands_there i covers.0.0 o d at_i is_i did) at below after
+  excludes_cover j empty at is (life ∷ next ∷ rest) p prior at_p near covers =
+      let gone = dequeued_first j empty at is life covers.0 p prior at_p near covers.1 in
+      step (dequeue_of life) covers.0.2 covers.2 gone.0 gone.1 gone.2 gone.3 gone.4 (excludes_cover j empty at is (next ∷ rest))
+    where
+      step : (dequeue : Option Operation) → MatchOption dequeue (NoneDid operations (Deq covers.0.0)) (λ d. Did operations d (Deq covers.0.0))
+          → MatchOption dequeue ⊥ (λ d. CoversFrom operations empty d (next ∷ rest))
+          → (i : ℕ) (o : Operation) → i < j → slice_get listed i ≡ Some o → o.kind ≡ Deq covers.0.0
+          → ((p : ℕ) (prior : Operation) → slice_get listed p ≡ Some prior → p ≤ j → CoversFrom operations empty prior (next ∷ rest) → ⊥) → ⊥
+      step None none unnamed i o below at_i is_i more = unnamed
+      step (Some d) did further i o below at_i is_i more = more i d (stands_there i covers.0.0 o d at_i is_i did) (omega arith) further
+
+  excludes_violation : (full : FullViolation) → IsViolationOf operations full → ⊥
+  excludes_violation (fresh deq None) violation = excludes_never deq violation
+  excludes_violation (fresh deq (Some enq)) violation = excludes_late deq enq violation
+  excludes_violation (repeat enq first second) violation = excludes_repeat enq first second violation
+  excludes_violation (order enq_a enq_b deq_b deq_a) violation = excludes_order enq_a enq_b deq_b deq_a violation
+  excludes_violation (witness empty cover) violation =
+      let place = place_of empty violation.answers_empty.0 in
+      excludes_cover place.0 empty place.1 violation.answers_empty.1 cover place.0 empty place.1 (omega arith) violation.covers
+
+-- a violation excludes each linearization
+pub violation_excludes_order : ViolationExcludesOrder
+violation_excludes_order operations full complete violation linear = excludes_violation operations linear.0 complete linear.1 full violation
+
+gaps_of : (operations answers : List Operation) → IsClear operations → NoWitnessViolation operations
+    → ((o : Operation) → Contains answers o → Did operations o Empty) → (gaps : List ℕ) × AllZip (λ o c. IsLeastFreeGap operations o c) answers gaps
+gaps_of operations [] clear none each = ([], search rules)
+gaps_of operations (o ∷ answers) clear none each =
+    let did = each o (zero, omega arith, refl) in
+    let rest = gaps_of operations answers clear none (λ x among. each x (one_deeper o answers x among)) in
+    elim (free_gap_or_covered operations o clear did.0) [
+      | inl free ↦ (free.0 ∷ rest.0, (free.1, rest.1))
+      | inr covered ↦ let cover = chosen_cover operations o clear did covered in absurd (none o cover.0 cover.2)
+    ]
+
+-- without a witness violation each empty answer has a free gap
+pub free_gaps_exist : (operations : List Operation) → IsClear operations → NoWitnessViolation operations → (gaps : List ℕ) × AreLeastFreeGaps operations gaps
+free_gaps_exist operations clear none =
+    gaps_of operations (filter is_empty_answer operations) clear none
+    (λ o among. is_empty_did operations o among)
+
+-- without a violation there is a linearization
+pub linearizable_without_violations : (operations : List Operation) → IsClear operations → NoOrderViolation operations → NoWitnessViolation operations
+    → IsLinearizable [] operations
+linearizable_without_violations operations clear no_order no_witness =
+    let gaps = free_gaps_exist operations clear no_witness in
+    let chosen = chosen_order_exists operations gaps.0 clear no_order gaps.1 in
+    (chosen.0, chosen_order_is_legal operations chosen.0 clear no_order chosen.1)
 
 -- a complete history is linearizable if and only if it has no violation
 pub linearizable_exactly : LinearizableExactly

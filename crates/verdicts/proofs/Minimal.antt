@@ -4,15 +4,14 @@ use Rattle.verdicts.proofs.Common.{inl, inr, List, None, Option, refl, Some, sub
 use Rattle.verdicts.proofs.Common.{call_before_return, contains_cons, Covers, Did, Empty, Enq, enqueue_of, fresh}
 use Rattle.verdicts.proofs.Common.{FullViolation, IsChosenFullViolation, IsChosenWitness, IsClear, IsCovered}
 use Rattle.verdicts.proofs.Common.{IsLinearizable, IsOrderViolation, IsViolationOf, IsWitnessViolation, Life, lines_of}
-use Rattle.verdicts.proofs.Common.{one_deeper, one_life_of_enqueue, Operation, operations_of_life, order, passed_filter}
-use Rattle.verdicts.proofs.Common.{repeat, same_enqueue, selects, value_of, violation_covers, witness}
+use Rattle.verdicts.proofs.Common.{one_deeper, one_life_of_enqueue, Operation, operations_of_life, order}
+use Rattle.verdicts.proofs.Common.{passed_filter, repeat, same_enqueue, selects, value_of, violation_covers, witness}
 use Rattle.verdicts.proofs.Chosen.{chosen_is_violation}
-use Rattle.verdicts.proofs.CoverGaps.{gap_without, chosen_are_lives}
-use Rattle.verdicts.proofs.Exactly.{linearizable_exactly}
-use Rattle.verdicts.proofs.Excludes.{violation_excludes_order}
-use Rattle.verdicts.proofs.KeptTickets.{selected_are_complete}
-use Rattle.verdicts.proofs.NamedLines.{HasValue, IsOpOf, IsOpOfTwo, IsOpOfLife, fresh_lines, repeat_lines, order_lines, cover_lines, selects_as_value}
-use Rattle.verdicts.proofs.NamedLines.{SelectsLines, lines_are_selected, selected_for}
+use Rattle.verdicts.proofs.CoverGaps.{left_by, chosen_are_lives}
+use Rattle.verdicts.proofs.Exactly.{linearizable_exactly, violation_excludes_order}
+use Rattle.verdicts.proofs.ShrunkEvents.{selected_are_complete}
+use Rattle.verdicts.proofs.NamedLines.{HasValue, IsOpOf, IsOpOfTwo, IsOpOfLife, fresh_lines, repeat_lines, order_lines}
+use Rattle.verdicts.proofs.NamedLines.{cover_lines, selects_as_value, SelectsLines, lines_are_selected, selected_for}
 use Rattle.verdicts.proofs.Selections.{violation_in_whole, violation_in_selected, life_in_whole}
 
 -- no selection but the whole of these operations fails to be linearizable
@@ -31,16 +30,12 @@ all_or_one {X} p (x ∷ xs) = pick (p x) refl (all_or_one p xs)
     pick true is (inr one) = inr (one.0, one_deeper x xs one.0 one.1, one.2)
     pick false is rest = inr (x, (zero, omega arith, refl), is)
 
-enqueued_value : (o : Operation) (v : ℕ) → o.kind ≡ Enq v → HasValue o v
-enqueued_value o v is = ap value_of is
+-- where no element fails it, a filter keeps all
+pub all_pass : {X : Type 0} (p : X → Bool) (xs : List X) → ((x : X) → Contains xs x → p x ≡ true) → filter p xs ≡ xs
+all_pass p xs each = elim (all_or_one p xs) [ inl all ↦ all | inr one ↦ let clash : true ≡ false = sym (each one.0 one.1) ∙ one.2 in cc ]
 
--- a value that covers a gap that only x covers is x
-alone_at : (x y z : Life) (c : ℕ) → z ≡ y → Covers z c → (Covers y c → y ≡ x) → z ≡ x
-alone_at x y z c one covers only = one ∙ only (subst (λ life. Covers life c) one covers)
-
--- and has its value
-of_same_life : (z x : Life) (v : ℕ) → z ≡ x → (enqueue_of x).kind ≡ Enq v → HasValue (enqueue_of z) v
-of_same_life z x v same is = ap (λ life. value_of (enqueue_of life).kind) same ∙ ap value_of is
+one_value : (x y : Operation) (v w : ℕ) → x.kind ≡ Enq v → y.kind ≡ Enq w → value_of x.kind ≡ value_of y.kind → v ≡ w
+one_value x y v w is_x is_y same = let values : Some v ≡ Some w = sym (ap value_of is_x) ∙ same ∙ ap value_of is_y in cc
 
 -- a violation is shown by some operation
 some_operation : (operations : List Operation) (full : FullViolation) → IsViolationOf operations full → (o : Operation) × Contains operations o
@@ -113,13 +108,11 @@ module _ (operations : List Operation) (complete : AreComplete operations) (valu
         both_same : (x y : Operation) (v w : ℕ) → Did smaller x (Enq v) → Did smaller y (Enq w) → HasValue missing a ⊎ HasValue missing b
             → HasValue x a ⊎ HasValue x b → HasValue y a ⊎ HasValue y b → v ≡ w
         both_same x y v w did_x did_y (inl gone) (inl is_x) is_y = absurd (none_of_its_value x a gone is_x did_x.0)
-        both_same x y v w did_x did_y (inl gone) (inr is_x) (inl is_y) = absurd (none_of_its_value y a gone is_y did_y.0)
-        both_same x y v w did_x did_y (inl gone) (inr is_x) (inr is_y) = let same : Some v ≡ Some w =
-            sym (ap value_of did_x.1) ∙ is_x ∙ sym is_y ∙ ap value_of did_y.1 in cc
         both_same x y v w did_x did_y (inr gone) (inr is_x) is_y = absurd (none_of_its_value x b gone is_x did_x.0)
-        both_same x y v w did_x did_y (inr gone) (inl is_x) (inr is_y) = absurd (none_of_its_value y b gone is_y did_y.0)
-        both_same x y v w did_x did_y (inr gone) (inl is_x) (inl is_y) = let same : Some v ≡ Some w =
-            sym (ap value_of did_x.1) ∙ is_x ∙ sym is_y ∙ ap value_of did_y.1 in cc
+        both_same x y v w did_x did_y (inl gone) is_x (inl is_y) = absurd (none_of_its_value y a gone is_y did_y.0)
+        both_same x y v w did_x did_y (inr gone) is_x (inr is_y) = absurd (none_of_its_value y b gone is_y did_y.0)
+        both_same x y v w did_x did_y gone (inl is_x) (inl is_y) = one_value x y v w did_x.1 did_y.1 (is_x ∙ sym is_y)
+        both_same x y v w did_x did_y gone (inr is_x) (inr is_y) = one_value x y v w did_x.1 did_y.1 (is_x ∙ sym is_y)
 
         no_order : (enq_a enq_b deq_b : Operation) (deq_a : Option Operation) → IsOrderViolation smaller enq_a enq_b deq_b deq_a → ⊥
         no_order enq_a enq_b deq_b deq_a is =
@@ -175,15 +168,16 @@ module _ (operations : List Operation) (complete : AreComplete operations) (valu
       not_covered_without v is_missing empty' same covered =
           let x = has_value_of_cover missing v was is_missing in
           let window = call_before_return operations empty complete chosen.answers_empty.0 in
-          let gap = gap_without operations empty clear chosen.answers_empty chosen.is_covered cover x.0 window chosen.cover_is_chosen x.1 in
-          let z = subst (IsCovered smaller) same covered gap.0 (gap.1, gap.2) in
+          let gap = left_by operations empty clear chosen.answers_empty chosen.is_covered cover empty x.0
+          (record { among = chosen.answers_empty.0; after_call = omega arith; before_return = window }) chosen.cover_is_chosen x.1 in
+          let z = subst (IsCovered smaller) same covered gap.0 (gap.1.after, gap.1.before_return) in
           let is_z = life_in_whole operations values calls z.0 (life_in_whole small values' calls' z.0 z.1) in
-          let y = has_value_of_cover (enqueue_of z.0) is_z.0 (in_small (enqueue_of z.0) z.1.1.0).0 (enqueued_value (enqueue_of z.0) is_z.0 is_z.1.1) in
+          let y = has_value_of_cover (enqueue_of z.0) is_z.0 (in_small (enqueue_of z.0) z.1.1.0).0 (ap value_of is_z.1.1) in
           let enqueues = same_enqueue operations (enqueue_of z.0) (enqueue_of y.0) is_z.0 complete is_z.1 y.2 in
           let one = one_life_of_enqueue operations z.0 y.0 clear is_z (chosen_are_lives operations empty cover empty.call y.0 chosen.cover_is_chosen
           y.1) enqueues in
-          let only = alone_at x.0 y.0 z.0 gap.0 one z.2 (gap.3 y.0 y.1) in
-          let has_v = of_same_life z.0 x.0 v only x.2.1 in
+          let only : z.0 ≡ x.0 = one ∙ gap.1.no_other y.0 y.1 (subst (λ life. Covers life gap.0) one z.2) in
+          let has_v : HasValue (enqueue_of z.0) v = ap (λ life. value_of (enqueue_of life).kind) only ∙ ap value_of x.2.1 in
           none_of_its_value (enqueue_of z.0) v is_missing has_v z.1.1.0
 
       no_cover : (empty' : Operation) (cover' : List Life) → IsWitnessViolation smaller empty' cover' → ⊥
@@ -206,26 +200,21 @@ module _ (operations : List Operation) (complete : AreComplete operations) (valu
         nothing_left (lines_of (fresh deq enq)) named of_value.0 of_value.1 other is
     none_is_left (repeat enq first second) chosen named other is =
         nothing_left (lines_of (repeat enq first second)) named chosen.1.violates.value (repeat_lines operations enq first second chosen.1.violates) other is
-    none_is_left (order enq_a enq_b deq_b deq_a) chosen named other is = by_kind other is
-      where
-        of_two : (l : Operation) → Contains (lines_of (order enq_a enq_b deq_b deq_a)) l → IsOpOfTwo operations chosen.2.violates.a chosen.2.violates.b l
-        of_two = order_lines operations enq_a enq_b deq_b deq_a chosen.2.violates
-
-        by_kind : (other : FullViolation) → IsViolationOf smaller other → ⊥
-        by_kind (fresh deq' enq') is' = chosen.0 deq' enq' (in_whole (fresh deq' enq') is')
-        by_kind (repeat enq' first' second') is' = chosen.1 enq' first' second' (in_whole (repeat enq' first' second') is')
-        by_kind (order enq_a' enq_b' deq_b' deq_a') is' =
-            no_order (lines_of (order enq_a enq_b deq_b deq_a)) named chosen.2.violates.a chosen.2.violates.b of_two enq_a' enq_b' deq_b' deq_a' is'
-        by_kind (witness empty' cover') is' =
-            no_empty_answer (lines_of (order enq_a enq_b deq_b deq_a)) named chosen.2.violates.a chosen.2.violates.b of_two empty' is'.answers_empty
-    none_is_left (witness empty cover) chosen named other is = by_kind other is
-      where
-        by_kind : (other : FullViolation) → IsViolationOf smaller other → ⊥
-        by_kind (fresh deq' enq') is' = chosen.0 deq' enq' (in_whole (fresh deq' enq') is')
-        by_kind (repeat enq' first' second') is' = chosen.1 enq' first' second' (in_whole (repeat enq' first' second') is')
-        by_kind (order enq_a' enq_b' deq_b' deq_a') is' = chosen.2 enq_a' enq_b' deq_b' deq_a' (in_whole (order enq_a' enq_b' deq_b' deq_a') is')
-        by_kind (witness empty' cover') is' =
-            no_cover empty cover (record { complete = complete; no_fresh = chosen.0; no_repeat = chosen.1 }) chosen.3 named empty' cover' is'
+    none_is_left (order enq_a enq_b deq_b deq_a) chosen named (fresh deq enq) is = chosen.0 deq enq (in_whole (fresh deq enq) is)
+    none_is_left (order enq_a enq_b deq_b deq_a) chosen named (repeat enq first second) is =
+        chosen.1 enq first second (in_whole (repeat enq first second) is)
+    none_is_left (order enq_a enq_b deq_b deq_a) chosen named (order enq_a' enq_b' deq_b' deq_a') is =
+        no_order (lines_of (order enq_a enq_b deq_b deq_a)) named chosen.2.violates.a chosen.2.violates.b
+        (order_lines operations enq_a enq_b deq_b deq_a chosen.2.violates) enq_a' enq_b' deq_b' deq_a' is
+    none_is_left (order enq_a enq_b deq_b deq_a) chosen named (witness empty' cover') is =
+        no_empty_answer (lines_of (order enq_a enq_b deq_b deq_a)) named chosen.2.violates.a chosen.2.violates.b
+        (order_lines operations enq_a enq_b deq_b deq_a chosen.2.violates) empty' is.answers_empty
+    none_is_left (witness empty cover) chosen named (fresh deq enq) is = chosen.0 deq enq (in_whole (fresh deq enq) is)
+    none_is_left (witness empty cover) chosen named (repeat enq first second) is = chosen.1 enq first second (in_whole (repeat enq first second) is)
+    none_is_left (witness empty cover) chosen named (order enq_a enq_b deq_b deq_a) is =
+        chosen.2 enq_a enq_b deq_b deq_a (in_whole (order enq_a enq_b deq_b deq_a) is)
+    none_is_left (witness empty cover) chosen named (witness empty' cover') is =
+        no_cover empty cover (record { complete = complete; no_fresh = chosen.0; no_repeat = chosen.1 }) chosen.3 named empty' cover' is
 
     smaller_is_linearizable : (full : FullViolation) → IsChosenFullViolation operations full → SelectsLines (lines_of full) values calls → IsLinearizable [] smaller
     smaller_is_linearizable full chosen named =
@@ -236,8 +225,8 @@ module _ (operations : List Operation) (complete : AreComplete operations) (full
     (values calls : ℕ → Bool) (named : SelectsLines (lines_of full) values calls) where
   -- the chosen violation is one of the selection by its lines
   pub stays_violation : IsViolationOf (filter (selects values calls) operations) full
-  stays_violation = violation_in_selected operations values calls full (chosen_is_violation operations full complete chosen)
-      (lines_are_selected (lines_of full) values calls named)
+  stays_violation = violation_in_selected operations values calls full (lines_are_selected (lines_of full) values calls named)
+      (chosen_is_violation operations full complete chosen)
 
   -- from the selected operations nothing can be left out
   pub selection_is_minimal : AreMinimal (filter (selects values calls) operations)

@@ -1,12 +1,13 @@
 -- What the lines of a violation name, and what a selection by them holds.
-use Rattle.verdicts.proofs.Common.{[], ◌↔◌, ◌∙◌, ◌∷◌, ◌≡◌, ◌⊎◌, ap, Bool, Contains, filter, filter_map, flat_map, inl}
+use Rattle.verdicts.proofs.Common.{AllByRecursion, [], ◌↔◌, ◌∙◌, ◌∷◌, ◌≡◌, ◌⊎◌, ap, Bool, Contains, filter, filter_map, flat_map, inl}
 use Rattle.verdicts.proofs.Common.{inr, IsTrue, List, map, MatchOption, None, Option, option_map_or, option_to_list}
 use Rattle.verdicts.proofs.Common.{refl, Some, subst, sym, true, ℕ, AreComplete, contains_cons, Deq, dequeue_of, Did}
 use Rattle.verdicts.proofs.Common.{Enq, enqueue_of, fresh, FullViolation, IsChosenFullViolation, IsFreshViolation}
 use Rattle.verdicts.proofs.Common.{IsLife, IsOrderViolation, IsRepeatViolation, IsViolationOf, keeps, kept, Life}
-use Rattle.verdicts.proofs.Common.{lines_of, mapped_from, mapped_to, NoneDid, Not, not_in_none, Operation}
+use Rattle.verdicts.proofs.Common.{lines_of, mapped_from, mapped_to, NoneDid, Not, Operation}
 use Rattle.verdicts.proofs.Common.{operations_of_life, OpKind, order, passed_filter, Precedes, repeat, same_call}
 use Rattle.verdicts.proofs.Common.{selects, value_of, witness}
+use Rattle.std.proofs.lemmas.List.Elements.{All-contains, All-from_recursion}
 use Rattle.linearizer.proofs.NoneTwice.{from_flat_map}
 use Rattle.verdicts.proofs.CoverGaps.{chosen_are_lives}
 
@@ -27,26 +28,19 @@ IsOpOf operations v o = Contains operations o × HasValue o v
 pub op_of : (operations : List Operation) (o : Operation) (kind : OpKind) (v : ℕ) → Did operations o kind → value_of kind ≡ Some v → IsOpOf operations v o
 op_of operations o kind v did is = (did.0, ap value_of did.1 ∙ is)
 
--- what holds of one or two, three operations, holds of each in their list
-each_of : (P : Operation → Type 0) (x : Operation) (xs : List Operation) → P x → ((o : Operation) → Contains xs o → P o) → (o : Operation)
-    → Contains (x ∷ xs) o → P o
-each_of P x xs here later o among = elim (contains_cons x xs o among) [ inl same ↦ subst P same here | inr more ↦ later o more ]
-
-none_of : (P : Operation → Type 0) (o : Operation) → Contains [] o → P o
-none_of P o among = absurd (not_in_none o among)
+-- what holds of the operations of a list, one after another, holds of each
+each_of : (P : Operation → Type 0) (xs : List Operation) → AllByRecursion P xs → (o : Operation) → Contains xs o → P o
+each_of P xs all o among = All-contains P xs o (All-from_recursion P xs all) among
 
 -- the lines of a fresh-value violation are of its value
 pub fresh_lines : (operations : List Operation) (deq : Operation) (enq : Option Operation) → IsFreshViolation operations deq enq
     → (v : ℕ) × ((o : Operation) → Contains (deq ∷ option_to_list enq) o → IsOpOf operations v o)
-fresh_lines operations deq None is = (
-  is.value,
-  each_of (IsOpOf operations is.value) deq []
-      (op_of operations deq (Deq is.value) is.value is.dequeues refl) (none_of (IsOpOf operations is.value)),
-)
+fresh_lines operations deq None is =
+    (is.value, each_of (IsOpOf operations is.value) (deq ∷ []) (op_of operations deq (Deq is.value) is.value is.dequeues refl, tt))
 fresh_lines operations deq (Some enq) is = (
   is.value,
-  each_of (IsOpOf operations is.value) deq (enq ∷ []) (op_of operations deq (Deq is.value) is.value is.dequeues refl)
-      (each_of (IsOpOf operations is.value) enq [] (by_call is.enqueues) (none_of (IsOpOf operations is.value))),
+  each_of (IsOpOf operations is.value) (deq ∷ enq ∷ [])
+      (op_of operations deq (Deq is.value) is.value is.dequeues refl, (by_call is.enqueues, tt)),
 )
   where
     by_call : Did operations enq (Not is.value) ⊎ (Did operations enq (Enq is.value) × Precedes deq enq) → IsOpOf operations is.value enq
@@ -56,11 +50,13 @@ fresh_lines operations deq (Some enq) is = (
 -- the lines of a repeated-value violation are of its value
 pub repeat_lines : (operations : List Operation) (enq first second : Operation) (is : IsRepeatViolation operations enq first second) → (o : Operation)
     → Contains (enq ∷ first ∷ second ∷ []) o → IsOpOf operations is.value o
-repeat_lines operations enq first second is =
-    let P = IsOpOf operations is.value in
-    each_of P enq (first ∷ second ∷ []) (op_of operations enq (Enq is.value) is.value is.enqueues refl)
-    (each_of P first (second ∷ []) (op_of operations first (Deq is.value) is.value is.dequeues refl)
-    (each_of P second [] (op_of operations second (Deq is.value) is.value is.dequeues_again refl) (none_of P)))
+repeat_lines operations enq first second is = each_of (IsOpOf operations is.value) (enq ∷ first ∷ second ∷ []) (
+  op_of operations enq (Enq is.value) is.value is.enqueues refl,
+  (
+    op_of operations first (Deq is.value) is.value is.dequeues refl,
+    (op_of operations second (Deq is.value) is.value is.dequeues_again refl, tt),
+  ),
+)
 
 -- one of the operations, of one of two values
 abbrev pub IsOpOfTwo : List Operation → ℕ → ℕ → Operation → Type 0
@@ -70,17 +66,18 @@ IsOpOfTwo operations a b o = IsOpOf operations a o ⊎ IsOpOf operations b o
 pub order_lines : (operations : List Operation) (enq_a enq_b deq_b : Operation) (deq_a : Option Operation)
     (is : IsOrderViolation operations enq_a enq_b deq_b deq_a)
     → (o : Operation) → Contains (enq_a ∷ enq_b ∷ deq_b ∷ option_to_list deq_a) o → IsOpOfTwo operations is.a is.b o
-order_lines operations enq_a enq_b deq_b deq_a is =
-    let P = IsOpOfTwo operations is.a is.b in
-    each_of P enq_a (enq_b ∷ deq_b ∷ option_to_list deq_a) (inl (op_of operations enq_a (Enq is.a) is.a is.enqueues_a refl))
-    (each_of P enq_b (deq_b ∷ option_to_list deq_a) (inr (op_of operations enq_b (Enq is.b) is.b is.enqueues_b refl))
-    (each_of P deq_b (option_to_list deq_a) (inr (op_of operations deq_b (Deq is.b) is.b is.dequeues_b refl)) (last deq_a is.dequeued_later)))
+order_lines operations enq_a enq_b deq_b deq_a is = each_of (IsOpOfTwo operations is.a is.b) (enq_a ∷ enq_b ∷ deq_b ∷ option_to_list deq_a) (
+  inl (op_of operations enq_a (Enq is.a) is.a is.enqueues_a refl),
+  (
+    inr (op_of operations enq_b (Enq is.b) is.b is.enqueues_b refl),
+    (inr (op_of operations deq_b (Deq is.b) is.b is.dequeues_b refl), last deq_a is.dequeued_later),
+  ),
+)
   where
     last : (d : Option Operation) → MatchOption d (NoneDid operations (Deq is.a)) (λ d. Did operations d (Deq is.a) × Precedes deq_b d)
-        → (o : Operation) → Contains (option_to_list d) o → IsOpOfTwo operations is.a is.b o
-    last None none = none_of (IsOpOfTwo operations is.a is.b)
-    last (Some d) did = each_of (IsOpOfTwo operations is.a is.b) d [] (inl (op_of operations d (Deq is.a) is.a did.0 refl))
-        (none_of (IsOpOfTwo operations is.a is.b))
+        → AllByRecursion (IsOpOfTwo operations is.a is.b) (option_to_list d)
+    last None none = tt
+    last (Some d) did = (inl (op_of operations d (Deq is.a) is.a did.0 refl), tt)
 
 -- one of the operations, of the value of a life
 pub record IsOpOfLife (operations : List Operation) (cover : List Life) (o : Operation) : Type 0 where
@@ -89,22 +86,24 @@ pub record IsOpOfLife (operations : List Operation) (cover : List Life) (o : Ope
   pub is_life : IsLife operations life
   pub is_of : IsOpOf operations is_life.0 o
 
+-- the lines of a life are of its value
+pub life_lines : (operations : List Operation) (life : Life) (is : IsLife operations life) (o : Operation) → Contains (operations_of_life life) o
+    → IsOpOf operations is.0 o
+life_lines operations life is = each_of (IsOpOf operations is.0) (enqueue_of life ∷ option_to_list (dequeue_of life))
+    (op_of operations (enqueue_of life) (Enq is.0) is.0 is.1 refl, dequeue (dequeue_of life) is.2)
+  where
+    dequeue : (d : Option Operation) → MatchOption d (NoneDid operations (Deq is.0)) (λ d. Did operations d (Deq is.0))
+        → AllByRecursion (IsOpOf operations is.0) (option_to_list d)
+    dequeue None none = tt
+    dequeue (Some d) did = (op_of operations d (Deq is.0) is.0 did refl, tt)
+
 -- the lines of a cover are of its values
 pub cover_lines : (operations : List Operation) (cover : List Life) → ((life : Life) → Contains cover life → IsLife operations life)
     → (o : Operation) → Contains (flat_map operations_of_life cover) o → IsOpOfLife operations cover o
 cover_lines operations cover lives o at =
     let found = from_flat_map operations_of_life cover o at in
     let is = lives found.0 found.1 in
-    record { life = found.0; among = found.1; is_life = is; is_of = of_life found.0 is found.2 }
-  where
-    dequeue : (v : ℕ) (d : Option Operation) → MatchOption d (NoneDid operations (Deq v)) (λ d. Did operations d (Deq v)) → (o : Operation)
-        → Contains (option_to_list d) o → IsOpOf operations v o
-    dequeue v None none = none_of (IsOpOf operations v)
-    dequeue v (Some d) did = each_of (IsOpOf operations v) d [] (op_of operations d (Deq v) v did refl) (none_of (IsOpOf operations v))
-
-    of_life : (life : Life) (is : IsLife operations life) → Contains (operations_of_life life) o → IsOpOf operations is.0 o
-    of_life life is at' = each_of (IsOpOf operations is.0) (enqueue_of life) (option_to_list (dequeue_of life))
-        (op_of operations (enqueue_of life) (Enq is.0) is.0 is.1 refl) (dequeue is.0 (dequeue_of life) is.2) o at'
+    record { life = found.0; among = found.1; is_life = is; is_of = life_lines operations found.0 is o found.2 }
 
 -- the lines of a chosen violation are operations
 pub lines_are_operations : (operations : List Operation) (full : FullViolation) → IsViolationOf operations full → IsChosenFullViolation operations full

@@ -1,34 +1,93 @@
--- What a violation names stands at places of the history, and its lines are those of the timeline's operations.
-use Rattle.verdicts.proofs.Common.{[], ◌*◌, ◌++◌, ◌+◌, ◌-◌, ◌<◌, ◌∙◌, ◌∷◌, ◌≡◌, All, All-cons, All-nil, AllZip, ap}
-use Rattle.verdicts.proofs.Common.{arith, cons_option, Contains, Contains-append_left, Contains-append_right, flat_map}
-use Rattle.verdicts.proofs.Common.{inl, inr, length, List, map, None, Option, option_map, option_to_list, refl}
-use Rattle.verdicts.proofs.Common.{slice_get, slice_get_within, Some, subst, sym, ℕ, ArePlacesOf, ClaimLine}
-use Rattle.verdicts.proofs.Common.{contains_at, CoverStep, dequeue_of, enqueue_of, timeline, timeline_at, fresh}
-use Rattle.verdicts.proofs.Common.{FullViolation, IsAt, IsMaybeOperation, IsOperation, IsPlaceWithin, IsSource, Life}
-use Rattle.verdicts.proofs.Common.{line_at, LinePlace, lines_at, lines_of, lines_of_history, mapped_to, maybe_place}
-use Rattle.verdicts.proofs.Common.{Names, NamesCover, Operation, operations_of_life, order, place_of_source}
-use Rattle.verdicts.proofs.Common.{places_of_step, repeat, Source, Violation, violation_places, witness}
+-- The lines of a violation of a timeline as they are shown, at the places of a history that it names; the places of a violation whose
+-- lines are operations, and its lines at other tickets.
+use Rattle.verdicts.proofs.Common.{cases_lt, None, ◌+◌, ◌-◌, ◌<◌, ◌∙◌, ◌≡◌, ◌≤◌, ap, arith, cond, le-ltb, lt-ltb}
+use Rattle.verdicts.proofs.Common.{nat_lt, refl, Some, sym, ℕ, call_in, ClaimLine, Enq, later_by, Operation, OpKind}
+use Rattle.verdicts.proofs.Common.{same_operation, value_in, value_of, [], ◌*◌, ◌++◌, ◌∷◌, All, All-cons, All-nil}
+use Rattle.verdicts.proofs.Common.{AllZip, cons_option, Contains, Contains-append_left, Contains-append_right}
+use Rattle.verdicts.proofs.Common.{flat_map, inl, inr, length, List, map, Option, option_map, option_to_list}
+use Rattle.verdicts.proofs.Common.{slice_get, slice_get_within, subst, ArePlacesOf, contains_at, CoverStep, dequeue_of}
+use Rattle.verdicts.proofs.Common.{enqueue_of, timeline, timeline_at, fresh, FullViolation, IsAt, IsMaybeOperation}
+use Rattle.verdicts.proofs.Common.{IsOperation, IsPlaceWithin, IsSource, Life, line_at, LinePlace, lines_at, lines_of}
+use Rattle.verdicts.proofs.Common.{lines_of_history, mapped_to, maybe_place, Names, NamesCover, operations_of_life}
+use Rattle.verdicts.proofs.Common.{order, place_of_source, places_of_step, repeat, Source, Violation, violation_places}
+use Rattle.verdicts.proofs.Common.{witness, ⊤, map-append, MatchOption, zero, AreLives, covers_are_lives, Deq, Did}
+use Rattle.verdicts.proofs.Common.{IsMaybeAt, IsViolationOf, NoneDid, one_deeper, place_of, Precedes}
+use Rattle.verdicts.proofs.Retiming.{Rises, retimed, retimed_violation, retimed_life}
 use Rattle.value_match.specs.declared.violation.Source.TheVariants as source
 use Rattle.value_match.specs.declared.violation.Violation.TheVariants as violation
 use Rattle.verdicts.specs.declared.shown.LinePlace.TheVariants.{Op, Initial}
 use Rattle.verdicts.specs.declared.verifying.ClaimLine.TheVariants as line
-use Rattle.verdicts.proofs.ShownLines.{accepted_value, early_line, later_line, line_of}
+use Rattle.value_match.proofs.TimelineLines.{mapped_option}
+use Rattle.value_match.specs.Told.{told_place, told_source}
+use Rattle.value_match.proofs.ToldPlaces.{call_told, dequeue_told, empty_told, fresh_dequeues, maybe_told, source_told}
+use Rattle.verdicts.specs.Claims.{kind_of}
+
+-- the value of a successful enqueue
+abbrev pub accepted_value : OpKind → ℕ
+accepted_value (Enq v) = v
+accepted_value _ = 0
+
+-- the line of an operation of a timeline, whose initial values are enqueued before this clock
+abbrev pub line_of : ℕ → Operation → ClaimLine
+line_of n o = cond (nat_lt o.call n) (line.Initial (accepted_value o.kind))
+    (line.Op (record { call = o.call - n; ret = o.ret - n; thread = o.thread; kind = o.kind }))
+
+-- the line of the enqueue of an initial value is that of the value
+pub early_line : (n : ℕ) (o : Operation) → o.call < n → line_of n o ≡ line.Initial (accepted_value o.kind)
+early_line n o early = rw (lt-ltb o.call n early) refl
+
+-- the line of any other operation is that operation, as it was
+pub late_line : (n : ℕ) (o : Operation) → n ≤ o.call
+    → line_of n o ≡ line.Op (record { call = o.call - n; ret = o.ret - n; thread = o.thread; kind = o.kind })
+late_line n o late = rw (le-ltb o.call n late) refl
+
+-- the line of an operation that came so much later
+pub later_line : (n : ℕ) (o : Operation) → line_of n (later_by n o) ≡ line.Op o
+later_line n o = late_line n (later_by n o) (omega arith) ∙ ap line.Op (same_operation _ o (omega arith) (omega arith) refl refl)
+
+-- the call of a line's operation, at its clock
+pub call_of_line : (n : ℕ) (o : Operation) (call : ℕ) → call_in (line_of n o) ≡ Some call → o.call ≡ call + n
+call_of_line n o call is = elim (cases_lt o.call n) [
+  | inl early ↦ let clash : None ≡ Some call = sym (ap call_in (early_line n o early)) ∙ is in cc
+  | inr late ↦
+      let both : Some (o.call - n) ≡ Some call = sym (ap call_in (late_line n o late)) ∙ is in
+      let same : o.call - n ≡ call = cc in
+      omega arith
+]
+
+-- the line of an operation has its call
+pub line_of_call : (n : ℕ) (o : Operation) (call : ℕ) → o.call ≡ call + n → call_in (line_of n o) ≡ Some call
+line_of_call n o call is = ap call_in (late_line n o (omega arith)) ∙ ap (λ t. Some t) (let e : o.call - n ≡ call = omega arith in e)
+
+-- its value, where the operations before the clock are accepted enqueues
+pub value_of_line : (n : ℕ) (o : Operation) → (o.call < n → (v : ℕ) × (o.kind ≡ Enq v)) → value_in (line_of n o) ≡ value_of o.kind
+value_of_line n o enqueues = elim (cases_lt o.call n) [
+  | inl early ↦
+      let found = enqueues early in
+      ap value_in (early_line n o early) ∙ ap (λ k. Some (accepted_value k)) found.1 ∙ sym (ap value_of found.1)
+  | inr late ↦ ap value_in (late_line n o late)
+]
+
+-- an operation at other clocks has the same line, where the operations behind these clocks come so much later
+pub same_line : (h : ℕ → ℕ) (n m : ℕ) (o : Operation) → Rises h → ((t : ℕ) → h (t + n) ≡ t + m) → o.call ≤ o.ret → line_of m (retimed h o) ≡ line_of n o
+same_line h n m o rises behind called = elim (cases_lt o.call n) [
+  | inl early ↦
+      let below = rises o.call n early in
+      let start : h n ≡ m = ap h (let e : n ≡ 0 + n = omega arith in e) ∙ behind 0 ∙ (let e : 0 + m ≡ m = omega arith in e) in
+      early_line m (retimed h o) (omega arith) ∙ sym (early_line n o early)
+  | inr late ↦
+      let call : h o.call ≡ o.call - n + m = ap h (let e : o.call ≡ o.call - n + n = omega arith in e) ∙ behind (o.call - n) in
+      let ret : h o.ret ≡ o.ret - n + m = ap h (let e : o.ret ≡ o.ret - n + n = omega arith in e) ∙ behind (o.ret - n) in
+      late_line m (retimed h o) (omega arith) ∙ ap line.Op (same_operation _ _ (omega arith) (omega arith) refl refl) ∙ sym (late_line n o late)
+]
 
 -- ---- lists, element by element
 
 -- one list of pairs behind another
 zip_both : {X Y : Type 0} (P : X → Y → Type 0) (xs xs' : List X) (ys ys' : List Y) → AllZip P xs ys → AllZip P xs' ys' → AllZip P (xs ++ xs') (ys ++ ys')
 zip_both P [] xs' [] ys' first rest = rest
-zip_both P [] xs' (y ∷ ys) ys' first rest = absurd first
-zip_both P (x ∷ xs) xs' [] ys' first rest = absurd first
 zip_both P (x ∷ xs) xs' (y ∷ ys) ys' first rest = (first.0, zip_both P xs xs' ys ys' first.1 rest)
-
--- lists whose elements stand side by side are as long
-pub zip_lengths : {X Y : Type 0} (P : X → Y → Type 0) (xs : List X) (ys : List Y) → AllZip P xs ys → length xs ≡ length ys
-zip_lengths P [] [] each = refl
-zip_lengths P [] (y ∷ ys) each = absurd each
-zip_lengths P (x ∷ xs) [] each = absurd each
-zip_lengths P (x ∷ xs) (y ∷ ys) each = let rest = zip_lengths P xs ys each.1 in omega (arith, rest)
+zip_both P _ xs' _ ys' first rest = absurd first
 
 -- operations that stand at some places
 pub in_range : (operations : List Operation) (places : List ℕ) (listed : List Operation) → ArePlacesOf operations places listed
@@ -78,83 +137,158 @@ module _ (initial : List ℕ) (operations : List Operation) where
 
   maybe_shown : (p : Option ℕ) (o : Option Operation) → IsMaybeOperation initial operations p o → AllZip IsShownAt (maybe_place p) (option_to_list o)
   maybe_shown None None at = tt
-  maybe_shown None (Some o) at = absurd at
-  maybe_shown (Some p) None at = absurd at
   maybe_shown (Some p) (Some o) at = (shown_at p o at, tt)
+  maybe_shown _ _ at = absurd at
 
   cover_shown : (steps : List CoverStep) (cover : List Life) → NamesCover initial operations steps cover
       → AllZip IsShownAt (flat_map places_of_step steps) (flat_map operations_of_life cover)
   cover_shown [] [] names = tt
-  cover_shown [] (life ∷ cover) names = absurd names
-  cover_shown (step ∷ steps) [] names = absurd names
   cover_shown (step ∷ steps) (life ∷ cover) names = (
     source_shown step.source (enqueue_of life) names.0.0,
     zip_both IsShownAt (maybe_place step.dequeue) (flat_map places_of_step steps) (option_to_list (dequeue_of life)) (flat_map operations_of_life cover)
         (maybe_shown step.dequeue (dequeue_of life) names.0.1) (cover_shown steps cover names.1),
   )
+  cover_shown _ _ names = absurd names
 
   -- the places of a violation are those of its operations' lines, one by one
   pub each_shown : (named : Violation) (full : FullViolation) → Names initial operations named full → AllZip IsShownAt (violation_places named) (lines_of full)
   each_shown (violation.Fresh deq enq) (fresh d e) names = (shown_at deq d names.0, maybe_shown enq e names.1)
-  each_shown (violation.Fresh deq enq) (repeat e d f) names = absurd names
-  each_shown (violation.Fresh deq enq) (order a b d e) names = absurd names
-  each_shown (violation.Fresh deq enq) (witness o lives) names = absurd names
   each_shown (violation.Repeat enq first second) (repeat e d f) names =
       (source_shown enq e names.0, (shown_at first d names.1, (shown_at second f names.2, tt)))
-  each_shown (violation.Repeat enq first second) (fresh d e) names = absurd names
-  each_shown (violation.Repeat enq first second) (order a b d e) names = absurd names
-  each_shown (violation.Repeat enq first second) (witness o lives) names = absurd names
   each_shown (violation.Order enq_a enq_b deq_b deq_a) (order a b d e) names =
       (source_shown enq_a a names.0, (source_shown enq_b b names.1, (shown_at deq_b d names.2, maybe_shown deq_a e names.3)))
-  each_shown (violation.Order enq_a enq_b deq_b deq_a) (fresh d e) names = absurd names
-  each_shown (violation.Order enq_a enq_b deq_b deq_a) (repeat e d f) names = absurd names
-  each_shown (violation.Order enq_a enq_b deq_b deq_a) (witness o lives) names = absurd names
   each_shown (violation.Witness empty cover) (witness o lives) names = (shown_at empty o names.0, cover_shown cover lives names.1)
-  each_shown (violation.Witness empty cover) (fresh d e) names = absurd names
-  each_shown (violation.Witness empty cover) (repeat e d f) names = absurd names
-  each_shown (violation.Witness empty cover) (order a b d e) names = absurd names
+  each_shown _ _ names = absurd names
 
   -- so the lines are those of the operations
   pub shown_lines : (places : List LinePlace) (listed : List Operation) → AllZip IsShownAt places listed
       → lines_at initial operations places ≡ map (line_of (2 * length initial)) listed
   shown_lines [] [] each = refl
-  shown_lines [] (o ∷ listed) each = absurd each
-  shown_lines (p ∷ places) [] each = absurd each
   shown_lines (p ∷ places) (o ∷ listed) each =
       ap (λ l. cons_option l (lines_at initial operations places)) each.0.0
       ∙ ap (λ ls. line_of (2 * k) o ∷ ls) (shown_lines places listed each.1)
+  shown_lines _ _ each = absurd each
 
   -- where a line is found, there is an operation or an initial value
   place_within : (place : LinePlace) (l : ClaimLine) → line_at initial operations place ≡ Some l → IsPlaceWithin initial operations place
-  place_within (Op p) l at = held (slice_get operations p) refl at
-    where
-      held : (o : Option Operation) → slice_get operations p ≡ o → option_map line.Op o ≡ Some l → p < length operations
-      held None is at' = cc
-      held (Some o) is at' = slice_get_within operations p o is
-  place_within (Initial p) l at = held (slice_get initial p) refl at
-    where
-      held : (v : Option ℕ) → slice_get initial p ≡ v → option_map line.Initial v ≡ Some l → p < length initial
-      held None is at' = cc
-      held (Some v) is at' = slice_get_within initial p v is
+  place_within (Op p) l at = let o = mapped_option line.Op (slice_get operations p) l at in slice_get_within operations p o.0 o.1
+  place_within (Initial p) l at = let v = mapped_option line.Initial (slice_get initial p) l at in slice_get_within initial p v.0 v.1
 
   -- the places of lines that are shown are within the history
   pub all_within : (places : List LinePlace) (listed : List Operation) → AllZip IsShownAt places listed → All (IsPlaceWithin initial operations) places
   all_within [] [] each = All-nil (IsPlaceWithin initial operations)
-  all_within [] (o ∷ listed) each = absurd each
-  all_within (p ∷ places) [] each = absurd each
   all_within (p ∷ places) (o ∷ listed) each =
       All-cons (IsPlaceWithin initial operations) p places (place_within p (line_of (2 * k) o) each.0.0) (all_within places listed each.1)
+  all_within _ _ each = absurd each
 
   line_held : {A : Type 0} (as_line : A → ClaimLine) (xs : List A) (p : ℕ) (l : ClaimLine) → option_map as_line (slice_get xs p) ≡ Some l
       → Contains (map as_line xs) l
-  line_held {A = A} as_line xs p l at = held (slice_get xs p) refl at
-    where
-      held : (o : Option A) → slice_get xs p ≡ o → option_map as_line o ≡ Some l → Contains (map as_line xs) l
-      held None is at' = cc
-      held (Some x) is at' =
-          let one : as_line x ≡ l = cc in subst (Contains (map as_line xs)) one (mapped_to as_line xs x (contains_at xs p x is))
+  line_held as_line xs p l at =
+      let x = mapped_option as_line (slice_get xs p) l at in
+      subst (Contains (map as_line xs)) x.2 (mapped_to as_line xs x.0 (contains_at xs p x.0 x.1))
 
   -- the line at a place is one of the history
   pub line_there : (place : LinePlace) (l : ClaimLine) → line_at initial operations place ≡ Some l → Contains (lines_of_history initial operations) l
   line_there (Op p) l at = Contains-append_right (map line.Initial initial) (map line.Op operations) l (line_held line.Op operations p l at)
   line_there (Initial p) l at = Contains-append_left (map line.Initial initial) (map line.Op operations) l (line_held line.Initial initial p l at)
+
+  -- all of these are operations
+  abbrev pub AreAmong : List Operation → Type 0
+  AreAmong listed = (o : Operation) → Contains listed o → Contains (timeline initial operations) o
+
+  maybe_at : (d : Option Operation) → AreAmong (option_to_list d) → (place : Option ℕ) × IsMaybeAt all place d
+  maybe_at None among = (None, tt)
+  maybe_at (Some d) among = let at = place_of all d (among d (zero, omega arith, refl)) in (Some at.0, at.1)
+
+  cover_at : (cover : List Life) → AreLives cover → AreAmong (flat_map operations_of_life cover)
+      → (steps : List CoverStep) × NamesCover initial operations steps cover
+  cover_at [] are among = ([], tt)
+  cover_at (life ∷ cover) are among =
+      let own = λ (o : Operation) (at : Contains (operations_of_life life) o). among o (Contains-append_left (operations_of_life life)
+      (flat_map operations_of_life cover) o at) in
+      let enqueue = place_of all (enqueue_of life) (own (enqueue_of life) (zero, omega arith, refl)) in
+      let dequeue = maybe_at (dequeue_of life) (λ o at. own o (one_deeper (enqueue_of life) (option_to_list (dequeue_of life)) o at)) in
+      let rest = cover_at cover are.2 (λ o at. among o (Contains-append_right (operations_of_life life) (flat_map operations_of_life cover) o at)) in (
+        record { source = told_source k enqueue.0; dequeue = option_map (told_place k) dequeue.0 } ∷ rest.0,
+        (
+          (
+            source_told initial operations enqueue.0 (enqueue_of life) enqueue.1,
+            maybe_told initial operations dequeue.0 (dequeue_of life) dequeue.1 are.1,
+          ),
+          rest.1,
+        ),
+      )
+
+  -- a violation has places
+  pub violation_at : (full : FullViolation) → IsViolationOf (timeline initial operations) full → AreAmong (lines_of full)
+      → (found : Violation) × Names initial operations found full
+  violation_at (fresh deq enq) is among =
+      let d = place_of all deq (among deq (zero, omega arith, refl)) in
+      let e = maybe_at enq (λ o at. among o (one_deeper deq (option_to_list enq) o at)) in
+      let dequeues = fresh_dequeues all deq enq is in (
+        violation.Fresh (told_place k d.0) (option_map (told_place k) e.0),
+        (dequeue_told initial operations d.0 deq dequeues.0 d.1 dequeues.1, call_told initial operations d.0 deq e.0 enq d.1 e.1 is),
+      )
+  violation_at (repeat enq first second) is among =
+      let e = place_of all enq (among enq (zero, omega arith, refl)) in
+      let d = place_of all first (among first (1, omega arith, refl)) in
+      let f = place_of all second (among second (2, omega arith, refl)) in (
+        violation.Repeat (told_source k e.0) (told_place k d.0) (told_place k f.0),
+        (
+          source_told initial operations e.0 enq e.1,
+          dequeue_told initial operations d.0 first is.value d.1 is.dequeues.1,
+          dequeue_told initial operations f.0 second is.value f.1 is.dequeues_again.1,
+        ),
+      )
+  violation_at (order enq_a enq_b deq_b deq_a) is among =
+      let a = place_of all enq_a (among enq_a (zero, omega arith, refl)) in
+      let b = place_of all enq_b (among enq_b (1, omega arith, refl)) in
+      let d = place_of all deq_b (among deq_b (2, omega arith, refl)) in
+      let e = maybe_at deq_a (λ o at. among o (one_deeper enq_a (enq_b ∷ deq_b ∷ option_to_list deq_a) o
+      (one_deeper enq_b (deq_b ∷ option_to_list deq_a) o (one_deeper deq_b (option_to_list deq_a) o at)))) in (
+        violation.Order (told_source k a.0) (told_source k b.0) (told_place k d.0) (option_map (told_place k) e.0),
+        (
+          source_told initial operations a.0 enq_a a.1,
+          source_told initial operations b.0 enq_b b.1,
+          dequeue_told initial operations d.0 deq_b is.b d.1 is.dequeues_b.1,
+          maybe_told initial operations e.0 deq_a e.1 (dequeues deq_a is.dequeued_later),
+        ),
+      )
+    where
+      dequeues : (d : Option Operation) → MatchOption d (NoneDid all (Deq is.a)) (λ x. Did all x (Deq is.a) × Precedes deq_b x)
+          → MatchOption d ⊤ (λ x. (v : ℕ) × (x.kind ≡ Deq v))
+      dequeues None none = tt
+      dequeues (Some x) did = (is.a, did.0.1)
+  violation_at (witness empty cover) is among =
+      let o = place_of all empty (among empty (zero, omega arith, refl)) in
+      let are = covers_are_lives all empty empty cover is.covers in
+      let steps = cover_at cover are (λ x at. among x (one_deeper empty (flat_map operations_of_life cover) x at)) in
+      (violation.Witness (told_place k o.0) steps.0, (empty_told initial operations o.0 empty o.1 is.answers_empty.1, steps.1))
+
+-- ---- other tickets
+
+module _ (h : ℕ → ℕ) where
+  maybe_line : (d : Option Operation) → option_to_list (option_map (retimed h) d) ≡ map (retimed h) (option_to_list d)
+  maybe_line None = refl
+  maybe_line (Some d) = refl
+
+  cover_lines : (cover : List Life) → flat_map operations_of_life (map (retimed_life h) cover) ≡ map (retimed h) (flat_map operations_of_life cover)
+  cover_lines [] = refl
+  cover_lines (life ∷ cover) =
+      ap (λ os. retimed h (enqueue_of life) ∷ (os ++ flat_map operations_of_life (map (retimed_life h) cover))) (maybe_line (dequeue_of life))
+      ∙ ap (λ os. map (retimed h) (operations_of_life life) ++ os) (cover_lines cover)
+      ∙ sym (map-append (retimed h) (operations_of_life life) (flat_map operations_of_life cover))
+
+  -- the lines of a violation at other tickets are its lines there
+  pub retimed_lines : (full : FullViolation) → lines_of (retimed_violation h full) ≡ map (retimed h) (lines_of full)
+  retimed_lines (fresh deq enq) = ap (λ os. retimed h deq ∷ os) (maybe_line enq)
+  retimed_lines (repeat enq first second) = refl
+  retimed_lines (order enq_a enq_b deq_b deq_a) = ap (λ os. retimed h enq_a ∷ retimed h enq_b ∷ retimed h deq_b ∷ os) (maybe_line deq_a)
+  retimed_lines (witness empty cover) = ap (λ os. retimed h empty ∷ os) (cover_lines cover)
+
+  -- and its kind is the same
+  pub retimed_kind : (full : FullViolation) → kind_of (retimed_violation h full) ≡ kind_of full
+  retimed_kind (fresh deq enq) = refl
+  retimed_kind (repeat enq first second) = refl
+  retimed_kind (order enq_a enq_b deq_b deq_a) = refl
+  retimed_kind (witness empty cover) = refl

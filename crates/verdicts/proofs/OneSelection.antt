@@ -1,80 +1,49 @@
 -- Two minimal selections that keep one violation, the chosen one of both, are one.
-use Rattle.verdicts.proofs.Common.{[], ◌*◌, ◌∙◌, ◌∷◌, ◌≡◌, ◌≢◌, ◌⊎◌, ap, Bool, cases_lt, cond, Contains}
-use Rattle.verdicts.proofs.Common.{Contains-append_cases, false, filter, inl, inr, length, List, map, refl, subst, sym}
-use Rattle.verdicts.proofs.Common.{true, ℕ, AreComplete, AreLinearizable, ClaimLine, Contents, contents_of, timeline}
-use Rattle.verdicts.proofs.Common.{timeline_of_history, FullViolation, HistoryView, IsLinearizable, IsMinimal, IsViolationOf}
+use Rattle.verdicts.proofs.Common.{[], ◌*◌, ◌∙◌, ◌≡◌, ◌≢◌, ◌⊎◌, ap, Bool, cases_lt, Contains, Contains-append_cases}
+use Rattle.verdicts.proofs.Common.{false, filter, inl, inr, length, List, map, refl, subst, sym, true, ℕ, AreComplete}
+use Rattle.verdicts.proofs.Common.{AreLinearizable, ClaimLine, Contents, contents_of, timeline, timeline_of_history}
+use Rattle.verdicts.proofs.Common.{FullViolation, HistoryView, IsLinearizable, IsMinimal, IsViolationOf}
 use Rattle.verdicts.proofs.Common.{KeepsViolation, linearizable_from_exactly, lines_of, lines_of_history, mapped_from}
 use Rattle.verdicts.proofs.Common.{mapped_to, Operation, operations_of, passed_filter, select, selects, StaysChosen}
 use Rattle.verdicts.proofs.Common.{Violation, violation_lines, violation_places, ViolationKind}
 use Rattle.verdicts.specs.declared.verifying.ClaimLine.TheVariants.{Op, Initial}
-use Rattle.verdicts.specs.declared.verifying.Claimed.{Claimed}
 use Rattle.verdicts.specs.declared.verifying.Claimed.TheVariants as claimed
 use Rattle.verdicts.proofs.Chosen.{chosen_is_violation}
-use Rattle.verdicts.proofs.Excludes.{violation_excludes_order}
-use Rattle.verdicts.proofs.TimelineSelections.{lifted, lifted_rises}
-use Rattle.verdicts.proofs.KeptTickets.{selected_are_complete}
+use Rattle.verdicts.proofs.Exactly.{violation_excludes_order}
+use Rattle.verdicts.proofs.Retiming.{lifted, lifted_rises, linearizable_there}
+use Rattle.verdicts.proofs.ShrunkEvents.{filters_swap, selected_are_complete}
 use Rattle.verdicts.proofs.Minimal.{all_or_one}
 use Rattle.verdicts.proofs.NamedLines.{lines_are_operations}
-use Rattle.verdicts.proofs.NamedPlaces.{each_shown, shown_lines}
-use Rattle.verdicts.proofs.Retiming.{linearizable_there}
+use Rattle.verdicts.proofs.NamedPlaces.{each_shown, shown_lines, accepted_value, early_line, late_line, line_of}
 use Rattle.verdicts.proofs.Selections.{violation_in_selected}
-use Rattle.verdicts.proofs.ShownLines.{accepted_value, early_line, late_line, line_of}
-use Rattle.verdicts.proofs.ShrunkHistories.{IsWhole, calls_behind, among_enqueues, timeline_is_whole, selection_timeline}
+use Rattle.verdicts.proofs.ShrunkHistories.{IsWhole, calls_behind, among_enqueues, timeline_is_whole}
+use Rattle.verdicts.proofs.ShrunkHistories.{selection_timeline}
 
 -- claims of a `NO` that are one have the same lines
 one_list_of_lines : (k l : ViolationKind) (xs ys : List ClaimLine) → claimed.No k xs ≡ claimed.No l ys → xs ≡ ys
-one_list_of_lines k l xs ys same = ap lines same
-  where
-    lines : Claimed → List ClaimLine
-    lines (claimed.Yes order) = []
-    lines (claimed.No kind shown) = shown
+one_list_of_lines k l xs ys same = cc
 
--- two filters may change places
-filters_swap : {X : Type 0} (p q : X → Bool) (xs : List X) → filter p (filter q xs) ≡ filter q (filter p xs)
-filters_swap p q [] = refl
-filters_swap {X} p q (x ∷ xs) = pick (p x) (q x) refl refl (filters_swap p q xs)
-  where
-    pick : (a b : Bool) → p x ≡ a → q x ≡ b → filter p (filter q xs) ≡ filter q (filter p xs)
-        → filter p (cond b (x ∷ filter q xs) (filter q xs)) ≡ filter q (cond a (x ∷ filter p xs) (filter p xs))
-    pick true true is_p is_q more = rw (is_p, is_q) (ap (λ ys. x ∷ ys) more)
-    pick true false is_p is_q more = rw (is_q) more
-    pick false true is_p is_q more = rw (is_p) more
-    pick false false is_p is_q more = more
+-- a line of an initial value or an operation among those of a history is of one of its own
+value_among : (initial : List ℕ) (operations : List Operation) (v : ℕ) → Contains (lines_of_history initial operations) (Initial v) → Contains initial v
+value_among initial operations v among = elim (Contains-append_cases (map Initial initial) (map Op operations) (Initial v) among) [
+  | inl here ↦
+      let found = mapped_from Initial initial (Initial v) here in
+      let same : Initial found.0 ≡ Initial v = found.2 in
+      let one : found.0 ≡ v = cc in
+      subst (Contains initial) one found.1
+  | inr there ↦ let found = mapped_from Op operations (Initial v) there in let clash : Op found.0 ≡ Initial v = found.2 in cc
+]
 
--- a line of a selection is of an operation that is selected, on a timeline
-module _ (values empties : ℕ → Bool) (initial : List ℕ) (operations : List Operation) where
-  abbrev value_lines : List ClaimLine
-  value_lines = map Initial (filter values initial)
-
-  abbrev operation_lines : List ClaimLine
-  operation_lines = map Op (filter (selects values empties) operations)
-
-  value_passes : (v : ℕ) → Contains (lines_of_history (filter values initial) (filter (selects values empties) operations)) (Initial v) → values v ≡ true
-  value_passes v among = elim (Contains-append_cases value_lines operation_lines (Initial v) among) [
-    | inl here ↦
-        let found = mapped_from Initial (filter values initial) (Initial v) here in
-        let same : Initial found.0 ≡ Initial v = found.2 in
-        let one : found.0 ≡ v = cc in
-        subst (λ w. values w ≡ true) one (passed_filter values initial found.0 found.1).1
-    | inr there ↦
-        let found = mapped_from Op (filter (selects values empties) operations) (Initial v) there in
-        let clash : Op found.0 ≡ Initial v = found.2 in
-        absurd (cc)
-  ]
-
-  operation_passes : (o : Operation) → Contains (lines_of_history (filter values initial) (filter (selects values empties) operations)) (Op o)
-      → selects values empties o ≡ true
-  operation_passes o among = elim (Contains-append_cases value_lines operation_lines (Op o) among) [
-    | inl here ↦
-        let found = mapped_from Initial (filter values initial) (Op o) here in
-        let clash : Initial found.0 ≡ Op o = found.2 in
-        absurd (cc)
-    | inr there ↦
-        let found = mapped_from Op (filter (selects values empties) operations) (Op o) there in
-        let same : Op found.0 ≡ Op o = found.2 in
-        let one : found.0 ≡ o = cc in
-        subst (λ x. selects values empties x ≡ true) one (passed_filter (selects values empties) operations found.0 found.1).1
-  ]
+operation_among : (initial : List ℕ) (operations : List Operation) (o : Operation) → Contains (lines_of_history initial operations) (Op o)
+    → Contains operations o
+operation_among initial operations o among = elim (Contains-append_cases (map Initial initial) (map Op operations) (Op o) among) [
+  | inl here ↦ let found = mapped_from Initial initial (Op o) here in let clash : Initial found.0 ≡ Op o = found.2 in cc
+  | inr there ↦
+      let found = mapped_from Op operations (Op o) there in
+      let same : Op found.0 ≡ Op o = found.2 in
+      let one : found.0 ≡ o = cc in
+      subst (Contains operations) one found.1
+]
 
 -- what another selection that keeps all of the violation leaves of a minimal one is the whole of it
 module _ (whole x : HistoryView) (violation : Violation) (is_x : IsWhole x) (stays : StaysChosen whole violation x) (minimal : IsMinimal (contents_of x))
@@ -86,9 +55,12 @@ module _ (whole x : HistoryView) (violation : Violation) (is_x : IsWhole x) (sta
   abbrev full : FullViolation
   full = stays.1.0
 
+  abbrev selected : Contents
+  selected = select values empties (contents_of whole)
+
   -- the lines of the other selection
   abbrev selected_lines : List ClaimLine
-  selected_lines = lines_of_history (select values empties (contents_of whole)).initial (select values empties (contents_of whole)).operations
+  selected_lines = lines_of_history selected.initial selected.operations
 
   abbrev part : Contents
   part = select values empties (contents_of x)
@@ -112,10 +84,11 @@ module _ (whole x : HistoryView) (violation : Violation) (is_x : IsWhole x) (sta
     | inl early ↦
         let found = among_enqueues x o (lines_are_operations (timeline_of_history x) full is_violation stays.1.2 o among) early in
         let line = early_line n o early ∙ ap (λ k. Initial (accepted_value k)) found.1 in
-        let passed = value_passes values empties whole.initial (operations_of whole.events) found.0
-        (subst (Contains selected_lines) line here) in
-        ap (λ k. selects values (calls_behind (contents_of x) empties) (record { call = o.call; ret = o.ret; thread = o.thread; kind = k })) found.1 ∙ passed
-    | inr late ↦ operation_passes values empties whole.initial (operations_of whole.events) _ (subst (Contains selected_lines) (late_line n o late) here)
+        let passed = passed_filter values whole.initial found.0 (value_among selected.initial selected.operations found.0
+        (subst (Contains selected_lines) line here)) in
+        ap (λ k. selects values (calls_behind (contents_of x) empties) (record { call = o.call; ret = o.ret; thread = o.thread; kind = k })) found.1 ∙ passed.1
+    | inr late ↦ (passed_filter (selects values empties) (operations_of whole.events) _
+        (operation_among selected.initial selected.operations _ (subst (Contains selected_lines) (late_line n o late) here))).1
   ]
     where
       here : Contains selected_lines (line_of n o)
@@ -126,7 +99,7 @@ module _ (whole x : HistoryView) (violation : Violation) (is_x : IsWhole x) (sta
       let timeline_linear = (linearizable_from_exactly part.initial part.operations).0 linear in
       let moved = linearizable_there (lifted values x.initial) (lifted_rises values x.initial) (timeline part.initial part.operations) timeline_linear in
       violation_excludes_order (filter passes (timeline_of_history x)) full (selected_are_complete passes (timeline_of_history x) complete)
-      (violation_in_selected (timeline_of_history x) values (calls_behind (contents_of x) empties) full is_violation line_passes)
+      (violation_in_selected (timeline_of_history x) values (calls_behind (contents_of x) empties) full line_passes is_violation)
       (subst (IsLinearizable []) (sym (selection_timeline (contents_of x) values empties)) moved)
 
   none_differs : part ≢ contents_of x → ⊥

@@ -1,15 +1,14 @@
 -- What is found of a history is the only thing that can be found of it.
-use Rattle.verdicts.proofs.Common.{[], ◌*◌, ◌<◌, ◌∙◌, ◌∷◌, ◌≡◌, ◌≤◌, AllZip, ap, append_cancel_left, ap₂, arith}
-use Rattle.verdicts.proofs.Common.{cases_order, filter, inl, inr, length, List, map, None, Option, refl, slice_get}
-use Rattle.verdicts.proofs.Common.{Some, subst, sym, true, ℕ, AreComplete, ArePlacesOf, behind, chosen_order_is_one}
-use Rattle.verdicts.proofs.Common.{CoverStep, dequeue_of, Did, Empty, enqueue_of, Event, timeline, timeline_is_of_complete}
-use Rattle.verdicts.proofs.Common.{clock_of_gap, enqueues_from, fresh, FullViolation, is_empty_answer, IsAt, IsChosenCover}
+use Rattle.verdicts.proofs.Common.{[], ◌*◌, ◌∙◌, ◌∷◌, ◌≡◌, ◌≤◌, AllZip, ap, append_cancel_left, ap₂, arith, filter}
+use Rattle.verdicts.proofs.Common.{length, List, map, None, Option, refl, slice_get, Some, subst, sym, true, ℕ}
+use Rattle.verdicts.proofs.Common.{AreComplete, ArePlacesOf, behind, chosen_order_is_one, CoverStep, dequeue_of, Did}
+use Rattle.verdicts.proofs.Common.{Empty, enqueue_of, Event, timeline, timeline_is_of_complete, clock_of_gap}
+use Rattle.verdicts.proofs.Common.{enqueues_from, fresh, FullViolation, is_empty_answer, IsAt, IsChosenCover}
 use Rattle.verdicts.proofs.Common.{IsChosenViolation, IsClear, IsCompleteFrom, IsCovered, IsGapAnswer, IsLeastFreeGap}
 use Rattle.verdicts.proofs.Common.{IsMaybeOperation, IsOperation, IsSource, IsViolationOf, later_by, later_injective}
-use Rattle.verdicts.proofs.Common.{Life, linearizable_from_exactly, MAX_INITIAL, Names, NamesChosenFresh}
-use Rattle.verdicts.proofs.Common.{NamesChosenRepeat, NamesCover, NamesStep, No, one_at, Operation, operations_of}
-use Rattle.verdicts.proofs.Common.{operations_rise, order, OrderPair, pairs_at, passes_filter, place_of, repeat, Source}
-use Rattle.verdicts.proofs.Common.{Violation, witness, Yes}
+use Rattle.verdicts.proofs.Common.{Life, linearizable_from_exactly, MAX_INITIAL, Names, NamesCover, NamesStep, No}
+use Rattle.verdicts.proofs.Common.{one_at, Operation, operations_of, operations_rise, order, OrderPair, passes_filter}
+use Rattle.verdicts.proofs.Common.{place_of, repeat, Source, Violation, witness, Yes}
 use Rattle.history_merge.proofs.Completeness.{operations_are_complete}
 use Rattle.value_match.specs.declared.matching.Matched.TheVariants as matched
 use Rattle.value_match.specs.declared.violation.Source.TheVariants as source
@@ -21,28 +20,19 @@ use Rattle.linearizer.proofs.Positions.{beside}
 use Rattle.verdicts.specs.Laws.{VerdictIsOne, MatchedIsOne, PairIsOne, GapIsOne, WitnessIsOne}
 use Rattle.verdicts.proofs.Chosen.{one_chosen_violation, one_order, one_cover, one_witness}
 use Rattle.verdicts.proofs.SameLists.{one_beside}
-use Rattle.verdicts.proofs.Excludes.{violation_excludes_order}
+use Rattle.linearizer.proofs.Keys.{one_place as one_place_of_key}
+use Rattle.std.proofs.lemmas.List.Sorted.{IsPermutation-refl}
+use Rattle.verdicts.proofs.Exactly.{violation_excludes_order}
 
 -- an operation stands at one place
 one_place_at : (operations : List Operation) (p q : ℕ) (o : Operation) → AreComplete operations → IsAt operations p o → IsAt operations q o → p ≡ q
 one_place_at operations p q o complete at_p at_q =
-    elim (cases_order p q) [
-      | inl same ↦ same
-      | inr (inl less) ↦ let calls = pairs_at (λ x y. x.call < y.call) operations p q o o (operations_rise operations complete) less at_p at_q in
-          absurd (omega arith)
-      | inr (inr more) ↦ let calls = pairs_at (λ x y. x.call < y.call) operations q p o o (operations_rise operations complete) more at_q at_p in
-          absurd (omega arith)
-    ]
+    one_place_of_key (λ x. x.call) operations operations p q o o (operations_rise operations complete) (IsPermutation-refl operations) at_p at_q refl
 
 -- operations stand at one list of places
 one_list_of_places : (operations : List Operation) (ps qs : List ℕ) (listed : List Operation) → AreComplete operations
     → ArePlacesOf operations ps listed → ArePlacesOf operations qs listed → ps ≡ qs
 one_list_of_places operations [] [] listed complete at_ps at_qs = refl
-one_list_of_places operations [] (q ∷ qs) [] complete at_ps at_qs = cc
-one_list_of_places operations [] (q ∷ qs) (o ∷ listed) complete at_ps at_qs = cc
-one_list_of_places operations (p ∷ ps) [] [] complete at_ps at_qs = cc
-one_list_of_places operations (p ∷ ps) [] (o ∷ listed) complete at_ps at_qs = cc
-one_list_of_places operations (p ∷ ps) (q ∷ qs) [] complete at_ps at_qs = cc
 one_list_of_places operations (p ∷ ps) (q ∷ qs) (o ∷ listed) complete at_ps at_qs =
     let here_p : slice_get operations p ≡ Some o = cc in
     let here_q : slice_get operations q ≡ Some o = cc in
@@ -50,6 +40,7 @@ one_list_of_places operations (p ∷ ps) (q ∷ qs) (o ∷ listed) complete at_p
     let later_q : map (slice_get operations) qs ≡ map (λ o. Some o) listed = cc in
     ap₂ (λ (x : ℕ) (xs : List ℕ). x ∷ xs) (one_place_at operations p q o complete here_p here_q)
     (one_list_of_places operations ps qs listed complete later_p later_q)
+one_list_of_places operations _ _ _ complete at_ps at_qs = cc
 
 module _ (initial : List ℕ) (operations : List Operation) (complete : AreComplete (timeline initial operations)) where
   abbrev k : ℕ
@@ -61,14 +52,10 @@ module _ (initial : List ℕ) (operations : List Operation) (complete : AreCompl
   one_place : (p q : ℕ) (o : Operation) → IsOperation initial operations p o → IsOperation initial operations q o → p ≡ q
   one_place p q o at_p at_q = let same = one_place_at all (behind k p) (behind k q) o complete at_p at_q in omega (arith, same)
 
-  maybe_one_place : (p q : Option ℕ) (o : Option Operation) → IsMaybeOperation initial operations p o → IsMaybeOperation initial operations q o → p ≡ q
-  maybe_one_place None None o at_p at_q = refl
-  maybe_one_place None (Some q) None at_p at_q = absurd at_q
-  maybe_one_place None (Some q) (Some o) at_p at_q = absurd at_p
-  maybe_one_place (Some p) None None at_p at_q = absurd at_p
-  maybe_one_place (Some p) None (Some o) at_p at_q = absurd at_q
-  maybe_one_place (Some p) (Some q) None at_p at_q = absurd at_p
-  maybe_one_place (Some p) (Some q) (Some o) at_p at_q = ap (λ place. Some place) (one_place p q o at_p at_q)
+  maybe_one_place : (o : Option Operation) (p q : Option ℕ) → IsMaybeOperation initial operations p o → IsMaybeOperation initial operations q o → p ≡ q
+  maybe_one_place (Some o) (Some p) (Some q) at_p at_q = ap (λ place. Some place) (one_place p q o at_p at_q)
+  maybe_one_place None None None at_p at_q = refl
+  maybe_one_place _ _ _ at_p at_q = absurd assumption
 
   -- an enqueue has one source
   one_source : (s t : Source) (o : Operation) → IsSource initial operations s o → IsSource initial operations t o → s ≡ t
@@ -83,48 +70,37 @@ module _ (initial : List ℕ) (operations : List Operation) (complete : AreCompl
   one_step p q life at_p at_q =
       let step : Source → Option ℕ → CoverStep = λ s d. record { source = s; dequeue = d } in
       ap₂ step (one_source p.source q.source (enqueue_of life) at_p.0 at_q.0)
-      (maybe_one_place p.dequeue q.dequeue (dequeue_of life) at_p.1 at_q.1)
+      (maybe_one_place (dequeue_of life) p.dequeue q.dequeue at_p.1 at_q.1)
 
-  one_named_cover : (ps qs : List CoverStep) (lives : List Life) → NamesCover initial operations ps lives → NamesCover initial operations qs lives → ps ≡ qs
-  one_named_cover [] [] lives names_p names_q = refl
-  one_named_cover [] (q ∷ qs) [] names_p names_q = absurd names_q
-  one_named_cover [] (q ∷ qs) (life ∷ lives) names_p names_q = absurd names_p
-  one_named_cover (p ∷ ps) [] [] names_p names_q = absurd names_p
-  one_named_cover (p ∷ ps) [] (life ∷ lives) names_p names_q = absurd names_q
-  one_named_cover (p ∷ ps) (q ∷ qs) [] names_p names_q = absurd names_p
-  one_named_cover (p ∷ ps) (q ∷ qs) (life ∷ lives) names_p names_q =
-      ap₂ (λ (x : CoverStep) (xs : List CoverStep). x ∷ xs) (one_step p q life names_p.0 names_q.0) (one_named_cover ps qs lives names_p.1 names_q.1)
+  one_named_cover : (lives : List Life) (ps qs : List CoverStep) → NamesCover initial operations ps lives → NamesCover initial operations qs lives → ps ≡ qs
+  one_named_cover [] [] [] names_p names_q = refl
+  one_named_cover (life ∷ lives) (p ∷ ps) (q ∷ qs) names_p names_q =
+      ap₂ (λ (x : CoverStep) (xs : List CoverStep). x ∷ xs) (one_step p q life names_p.0 names_q.0) (one_named_cover lives ps qs names_p.1 names_q.1)
+  one_named_cover _ _ _ names_p names_q = absurd assumption
 
   -- the operations of a violation are named by one list of places
-  one_named : (x y : Violation) (full : FullViolation) → Names initial operations x full → Names initial operations y full → x ≡ y
-  one_named (violation.Fresh d e) (violation.Fresh d' e') (fresh deq enq) at at' =
-      ap₂ (λ (p : ℕ) (q : Option ℕ). violation.Fresh p q) (one_place d d' deq at.0 at'.0) (maybe_one_place e e' enq at.1 at'.1)
-  one_named (violation.Fresh d e) y (fresh deq enq) at at' = absurd at'
-  one_named (violation.Fresh d e) y _ at at' = absurd at
-  one_named (violation.Repeat e d f) (violation.Repeat e' d' f') (repeat enq first second) at at' =
+  one_named : (full : FullViolation) (x y : Violation) → Names initial operations x full → Names initial operations y full → x ≡ y
+  one_named (fresh deq enq) (violation.Fresh d e) (violation.Fresh d' e') at at' =
+      ap₂ (λ (p : ℕ) (q : Option ℕ). violation.Fresh p q) (one_place d d' deq at.0 at'.0) (maybe_one_place enq e e' at.1 at'.1)
+  one_named (repeat enq first second) (violation.Repeat e d f) (violation.Repeat e' d' f') at at' =
       let enqs = one_source e e' enq at.0 at'.0 in
       let firsts = one_place d d' first at.1 at'.1 in
       let seconds = one_place f f' second at.2 at'.2 in
       cc
-  one_named (violation.Repeat e d f) y (repeat enq first second) at at' = absurd at'
-  one_named (violation.Repeat e d f) y _ at at' = absurd at
-  one_named (violation.Order a b d c) (violation.Order a' b' d' c') (order enq_a enq_b deq_b deq_a) at at' =
+  one_named (order enq_a enq_b deq_b deq_a) (violation.Order a b d c) (violation.Order a' b' d' c') at at' =
       let as' = one_source a a' enq_a at.0 at'.0 in
       let bs = one_source b b' enq_b at.1 at'.1 in
       let ds = one_place d d' deq_b at.2 at'.2 in
-      let cs = maybe_one_place c c' deq_a at.3 at'.3 in
+      let cs = maybe_one_place deq_a c c' at.3 at'.3 in
       cc
-  one_named (violation.Order a b d c) y (order enq_a enq_b deq_b deq_a) at at' = absurd at'
-  one_named (violation.Order a b d c) y _ at at' = absurd at
-  one_named (violation.Witness o cover) (violation.Witness o' cover') (witness empty lives) at at' =
+  one_named (witness empty lives) (violation.Witness o cover) (violation.Witness o' cover') at at' =
       ap₂ (λ (p : ℕ) (steps : List CoverStep). violation.Witness p steps) (one_place o o' empty at.0 at'.0)
-      (one_named_cover cover cover' lives at.1 at'.1)
-  one_named (violation.Witness o cover) y (witness empty lives) at at' = absurd at'
-  one_named (violation.Witness o cover) y _ at at' = absurd at
+      (one_named_cover lives cover cover' at.1 at'.1)
+  one_named _ _ _ at at' = absurd assumption
 
   -- so are those of two violations that are one
   one_violation : (x y : Violation) (b c : FullViolation) → b ≡ c → Names initial operations x b → Names initial operations y c → x ≡ y
-  one_violation x y b c same at at' = one_named x y c (subst (Names initial operations x) same at) at'
+  one_violation x y b c same at at' = one_named c x y (subst (Names initial operations x) same at) at'
 
 -- a history has one chosen violation
 pub chosen_violation_is_one : (initial : List ℕ) (events : List Event) (x y : Violation) → IsCompleteFrom initial events → length initial ≤ MAX_INITIAL
@@ -163,22 +139,13 @@ verdict_is_one initial events (No v) (Yes qs) complete few x exact_x y exact_y =
 verdict_is_one initial events (No v) (No w) complete few x exact_x y exact_y =
     ap (λ named. No named) (chosen_violation_is_one initial events v w complete few x y)
 
--- a matching excludes the violations that matching finds
-not_clear : (initial : List ℕ) (operations : List Operation) (v : Violation) → IsClear (timeline initial operations)
-    → NamesChosenFresh initial operations v → ⊥
-not_clear initial operations v clear is = clear.no_fresh is.0 is.1 is.3.violates
-
-not_repeated : (initial : List ℕ) (operations : List Operation) (v : Violation) → IsClear (timeline initial operations)
-    → NamesChosenRepeat initial operations v → ⊥
-not_repeated initial operations v clear is = clear.no_repeat is.0 is.1 is.2 is.4.1.violates
-
 -- a history has one answer of the matching
 pub matched_is_one : MatchedIsOne
 matched_is_one initial operations (matched.Clear m) (matched.Clear n) complete x y = ap (λ matching. matched.Clear matching) (x.0 ∙ sym y.0)
-matched_is_one initial operations (matched.Clear m) (matched.Fresh v) complete x y = absurd (not_clear initial operations v x.1 y)
-matched_is_one initial operations (matched.Clear m) (matched.Repeat v) complete x y = absurd (not_repeated initial operations v x.1 y)
-matched_is_one initial operations (matched.Fresh v) (matched.Clear m) complete x y = absurd (not_clear initial operations v y.1 x)
-matched_is_one initial operations (matched.Repeat v) (matched.Clear m) complete x y = absurd (not_repeated initial operations v y.1 x)
+matched_is_one initial operations (matched.Clear m) (matched.Fresh v) complete x y = absurd (x.1.no_fresh y.0 y.1 y.3.violates)
+matched_is_one initial operations (matched.Clear m) (matched.Repeat v) complete x y = absurd (x.1.no_repeat y.0 y.1 y.2 y.4.1.violates)
+matched_is_one initial operations (matched.Fresh v) (matched.Clear m) complete x y = absurd (y.1.no_fresh x.0 x.1 x.3.violates)
+matched_is_one initial operations (matched.Repeat v) (matched.Clear m) complete x y = absurd (y.1.no_repeat x.0 x.1 x.2 x.4.1.violates)
 matched_is_one initial operations (matched.Fresh v) (matched.Repeat w) complete x y = absurd (y.4.0 x.0 x.1 x.3.violates)
 matched_is_one initial operations (matched.Repeat v) (matched.Fresh w) complete x y = absurd (x.4.0 y.0 y.1 y.3.violates)
 matched_is_one initial operations (matched.Fresh v) (matched.Fresh w) complete x y =
@@ -250,17 +217,16 @@ gap_is_one initial operations place = one
     one (gap.Covered steps) (gap.Covered steps') clear x y =
         let same = one_at all (behind k place) x.0 y.0 x.2 y.2 in
         let lives = one_cover all y.0 y.0.call x.1 y.1 clear (subst (λ o. IsChosenCover all o x.1) same x.5) y.5 in
-        ap (λ steps. gap.Covered steps) (one_named_cover initial operations clear.complete steps steps' y.1
+        ap (λ steps. gap.Covered steps) (one_named_cover initial operations clear.complete y.1 steps steps'
         (subst (NamesCover initial operations steps) lives x.3) y.3)
 
 gaps_told : (k : ℕ) (cs ds : List ℕ) → map (clock_of_gap k) cs ≡ map (clock_of_gap k) ds → cs ≡ ds
 gaps_told k [] [] same = refl
-gaps_told k [] (d ∷ ds) same = cc
-gaps_told k (c ∷ cs) [] same = cc
 gaps_told k (c ∷ cs) (d ∷ ds) same =
     let first : clock_of_gap k c ≡ clock_of_gap k d = cc in
     let rest : map (clock_of_gap k) cs ≡ map (clock_of_gap k) ds = cc in
     ap₂ (λ (n : ℕ) (ns : List ℕ). n ∷ ns) (gap_told k c d first) (gaps_told k cs ds rest)
+gaps_told k _ _ same = cc
 
 -- where each empty answer has a free gap, none is covered
 none_covered : (operations : List Operation) (gaps : List ℕ) (o : Operation)

@@ -1,15 +1,14 @@
 -- Lists of which the keys rise, with the same elements, are one list; so are lists of what stands beside the same elements, and lists
 -- that are the same one by one.
-use Rattle.verdicts.proofs.Common.{[], ◌+◌, ◌++◌, ◌<◌, ◌↔◌, ◌∙◌, ◌∷◌, ◌≡◌, ◌≤◌}
-use Rattle.verdicts.proofs.Common.{◌⊎◌, AllPairs, AllZip, ap, ap₂, append-nil, append_assoc, arith}
-use Rattle.verdicts.proofs.Common.{cases_order, Contains, length, length-append, take, take_all, take_more}
+use Rattle.verdicts.proofs.Common.{[], ◌+◌, ◌++◌, ◌<◌, ◌↔◌, ◌∙◌, ◌∷◌, ◌≡◌, ◌≤◌, ◌⊎◌, AllPairs, AllZip, ap, ap₂}
+use Rattle.verdicts.proofs.Common.{append-nil, append_assoc, arith, cases_lt, Contains, length, length-append}
+use Rattle.verdicts.proofs.Common.{take, take_all, take_more, Contains-permutation, get_or, inl, inr}
+use Rattle.verdicts.proofs.Common.{IsNonDecreasingBy, IsPermutation, IsPermutation-sym, IsPermutation-trans, List}
+use Rattle.verdicts.proofs.Common.{refl, slice_get-get_or, subst, suc, sym, zero, ℕ, AllPairs-tail, contains_cons}
+use Rattle.verdicts.proofs.Common.{not_in_none, one_place, pairs_at, place_of}
 use Rattle.std.proofs.Common.{length-take-le}
 use Rattle.std.proofs.Math.Seq.{get_or-append_seam}
 use Rattle.std.proofs.lemmas.List.{nil_from_length}
-use Rattle.verdicts.proofs.Common.{Contains-permutation, get_or, inl, inr, IsNonDecreasingBy, IsPermutation}
-use Rattle.verdicts.proofs.Common.{IsPermutation-sym, IsPermutation-trans, List, refl, slice_get-get_or, subst, suc}
-use Rattle.verdicts.proofs.Common.{sym, zero, ℕ, AllPairs-tail, contains_cons, not_in_none, one_place, pairs_at}
-use Rattle.verdicts.proofs.Common.{place_of}
 
 -- the keys rise from each element to each later one
 abbrev pub KeysRise : {X : Type 0} → (X → ℕ) → List X → Type 0
@@ -60,11 +59,10 @@ sorted_is_same {X} key xs ys rises moved sorted =
     rises' : KeysRise key ys
     rises' i j d less within =
         let le = sorted i j d (omega arith) within in
-        elim (cases_order (key (get_or ys i d)) (key (get_or ys j d))) [
-          | inl same ↦ let here = one_place key xs ys i j (get_or ys i d) (get_or ys j d) rises moved (slice_get-get_or ys i d (omega arith))
-              (slice_get-get_or ys j d within) same in absurd (omega arith)
-          | inr (inl below) ↦ below
-          | inr (inr above) ↦ absurd (omega arith)
+        elim (cases_lt (key (get_or ys i d)) (key (get_or ys j d))) [
+          | inl below ↦ below
+          | inr above ↦ let here = one_place key xs ys i j (get_or ys i d) (get_or ys j d) rises moved (slice_get-get_or ys i d (omega arith))
+              (slice_get-get_or ys j d within) (omega arith) in absurd (omega arith)
         ]
 
 -- a list, sorted by a key, is one of which the keys rise if and only if it has the same elements
@@ -79,12 +77,9 @@ sorted_tells {X} key xs ys sorted rises moved in_order = (
 pub one_beside : {X Y : Type 0} (R : X → Y → Type 0) → ((x : X) (y z : Y) → R x y → R x z → y ≡ z) → (xs : List X) (ys zs : List Y)
     → AllZip R xs ys → AllZip R xs zs → ys ≡ zs
 one_beside R one [] [] [] first second = refl
-one_beside R one [] [] (z ∷ zs) first second = absurd second
-one_beside R one [] (y ∷ ys) zs first second = absurd first
-one_beside R one (x ∷ xs) [] zs first second = absurd first
-one_beside R one (x ∷ xs) (y ∷ ys) [] first second = absurd second
 one_beside {X} {Y} R one (x ∷ xs) (y ∷ ys) (z ∷ zs) first second =
     ap₂ (λ (w : Y) (ws : List Y). w ∷ ws) (one x y z first.0 second.0) (one_beside R one xs ys zs first.1 second.1)
+one_beside R one _ _ _ first second = absurd assumption
 
 -- ---- one by one: the first elements of a list, followed by the others of another list
 
@@ -107,17 +102,11 @@ same_here xs ys others rest i x d within first is same =
 pub never_short : {X : Type 0} (xs ys others : List X) (i : ℕ) → i < length xs → length xs ≡ length ys → others ≡ [] → take i xs ++ others ≡ ys → ⊥
 never_short xs ys others i within long none is =
     let front = length-take-le i xs (omega (arith, within)) in
-    let both = length-append (take i xs) others in
-    let all = ap length is in
-    let nothing = ap length none in
-    omega (arith, within, long, front, both, all, nothing)
+    omega (arith, within, long, front, simp length-append at (ap length is), ap length none)
 
 -- at the end the lists are the same
 pub same_all : {X : Type 0} (xs ys others : List X) (i : ℕ) → length xs ≤ i → length xs ≡ length ys → take i xs ++ others ≡ ys → xs ≡ ys
 same_all xs ys others i end long is =
     let whole = take_all i xs end in
-    let all = ap length is in
-    let both = length-append (take i xs) others in
-    let front = ap length whole in
-    let none = nil_from_length others (omega (arith, long, all, both, front)) in
+    let none = nil_from_length others (omega (arith, long, simp length-append at (ap length is), ap length whole)) in
     sym (ap (λ zs. take i xs ++ zs) none ∙ append-nil (take i xs) ∙ whole) ∙ is

@@ -1,12 +1,368 @@
--- The selected initial values and the events of the selected operations are a complete history.
-use Rattle.verdicts.proofs.Common.{[], ◌++◌, ◌∙◌, ◌∷◌, ◌≡◌, ◌≢◌, ◌≤◌, AllPairs-cons, arith, Bool, cond, Contains}
-use Rattle.verdicts.proofs.Common.{Contains-append_cases, Contains-append_left, Contains-append_right, Contains-get_or}
-use Rattle.verdicts.proofs.Common.{false, filter, get_or, inl, inr, length, List, not, refl, subst, suc, sym, true}
-use Rattle.verdicts.proofs.Common.{zero, ℕ, AreComplete, AreDistinct, called_value, called_values, Event, timeline}
-use Rattle.verdicts.proofs.Common.{timeline_is_of_complete, IsCompleteFrom, keeps, kept, MAX_INITIAL, Operation}
-use Rattle.verdicts.proofs.Common.{operations_of, passed_filter}
+-- Some operations of a complete history, with both their events, make a complete history, and so do the selected initial values and the
+-- events of the selected operations; the tickets of these operations keep just these events.
+use Rattle.verdicts.proofs.Common.{[], ⊤, ◌<◌, ◌∙◌, ◌∷◌, ◌≡◌, ◌≢◌, ◌≤◌, All, All-filter, AllPairs, AllPairs-cons}
+use Rattle.verdicts.proofs.Common.{AllPairs-filter, ap, arith, Bool, cond, cons_option, Contains, eq-eqb, eqb-true}
+use Rattle.verdicts.proofs.Common.{false, filter, filter_map, find, IsTrue, List, MatchBool, nat_eq, None, Option}
+use Rattle.verdicts.proofs.Common.{refl, Some, subst, suc, sym, true, zero, ℕ, AllPairs-tail, answers, CallDeq}
+use Rattle.verdicts.proofs.Common.{called_value, CallEnq, Deq, Empty, Enq, Event, is_call, IsCompleteUpTo, MAX_THREAD}
+use Rattle.verdicts.proofs.Common.{Not, one_deeper, Operation, operation_of, operations_of, OpKind, projection, RetDeq}
+use Rattle.verdicts.proofs.Common.{RetEmpty, RetEnq, RetNot, TakesTurns, What, get_or, kept, keeps, Contains-get_or}
+use Rattle.verdicts.proofs.Common.{passed_filter, ◌||◌, ◌⊎◌, Any-from_list_any, inl, inr, list_any-from_Any}
+use Rattle.verdicts.proofs.Common.{AreComplete, holds_ticket, MAX_CLOCK, passes_filter, return_differs_from_call}
+use Rattle.verdicts.proofs.Common.{same_call, same_return, ◌++◌, Contains-append_cases, Contains-append_left}
+use Rattle.verdicts.proofs.Common.{Contains-append_right, length, not, AreDistinct, called_values, timeline}
+use Rattle.verdicts.proofs.Common.{timeline_is_of_complete, IsCompleteFrom, MAX_INITIAL}
+use Rattle.std.proofs.lemmas.List.Elements.{All-contains}
+use Rattle.history_merge.specs.Operations.{kind_of}
+use Rattle.history_merge.proofs.Completeness.{made_of, up_to_more}
+use Rattle.history_merge.proofs.Turns.{answer_is_return}
+use Rattle.std.proofs.lemmas.Bool.{or_cases, or_left, or_right}
 use Rattle.std.proofs.lemmas.List.Filters.{length-filter_both}
-use Rattle.verdicts.proofs.KeptTickets.{events_at_tickets_of, operations_of_selected, selected_events_are_complete}
+
+-- two filters may change places
+pub filters_swap : {X : Type 0} (p q : X → Bool) (xs : List X) → filter p (filter q xs) ≡ filter q (filter p xs)
+filters_swap p q [] = refl
+filters_swap {X} p q (x ∷ xs) = pick (p x) (q x) refl refl (filters_swap p q xs)
+  where
+    pick : (a b : Bool) → p x ≡ a → q x ≡ b → filter p (filter q xs) ≡ filter q (filter p xs)
+        → filter p (cond b (x ∷ filter q xs) (filter q xs)) ≡ filter q (cond a (x ∷ filter p xs) (filter p xs))
+    pick true true is_p is_q more = rw (is_p, is_q) (ap (λ ys. x ∷ ys) more)
+    pick true false is_p is_q more = rw (is_q) more
+    pick false true is_p is_q more = rw (is_p) more
+    pick false false is_p is_q more = more
+
+-- what is found among all is found among what is kept, if it is kept
+find_kept : {X : Type 0} (p keeps : X → Bool) (xs : List X) (r : X) → find p xs ≡ Some r → keeps r ≡ true → find p (filter keeps xs) ≡ Some r
+find_kept p keeps [] r found is = cc
+find_kept {X} p keeps (x ∷ xs) r found is = pick (p x) refl (keeps x) refl (find_kept p keeps xs r) found
+  where
+    pick : (b : Bool) → p x ≡ b → (k : Bool) → keeps x ≡ k → (find p xs ≡ Some r → keeps r ≡ true → find p (filter keeps xs) ≡ Some r)
+        → cond b (Some x) (find p xs) ≡ Some r → find p (cond k (x ∷ filter keeps xs) (filter keeps xs)) ≡ Some r
+    pick true test true kept more h = rw test h
+    pick true test false kept more h = let same : x ≡ r = cc in let clash : true ≡ false = sym is ∙ ap keeps (sym same) ∙ kept in cc
+    pick false test true kept more h = rw test (more h is)
+    pick false test false kept more h = more h is
+
+-- the first that passes is found
+pub first_is_found : {X : Type 0} (p : X → Bool) (xs : List X) (r : X) (rest : List X) → filter p xs ≡ r ∷ rest → find p xs ≡ Some r
+first_is_found p [] r rest same = cc
+first_is_found {X} p (x ∷ xs) r rest same = pick (p x) (first_is_found p xs r rest) same
+  where
+    pick : (b : Bool) → (filter p xs ≡ r ∷ rest → find p xs ≡ Some r)
+        → cond b (x ∷ filter p xs) (filter p xs) ≡ r ∷ rest → cond b (Some x) (find p xs) ≡ Some r
+    pick true more h = let here : x ≡ r = cc in ap (λ y. Some y) here
+    pick false more h = more h
+
+answered_kind : (call answer : What) → answers call answer ≡ true → (k : OpKind) × (kind_of call answer ≡ Some k)
+answered_kind (CallEnq v) RetEnq is = (Enq v, refl)
+answered_kind (CallEnq v) RetNot is = (Not v, refl)
+answered_kind CallDeq (RetDeq v) is = (Deq v, refl)
+answered_kind CallDeq RetEmpty is = (Empty, refl)
+answered_kind _ _ is = cc
+
+-- a call and a return of its kind are an operation
+pub operation_made : (call answer : Event) → answers call.what answer.what ≡ true
+    → (o : Operation) × (operation_of call (Some answer) ≡ Some o) × (o.call ≡ call.ticket) × (o.ret ≡ answer.ticket)
+operation_made call answer is =
+    let kind = answered_kind call.what answer.what is in
+    (record { call = call.ticket; ret = answer.ticket; thread = call.thread; kind = kind.0 }, rw (kind.1, operation_of) refl, refl, refl)
+
+-- a return begins no operation
+return_begins_none : (e : Event) (found : Option Event) → is_call e.what ≡ false → operation_of e found ≡ None
+return_begins_none e None is = refl
+return_begins_none e (Some answer) is = rw (no_kind e.what answer.what is, operation_of) refl
+  where
+    no_kind : (call answer : What) → is_call call ≡ false → kind_of call answer ≡ None
+    no_kind (CallEnq v) answer is = cc
+    no_kind CallDeq answer is = cc
+    no_kind _ answer is = refl
+
+-- calls and returns take turns, after a call that waits if there is one
+abbrev pub TurnsAfter : Option Event → List Event → Type 0
+TurnsAfter None events = TakesTurns events
+TurnsAfter (Some call) events = TakesTurns (call ∷ events)
+
+abbrev EachTurns : List Event → Type 0
+EachTurns events = (thread : ℕ) → (pending : Option Event) × TurnsAfter pending (projection thread events)
+
+turns_later : (e : Event) (events : List Event) (pending : Option Event) → TurnsAfter pending (e ∷ events)
+    → (pending' : Option Event) × TurnsAfter pending' events
+turns_later e events None turns = (Some e, turns)
+turns_later e events (Some call) turns = (None, turns.1)
+
+each_turns_later : (e : Event) (later : List Event) → EachTurns (e ∷ later) → EachTurns later
+each_turns_later e later each thread = pick (nat_eq e.thread thread) (each thread).0 (each thread).1
+  where
+    pick : (b : Bool) (pending : Option Event) → TurnsAfter pending (cond b (e ∷ projection thread later) (projection thread later))
+        → (pending' : Option Event) × TurnsAfter pending' (projection thread later)
+    pick true pending turns = turns_later e (projection thread later) pending turns
+    pick false pending turns = (pending, turns)
+
+-- among the operations after one more event, if it begins one
+pub among_later : (made : Option Operation) (later : List Operation) (o : Operation) → Contains later o → Contains (cons_option made later) o
+among_later None later o among = among
+among_later (Some x) later o among = one_deeper x later o among
+
+-- the first that is made is among them
+pub among_first : (made : Option Operation) (later : List Operation) (o : Operation) → made ≡ Some o → Contains (cons_option made later) o
+among_first None later o same = cc
+among_first (Some x) later o same = let here : x ≡ o = cc in (zero, omega arith, here)
+
+-- a call and the event after it in its thread are an operation
+pub record IsAnswered (thread : ℕ) (call : Event) (later : List Event) : Type 0 where
+  pub answer : Event
+  pub found : find (λ r. nat_eq r.thread thread) later ≡ Some answer
+  pub operation : Operation
+  pub is : operation_of call (find (λ r. nat_eq r.thread call.thread) later) ≡ Some operation
+  pub called : operation.call ≡ call.ticket
+  pub returned : operation.ret ≡ answer.ticket
+
+pub answered : (thread : ℕ) (call : Event) (later : List Event) → call.thread ≡ thread → TakesTurns (call ∷ projection thread later)
+    → IsAnswered thread call later
+answered thread call later own turns = by_next (projection thread later) refl turns
+  where
+    by_next : (events : List Event) → projection thread later ≡ events → TakesTurns (call ∷ events) → IsAnswered thread call later
+    by_next [] same turns' = elim turns' [ ]
+    by_next (answer ∷ rest) same turns' =
+        let found = first_is_found (λ r. nat_eq r.thread thread) later answer rest same in
+        let o = operation_made call answer turns'.0 in
+        let here = ap (λ t. operation_of call (find (λ r. nat_eq r.thread t) later)) own ∙ ap (operation_of call) found ∙ o.1 in
+        record { answer = answer; found = found; operation = o.0; is = here; called = o.2; returned = o.3 }
+
+-- an event that begins no operation, whatever follows it in its thread, is a return
+begins_none : (e : Event) (later : List Event) (found : Option Event) → EachTurns (e ∷ later)
+    → operation_of e (find (λ r. nat_eq r.thread e.thread) later) ≡ None → operation_of e found ≡ None
+begins_none e later found each none = pick (each e.thread).0 (subst
+    (λ b. TurnsAfter (each e.thread).0 (cond b (e ∷ projection e.thread later) (projection e.thread later))) (eq-eqb e.thread e.thread refl) (each e.thread).1)
+  where
+    pick : (pending : Option Event) → TurnsAfter pending (e ∷ projection e.thread later) → operation_of e found ≡ None
+    pick None turns =
+        let a = answered e.thread e later refl turns in
+        let clash : None ≡ Some a.operation = sym none ∙ a.is in
+        cc
+    pick (Some call) turns = return_begins_none e found (answer_is_return call.what e.what turns.0)
+
+-- both tickets of each operation are kept, or neither
+abbrev pub KeepsBoth : (ℕ → Bool) → (Operation → Bool) → List Operation → Type 0
+KeepsBoth keeps test operations = (o : Operation) → Contains operations o → (keeps o.call ≡ test o) × (keeps o.ret ≡ test o)
+
+module _ (keeps : ℕ → Bool) (test : Operation → Bool) where
+  abbrev kept_events : List Event → List Event
+  kept_events events = filter (λ e. keeps e.ticket) events
+
+  kept_later : (made : Option Operation) (later : List Operation) → KeepsBoth keeps test (cons_option made later) → KeepsBoth keeps test later
+  kept_later made later both o among = both o (among_later made later o among)
+
+  -- the operations of the kept events are the operations that pass
+  kept_operations : (events : List Event) → EachTurns events → KeepsBoth keeps test (operations_of events)
+      → operations_of (kept_events events) ≡ filter test (operations_of events)
+  kept_operations [] each both = refl
+  kept_operations (e ∷ later) each both =
+      let made = operation_of e (find (λ r. nat_eq r.thread e.thread) later) in
+      join made refl (keeps e.ticket) refl both (kept_operations later (each_turns_later e later each) (kept_later made (operations_of later) both))
+    where
+      join : (made : Option Operation) → operation_of e (find (λ r. nat_eq r.thread e.thread) later) ≡ made → (k : Bool) → keeps e.ticket ≡ k
+          → KeepsBoth keeps test (cons_option made (operations_of later))
+          → operations_of (kept_events later) ≡ filter test (operations_of later)
+          → operations_of (cond k (e ∷ kept_events later) (kept_events later)) ≡ filter test (cons_option made (operations_of later))
+      join None none false is both' rest = rest
+      join None none true is both' rest = rw (begins_none e later (find (λ r. nat_eq r.thread e.thread) (kept_events later)) each none) rest
+      join (Some o) same k is both' rest =
+          let made = made_of e (find (λ r. nat_eq r.thread e.thread) later) o same in
+          let both_o = both' o (among_first (Some o) (operations_of later) o refl) in
+          let passes : test o ≡ k = sym both_o.0 ∙ ap keeps made.2.called ∙ is in
+          let answered : keeps made.0.ticket ≡ k = ap keeps (sym made.2.returned) ∙ both_o.1 ∙ passes in
+          rw passes (by_test k made.0 made.1 answered)
+        where
+          by_test : (k : Bool) (answer : Event) → find (λ r. nat_eq r.thread e.thread) later ≡ Some answer → keeps answer.ticket ≡ k
+              → operations_of (cond k (e ∷ kept_events later) (kept_events later)) ≡ cond k (o ∷ filter test (operations_of later))
+              (filter test (operations_of later))
+          by_test false answer found kept = rest
+          by_test true answer found kept =
+              let found' = find_kept (λ r. nat_eq r.thread e.thread) (λ r. keeps r.ticket) later answer found kept in
+              let here : operation_of e (find (λ r. nat_eq r.thread e.thread) (kept_events later)) ≡ Some o =
+              ap (operation_of e) found' ∙ ap (operation_of e) (sym found) ∙ same in
+              rw (here, rest) refl
+
+  -- the next event of this thread is kept as the waiting call is
+  abbrev NextAsKept : ℕ → Event → List Event → Type 0
+  NextAsKept thread call events = (r : Event) → find (λ r. nat_eq r.thread thread) events ≡ Some r → keeps r.ticket ≡ keeps call.ticket
+
+  abbrev IsAsKept : ℕ → Option Event → List Event → Type 0
+  IsAsKept thread None events = ⊤
+  IsAsKept thread (Some call) events = NextAsKept thread call events
+
+  -- the events that are kept of a thread take turns, after its waiting call if that is kept
+  abbrev KeptTurns : Option Event → List Event → Type 0
+  KeptTurns None events = TakesTurns events
+  KeptTurns (Some call) events = MatchBool (keeps call.ticket) (TakesTurns (call ∷ events)) (TakesTurns events)
+
+  -- a call is kept as its return is
+  answer_as_kept : (e : Event) (later : List Event) (thread : ℕ) → e.thread ≡ thread → TakesTurns (e ∷ projection thread later)
+      → KeepsBoth keeps test (operations_of (e ∷ later)) → NextAsKept thread e later
+  answer_as_kept e later thread own turns both r found =
+      let a = answered thread e later own turns in
+      let one : a.answer ≡ r = let both_found : Some a.answer ≡ Some r = sym a.found ∙ found in cc in
+      let kept = both a.operation (among_first (operation_of e (find (λ r. nat_eq r.thread e.thread) later)) (operations_of later) a.operation a.is) in
+      ap (λ x. keeps x.ticket) (sym one) ∙ ap keeps (sym a.returned) ∙ kept.1 ∙ sym kept.0 ∙ ap keeps a.called
+
+  kept_turns : (thread : ℕ) (events : List Event) (pending : Option Event) → TurnsAfter pending (projection thread events)
+      → KeepsBoth keeps test (operations_of events) → IsAsKept thread pending events
+      → KeptTurns pending (kept_events (projection thread events))
+  kept_turns thread [] None turns both next = tt
+  kept_turns thread [] (Some call) turns both next = elim turns [ ]
+  kept_turns thread (e ∷ later) pending turns both next =
+      own (nat_eq e.thread thread) refl pending turns next
+      (λ pending' turns' next'. kept_turns thread later pending' turns'
+      (kept_later (operation_of e (find (λ r. nat_eq r.thread e.thread) later)) (operations_of later) both) next')
+    where
+      -- the kept events after this one
+      after : List Event
+      after = kept_events (projection thread later)
+
+      not_next : (pending : Option Event) → nat_eq e.thread thread ≡ false → IsAsKept thread pending (e ∷ later) → IsAsKept thread pending later
+      not_next None test next = tt
+      not_next (Some call) test next = λ r found. next r (rw test found)
+
+      -- an event of this thread waits for its return, if it is kept
+      begins : (k : Bool) → MatchBool k (TakesTurns (e ∷ after)) (TakesTurns after) → TakesTurns (cond k (e ∷ after) after)
+      begins true turns = turns
+      begins false turns = turns
+
+      -- or answers the waiting call, and is kept as that is
+      ends : (call : Event) (k : Bool) → IsTrue (answers call.what e.what) → TakesTurns after
+          → MatchBool k (TakesTurns (call ∷ cond k (e ∷ after) after)) (TakesTurns (cond k (e ∷ after) after))
+      ends call true answered turns = (answered, turns)
+      ends call false answered turns = turns
+
+      own : (b : Bool) → nat_eq e.thread thread ≡ b → (pending : Option Event)
+          → TurnsAfter pending (cond b (e ∷ projection thread later) (projection thread later)) → IsAsKept thread pending (e ∷ later)
+          → ((pending' : Option Event) → TurnsAfter pending' (projection thread later) → IsAsKept thread pending' later → KeptTurns pending' after)
+          → KeptTurns pending (kept_events (cond b (e ∷ projection thread later) (projection thread later)))
+      own false test pending turns' next' rest = rest pending turns' (not_next pending test next')
+      own true test None turns' next' rest =
+          begins (keeps e.ticket) (rest (Some e) turns' (answer_as_kept e later thread (eqb-true e.thread thread test) turns' both))
+      own true test (Some call) turns' next' rest =
+          subst (λ k. MatchBool k (TakesTurns (call ∷ cond (keeps e.ticket) (e ∷ after) after)) (TakesTurns (cond (keeps e.ticket) (e ∷ after) after)))
+          (next' e (rw test refl)) (ends call (keeps e.ticket) turns'.0 (rest None turns'.1 tt))
+
+-- what holds of all values of a list holds of those of its kept elements
+All-kept : {X Y : Type 0} (P : Y → Type 0) (f : X → Option Y) (keeps : X → Bool) (xs : List X) → All P (filter_map f xs)
+    → All P (filter_map f (filter keeps xs))
+All-kept P f passes xs all k d below =
+    let y = get_or (filter_map f (filter passes xs)) k d in
+    let from = kept f (filter passes xs) y (Contains-get_or (filter_map f (filter passes xs)) k d below) in
+    All-contains P (filter_map f xs) y all (keeps f xs from.0 y (passed_filter passes xs from.0 from.1).0 from.2)
+
+pairs_after_first : {Y : Type 0} (R : Y → Y → Type 0) (y : Y) (ys : List Y) → AllPairs R (y ∷ ys) → All (R y) ys
+pairs_after_first R y ys pairs k d below = pairs zero (suc k) d (omega arith) (omega arith)
+
+AllPairs-kept : {X Y : Type 0} (R : Y → Y → Type 0) (f : X → Option Y) (keeps : X → Bool) (xs : List X) → AllPairs R (filter_map f xs)
+    → AllPairs R (filter_map f (filter keeps xs))
+AllPairs-kept R f keeps [] pairs = pairs
+AllPairs-kept {X} {Y} R f keeps (x ∷ xs) pairs = pick (f x) refl (keeps x) pairs (AllPairs-kept R f keeps xs)
+  where
+    pick : (o : Option Y) → f x ≡ o → (k : Bool) → AllPairs R (cons_option o (filter_map f xs))
+        → (AllPairs R (filter_map f xs) → AllPairs R (filter_map f (filter keeps xs)))
+        → AllPairs R (filter_map f (cond k (x ∷ filter keeps xs) (filter keeps xs)))
+    pick None is false pairs' rest = rest pairs'
+    pick None is true pairs' rest = rw is (rest pairs')
+    pick (Some y) is false pairs' rest = rest (AllPairs-tail R y (filter_map f xs) pairs')
+    pick (Some y) is true pairs' rest =
+        rw is (AllPairs-cons R y (filter_map f (filter keeps xs)) (All-kept (R y) f keeps xs (pairs_after_first R y (filter_map f xs) pairs'))
+        (rest (AllPairs-tail R y (filter_map f xs) pairs')))
+
+-- where both events of an operation are kept, or neither, the kept events are a complete history
+pub kept_is_complete : {n : ℕ} (keeps : ℕ → Bool) (test : Operation → Bool) (events : List Event) → IsCompleteUpTo n events
+    → KeepsBoth keeps test (operations_of events) → IsCompleteUpTo n (filter (λ e. keeps e.ticket) events)
+kept_is_complete {n} keeps test events complete both = record {
+  tickets_rise = AllPairs-filter (λ x y. x.ticket < y.ticket) (λ e. keeps e.ticket) events complete.tickets_rise;
+  tickets_in_range = All-filter (λ e. keeps e.ticket) (λ e. e.ticket ≤ n) events complete.tickets_in_range;
+  threads_in_range = All-filter (λ e. keeps e.ticket) (λ e. e.thread ≤ MAX_THREAD) events complete.threads_in_range;
+  threads_take_turns = λ thread. subst TakesTurns (filters_swap (λ e. keeps e.ticket) (λ e. nat_eq e.thread thread) events)
+      (kept_turns keeps test thread events None (complete.threads_take_turns thread) both tt);
+  values_are_distinct = AllPairs-kept (λ v w. v ≢ w) (λ e. called_value e.what) (λ e. keeps e.ticket) events complete.values_are_distinct;
+}
+
+-- a ticket is held where it is that of a call or a return
+held : (operations : List Operation) (o : Operation) (ticket : ℕ) → Contains operations o → (o.call ≡ ticket) ⊎ (o.ret ≡ ticket)
+    → holds_ticket operations ticket ≡ true
+held operations o ticket among is = list_any-from_Any (λ o. nat_eq o.call ticket || nat_eq o.ret ticket) operations (
+  among.0,
+  o,
+  among.1,
+  among.2,
+  elim is [
+    | inl called ↦ or_left _ _ (eq-eqb o.call ticket called)
+    | inr returned ↦ or_right _ _ (eq-eqb o.ret ticket returned)
+  ],
+)
+
+holder : (operations : List Operation) (ticket : ℕ) → holds_ticket operations ticket ≡ true
+    → (o : Operation) × Contains operations o × ((o.call ≡ ticket) ⊎ (o.ret ≡ ticket))
+holder operations ticket holds =
+    let found = Any-from_list_any (λ o. nat_eq o.call ticket || nat_eq o.ret ticket) operations holds in (
+      found.1,
+      (found.0, found.2, found.3),
+      elim (or_cases (nat_eq found.1.call ticket) (nat_eq found.1.ret ticket) found.4) [
+        | inl called ↦ inl (eqb-true found.1.call ticket called)
+        | inr returned ↦ inr (eqb-true found.1.ret ticket returned)
+      ],
+    )
+
+module _ (operations : List Operation) (complete : AreComplete operations) (test : Operation → Bool) where
+  -- who holds a ticket of an operation is that operation
+  one_holder : (x o : Operation) (ticket : ℕ) → Contains operations x → Contains operations o → (x.call ≡ ticket) ⊎ (x.ret ≡ ticket)
+      → (o.call ≡ ticket) ⊎ (o.ret ≡ ticket) → x ≡ o
+  one_holder x o ticket in_x in_o (inl is_x) (inl is_o) = same_call operations x o complete in_x in_o (is_x ∙ sym is_o)
+  one_holder x o ticket in_x in_o (inl is_x) (inr is_o) = absurd (return_differs_from_call operations o x complete in_o in_x (is_o ∙ sym is_x))
+  one_holder x o ticket in_x in_o (inr is_x) (inl is_o) = absurd (return_differs_from_call operations x o complete in_x in_o (is_x ∙ sym is_o))
+  one_holder x o ticket in_x in_o (inr is_x) (inr is_o) = same_return operations x o complete in_x in_o (is_x ∙ sym is_o)
+
+  held_as_tested : (o : Operation) (ticket : ℕ) → Contains operations o → (o.call ≡ ticket) ⊎ (o.ret ≡ ticket) → (passes holds : Bool)
+      → test o ≡ passes → holds_ticket (filter test operations) ticket ≡ holds → holds ≡ passes
+  held_as_tested o ticket among is true holds passes held' = sym held'
+      ∙ held (filter test operations) o ticket (passes_filter test operations o passes among) is
+  held_as_tested o ticket among is false false passes held' = refl
+  held_as_tested o ticket among is false true passes held' =
+      let found = holder (filter test operations) ticket held' in
+      let passed = passed_filter test operations found.0 found.1 in
+      let one = one_holder found.0 o ticket passed.0 among found.2 is in
+      let clash : true ≡ false = sym passed.1 ∙ ap test one ∙ passes in
+      cc
+
+  -- the tickets of an operation that passes are kept, both, and of no other
+  pub tickets_keep_both : KeepsBoth (holds_ticket (filter test operations)) test operations
+  tickets_keep_both o among = (
+    held_as_tested o o.call among (inl refl) (test o) (holds_ticket (filter test operations) o.call) refl refl,
+    held_as_tested o o.ret among (inr refl) (test o) (holds_ticket (filter test operations) o.ret) refl refl,
+  )
+
+-- the events at the tickets of some operations
+abbrev pub events_at_tickets_of : List Operation → List Event → List Event
+events_at_tickets_of selected events = filter (λ e. holds_ticket selected e.ticket) events
+
+-- the events of selected operations are a complete history
+pub selected_events_are_complete : {n : ℕ} (test : Operation → Bool) (events : List Event) → n ≤ MAX_CLOCK → IsCompleteUpTo n events
+    → IsCompleteUpTo n (events_at_tickets_of (filter test (operations_of events)) events)
+selected_events_are_complete test events within complete =
+    kept_is_complete (holds_ticket (filter test (operations_of events))) test events complete
+    (tickets_keep_both (operations_of events) (events, up_to_more events within complete, refl) test)
+
+-- the operations of these events are the selected ones
+pub operations_of_selected : {n : ℕ} (test : Operation → Bool) (events : List Event) → n ≤ MAX_CLOCK → IsCompleteUpTo n events
+    → operations_of (events_at_tickets_of (filter test (operations_of events)) events) ≡ filter test (operations_of events)
+operations_of_selected test events within complete =
+    kept_operations (holds_ticket (filter test (operations_of events))) test events (λ thread. (None, complete.threads_take_turns thread))
+    (tickets_keep_both (operations_of events) (events, up_to_more events within complete, refl) test)
+
+-- some operations of a complete history are those of a complete history
+pub selected_are_complete : (test : Operation → Bool) (operations : List Operation) → AreComplete operations → AreComplete (filter test operations)
+selected_are_complete test operations complete = (
+  events_at_tickets_of (filter test (operations_of complete.0)) complete.0,
+  selected_events_are_complete test complete.0 (omega arith) complete.1,
+  ap (filter test) complete.2 ∙ sym (operations_of_selected test complete.0 (omega arith) complete.1),
+)
 
 -- some elements of a list are no more than all
 pub no_longer : {X : Type 0} (p : X → Bool) (xs : List X) → length (filter p xs) ≤ length xs

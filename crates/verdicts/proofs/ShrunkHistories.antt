@@ -1,37 +1,32 @@
 -- The selection by the lines of the chosen violation of a history: the same violation is its chosen one, and nothing can be left out.
 use Rattle.verdicts.proofs.Common.{[], ◌*◌, ◌+◌, ◌-◌, ◌<◌, ◌↔◌, ◌∙◌, ◌∷◌, ◌≡◌, ◌≢◌, ◌≤◌, Any-from_list_any, ap, arith}
 use Rattle.verdicts.proofs.Common.{Bool, Contains, Contains-append_cases, Contains-append_left, Contains-append_right}
-use Rattle.verdicts.proofs.Common.{eq-eqb, eqb-true, false, filter, filter_agree, filter_map, inl, inr, IsTrue, length}
-use Rattle.verdicts.proofs.Common.{List, list_any, list_any-from_Any, map, nat_eq, None, Option, option_map_or, refl}
-use Rattle.verdicts.proofs.Common.{Some, subst, sym, true, ℕ, AreComplete, AreLinearizable, ArePartOf}
-use Rattle.verdicts.proofs.Common.{call_before_return, call_in, ClaimLine, Contents, contents_of, Enq, Event, timeline}
-use Rattle.verdicts.proofs.Common.{timeline_is_of_complete, timeline_of_history, initial_enqueue, enqueues_from, enqueue_place}
-use Rattle.verdicts.proofs.Common.{enqueue_stands, FullViolation, HistoryView, holds_ticket, IsChosenFullViolation}
-use Rattle.verdicts.proofs.Common.{IsChosenViolation, IsCompleteFrom, IsLinearizable, IsMinimal, keeps, KeepsViolation}
-use Rattle.verdicts.proofs.Common.{kept, later_by, line_at, linearizable_from_exactly, lines_of, mapped_from, mapped_to}
-use Rattle.verdicts.proofs.Common.{MAX_EVENTS, MAX_INITIAL, Names, one_deeper, Operation, operations_of, passed_filter}
-use Rattle.verdicts.proofs.Common.{place_of, select, selects, SelectsNamed, StaysChosen, value_in, value_of, Violation}
-use Rattle.verdicts.proofs.Common.{violation_lines, violation_places}
+use Rattle.verdicts.proofs.Common.{eq-eqb, eqb-true, filter, filter_agree, filter_map, inl, inr, IsTrue, length, List}
+use Rattle.verdicts.proofs.Common.{list_any, list_any-from_Any, map, nat_eq, None, Option, option_map_or, refl, Some}
+use Rattle.verdicts.proofs.Common.{subst, sym, true, ℕ, AreComplete, AreLinearizable, ArePartOf, call_before_return}
+use Rattle.verdicts.proofs.Common.{call_in, ClaimLine, Contents, contents_of, Enq, Event, timeline}
+use Rattle.verdicts.proofs.Common.{timeline_is_of_complete, timeline_of_history, initial_enqueue, enqueues_from}
+use Rattle.verdicts.proofs.Common.{enqueue_place, enqueue_stands, FullViolation, HistoryView, holds_ticket}
+use Rattle.verdicts.proofs.Common.{IsChosenFullViolation, IsChosenViolation, IsCompleteFrom, IsLinearizable, IsMinimal}
+use Rattle.verdicts.proofs.Common.{keeps, KeepsViolation, kept, later_by, line_at, linearizable_from_exactly, lines_of}
+use Rattle.verdicts.proofs.Common.{mapped_from, mapped_to, MAX_INITIAL, Names, one_deeper, Operation, operations_of}
+use Rattle.verdicts.proofs.Common.{passed_filter, place_of, select, selects, SelectsNamed, StaysChosen, value_in}
+use Rattle.verdicts.proofs.Common.{value_of, Violation, violation_lines, violation_places, ap₂, cons_option, map_map}
 use Rattle.verdicts.specs.declared.verifying.Claimed.TheVariants as claimed
 use Rattle.verdicts.specs.Claims.{kind_of}
 use Rattle.verdicts.proofs.Chosen.{chosen_is_violation}
-use Rattle.verdicts.proofs.ChosenSelections.{stays_chosen}
-use Rattle.verdicts.proofs.TimelineSelections.{lifted, lifted_late, lifted_rises, selected_behind, selected_of_timeline}
-use Rattle.verdicts.proofs.KeptTickets.{selected_are_complete}
-use Rattle.verdicts.proofs.Minimal.{AreMinimal, all_or_one, selection_is_minimal, stays_violation}
+use Rattle.verdicts.proofs.Selections.{stays_chosen, violation_from}
+use Rattle.std.proofs.lemmas.Bool.Decides.{same_from_decides}
+use Rattle.verdicts.proofs.Retiming.{map_agree, lifted, lifted_late, lifted_rises, selected_behind}
+use Rattle.verdicts.proofs.Retiming.{selected_of_timeline, chosen_back, linearizable_back, retimed, retimed_violation}
+use Rattle.verdicts.proofs.Retiming.{same_back}
+use Rattle.verdicts.proofs.ShrunkEvents.{selected_are_complete, kept_timeline_are_complete, kept_is_complete_from}
+use Rattle.verdicts.proofs.ShrunkEvents.{no_longer, operations_kept}
+use Rattle.verdicts.proofs.Minimal.{AreMinimal, all_pass, selection_is_minimal, stays_violation}
 use Rattle.verdicts.proofs.NamedLines.{SelectsLines, lines_are_operations, selects_as_call, selects_as_value}
-use Rattle.verdicts.proofs.NamedPlaces.{each_shown, line_there, shown_lines}
-use Rattle.verdicts.proofs.Retiming.{violation_from, chosen_back, linearizable_back, retimed, retimed_violation, same_back}
-use Rattle.verdicts.proofs.ShownLines.{call_of_line, line_of, line_of_call, same_line, value_of_line}
-use Rattle.verdicts.proofs.ShrunkEvents.{kept_timeline_are_complete, kept_is_complete_from, no_longer, operations_kept}
+use Rattle.verdicts.proofs.NamedPlaces.{each_shown, line_there, shown_lines, call_of_line, line_of, line_of_call}
+use Rattle.verdicts.proofs.NamedPlaces.{same_line, value_of_line, retimed_kind, retimed_lines, violation_at}
 use Rattle.verdicts.proofs.TrueClaims.{same_kind}
-use Rattle.verdicts.proofs.ViolationPlaces.{retimed_kind, retimed_lines, violation_at}
-
--- tests that pass together are one
-same_tests : (a b : Bool) → (a ≡ true → b ≡ true) → (b ≡ true → a ≡ true) → a ≡ b
-same_tests true b there back = sym (there refl)
-same_tests false false there back = refl
-same_tests false true there back = back refl
 
 -- whether one of the operations was called at this ticket
 abbrev pub calls_at : List Operation → ℕ → Bool
@@ -56,13 +51,12 @@ calls_are_named operations call = (
   λ at. let found = mapped_from (λ (o : Operation). o.call) operations call at in calls_at_call operations found.0 call found.1 found.2,
 )
 
--- what agrees at each element of a list is mapped to one list
-map_agree_among : {X Y : Type 0} (f g : X → Y) (xs : List X) → ((x : X) → Contains xs x → f x ≡ g x) → map f xs ≡ map g xs
-map_agree_among f g [] same = refl
-map_agree_among f g (x ∷ xs) same =
-    let here = same x (0, omega arith, refl) in
-    let more = map_agree_among f g xs (λ y among. same y (one_deeper x xs y among)) in
-    cc
+-- what is kept of the images of a list is what is kept of its elements, where that agrees
+kept_of_mapped : {X Y Z : Type 0} (f : X → Y) (g : Y → Option Z) (k : X → Option Z) (xs : List X) → ((x : X) → Contains xs x → g (f x) ≡ k x)
+    → filter_map g (map f xs) ≡ filter_map k xs
+kept_of_mapped f g k [] same = refl
+kept_of_mapped f g k (x ∷ xs) same =
+    ap₂ cons_option (same x (0, omega arith, refl)) (kept_of_mapped f g k xs (λ y among. same y (one_deeper x xs y among)))
 
 -- ---- selections of a history and of its timeline
 
@@ -104,16 +98,10 @@ module _ (whole : Contents) where
           (mapped_to (later_by (2 * length whole.initial)) whole.operations o among))
 
       all_values : filter values whole.initial ≡ whole.initial
-      all_values = elim (all_or_one values whole.initial) [
-        | inl all ↦ all
-        | inr one ↦ let clash : true ≡ false = sym (initial_passes one.0 one.1) ∙ one.2 in cc
-      ]
+      all_values = all_pass values whole.initial initial_passes
 
       all_operations : filter (selects values empties) whole.operations ≡ whole.operations
-      all_operations = elim (all_or_one (selects values empties) whole.operations) [
-        | inl all ↦ all
-        | inr one ↦ let clash : true ≡ false = sym (operation_passes one.0 one.1) ∙ one.2 in cc
-      ]
+      all_operations = all_pass (selects values empties) whole.operations operation_passes
 
 -- ---- the small history
 
@@ -178,19 +166,11 @@ module _ (whole : HistoryView) (violation : Violation) (is_whole : IsWhole whole
   value_shown o among = value_of_line n o (among_enqueues whole o (in_whole o among))
 
   values_named : (v : ℕ) → IsTrue (values v) ↔ Contains (filter_map (λ o. value_of o.kind) (lines_of full)) v
-  values_named v = (
-    λ is.
-        let found = kept value_in (violation_lines whole violation) v ((named.values_named v).0 is) in
-        let o = shown_for found.0 found.1 in
-        keeps (λ o. value_of o.kind) (lines_of full) o.0 v o.1 (sym (value_shown o.0 o.1) ∙ ap value_in o.2 ∙ found.2),
-    λ at.
-        let found = kept (λ (o : Operation). value_of o.kind) (lines_of full) v at in
-        (named.values_named v).1 (keeps value_in (violation_lines whole violation) (line_of n found.0) v (line_shown found.0 found.1)
-        (value_shown found.0 found.1 ∙ found.2)),
-  )
+  values_named v = subst (λ vs. IsTrue (values v) ↔ Contains vs v) (ap (filter_map value_in) lines_shown
+      ∙ kept_of_mapped (line_of n) value_in (λ o. value_of o.kind) (lines_of full) value_shown) (named.values_named v)
 
   calls_named : (call : ℕ) → calls call ≡ calls_at (lines_of full) (call + n)
-  calls_named call = same_tests (calls call) (calls_at (lines_of full) (call + n)) there back
+  calls_named call = same_from_decides (calls call) (calls_at (lines_of full) (call + n)) (there, back) (λ is. is, λ is. is)
     where
       there : calls call ≡ true → calls_at (lines_of full) (call + n) ≡ true
       there is =
@@ -235,7 +215,8 @@ module _ (whole : HistoryView) (violation : Violation) (is_whole : IsWhole whole
       (stays_violation (timeline_of_history whole) complete full chosen.2 values (calls_at (lines_of full)) by_lines))
 
   before : (x : FullViolation) × (retimed_violation h x ≡ full)
-  before = violation_from h rises (timeline_of_history small) complete' moved_complete full moved_chosen
+  before = violation_from (retimed h) (timeline_of_history small) full
+      (lines_are_operations (map (retimed h) (timeline_of_history small)) full (chosen_is_violation _ full moved_complete moved_chosen) moved_chosen)
 
   abbrev small_full : FullViolation
   small_full = before.0
@@ -262,13 +243,9 @@ module _ (whole : HistoryView) (violation : Violation) (is_whole : IsWhole whole
   same_lines =
       shown_lines small.initial (operations_of small.events) (violation_places small_named.0) (lines_of small_full)
       (each_shown small.initial (operations_of small.events) small_named.0 small_full small_named.1)
-      ∙ sym (map_agree_among (λ o. line_of n (retimed h o)) (line_of (2 * length small.initial)) (lines_of small_full) one_line)
-      ∙ sym (mapped (lines_of small_full)) ∙ ap (map (line_of n)) small_lines ∙ sym lines_shown
+      ∙ sym (map_agree (λ o. line_of n (retimed h o)) (line_of (2 * length small.initial)) (lines_of small_full) one_line)
+      ∙ sym (map_map (retimed h) (line_of n) (lines_of small_full)) ∙ ap (map (line_of n)) small_lines ∙ sym lines_shown
     where
-      mapped : (os : List Operation) → map (line_of n) (map (retimed h) os) ≡ map (λ o. line_of n (retimed h o)) os
-      mapped [] = refl
-      mapped (o ∷ os) = ap (λ ls. line_of n (retimed h o) ∷ ls) (mapped os)
-
       behind : (t : ℕ) → h (t + 2 * length small.initial) ≡ t + n
       behind t = ap (λ (vs : List ℕ). h (t + 2 * length vs)) selected.initial ∙ lifted_late values whole.initial t
 
@@ -305,16 +282,8 @@ module _ (whole : HistoryView) (violation : Violation) (is_whole : IsWhole whole
 
   by_small_lines : SelectsLines (lines_of small_full) values (calls_at (lines_of small_full))
   by_small_lines = record {
-    values_named = λ v. (
-      λ is.
-          let found = kept (λ (o : Operation). value_of o.kind) (lines_of full) v ((values_named v).0 is) in
-          let o = line_before found.0 found.1 in
-          keeps (λ (o : Operation). value_of o.kind) (lines_of small_full) o.0 v o.1 (ap (λ (x : Operation). value_of x.kind) o.2 ∙ found.2),
-      λ at.
-          let found = kept (λ (o : Operation). value_of o.kind) (lines_of small_full) v at in
-          (values_named v).1 (keeps (λ (o : Operation). value_of o.kind) (lines_of full) (retimed h found.0) v
-          (subst (λ os. Contains os (retimed h found.0)) small_lines (mapped_to (retimed h) (lines_of small_full) found.0 found.1)) found.2),
-    );
+    values_named = λ v. subst (λ vs. IsTrue (values v) ↔ Contains vs v) (ap (filter_map (λ o. value_of o.kind)) (sym small_lines)
+        ∙ kept_of_mapped (retimed h) (λ o. value_of o.kind) (λ o. value_of o.kind) (lines_of small_full) (λ o among. refl)) (values_named v);
     calls_named = calls_are_named (lines_of small_full);
   }
 
@@ -336,11 +305,8 @@ module _ (whole : HistoryView) (violation : Violation) (is_whole : IsWhole whole
           selects_as_call values (calls_at (lines_of small_full)) o is ∙ calls_at_call (lines_of small_full) line.0 o.call line.1 same
 
   timeline_is_minimal : AreMinimal (timeline_of_history small)
-  timeline_is_minimal = elim (all_or_one (selects values (calls_at (lines_of small_full))) (timeline_of_history small)) [
-    | inl all ↦ subst AreMinimal all
-        (selection_is_minimal (timeline_of_history small) complete' small_full small_chosen values (calls_at (lines_of small_full)) by_small_lines)
-    | inr one ↦ let clash : true ≡ false = sym (all_selected one.0 one.1) ∙ one.2 in cc
-  ]
+  timeline_is_minimal = subst AreMinimal (all_pass (selects values (calls_at (lines_of small_full))) (timeline_of_history small) all_selected)
+      (selection_is_minimal (timeline_of_history small) complete' small_full small_chosen values (calls_at (lines_of small_full)) by_small_lines)
 
   -- from the small history nothing can be left out
   pub is_minimal : IsMinimal (contents_of small)
@@ -374,55 +340,38 @@ pub record IsShrunk (whole : HistoryView) (violation : Violation) (small : Histo
   pub events : ArePartOf whole.events small.events
   pub complete : IsCompleteFrom small.initial small.events
 
--- the initial values and the events of the selected operations
-pub record AreSelected (whole : HistoryView) (values calls : ℕ → Bool) (initial : List ℕ) (events : List Event) : Type 0 where
-  pub has_values : initial ≡ filter values whole.initial
-  pub has_tickets : events ≡ filter (λ e. holds_ticket (filter (selects values calls) (operations_of whole.events)) e.ticket) whole.events
+-- the events of the selected operations
+abbrev pub selected_events : HistoryView → (ℕ → Bool) → (ℕ → Bool) → List Event
+selected_events whole values calls = filter (λ e. holds_ticket (filter (selects values calls) (operations_of whole.events)) e.ticket) whole.events
 
--- what the steps of the selection give
-pub are_selected : (whole : HistoryView) (values calls : ℕ → Bool) (initial first : List ℕ) (events : List Event)
-    → first ≡ whole.initial → initial ≡ filter values first
-    → events ≡ filter (λ e. holds_ticket (filter (selects values calls) (operations_of whole.events)) e.ticket) whole.events
-    → AreSelected whole values calls initial events
-are_selected whole values calls initial first events same_initial kept_initial kept_events =
-    record { has_values = kept_initial ∙ ap (filter values) same_initial; has_tickets = kept_events }
-
--- they are a complete history
+-- the selected initial values with them are a complete history
 pub are_complete : (whole : HistoryView) (values calls : ℕ → Bool) (initial : List ℕ) (events : List Event) → IsCompleteFrom whole.initial whole.events
-    → AreSelected whole values calls initial events → IsCompleteFrom initial events
-are_complete whole values calls initial events complete are =
-    subst (λ vs. IsCompleteFrom vs events) (sym are.has_values) (subst (IsCompleteFrom (filter values whole.initial)) (sym are.has_tickets)
+    → initial ≡ filter values whole.initial → events ≡ selected_events whole values calls → IsCompleteFrom initial events
+are_complete whole values calls initial events complete has_values has_tickets =
+    subst (λ vs. IsCompleteFrom vs events) (sym has_values) (subst (IsCompleteFrom (filter values whole.initial)) (sym has_tickets)
     (kept_is_complete_from whole.initial whole.events complete values (selects values calls)))
-
--- and no more than there were
-pub few_events : (whole : HistoryView) (values calls : ℕ → Bool) (initial : List ℕ) (events : List Event) → length whole.events ≤ MAX_EVENTS
-    → AreSelected whole values calls initial events → length events ≤ MAX_EVENTS
-few_events whole values calls initial events few are =
-    let shorter = no_longer (λ (e : Event). holds_ticket (filter (selects values calls) (operations_of whole.events)) e.ticket) whole.events in
-    let long = ap length are.has_tickets in
-    omega arith
 
 -- the small history is what is to be shrunk
 pub are_shrunk : (whole : HistoryView) (violation : Violation) (values calls : ℕ → Bool) (small : HistoryView) → IsWhole whole
     → IsChosenViolation whole.initial (operations_of whole.events) violation → SelectsNamed (violation_lines whole violation) values calls
-    → AreSelected whole values calls small.initial small.events → IsShrunk whole violation small
-are_shrunk whole violation values calls small is_whole chosen named are = record {
+    → small.initial ≡ filter values whole.initial → small.events ≡ selected_events whole values calls → IsShrunk whole violation small
+are_shrunk whole violation values calls small is_whole chosen named has_values has_tickets = record {
   kept = keeps_violation whole violation is_whole chosen values calls named small is_small selected;
   same_violation = stays whole violation is_whole chosen values calls named small is_small selected;
   minimal = is_minimal whole violation is_whole chosen values calls named small is_small selected;
-  initial = (values, are.has_values);
-  events = (λ e. holds_ticket (filter (selects values calls) (operations_of whole.events)) e.ticket, are.has_tickets);
+  initial = (values, has_values);
+  events = (λ e. holds_ticket (filter (selects values calls) (operations_of whole.events)) e.ticket, has_tickets);
   complete = is_small.complete;
 }
   where
     is_small : IsWhole small
     is_small = record {
-      complete = are_complete whole values calls small.initial small.events is_whole.complete are;
-      few = let shorter = no_longer values whole.initial in let long = ap length are.has_values in omega (arith, is_whole.few);
+      complete = are_complete whole values calls small.initial small.events is_whole.complete has_values has_tickets;
+      few = let shorter = no_longer values whole.initial in let long = ap length has_values in omega (arith, is_whole.few);
     }
 
     selected : IsSelectedBy whole values calls small
     selected = record {
-      initial = are.has_values;
-      operations = ap operations_of are.has_tickets ∙ operations_kept whole.initial whole.events is_whole.complete values (selects values calls);
+      initial = has_values;
+      operations = ap operations_of has_tickets ∙ operations_kept whole.initial whole.events is_whole.complete values (selects values calls);
     }

@@ -15,19 +15,16 @@ use Rattle.verdicts.specs.declared.verdict.Verdict.TheVariants as found
 use Rattle.verdicts.specs.Claims.{kind_of}
 use Rattle.verdicts.specs.Laws.{EvidenceIsTrueClaim}
 use Rattle.verdicts.proofs.NamedPlaces.{IsShownAt, each_shown, shown_lines}
-use Rattle.verdicts.proofs.ShownLines.{accepted_value, early_line, later_line, line_of}
+use Rattle.verdicts.proofs.NamedPlaces.{accepted_value, early_line, later_line, line_of}
 
 -- a violation and the operations that it names are of one kind
 pub same_kind : (initial : List ℕ) (operations : List Operation) (violation : Violation) (full : FullViolation) → Names initial operations violation full
     → violation_kind violation ≡ kind_of full
 same_kind initial operations (Fresh deq enq) (fresh d e) names = refl
-same_kind initial operations (Fresh deq enq) _ names = absurd names
 same_kind initial operations (Repeat enq first second) (repeat e d d') names = refl
-same_kind initial operations (Repeat enq first second) _ names = absurd names
 same_kind initial operations (Order enq_a enq_b deq_b deq_a) (order a b d d') names = refl
-same_kind initial operations (Order enq_a enq_b deq_b deq_a) _ names = absurd names
 same_kind initial operations (Witness empty cover) (witness o lives) names = refl
-same_kind initial operations (Witness empty cover) _ names = absurd names
+same_kind initial operations _ _ names = absurd names
 
 -- ---- the lines of a `NO`
 
@@ -97,13 +94,12 @@ shown_among initial operations (p ∷ places) (x ∷ listed) each o among = elim
 pub operations_there : (operations : List Operation) (places : List ℕ) (listed : List Operation) → ArePlacesOf operations places listed
     → operations_at operations places ≡ listed
 operations_there operations [] [] at = refl
-operations_there operations [] (o ∷ listed) at = absurd (cc)
-operations_there operations (p ∷ places) [] at = absurd (cc)
 operations_there operations (p ∷ places) (o ∷ listed) at =
     let first : slice_get operations p ≡ Some o = cc in
     let later : map (slice_get operations) places ≡ map (λ o. Some o) listed = cc in
     ap (λ (x : Option Operation). cons_option x (operations_at operations places)) first
     ∙ ap (λ (r : List Operation). o ∷ r) (operations_there operations places listed later)
+operations_there operations _ _ at = cc
 
 -- the claim of evidence is so
 pub evidence_is_true : EvidenceIsTrueClaim

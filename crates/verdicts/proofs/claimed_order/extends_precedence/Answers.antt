@@ -1,4 +1,4 @@
-use Rattle.verdicts.proofs.ClaimedOrders.{extended_none, extended_at, not_extended_at}
+use Rattle.verdicts.proofs.ClaimedLines.{extended_none, extended_at, not_extended_at}
 use Rattle.verdicts.proofs.claimed_order.extends_precedence.Goals as goal
 
 pub loop-line-init : goal.loop-line-init

@@ -1,4 +1,4 @@
-use Rattle.verdicts.proofs.ClaimedOrders.{HasExtended}
+use Rattle.verdicts.proofs.ClaimedLines.{HasExtended}
 use Rattle.verdicts.proofs.claimed_order.extends_precedence.Given as goal
 
 abbrev pub invariant-loop-line : goal.invariant-loop-line

@@ -1,4 +1,4 @@
-use Rattle.verdicts.proofs.ClaimedOrders.{accepted_more}
+use Rattle.verdicts.proofs.ClaimedLines.{accepted_more}
 use Rattle.verdicts.proofs.claimed_order.is_accepted.Goals as goal
 
 pub loop-line-preserved : goal.loop-line-preserved

@@ -1,5 +1,5 @@
 use Rattle.verdicts.proofs.Common.{◌∙◌}
-use Rattle.verdicts.proofs.ClaimedViolations.{is_life}
+use Rattle.verdicts.proofs.ClaimedLines.{is_life}
 use Rattle.verdicts.proofs.claimed_violation.is_life_from.Goals as goal
 use Rattle.verdicts.proofs.claimed_violation.is_life_from.Goals.{then-did, else-did}
 

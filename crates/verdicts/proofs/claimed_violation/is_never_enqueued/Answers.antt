@@ -1,5 +1,5 @@
 use Rattle.verdicts.proofs.Common.{◌∙◌, sym}
-use Rattle.verdicts.proofs.ClaimedViolations.{is_never_enqueued}
+use Rattle.verdicts.proofs.ClaimedLines.{is_never_enqueued}
 use Rattle.verdicts.proofs.claimed_violation.is_never_enqueued.Goals as goal
 use Rattle.verdicts.proofs.claimed_violation.is_never_enqueued.Goals.{then-did, else-did}
 

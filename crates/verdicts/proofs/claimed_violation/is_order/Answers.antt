@@ -1,5 +1,5 @@
 use Rattle.verdicts.proofs.Common.{◌∙◌, sym}
-use Rattle.verdicts.proofs.ClaimedViolations.{is_order}
+use Rattle.verdicts.proofs.ClaimedLines.{is_order}
 use Rattle.verdicts.proofs.claimed_violation.is_order.Goals as goal
 use Rattle.verdicts.proofs.claimed_violation.is_order.Goals.{then-are_enqueued_in_turn, else-are_enqueued_in_turn}
 

@@ -1,5 +1,5 @@
 use Rattle.verdicts.proofs.Common.{◌∙◌, arith, lt-ltb, ltb-true, sym, take_rest}
-use Rattle.verdicts.proofs.ClaimedViolations.{through}
+use Rattle.verdicts.proofs.ClaimedLines.{through}
 use Rattle.verdicts.proofs.ClaimedLines.{more_lines_cover, no_life_covers, no_lines_cover, none_stands_for_cover, one_line_covers, two_lines_cover}
 use Rattle.verdicts.proofs.claimed_violation.shows_cover.Goals as goal
 

@@ -1,5 +1,5 @@
 use Rattle.verdicts.proofs.Common.{◌↔◌, arith, IsTrue, subst, ShowsKind, VFresh}
-use Rattle.verdicts.proofs.ClaimedLines.{fresh_has_lines, one_line, two_lines}
+use Rattle.verdicts.proofs.ClaimedLines.{has_lines, one_line, two_lines}
 use Rattle.verdicts.proofs.claimed_violation.shows_fresh.Goals as goal
 
 pub returns-in-len1 : goal.returns-in-len1
@@ -15,11 +15,11 @@ returns-in-len2 c =
 pub returns-in_default : goal.returns-in_default
 returns-in_default c = (
   λ f. cc,
-  λ shows. absurd (let few = (fresh_has_lines c.args.operations.now c.args.lines.now shows).0 in omega (arith, few, c.in_default.len_below)),
+  λ shows. absurd (let few = (has_lines c.args.operations.now VFresh c.args.lines.now shows).0 in omega (arith, few, c.in_default.len_below)),
 )
 
 pub returns-in_default-2 : goal.returns-in_default-2
 returns-in_default-2 c = (
   λ f. cc,
-  λ shows. absurd (let few = (fresh_has_lines c.args.operations.now c.args.lines.now shows).1 in omega (arith, few, c.in_default.len_at_least)),
+  λ shows. absurd (let few = (has_lines c.args.operations.now VFresh c.args.lines.now shows).1 in omega (arith, few, c.in_default.len_at_least)),
 )

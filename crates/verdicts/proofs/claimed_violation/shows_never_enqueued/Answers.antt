@@ -1,11 +1,11 @@
-use Rattle.verdicts.proofs.Common.{[], ◌∙◌, ◌∷◌, arith, sym, VFresh}
-use Rattle.verdicts.proofs.ClaimedViolations.{through}
-use Rattle.verdicts.proofs.ClaimedLines.{one_line_fresh_is, shown_by_none}
+use Rattle.verdicts.proofs.Common.{fresh, None, ◌∷◌, [], ◌∙◌, arith, sym, VFresh}
+use Rattle.verdicts.proofs.ClaimedLines.{through, lines_show, shown_by_none}
 use Rattle.verdicts.proofs.claimed_violation.shows_never_enqueued.Goals as goal
 
 pub returns-in-Some : goal.returns-in-Some
 returns-in-Some c =
-    through c.is_never_enqueued.ensures (one_line_fresh_is c.args.operations.now c.args.deq c.in-Some.deq (sym c.shown_by.ensures ∙ c.in-Some.is))
+    through c.is_never_enqueued.ensures (lines_show c.args.operations.now (fresh c.in-Some.deq None) (c.args.deq ∷ []) (λ same. cc)
+    (λ i. (sym c.shown_by.ensures ∙ c.in-Some.is) i ∷ []))
 
 pub returns-in-None : goal.returns-in-None
 returns-in-None c = (

@@ -1,6 +1,5 @@
-use Rattle.verdicts.proofs.Common.{◌-◌, ◌∙◌, ◌≡◌, arith, drop, length, length-drop, sym, take_rest}
-use Rattle.verdicts.proofs.ClaimedViolations.{through}
-use Rattle.verdicts.proofs.ClaimedLines.{four_lines_order_are, order_has_lines, three_lines_order_are}
+use Rattle.verdicts.proofs.Common.{VOrd, ◌-◌, ◌∙◌, ◌≡◌, arith, drop, length, length-drop, sym, take_rest}
+use Rattle.verdicts.proofs.ClaimedLines.{through, four_lines_order_are, has_lines, three_lines_order_are}
 use Rattle.verdicts.proofs.claimed_violation.shows_order.Goals as goal
 
 pub returns-in-empty : goal.returns-in-empty
@@ -26,11 +25,11 @@ returns-in_default-rest c =
     let long = rw take_rest at c.in_default-rest.len_at_least in
     let rest : length (drop 3 c.args.lines.now) ≡ length c.args.lines.now - 3 = length-drop 3 c.args.lines.now in (
       λ f. cc,
-      λ shows. absurd (let few = (order_has_lines c.args.operations.now c.args.lines.now shows).1 in omega (arith, few, long, rest)),
+      λ shows. absurd (let few = (has_lines c.args.operations.now VOrd c.args.lines.now shows).1 in omega (arith, few, long, rest)),
     )
 
 pub returns-in_default : goal.returns-in_default
 returns-in_default c = (
   λ f. cc,
-  λ shows. absurd (let few = (order_has_lines c.args.operations.now c.args.lines.now shows).0 in omega (arith, few, c.in_default.len_below)),
+  λ shows. absurd (let few = (has_lines c.args.operations.now VOrd c.args.lines.now shows).0 in omega (arith, few, c.in_default.len_below)),
 )

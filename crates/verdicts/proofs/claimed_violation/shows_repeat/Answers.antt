@@ -1,6 +1,5 @@
-use Rattle.verdicts.proofs.Common.{◌∙◌, arith, sym}
-use Rattle.verdicts.proofs.ClaimedViolations.{through}
-use Rattle.verdicts.proofs.ClaimedLines.{repeat_has_lines, three_lines_repeat_are}
+use Rattle.verdicts.proofs.Common.{VRepeat, ◌∙◌, arith, sym}
+use Rattle.verdicts.proofs.ClaimedLines.{through, has_lines, three_lines_repeat_are}
 use Rattle.verdicts.proofs.claimed_violation.shows_repeat.Goals as goal
 
 pub returns : goal.returns
@@ -13,5 +12,5 @@ returns c =
 pub returns-in_default : goal.returns-in_default
 returns-in_default c = (
   λ f. cc,
-  λ shows. absurd (let three = repeat_has_lines c.args.operations.now c.args.lines.now shows in omega (arith, three, c.in_default.len_below)),
+  λ shows. absurd (let three = has_lines c.args.operations.now VRepeat c.args.lines.now shows in omega (arith, three, c.in_default.len_below)),
 )

@@ -1,5 +1,5 @@
 use Rattle.verdicts.proofs.Common.{◌∙◌, ap, sym, line_at}
-use Rattle.verdicts.proofs.FoundLines.{found_none, found_one}
+use Rattle.verdicts.proofs.Collected.{found_none, found_one}
 use Rattle.verdicts.proofs.claiming.lines_at.Goals as goal
 use Rattle.verdicts.proofs.claiming.lines_at.Goals.{in-Some+in_ok-push, in_default}
 

@@ -1,8 +1,9 @@
 use Rattle.verdicts.proofs.Common.{◌∙◌, ◌≡◌, ap, arith, contains, IfOk-weaker, length, nat_cmp, subst}
 use Rattle.verdicts.proofs.Common.{timeline_is_of_complete, operations_of, SelectsNamed, violation_lines}
-use Rattle.verdicts.proofs.ChosenSelections.{has_shortest_cover}
+use Rattle.verdicts.proofs.Selections.{has_shortest_cover}
 use Rattle.verdicts.proofs.ShrunkEvents.{no_longer}
-use Rattle.verdicts.proofs.ShrunkHistories.{IsShrunk, IsWhole, are_complete, are_selected, are_shrunk, few_events}
+use Rattle.verdicts.proofs.ShrunkHistories.{IsShrunk, IsWhole, are_complete, are_shrunk}
+use Rattle.verdicts.proofs.Common.{filter, selects, holds_ticket, Event}
 use Rattle.verdicts.proofs.shrinking.shrink.Goals as goal
 
 pub history_of-requires-clause-few_initial : goal.history_of-requires-clause-few_initial
@@ -13,19 +14,17 @@ history_of-requires-clause-few_initial c =
 pub history_of-requires-clause-few_events : goal.history_of-requires-clause-few_events
 history_of-requires-clause-few_events c =
     let selection = c.in_ok-selection.selection in
-    let are = are_selected c.args.history.now (contains nat_cmp selection.values) (contains nat_cmp selection.calls) c.in_ok-initial.initial.items
-    c.initial.result.now c.in_ok-events.events.items c.initial.ensures.initial c.in_ok-initial.ensures c.in_ok-events.ensures.kept in
-    let few = few_events c.args.history.now (contains nat_cmp selection.values) (contains nat_cmp selection.calls) c.in_ok-initial.initial.items
-    c.in_ok-events.events.items c.in_ok-events.ensures.few are in
-    omega arith
+    let selected = selects (contains nat_cmp selection.values) (contains nat_cmp selection.calls) in
+    let tickets = holds_ticket (filter selected (operations_of c.args.history.now.events)) in
+    let shorter = no_longer (λ (e : Event). tickets e.ticket) c.args.history.now.events in
+    omega (arith, ap length c.in_ok-events.ensures.kept, c.in_ok-events.ensures.few)
 
 pub history_of-requires-clause-complete : goal.history_of-requires-clause-complete
 history_of-requires-clause-complete c =
     let selection = c.in_ok-selection.selection in
     rw c.as_slice-2.ensures.value (are_complete c.args.history.now (contains nat_cmp selection.values) (contains nat_cmp selection.calls) c.in_ok-initial.initial.items
     c.in_ok-events.events.items c.initial.ensures.complete
-    (are_selected c.args.history.now (contains nat_cmp selection.values) (contains nat_cmp selection.calls) c.in_ok-initial.initial.items
-    c.initial.result.now c.in_ok-events.events.items c.initial.ensures.initial c.in_ok-initial.ensures c.in_ok-events.ensures.kept))
+    (c.in_ok-initial.ensures ∙ ap (filter (contains nat_cmp selection.values)) c.initial.ensures.initial) c.in_ok-events.ensures.kept)
 
 pub returns : goal.returns
 returns c =
@@ -35,16 +34,14 @@ returns c =
     let values = contains nat_cmp selection.values in
     let calls = contains nat_cmp selection.calls in
     let initial = c.in_ok-initial.initial.items in
-    let events = c.in_ok-events.events.items in
     let is_whole : IsWhole whole = record { complete = c.initial.ensures.complete; few = c.initial.ensures.few } in
     let named : SelectsNamed (violation_lines whole violation) values calls =
     subst (λ lines. SelectsNamed lines values calls) (c.as_slice.ensures.value ∙ c.in_ok-lines.ensures) c.in_ok-selection.ensures in
-    let are = are_selected whole values calls initial c.initial.result.now events c.initial.ensures.initial c.in_ok-initial.ensures
-    c.in_ok-events.ensures.kept in
     let small = c.history_of.result in
     let shrunk = IfOk-weaker small (λ s. (s.initial ≡ initial) × (s.events ≡ c.as_slice-2.result.now)) (IsShrunk whole violation)
     (λ s same. are_shrunk whole violation values calls s is_whole c.requires named
-    (record { has_values = same.0 ∙ are.has_values; has_tickets = same.1 ∙ c.as_slice-2.ensures.value ∙ are.has_tickets })) c.history_of.ensures in
+    (same.0 ∙ c.in_ok-initial.ensures ∙ ap (filter values) c.initial.ensures.initial)
+    (same.1 ∙ c.as_slice-2.ensures.value ∙ c.in_ok-events.ensures.kept)) c.history_of.ensures in
     record {
       kept = IfOk-weaker small (IsShrunk whole violation) _ (λ s is. is.kept) shrunk;
       same_violation = IfOk-weaker small (IsShrunk whole violation) _ (λ s is. is.same_violation) shrunk;

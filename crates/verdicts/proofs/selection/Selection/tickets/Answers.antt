@@ -1,6 +1,6 @@
 use Rattle.verdicts.proofs.Common.{[], ◌++◌, ◌∙◌, ◌∷◌, ◌≡◌, ap, append_assoc, append-nil, contains, filter, List, nat_cmp, rules, sym, holds_ticket}
 use Rattle.verdicts.proofs.Common.{Operation, selects}
-use Rattle.verdicts.proofs.HeldTickets.{held_more, held_same}
+use Rattle.verdicts.proofs.Collected.{held_more, held_same}
 use Rattle.verdicts.proofs.selection.Selection.tickets.Goals as goal
 
 pub loop-operation-init : goal.loop-operation-init

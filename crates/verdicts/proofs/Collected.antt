@@ -1,0 +1,61 @@
+-- What loops and `collect` gather: what is found at places, a set of numbers, the tickets of selected operations.
+use Rattle.verdicts.proofs.Common.{[], ◌++◌, ◌+◌, ◌<◌, ◌∙◌, ◌∷◌, ◌≡◌, ap, append-nil, cons_option, filter_map}
+use Rattle.verdicts.proofs.Common.{filter_map-append, get_or, length, List, None, Option, Some, sym, take, take_more}
+use Rattle.verdicts.proofs.Common.{ℕ, ◌↔◌, BTreeSet, Contains, contains, IfOk, IfOk-weaker, IsFromIterResult, IsTrue}
+use Rattle.verdicts.proofs.Common.{nat_cmp, Result, arith, ◌||◌, ap₂, Bool, cond, false, filter, is_eq}
+use Rattle.verdicts.proofs.Common.{list_any-append, nat_eq, true, holds_ticket, Operation}
+use Rattle.std.proofs.lemmas.Cmp.{nat_cmp_total}
+use Rattle.std.proofs.lemmas.Map.Lookups.{exact_unsigned}
+use Rattle.std.proofs.lemmas.Map.Views.{btree_set_contains_from_list}
+use Rattle.std.proofs.Math.Bool.{or-false}
+use Rattle.std.proofs.lemmas.List.Elements.{filter-append}
+use Rattle.history_merge.proofs.KnownValues.{is_eq-nat_cmp}
+
+module _ {X Y : Type 0} (find : X → Option Y) (xs : List X) (i : ℕ) (d : X) (before : List Y) (within : i < length xs)
+    (was : before ≡ filter_map find (take i xs)) where
+  one_more : filter_map find (take (i + 1) xs) ≡ before ++ cons_option (find (get_or xs i d)) []
+  one_more =
+      ap (filter_map find) (take_more xs i d within) ∙ filter_map-append find (take i xs) (get_or xs i d ∷ [])
+      ∙ ap (λ (ys : List Y). ys ++ cons_option (find (get_or xs i d)) []) (sym was)
+
+  -- something is found at the next place
+  pub found_one : (y : Y) (now : List Y) → find (get_or xs i d) ≡ Some y → now ≡ before ++ y ∷ [] → now ≡ filter_map find (take (i + 1) xs)
+  found_one y now is pushed = pushed ∙ sym (one_more ∙ ap (λ (r : Option Y). before ++ cons_option r []) is)
+
+  -- nothing is found there
+  pub found_none : find (get_or xs i d) ≡ None → before ≡ filter_map find (take (i + 1) xs)
+  found_none is = sym (one_more ∙ ap (λ (r : Option Y). before ++ cons_option r []) is ∙ append-nil before)
+
+-- it holds the numbers of the list and no others
+pub holds_found : {E : Type 0} (result : Result (BTreeSet ℕ) E) (found : List ℕ) → IfOk result (IsFromIterResult nat_cmp found)
+    → IfOk result (λ set. (n : ℕ) → IsTrue (contains nat_cmp set n) ↔ Contains found n)
+holds_found result found =
+    IfOk-weaker result (IsFromIterResult nat_cmp found) _ (btree_set_contains_from_list nat_cmp_total exact_unsigned found)
+
+-- one more operation: its tickets are held where it is selected
+held_with : (test : Operation → Bool) (seen : List Operation) (o : Operation) (t : ℕ) (passes : Bool) → test o ≡ passes
+    → holds_ticket (filter test (seen ++ o ∷ [])) t ≡ (holds_ticket (filter test seen) t || holds_ticket (cond passes (o ∷ []) []) t)
+held_with test seen o t passes is =
+    ap (λ (kept : List Operation). holds_ticket kept t) (filter-append test seen (o ∷ []))
+    ∙ list_any-append (λ (x : Operation). nat_eq x.call t || nat_eq x.ret t) (filter test seen) (cond (test o) (o ∷ []) [])
+    ∙ ap (λ (b : Bool). holds_ticket (filter test seen) t || holds_ticket (cond b (o ∷ []) []) t) is
+
+-- one more operation that isn't selected
+pub held_same : (test : Operation → Bool) (seen : List Operation) (o : Operation) (t : ℕ) (before : Bool) → test o ≡ false
+    → before ≡ holds_ticket (filter test seen) t → before ≡ holds_ticket (filter test (seen ++ o ∷ [])) t
+held_same test seen o t before is was = was ∙ sym (or-false (holds_ticket (filter test seen) t)) ∙ sym (held_with test seen o t false is)
+
+-- one more that is, whose tickets are put into the set
+pub held_more : (test : Operation → Bool) (seen : List Operation) (o : Operation) (t : ℕ) (before called now : Bool)
+    → test o ≡ true → before ≡ holds_ticket (filter test seen) t
+    → called ≡ cond (is_eq (nat_cmp o.call t)) true before
+    → now ≡ cond (is_eq (nat_cmp o.ret t)) true called
+    → now ≡ holds_ticket (filter test (seen ++ o ∷ [])) t
+held_more test seen o t before called now is was calls returns =
+    returns
+    ∙ ap₂ (λ (b c : Bool). cond b true c) (is_eq-nat_cmp o.ret t) (calls ∙ ap₂ (λ (b c : Bool). cond b true c) (is_eq-nat_cmp o.call t) was)
+    ∙ either (nat_eq o.call t) (nat_eq o.ret t) (holds_ticket (filter test seen) t)
+    ∙ sym (held_with test seen o t true is)
+  where
+    either : (c r h : Bool) → cond r true (cond c true h) ≡ (h || ((c || r) || false))
+    either c r h = grind arith
