@@ -1,15 +1,11 @@
 -- Spans that are apart, and one more.
-use Rattle.std.proofs.Common.{◌≡◌, ℕ, ◌+◌, ◌<◌, ◌≤◌, ◌⊎◌, max, List, [], ◌∷◌, ◌++◌, length, get_or}
-use Rattle.std.proofs.Common.{Some, refl, sym, ◌∙◌, ap, subst, inl, inr, arith}
-use Rattle.std.proofs.Common.{length-append, length-take-le, set, take}
-use Rattle.std.specs.Prelude.{All, AllPairs}
-use Rattle.std.proofs.lemmas.List.{get_or_append_left, get_or_push, set_at, take_all}
-use Rattle.std.proofs.lemmas.List.Elements.{All-pop, All-push, All-weaker, Contains-append_left, Contains-push, Contains-push_cases}
+use Rattle.empty_witness.proofs.Common.{[], All, All-pop, All-push, All-weaker, ap, AreApart, arith}
+use Rattle.empty_witness.proofs.Common.{Contains-append_left, Contains-push, Contains-push_cases, get_or}
+use Rattle.empty_witness.proofs.Common.{get_or_append_left, get_or_push, Holds, inl, inr, IsOfBoth, IsWithSpan, length}
+use Rattle.empty_witness.proofs.Common.{length-append, length-take-le, LiesIn, List, max, one_more, refl, set, set_at}
+use Rattle.empty_witness.proofs.Common.{Some, Span, subst, sym, take, take_all, ℕ, ◌++◌, ◌+◌, ◌<◌, ◌∙◌, ◌∷◌, ◌≡◌, ◌≤◌}
+use Rattle.empty_witness.proofs.Common.{◌⊎◌}
 use Rattle.std.proofs.lemmas.List.Quantifiers.{all_pairs_push}
-use Rattle.value_match.proofs.Lists.{one_more}
-use Rattle.empty_witness.specs.declared.spans.Span.{Span}
-use Rattle.empty_witness.specs.Spans.{Holds, LiesIn, AreApart}
-use Rattle.empty_witness.specs.Inner.Spans.{IsOfBoth, IsWithSpan}
 
 lies_left : (xs : List Span) (x : Span) (c : ℕ) → LiesIn xs c → LiesIn (xs ++ x ∷ []) c
 lies_left xs x c lies = (lies.0, Contains-append_left xs (x ∷ []) lies.0 lies.1, lies.2)
@@ -30,14 +26,14 @@ module _ (xs : List Span) (x : Span) (are : AreApart (xs ++ x ∷ [])) where
 
   -- those before it are apart
   pub apart_before : AreApart xs
-  apart_before = record { hold_some = some_hold.0; apart = apart }
-    where
-      apart : AllPairs (λ s t. s.end < t.start) xs
-      apart i j d less within =
-          let pair = are.apart i j d less (let long = length-append xs (x ∷ []) in omega arith) in
-          let first = ap (λ (s : Span). s.end) (get_or_append_left xs (x ∷ []) d i (omega arith)) in
-          let second = ap (λ (s : Span). s.start) (get_or_append_left xs (x ∷ []) d j within) in
-          omega (arith, pair, first, second)
+  apart_before = record {
+    hold_some = some_hold.0;
+    apart = λ i j d less within.
+        let pair = are.apart i j d less (let long = length-append xs (x ∷ []) in omega arith) in
+        let first = ap (λ (s : Span). s.end) (get_or_append_left xs (x ∷ []) d i (omega arith)) in
+        let second = ap (λ (s : Span). s.start) (get_or_append_left xs (x ∷ []) d j within) in
+        omega (arith, pair, first, second);
+  }
 
   -- they end before it
   pub end_before : All (λ s. s.end < x.start) xs

@@ -1,24 +1,17 @@
 -- The empty dequeues by their places, and one more of them in a scan.
-use Rattle.std.proofs.Common.{◌≡◌, ℕ, zero, suc, ◌+◌, ◌<◌, ◌≤◌, true, false, List, [], ◌∷◌}
-use Rattle.std.proofs.Common.{◌++◌, length, get_or, take, drop, map, Option, Some, None}
-use Rattle.std.proofs.Common.{refl, sym, subst, inl, inr, arith}
-use Rattle.std.specs.Prelude.{All, Contains, filter, slice_get, MatchOption, is_none}
-use Rattle.history_merge.proofs.Distinct.{one_at}
-use Rattle.std.specs.List.{AllZip}
-use Rattle.std.proofs.lemmas.List.{append_assoc, get_or_default, take-append-drop}
-use Rattle.std.proofs.lemmas.List.Elements.{All-nil, All-push, All-append, All-weaker, All-contains, All-get_or, All-from_get_or, Contains-get_or}
-use Rattle.history_merge.specs.declared.operation.Operation.{Operation}
+use Rattle.empty_witness.proofs.Common.{[], All, All-append, All-contains, All-get_or, All-nil}
+use Rattle.empty_witness.proofs.Common.{All-push, AllZip, AllZip-get_or, AreGapsAt, AreLeastFreeGaps, arith, Contains}
+use Rattle.empty_witness.proofs.Common.{Contains-get_or, Did, drop, Empty, false, filter, get_or}
+use Rattle.empty_witness.proofs.Common.{get_or_default, HoldsPlaces, inl, inr, is_empty_answer, is_empty_kind, is_none}
+use Rattle.empty_witness.proofs.Common.{IsAt, IsChosenCover, IsChosenWitness, IsCovered, IsEmptyAnswerAt}
+use Rattle.empty_witness.proofs.Common.{IsFirstCovered, IsLeastFreeGap, IsSoonerOf, length, Life, List, map}
+use Rattle.empty_witness.proofs.Common.{MatchOption, None, one_at, one_deeper, one_more, one_more_zipped}
+use Rattle.empty_witness.proofs.Common.{Operation, Option, passed_filter, passes_filter, refl, slice_get, Some, subst}
+use Rattle.empty_witness.proofs.Common.{suc, sym, take, take-append-drop, true, zero, ℕ, ◌++◌, ◌+◌, ◌<◌, ◌∷◌, ◌≡◌, ◌≤◌}
+use Rattle.std.proofs.lemmas.List.{append_assoc}
 use Rattle.history_merge.specs.declared.operation.OpKind.{OpKind}
-use Rattle.history_merge.specs.declared.operation.OpKind.TheVariants.{Enq, Deq, Empty, Not}
-use Rattle.history_merge.specs.Operations.{Did, IsAt}
 use Rattle.history_merge.specs.Legal.{ArePlacesOf}
-use Rattle.value_match.specs.declared.life.Life.{Life}
-use Rattle.value_match.specs.Choice.{IsChosenCover, IsChosenWitness}
-use Rattle.value_match.specs.Lives.{IsCovered, IsLeastFreeGap, AreLeastFreeGaps, HoldsPlaces, is_empty_kind, is_empty_answer}
-use Rattle.value_match.proofs.Lists.{one_deeper, one_more, one_more_zipped, passes_filter, passed_filter}
 use Rattle.empty_witness.specs.declared.search.EmptyAnswer.{EmptyAnswer}
-use Rattle.empty_witness.specs.Answers.{IsEmptyAnswerAt, AreGapsAt}
-use Rattle.empty_witness.specs.Covered.{IsSoonerOf, IsFirstCovered}
 
 -- the operation that a place of a list of places names
 pub listed_at : (operations : List Operation) (places : List ℕ) (listed : List Operation) (i p : ℕ) → ArePlacesOf operations places listed
@@ -35,9 +28,7 @@ listed_at operations (q ∷ places) (o ∷ listed) (suc i) p named within is =
 
 kind_of_empty : (k : OpKind) → is_empty_kind k ≡ true → k ≡ Empty
 kind_of_empty Empty is = refl
-kind_of_empty (Enq v) is = cc
-kind_of_empty (Deq v) is = cc
-kind_of_empty (Not v) is = cc
+kind_of_empty _ is = cc
 
 -- one of the empty dequeues is an operation that was answered so
 pub is_empty_did : (operations : List Operation) (o : Operation) → Contains (filter is_empty_answer operations) o → Did operations o Empty
@@ -49,15 +40,12 @@ empty_is_listed operations o did = passes_filter is_empty_answer operations o (r
 
 -- at each of the places stands an empty dequeue
 pub places_are_empty : (operations : List Operation) (places : List ℕ) → HoldsPlaces operations is_empty_answer places → All (IsEmptyAnswerAt operations) places
-places_are_empty operations places named = All-from_get_or (IsEmptyAnswerAt operations) places 0 at
-  where
-    at : (i : ℕ) → i < length places → IsEmptyAnswerAt operations (get_or places i 0)
-    at i within =
-        let found = listed_at operations places (filter is_empty_answer operations) i (get_or places i 0) named within
-        (get_or_default places i 0 (get_or places i 0) within) in
-        let among = subst (Contains (filter is_empty_answer operations)) (sym found.3)
-        (Contains-get_or (filter is_empty_answer operations) i found.0 found.2) in
-        (found.0, found.1, (is_empty_did operations found.0 among).1)
+places_are_empty operations places named i d within =
+    let found = listed_at operations places (filter is_empty_answer operations) i (get_or places i d) named within
+    (get_or_default places i d (get_or places i d) within) in
+    let among = subst (Contains (filter is_empty_answer operations)) (sym found.3)
+    (Contains-get_or (filter is_empty_answer operations) i found.0 found.2) in
+    (found.0, found.1, (is_empty_did operations found.0 among).1)
 
 -- at the i-th of the places stands an empty dequeue
 pub answer_is_empty : (operations : List Operation) (places : List ℕ) (i place : ℕ) → All (IsEmptyAnswerAt operations) places → i < length places
@@ -99,85 +87,63 @@ module _ (operations : List Operation) where
   abbrev ReturnsLater : EmptyAnswer → ℕ → Type 0
   ReturnsLater answer place = (o : Operation) → IsAt operations place o → IsCovered operations o → answer.operation.ret ≤ o.ret
 
-  abbrev IsFree : ℕ → Type 0
-  IsFree place = (o : Operation) → IsAt operations place o → ¬ (IsCovered operations o)
-
   abbrev HasGap : ℕ → ℕ → Type 0
   HasGap place c = (o : Operation) × IsAt operations place o × IsLeastFreeGap operations o c
 
-  -- an answer whose window is covered
-  pub record IsCoveredAnswer (answer : EmptyAnswer) : Type 0 where
-    pub at : IsAt operations answer.place answer.operation
-    pub is_empty : Did operations answer.operation Empty
-    pub is_covered : IsCovered operations answer.operation
-
-  first_of : (places : List ℕ) (answer : EmptyAnswer) → IsCoveredAnswer answer → All (ReturnsLater answer) places → IsFirstCovered operations places answer
-  first_of places answer is first = record { at = is.at; is_empty = is.is_empty; is_covered = is.is_covered; first = first }
-
-  covered_of : (places : List ℕ) (answer : EmptyAnswer) → IsFirstCovered operations places answer → IsCoveredAnswer answer
-  covered_of places answer is = record { at = is.at; is_empty = is.is_empty; is_covered = is.is_covered }
-
   -- if each has a gap none is covered
-  gap_is_free : (place c : ℕ) → HasGap place c → IsFree place
-  gap_is_free place c has o at = free_is_not_covered operations o c
-      (subst (λ x. IsLeastFreeGap operations x c) (one_at operations place has.0 o has.1 at) has.2)
+  gaps_come_later : (answer : EmptyAnswer) (places gaps : List ℕ) → AreGapsAt operations places gaps → All (ReturnsLater answer) places
+  gaps_come_later answer places gaps zip i d within o at covered =
+      let has = AllZip-get_or HasGap places gaps i d 0 zip within in
+      absurd (free_is_not_covered operations o (get_or gaps i 0)
+      (subst (λ x. IsLeastFreeGap operations x (get_or gaps i 0)) (one_at operations (get_or places i d) has.0 o has.1 at) has.2) covered)
 
-  gaps_are_free : (places gaps : List ℕ) → AreGapsAt operations places gaps → All IsFree places
-  gaps_are_free [] gaps zip = All-nil IsFree
-  gaps_are_free (place ∷ places) [] zip = absurd zip
-  gaps_are_free (place ∷ places) (c ∷ gaps) zip = All-append IsFree (place ∷ []) places
-      (All-push IsFree [] place (All-nil IsFree) (gap_is_free place c zip.0)) (gaps_are_free places gaps zip.1)
-
-  later_than_free : (answer : EmptyAnswer) (places : List ℕ) → All IsFree places → All (ReturnsLater answer) places
-  later_than_free answer places free = All-weaker IsFree (ReturnsLater answer) (λ place not o at covered. absurd (not o at covered)) places free
-
-  later_than_later : (a r : EmptyAnswer) (places : List ℕ) → r.operation.ret ≤ a.operation.ret → All (ReturnsLater a) places → All (ReturnsLater r) places
-  later_than_later a r places le later = All-weaker (ReturnsLater a) (ReturnsLater r)
-      (λ place before o at covered. further place o (before o at covered)) places later
-    where
-      further : (place : ℕ) (o : Operation) → a.operation.ret ≤ o.ret → r.operation.ret ≤ o.ret
-      further place o far = omega (arith, le, far)
+  -- the first of some places is the first of others of which none that is covered returned sooner
+  first_of : (seen places : List ℕ) (answer : EmptyAnswer) → IsFirstCovered operations seen answer → All (ReturnsLater answer) places
+      → IsFirstCovered operations places answer
+  first_of seen places answer is first = record { at = is.at; is_empty = is.is_empty; is_covered = is.is_covered; first = first }
 
   -- of the first of some places and the first of others, the sooner is the first of both
   pub sooner_is_first : (low high : List ℕ) (a b r : EmptyAnswer) → IsFirstCovered operations low a → IsFirstCovered operations high b
       → IsSoonerOf a b r → IsFirstCovered operations (low ++ high) r
-  sooner_is_first low high a b r is_a is_b sooner =
-      first_of (low ++ high) r
-      (elim sooner.is_one [
-        | inl same ↦ subst IsCoveredAnswer (sym same) (covered_of low a is_a)
-        | inr same ↦
-            subst IsCoveredAnswer (sym same) (covered_of high b is_b)
-      ])
-      (All-append (ReturnsLater r) low high (later_than_later a r low sooner.before_first is_a.first)
-      (later_than_later b r high sooner.before_second is_b.first))
+  sooner_is_first low high a b r is_a is_b sooner = elim sooner.is_one [
+    | inl same ↦ first_of low (low ++ high) r (subst (IsFirstCovered operations low) (sym same) is_a) all
+    | inr same ↦ first_of high (low ++ high) r (subst (IsFirstCovered operations high) (sym same) is_b) all
+  ]
+    where
+      all : All (ReturnsLater r) (low ++ high)
+      all = All-append (ReturnsLater r) low high (λ i d within o at covered. omega (arith, sooner.before_first, is_a.first i d within o at covered))
+          (λ i d within o at covered. omega (arith, sooner.before_second, is_b.first i d within o at covered))
 
   -- if each of the others has a gap, the first is the first of all
   pub low_is_first : (low high gaps : List ℕ) (a : EmptyAnswer) → IsFirstCovered operations low a → AreGapsAt operations high gaps
       → IsFirstCovered operations (low ++ high) a
-  low_is_first low high gaps a is zip = first_of (low ++ high) a (covered_of low a is)
-      (All-append (ReturnsLater a) low high is.first (later_than_free a high (gaps_are_free high gaps zip)))
+  low_is_first low high gaps a is zip =
+      first_of low (low ++ high) a is (All-append (ReturnsLater a) low high is.first (gaps_come_later a high gaps zip))
 
   -- if each of the others has a gap, the first covered one of the rest is that of all
   pub high_is_first : (low high gaps : List ℕ) (b : EmptyAnswer) → AreGapsAt operations low gaps → IsFirstCovered operations high b
       → IsFirstCovered operations (low ++ high) b
-  high_is_first low high gaps b zip is = first_of (low ++ high) b (covered_of high b is)
-      (All-append (ReturnsLater b) low high (later_than_free b low (gaps_are_free low gaps zip)) is.first)
+  high_is_first low high gaps b zip is =
+      first_of high (low ++ high) b is (All-append (ReturnsLater b) low high (gaps_come_later b low gaps zip) is.first)
 
   -- it is the first of its own place
-  pub first_of_one : (x : EmptyAnswer) → IsCoveredAnswer x → IsFirstCovered operations (x.place ∷ []) x
-  first_of_one x is = first_of (x.place ∷ []) x is (All-push (ReturnsLater x) [] x.place (All-nil (ReturnsLater x))
-      (λ o at covered. later o (one_at operations x.place x.operation o is.at at)))
-    where
-      later : (o : Operation) → x.operation ≡ o → x.operation.ret ≤ o.ret
-      later o same = rw same (omega arith)
+  pub first_of_one : (place : ℕ) (x : EmptyAnswer) → x.place ≡ place → IsAt operations place x.operation → Did operations x.operation Empty
+      → IsCovered operations x.operation → IsFirstCovered operations (place ∷ []) x
+  first_of_one place x same at is_empty covered = record {
+    at = subst (λ p. IsAt operations p x.operation) (sym same) at;
+    is_empty = is_empty;
+    is_covered = covered;
+    first = All-push (ReturnsLater x) [] place (All-nil (ReturnsLater x))
+        (λ o at_o _. subst (λ y. x.operation.ret ≤ y.ret) (one_at operations place x.operation o at at_o) (omega arith));
+  }
 
   -- past the gaps of the first places comes an answer whose window is covered, and then what is found of the others
-  pub from_the_first : (places gaps others : List ℕ) (i : ℕ) (x r : EmptyAnswer) → i < length places → x.place ≡ get_or places i x.place
-      → AreGapsAt operations (take i places) gaps → IsCoveredAnswer x → others ≡ drop (i + 1) places
+  pub from_the_first : (places gaps others : List ℕ) (i place : ℕ) (x r : EmptyAnswer) → i < length places → place ≡ get_or places i place
+      → AreGapsAt operations (take i places) gaps → IsFirstCovered operations (place ∷ []) x → others ≡ drop (i + 1) places
       → ((seen : List ℕ) → IsFirstCovered operations seen x → IsFirstCovered operations (seen ++ others) r) → IsFirstCovered operations places r
-  from_the_first places gaps others i x r within is zip covered rest goes_on =
-      let here = high_is_first (take i places) (x.place ∷ []) gaps x zip (first_of_one x covered) in
-      let seen = subst (λ ps. IsFirstCovered operations ps x) (sym (one_more places i x.place within is)) here in
+  from_the_first places gaps others i place x r within is zip covered rest goes_on =
+      let seen = subst (λ ps. IsFirstCovered operations ps x) (sym (one_more places i place within is))
+      (high_is_first (take i places) (place ∷ []) gaps x zip covered) in
       subst (λ ps. IsFirstCovered operations ps r) (take-append-drop (i + 1) places)
       (subst (λ ps. IsFirstCovered operations (take (i + 1) places ++ ps) r) rest (goes_on (take (i + 1) places) seen))
 
@@ -188,11 +154,11 @@ module _ (operations : List Operation) where
       (subst (λ ps. IsFirstCovered operations ps r) (append_assoc seen (take i others) (place ∷ [])) first)
 
   -- the window of one more of the others is covered
-  pub one_more_covered : (seen others : List ℕ) (i : ℕ) (first x r : EmptyAnswer) → i < length others → x.place ≡ get_or others i x.place
-      → IsFirstCovered operations (seen ++ take i others) first → IsCoveredAnswer x → IsSoonerOf first x r
+  pub one_more_covered : (seen others : List ℕ) (i place : ℕ) (first x r : EmptyAnswer) → i < length others → place ≡ get_or others i place
+      → IsFirstCovered operations (seen ++ take i others) first → IsFirstCovered operations (place ∷ []) x → IsSoonerOf first x r
       → IsFirstCovered operations (seen ++ take (i + 1) others) r
-  one_more_covered seen others i first x r within is so_far covered sooner =
-      one_further seen others i x.place r within is (sooner_is_first (seen ++ take i others) (x.place ∷ []) first x r so_far (first_of_one x covered) sooner)
+  one_more_covered seen others i place first x r within is so_far covered sooner =
+      one_further seen others i place r within is (sooner_is_first (seen ++ take i others) (place ∷ []) first x r so_far covered sooner)
 
   -- the window of one more has a gap
   pub one_more_free : (seen others : List ℕ) (i place c : ℕ) (o : Operation) (first : EmptyAnswer) → i < length others → place ≡ get_or others i place

@@ -1,33 +1,24 @@
 -- The window of an operation has a least free gap, or is covered.
-use Rattle.std.proofs.Common.{◌≡◌, ℕ, zero, suc, ◌+◌, ◌-◌, ◌<◌, ◌≤◌, ◌⊎◌, List, [], ◌∷◌, refl, sym, subst, inl, inr, arith}
-use Rattle.std.specs.Prelude.{Contains}
-use Rattle.history_merge.specs.declared.operation.Operation.{Operation}
-use Rattle.history_merge.proofs.Distinct.{contains_cons, not_in_none, call_before_return}
-use Rattle.value_match.specs.declared.life.Life.{Life}
-use Rattle.value_match.specs.Lives.{IsLife, lives_of, Covers, IsFreeGap, IsLeastFreeGap, IsCovered, enqueue_return, dequeue_call}
-use Rattle.value_match.specs.Violations.{IsClear}
-use Rattle.value_match.proofs.Lists.{one_deeper}
-use Rattle.value_match.proofs.Lives.{life_of_contained, life_is_contained}
+use Rattle.empty_witness.proofs.Common.{[], arith, call_before_return, cases_lt, Contains, contains_cons, Covers, inl}
+use Rattle.empty_witness.proofs.Common.{inr, IsClear, IsCovered, IsFreeGap, IsLeastFreeGap, IsLife, Life}
+use Rattle.empty_witness.proofs.Common.{life_is_contained, life_of_contained, List, lives_of, not_in_none, one_deeper}
+use Rattle.empty_witness.proofs.Common.{Operation, refl, subst, suc, sym, zero, ℕ, ◌+◌, ◌-◌, ◌<◌, ◌∷◌, ◌≡◌, ◌≤◌, ◌⊎◌}
 
 -- some value of the list covers the gap, or none does
 covering : (lives : List Life) (c : ℕ) → ((life : Life) × Contains lives life × Covers life c) ⊎ ((life : Life) → Contains lives life → ¬ (Covers life c))
 covering [] c = inr (λ life among. absurd (not_in_none life among))
 covering (x ∷ lives) c =
-    let here : ((enqueue_return x ≤ c) × (c < dequeue_call x)) ⊎ ((c < enqueue_return x) ⊎ (dequeue_call x ≤ c)) = grind arith in
-    elim here [
+    let decided : Covers x c ⊎ ¬ (Covers x c) = grind arith in
+    elim decided [
       | inl covers ↦ inl (x, (zero, omega arith, refl), covers)
       | inr not ↦ elim (covering lives c) [
         | inl found ↦ inl (found.0, one_deeper x lives found.0 found.1, found.2)
         | inr none ↦ inr (λ life among covers. elim (contains_cons x lives life among) [
-          | inl same ↦ not_here not (subst (λ l. Covers l c) (sym same) covers)
+          | inl same ↦ not (subst (λ l. Covers l c) (sym same) covers)
           | inr later ↦ none life later covers
         ])
       ]
     ]
-  where
-    not_here : (c < enqueue_return x) ⊎ (dequeue_call x ≤ c) → ¬ (Covers x c)
-    not_here (inl early) covers = omega (arith, covers.0)
-    not_here (inr late) covers = omega (arith, covers.1)
 
 -- from a gap on below which the window is covered: the least free gap, or the whole window is covered
 free_from : (left c : ℕ) (operations : List Operation) (o : Operation) → IsClear operations
@@ -49,14 +40,16 @@ free_from (suc left) c operations o clear below above long =
     ]
   where
     further : (life : Life) → IsLife operations life → Covers life c → (b : ℕ) → o.call ≤ b → b < suc c → (life : Life) × IsLife operations life × Covers life b
-    further life is covers b above' below' =
-        let cases : (b < c) ⊎ (c ≡ b) = grind arith in
-        elim cases [ inl less ↦ below b above' less | inr same ↦ (life, is, subst (Covers life) same covers) ]
+    further life is covers b above' below' = elim (cases_lt b c) [
+      | inl less ↦ below b above' less
+      | inr more ↦ let same : c ≡ b = omega arith in (life, is, subst (Covers life) same covers)
+    ]
 
     least : (other : ℕ) → o.call ≤ other → IsFreeGap operations other → c ≤ other
-    least other above' free =
-        let cases : (c ≤ other) ⊎ (other < c) = grind arith in
-        elim cases [ inl le ↦ le | inr less ↦ let covered = below other above' less in absurd (free covered.0 covered.1 covered.2) ]
+    least other above' free = elim (cases_lt other c) [
+      | inr le ↦ le
+      | inl less ↦ let covered = below other above' less in absurd (free covered.0 covered.1 covered.2)
+    ]
 
 -- the window of an operation has a least free gap, or is covered
 pub free_gap_or_covered : (operations : List Operation) (o : Operation) → IsClear operations → Contains operations o

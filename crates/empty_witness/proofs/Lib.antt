@@ -4,6 +4,7 @@
 -- Walks, Covers: the walk along a covered window that takes the value that stays longest gives the chosen cover, the shortest.
 -- Answers: what holds of all empty dequeues, and of covered ones the first to return.
 -- ToldGaps: gaps of the timeline, told by tickets of the history.
+mod Common
 pub mod Adding
 pub mod Outside
 pub mod ValueSpans

@@ -1,30 +1,18 @@
 -- The least gap outside of spans, and what it says of a window.
-use Rattle.std.proofs.Common.{◌≡◌, ◌≢◌, ℕ, ◌-◌, ◌<◌, ◌≤◌, ◌⊎◌, max, Bool, true, false, List}
-use Rattle.std.proofs.Common.{length, get_or, Option, refl, sym, ap, subst, inl, inr}
-use Rattle.std.proofs.Common.{arith, leb, ltb}
-use Rattle.std.specs.Prelude.{MatchOption}
+use Rattle.empty_witness.proofs.Common.{ap, AreApart, AreSpansOf, arith, cases_lt, cases_order, Contains-get_or, false}
+use Rattle.empty_witness.proofs.Common.{get_or, get_or_default, Holds, inl, inr, IsCovered, IsFirstOutside}
+use Rattle.empty_witness.proofs.Common.{IsLeastFreeGap, le-ltb, leb, leb-false, leb-true, length, List, lt-ltb, ltb}
+use Rattle.empty_witness.proofs.Common.{MatchOption, max, Operation, Option, Span, subst, sym, true, ℕ, ◌-◌, ◌<◌, ◌≡◌}
+use Rattle.empty_witness.proofs.Common.{◌≢◌, ◌≤◌}
 use Rattle.std.specs.Bool.{then_some}
 use Rattle.std.specs.List.Sorted.{IsNonDecreasingBy, IsPartitionPoint}
-use Rattle.std.proofs.lemmas.Bool.{ltb-true, ltb-false, leb-true, leb-false}
-use Rattle.std.proofs.lemmas.List.{get_or_default}
-use Rattle.std.proofs.lemmas.List.Elements.{Contains-get_or}
-use Rattle.history_merge.specs.declared.operation.Operation.{Operation}
-use Rattle.value_match.specs.Lives.{IsFreeGap, IsCovered, IsLeastFreeGap}
-use Rattle.empty_witness.specs.declared.spans.Span.{Span}
-use Rattle.empty_witness.specs.Spans.{Holds, AreApart, AreSpansOf}
-use Rattle.empty_witness.specs.Inner.Spans.{IsFirstOutside}
 
 -- the starts of spans that are apart rise
 pub starts_rise : (spans : List Span) → AreApart spans → IsNonDecreasingBy (λ span. span.start) spans
-starts_rise spans are i j d le within =
-    let cases : (i < j) ⊎ (i ≡ j) = grind arith in
-    elim cases [
-      | inl less ↦
-          let some = are.hold_some i d (omega arith) in
-          let after = are.apart i j d less within in
-          omega arith
-      | inr same ↦ subst (λ k. (get_or spans i d).start ≤ (get_or spans k d).start) same (omega arith)
-    ]
+starts_rise spans are i j d le within = elim (cases_lt i j) [
+  | inl less ↦ omega (arith, are.hold_some i d (omega arith), are.apart i j d less within)
+  | inr same ↦ omega (arith, ap (λ k. (get_or spans k d).start) (let here : i ≡ j = omega arith in here))
+]
 
 module _ (spans : List Span) (from begun : ℕ) (point : IsPartitionPoint (λ span. leb span.start from ≡ true)
     (λ span. leb span.start from ≡ false) spans begun) where
@@ -61,10 +49,9 @@ module _ (spans : List Span) (from begun : ℕ) (point : IsPartitionPoint (λ sp
       not_at k e inside' holds =
           let first = has_begun (begun - 1) e (omega arith) in
           let ends = ap (λ (s : Span). s.end) (get_or_default spans (begun - 1) d e (omega arith)) in
-          let cases : (k < begun - 1) ⊎ ((k ≡ begun - 1) ⊎ (begun - 1 < k)) = grind arith in
-          elim cases [
-            | inl before ↦ let apart = are.apart k (begun - 1) e before (omega arith) in omega (arith, holds.1)
-            | inr (inl here) ↦ let late = subst (λ m. c < (get_or spans m e).end) here holds.1 in omega arith
+          elim (cases_order k (begun - 1)) [
+            | inr (inl before) ↦ let apart = are.apart k (begun - 1) e before (omega arith) in omega (arith, holds.1)
+            | inl here ↦ let late = subst (λ m. c < (get_or spans m e).end) here holds.1 in omega arith
             | inr (inr after) ↦
                 let apart = are.apart (begun - 1) k e after inside' in
                 let later = begins_later k e (omega arith) inside' in
@@ -78,13 +65,11 @@ module _ (operations : List Operation) (spans : List Span) (o : Operation) (gap 
   free_in_window below = record {
     in_window = (is.no_less, below);
     is_free = λ life is_life covers. is.outside ((are.cover gap).1 (life, is_life, covers));
-    least = λ other window free. no_lesser other window.0 free;
+    least = λ other window free. elim (cases_lt other gap) [
+      | inr le ↦ le
+      | inl less ↦ let life = (are.cover other).0 (is.least other window.0 less) in absurd (free life.0 life.1 life.2)
+    ];
   }
-    where
-      no_lesser : (other : ℕ) → o.call ≤ other → IsFreeGap operations other → gap ≤ other
-      no_lesser other above free =
-          let cases : (gap ≤ other) ⊎ (other < gap) = grind arith in
-          elim cases [ inl le ↦ le | inr less ↦ let life = (are.cover other).0 (is.least other above less) in absurd (free life.0 life.1 life.2) ]
 
   -- past the window, the window is covered
   covered_to : o.ret ≤ gap → IsCovered operations o
@@ -93,10 +78,7 @@ module _ (operations : List Operation) (spans : List Span) (o : Operation) (gap 
   -- a gap within the window is its least free one; past the window, that is covered
   pub gap_of_window : (found : Option ℕ) → found ≡ then_some (ltb gap o.ret) gap
       → MatchOption found (IsCovered operations o) (λ c. IsLeastFreeGap operations o c)
-  gap_of_window found same = subst (λ found. MatchOption found (IsCovered operations o) (λ c. IsLeastFreeGap operations o c)) (sym same)
-      (go (ltb gap o.ret) (λ yes. ltb-true gap o.ret yes) (λ no. ltb-false gap o.ret no))
-    where
-      go : (b : Bool) → (b ≡ true → gap < o.ret) → (b ≡ false → o.ret ≤ gap)
-          → MatchOption (then_some b gap) (IsCovered operations o) (λ c. IsLeastFreeGap operations o c)
-      go true below past = free_in_window (below refl)
-      go false below past = covered_to (past refl)
+  gap_of_window found same = rw same (elim (cases_lt gap o.ret) [
+    | inl below ↦ rw (lt-ltb gap o.ret below) (free_in_window below)
+    | inr past ↦ rw (le-ltb gap o.ret past) (covered_to past)
+  ])

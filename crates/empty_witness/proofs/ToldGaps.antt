@@ -1,17 +1,10 @@
 -- Gaps of a history, told by those of its timeline, say the same.
-use Rattle.std.proofs.Common.{◌≡◌, ℕ, zero, ◌+◌, ◌*◌, ◌≤◌, List, [], ◌∷◌, length, map, refl, sym, ◌∙◌, ap, ap₂, subst, arith, inl, inr}
-use Rattle.std.specs.Prelude.{Contains, filter, option_map, slice_get}
-use Rattle.std.specs.List.{AllZip}
-use Rattle.history_merge.specs.declared.operation.Operation.{Operation}
-use Rattle.history_merge.specs.declared.operation.OpKind.TheVariants.{Enq, Empty}
-use Rattle.history_merge.specs.Initial.{timeline, later_by}
-use Rattle.history_merge.specs.Operations.{IsAt, IsInWindow}
-use Rattle.history_merge.proofs.Distinct.{place_of}
-use Rattle.value_match.specs.Timeline.{behind, clock_of_gap}
-use Rattle.value_match.specs.Lives.{AreLeastFreeGaps, IsLeastFreeGap, is_empty_answer}
+use Rattle.empty_witness.proofs.Common.{[], AllZip, ap, ap₂, AreLeastFreeGaps, arith, behind, clock_of_gap, Contains}
+use Rattle.empty_witness.proofs.Common.{Empty, Enq, filter, inl, inr, is_empty_answer, IsAt, IsEmptyAnswerAt}
+use Rattle.empty_witness.proofs.Common.{IsInWindow, IsLeastFreeGap, later_by, length, List, map, one_deeper, Operation}
+use Rattle.empty_witness.proofs.Common.{option_map, place_of, refl, slice_get, subst, sym, timeline, zero, ℕ, ◌*◌, ◌+◌}
+use Rattle.empty_witness.proofs.Common.{◌∙◌, ◌∷◌, ◌≡◌, ◌≤◌}
 use Rattle.value_match.proofs.TimelineLines.{at_timeline, timeline_at}
-use Rattle.value_match.proofs.Lists.{one_deeper}
-use Rattle.empty_witness.specs.Answers.{IsEmptyAnswerAt}
 use Rattle.empty_witness.specs.Inner.ToldGaps.{told_gap}
 use Rattle.empty_witness.proofs.Answers.{is_empty_did}
 
@@ -60,13 +53,11 @@ module _ (initial : List ℕ) (operations : List Operation) where
 
   -- those of all empty answers
   pub gaps_told : (gaps : List ℕ) → AreLeastFreeGaps all gaps → AreLeastFreeGaps all (map (clock_of_gap k) (map (told_gap k) gaps))
-  gaps_told gaps free = subst (AreLeastFreeGaps all) (sym (gaps_back (filter is_empty_answer all) gaps late free)) free
-    where
-      late : (o : Operation) → Contains (filter is_empty_answer all) o → 2 * k ≤ o.call
-      late o among =
-          let did = is_empty_did all o among in
-          let at = place_of all o did.0 in
-          called_behind at.0 o at.1 did.1
+  gaps_told gaps free =
+      subst (AreLeastFreeGaps all) (sym (gaps_back (filter is_empty_answer all) gaps (λ o among.
+      let did = is_empty_did all o among in
+      let at = place_of all o did.0 in
+      called_behind at.0 o at.1 did.1) free)) free
 
 -- with no initial values the gaps are as they stand
 pub gaps_with_none : (gaps : List ℕ) → map (told_gap 0) gaps ≡ gaps

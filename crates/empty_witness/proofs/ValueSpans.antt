@@ -1,18 +1,9 @@
 -- The spans of the stays of a history's values are the history's.
-use Rattle.std.proofs.Common.{◌≡◌, ℕ, ◌+◌, ◌<◌, ◌≤◌, List, [], ◌∷◌, ◌++◌, length, get_or, take, sym, subst, arith, inl, inr}
-use Rattle.std.specs.Prelude.{Contains}
-use Rattle.std.proofs.lemmas.List.{take_all}
-use Rattle.std.proofs.lemmas.List.Elements.{Contains-append_left, Contains-push, Contains-push_cases}
-use Rattle.history_merge.specs.declared.operation.Operation.{Operation}
-use Rattle.history_merge.proofs.Distinct.{not_in_none}
-use Rattle.value_match.specs.declared.life.MatchedValue.{MatchedValue}
-use Rattle.value_match.specs.Lives.{HoldsLives, Covers}
-use Rattle.value_match.specs.Violations.{IsClear}
-use Rattle.value_match.proofs.Lists.{one_more}
-use Rattle.value_match.proofs.Lives.{value_is_life, value_of_life}
-use Rattle.empty_witness.specs.declared.spans.Span.{Span}
-use Rattle.empty_witness.specs.Spans.{AreApart, AreSpansOf, Holds, LiesIn, stay_of}
-use Rattle.empty_witness.specs.Inner.Spans.{IsWithSpan}
+use Rattle.empty_witness.proofs.Common.{[], AreApart, AreSpansOf, arith, Contains, Contains-append_left, Contains-push}
+use Rattle.empty_witness.proofs.Common.{Contains-push_cases, Covers, get_or, Holds, HoldsLives, inl, inr, IsClear}
+use Rattle.empty_witness.proofs.Common.{IsWithSpan, length, LiesIn, List, MatchedValue, not_in_none, one_more}
+use Rattle.empty_witness.proofs.Common.{Operation, Span, stay_of, subst, sym, take, take_all, value_is_life}
+use Rattle.empty_witness.proofs.Common.{value_of_life, ℕ, ◌++◌, ◌+◌, ◌<◌, ◌∷◌, ◌≡◌, ◌≤◌}
 
 -- at this gap one of the values is definitely in the queue
 abbrev pub Stays : List MatchedValue → ℕ → Type 0

@@ -1,29 +1,19 @@
 -- The walk along the chosen cover, from the call of an empty dequeue to its return.
-use Rattle.std.proofs.Common.{◌≡◌, ◌≢◌, ℕ, ◌<◌, ◌≤◌, ◌⊎◌, List, [], ◌∷◌, ◌++◌, Option, Some, None}
-use Rattle.std.proofs.Common.{refl, sym, subst, inl, inr, arith, append_assoc, rules, length, take, drop}
-use Rattle.std.specs.Prelude.{All, Contains, MatchOption, MatchBool, nat_lt, IsSome, option_map}
-use Rattle.std.proofs.lemmas.Bool.{lt-ltb, le-ltb}
-use Rattle.std.proofs.lemmas.List.{take-append-drop}
-use Rattle.std.proofs.lemmas.List.Elements.{All-append, All-contains, All-weaker, Contains-append_cases, Contains-append_right}
-use Rattle.history_merge.specs.declared.operation.Operation.{Operation}
-use Rattle.history_merge.specs.declared.operation.OpKind.TheVariants.{Deq, Empty}
-use Rattle.history_merge.specs.Operations.{Did, NoneDid}
+use Rattle.empty_witness.proofs.Common.{[], All, All-append, All-contains, All-weaker, arith, call_before_return}
+use Rattle.empty_witness.proofs.Common.{call_or_never, Contains, Contains-append_cases, Contains-append_right, Deq}
+use Rattle.empty_witness.proofs.Common.{dequeue_call, dequeue_of, Did, drop, Empty, enqueue_of, EntersBefore}
+use Rattle.empty_witness.proofs.Common.{FindsLongest, HoldsLives, inl, inr, IsChosenCover, IsChosenCoverFrom, IsClear}
+use Rattle.empty_witness.proofs.Common.{IsCovered, IsLife, IsLongestOf, IsNextOfCover, IsSome, le-ltb, length, Life}
+use Rattle.empty_witness.proofs.Common.{List, lt-ltb, MatchedValue, MatchOption, NamesChosenCover, None, NoneDid}
+use Rattle.empty_witness.proofs.Common.{one_more_zipped, Operation, Option, option_map, places_of_value, refl}
+use Rattle.empty_witness.proofs.Common.{return_differs_from_call, return_in_range, rules, Some, StaysAtLeast, subst}
+use Rattle.empty_witness.proofs.Common.{sym, take, take-append-drop, timeline, value_is_life, value_of_life, value_told}
+use Rattle.empty_witness.proofs.Common.{ℕ, ◌++◌, ◌<◌, ◌∷◌, ◌≡◌, ◌≢◌, ◌≤◌}
+use Rattle.std.proofs.Common.{append_assoc}
 use Rattle.history_merge.specs.Complete.{AreComplete}
-use Rattle.history_merge.specs.Initial.{timeline}
-use Rattle.history_merge.proofs.Distinct.{return_differs_from_call, return_in_range, call_before_return}
-use Rattle.value_match.specs.declared.life.Life.{Life}
-use Rattle.value_match.specs.declared.life.MatchedValue.{MatchedValue}
 use Rattle.value_match.specs.declared.violation.CoverStep.{CoverStep}
-use Rattle.value_match.specs.Lives.{IsLife, HoldsLives, IsCovered, call_or_never, enqueue_return, dequeue_call, dequeue_of, enqueue_of}
-use Rattle.value_match.specs.Violations.{IsClear}
-use Rattle.value_match.specs.Choice.{StaysAtLeast, IsNextOfCover, IsChosenCoverFrom, IsChosenCover}
 use Rattle.value_match.specs.Outcome.{NamesCover, NamesStep}
 use Rattle.value_match.specs.Told.{told_place, told_source}
-use Rattle.value_match.specs.Longest.{EntersBefore, IsLongestOf, FindsLongest}
-use Rattle.value_match.proofs.Lists.{one_more_zipped}
-use Rattle.value_match.proofs.Lives.{value_is_life, value_of_life, places_of_value}
-use Rattle.value_match.proofs.ToldPlaces.{value_told}
-use Rattle.empty_witness.specs.Inner.Covered.{NamesChosenCover}
 use Rattle.empty_witness.proofs.Covers.{chosen_cover_violates}
 
 -- the steps taken so far name values of the chosen cover, which goes on from the frontier
@@ -70,11 +60,8 @@ module _ (initial : List ℕ) (operations : List Operation) (values : List Match
       let life = covered frontier (so_far.past_call, below) in
       let value = value_of_life all values life.0 clear holds life.1 in
       let differs = so_far.no_return (enqueue_of life.0) life.1.1.0 in
-      let entered : EntersBefore frontier life.0 = strictly (enqueue_return life.0) life.2.0 differs in
+      let entered : EntersBefore frontier life.0 = omega (arith, life.2.0) in
       (value.0, value.1, subst (EntersBefore frontier) (sym value.2) entered, subst (λ l. frontier < dequeue_call l) (sym value.2) life.2.1)
-    where
-      strictly : (m : ℕ) → m ≤ frontier → m ≢ frontier → m < frontier
-      strictly m le differs = let cases : (m < frontier) ⊎ (m ≡ frontier) = grind arith in elim cases [ inl less ↦ less | inr same ↦ absurd (differs same) ]
 
   -- so a next value is found
   pub next_is_found : (steps : List CoverStep) (frontier : ℕ) (found : Option MatchedValue) → IsCoverSoFar initial operations o steps frontier
@@ -156,8 +143,8 @@ module _ (initial : List ℕ) (operations : List Operation) (values : List Match
     no_return = no_return_at all is_life.0 (dequeue_of value.life) clear.complete is_life.2;
     goes_on = λ below' rest chosen.
         subst (IsChosenCover all o) (sym (append_assoc so_far.lives (value.life ∷ []) rest))
-        (so_far.goes_on below (value.life ∷ rest) (next, further below' rest chosen));
-    ends = λ past. so_far.goes_on below (value.life ∷ []) (next, last past);
+        (so_far.goes_on below (value.life ∷ rest) (next, rw (le-ltb o.ret (dequeue_call value.life) (omega arith)) chosen));
+    ends = λ past. so_far.goes_on below (value.life ∷ []) (next, rw (lt-ltb o.ret (dequeue_call value.life) past) refl);
   }
     where
       is_life : IsLife all value.life
@@ -166,23 +153,13 @@ module _ (initial : List ℕ) (operations : List Operation) (values : List Match
       next : IsNextOfCover all frontier value.life
       next = is_next frontier value is
 
-      further : dequeue_call value.life < o.ret → (rest : List Life) → IsChosenCoverFrom all o (dequeue_call value.life) rest
-          → MatchBool (nat_lt o.ret (dequeue_call value.life)) (rest ≡ []) (IsChosenCoverFrom all o (dequeue_call value.life) rest)
-      further below' rest chosen = rw (le-ltb o.ret (dequeue_call value.life) (omega arith)) chosen
-
-      last : o.ret < dequeue_call value.life → MatchBool (nat_lt o.ret (dequeue_call value.life)) (◌≡◌ {A = List Life} [] [])
-          (IsChosenCoverFrom all o (dequeue_call value.life) [])
-      last past = rw (lt-ltb o.ret (dequeue_call value.life) past) refl
-
   -- past the return the cover is whole
   pub cover_is_whole : (steps : List CoverStep) (frontier : ℕ) → IsCoverSoFar initial operations o steps frontier → o.ret ≤ frontier
       → NamesChosenCover initial operations o steps
   cover_is_whole steps frontier so_far past =
-      let cases : (o.ret < frontier) ⊎ (o.ret ≡ frontier) = grind arith in
-      elim cases [
-        | inl after ↦ (so_far.lives, so_far.named, so_far.ends after, chosen_cover_violates all o so_far.lives clear is_empty (so_far.ends after))
-        | inr same ↦ absurd (so_far.no_return o is_empty.0 same)
-      ]
+      let differs = so_far.no_return o is_empty.0 in
+      let ended = so_far.ends (omega arith) in
+      (so_far.lives, so_far.named, ended, chosen_cover_violates all o so_far.lives clear is_empty ended)
 
 -- the value that was found is the longest of those enqueued before the frontier
 pub found_longest : (values : List MatchedValue) (frontier : ℕ) (found : Option MatchedValue) (value : MatchedValue)

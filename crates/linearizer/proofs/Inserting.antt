@@ -1,38 +1,34 @@
 -- The last of a list, put before others.
-use Rattle.std.proofs.Common.{◌≡◌, ℕ, ◌+◌, ◌-◌, ◌<◌, ◌≤◌, ◌⊎◌, List, [], ◌∷◌, ◌++◌, length, get_or, set, take}
-use Rattle.std.proofs.Common.{sym, ◌∙◌, ap, subst, inl, inr, arith, ext_get_or, get_or-set_other, get_or-set_same, get_or-take, length-set, length-take-le}
-use Rattle.std.specs.Prelude.{IsPermutation}
-use Rattle.std.specs.List.{insert}
-use Rattle.std.specs.List.Sorted.{IsNonDecreasingBy}
-use Rattle.std.proofs.lemmas.List.Edits.{get_or-insert_above, get_or-insert_at, get_or-insert_below, length-insert}
-use Rattle.std.proofs.lemmas.List.{take_all}
-use Rattle.std.proofs.lemmas.List.Sorted.{IsNonDecreasingBy-insert, IsPermutation-append_comm, IsPermutation-insert, IsPermutation-refl, IsPermutation-trans}
-use Rattle.value_match.proofs.Lists.{one_more}
+use Rattle.linearizer.proofs.Common.{[], ap, arith, append_assoc, drop, IsPermutation-sym, get_or}
+use Rattle.linearizer.proofs.Common.{get_or-insert_below, insert}
+use Rattle.linearizer.proofs.Common.{IsNonDecreasingBy, IsNonDecreasingBy-insert, IsPermutation}
+use Rattle.linearizer.proofs.Common.{IsPermutation-insert}
+use Rattle.linearizer.proofs.Common.{IsPermutation-trans, length, length-insert, length-take-le, List, one_more, set}
+use Rattle.linearizer.proofs.Common.{subst, sym, take, take_all, ℕ, ◌++◌, ◌+◌, ◌-◌, ◌<◌, ◌∙◌, ◌∷◌, ◌≡◌, ◌≤◌}
+use Rattle.std.proofs.lemmas.List.{drop_more, set_at}
+use Rattle.std.proofs.lemmas.List.Edits.{insert_end}
+use Rattle.std.proofs.Common.{get_or-take}
 
 -- those from this place on, but the last, stand one place further on
 pub record IsShifted {X : Type 0} (old : List X) (place : ℕ) (now : List X) : Type 0 where
-  pub long : length now ≡ length old
-  pub before : (k : ℕ) (d : X) → k < place → get_or now k d ≡ get_or old k d
-  pub behind : (k : ℕ) (d : X) → place < k → k < length old → get_or now k d ≡ get_or old (k - 1) d
+  pub left_over : X
+  pub is : now ≡ insert (take (length old - 1) old) place left_over
 
-module _ {X : Type 0} (old now : List X) (place : ℕ) (shifted : IsShifted old place now) where
-  -- one more is shifted
-  pub one_more_shifted : (x : X) → 0 < place → place < length old → ((d : X) → x ≡ get_or now (place - 1) d) → IsShifted old (place - 1) (set now place x)
-  one_more_shifted x some inside is = record {
-    long = length-set now place x ∙ shifted.long;
-    before = λ k d below. get_or-set_other now place k x d (λ same. absurd (omega (arith, below, same, some))) ∙ shifted.before k d (omega (arith, below));
-    behind = behind;
-  }
-    where
-      behind : (k : ℕ) (d : X) → place - 1 < k → k < length old → get_or (set now place x) k d ≡ get_or old (k - 1) d
-      behind k d from below =
-          let cases : (k ≡ place) ⊎ (place < k) = grind (arith, from) in
-          elim cases [
-            | inl same ↦ subst (λ j. get_or (set now place x) j d ≡ get_or old (j - 1) d) (sym same)
-                (get_or-set_same now place x d (omega (arith, inside, shifted.long)) ∙ is d ∙ shifted.before (place - 1) d (omega (arith, some)))
-            | inr after ↦ get_or-set_other now place k x d (λ same. absurd (omega (arith, after, same))) ∙ shifted.behind k d after below
-          ]
+-- a list is the last put behind all others
+whole : {X : Type 0} (old : List X) (last : X) → 0 < length old → last ≡ get_or old (length old - 1) last
+    → old ≡ insert (take (length old - 1) old) (length old - 1) last
+whole old last some is_last =
+    let others = take (length old - 1) old in
+    let all : length old - 1 + 1 ≡ length old = omega arith in
+    let few = length-take-le (length old - 1) old (omega arith) in
+    sym (take_all (length old) old (omega arith)) ∙ ap (λ n. take n old) (sym all) ∙ one_more old (length old - 1) last (omega arith) is_last
+    ∙ sym (ap (λ n. insert others n last) (sym few) ∙ insert_end others last)
 
+-- none is shifted at first
+pub none_shifted : {X : Type 0} (old : List X) (last : X) → 0 < length old → last ≡ get_or old (length old - 1) last → IsShifted old (length old - 1) old
+none_shifted old last some is_last = record { left_over = last; is = whole old last some is_last }
+
+module _ {X : Type 0} (old now : List X) (place : ℕ) (shifted : IsShifted old place now) (inside : place < length old) where
   -- all but the last
   abbrev others : List X
   others = take (length old - 1) old
@@ -40,69 +36,60 @@ module _ {X : Type 0} (old now : List X) (place : ℕ) (shifted : IsShifted old 
   few : length others ≡ length old - 1
   few = length-take-le (length old - 1) old (omega arith)
 
-  place_within : place < length old → place ≤ length others
-  place_within inside = omega (arith, few, inside)
+  within : place ≤ length others
+  within = omega (arith, few, inside)
+
+  pub long : length now ≡ length old
+  long = omega (arith, ap length shifted.is, length-insert others place shifted.left_over within, few, inside)
+
+  -- those before the place stay
+  pub kept : (k : ℕ) (d : X) → k < place → get_or now k d ≡ get_or old k d
+  kept k d below = ap (λ xs. get_or xs k d) shifted.is ∙ get_or-insert_below others place shifted.left_over d k below within
+      ∙ get_or-take (length old - 1) old k d (omega (arith, below, inside))
 
   -- the last is put at the place that is left
-  pub put_in : (last : X) → place < length old → set now place last ≡ insert (take (length old - 1) old) place last
-  put_in last inside = ext_get_or last (set now place last) (insert others place last) long each
+  put_in : (last : X) → set now place last ≡ insert others place last
+  put_in last = ap (λ xs. set xs place last) shifted.is
+      ∙ set_at (take place others) shifted.left_over (drop place others) last place (length-take-le place others within)
+
+  -- one more is shifted
+  pub one_more_shifted : (x : X) → 0 < place → ((d : X) → x ≡ get_or now (place - 1) d) → IsShifted old (place - 1) (set now place x)
+  one_more_shifted x some is = record {
+    left_over = x;
+    is = put_in x ∙ ap (λ n. insert others n x) here ∙ ap (λ xs. xs ++ x ∷ drop (place - 1 + 1) others) (one_more others (place - 1) x inner reads)
+        ∙ append_assoc (take (place - 1) others) (x ∷ []) (x ∷ drop (place - 1 + 1) others)
+        ∙ ap (λ xs. take (place - 1) others ++ x ∷ xs) (sym (drop_more others (place - 1) x inner ∙ ap (λ y. y ∷ drop (place - 1 + 1) others) (sym reads)));
+  }
     where
-      within : place ≤ length others
-      within = place_within inside
+      here : place ≡ place - 1 + 1
+      here = omega (arith, some)
 
-      long : length (set now place last) ≡ length (insert others place last)
-      long = omega (arith, length-set now place last, shifted.long, length-insert others place last within, few, inside)
+      inner : place - 1 < length others
+      inner = omega (arith, within, some)
 
-      each : (k : ℕ) → k < length (set now place last) → get_or (set now place last) k last ≡ get_or (insert others place last) k last
-      each k below =
-          let inside' : k < length old = omega (arith, below, length-set now place last, shifted.long) in
-          let cases : (k < place) ⊎ ((k ≡ place) ⊎ (place < k)) = grind arith in
-          elim cases [
-            | inl before ↦ get_or-set_other now place k last last (λ same. absurd (omega (arith, before, same))) ∙ shifted.before k last before
-                ∙ sym (get_or-insert_below others place last last k before within ∙ get_or-take (length old - 1) old k last (omega (arith, before, inside)))
-            | inr (inl same) ↦ subst (λ j. get_or (set now place last) j last ≡ get_or (insert others place last) j last) (sym same)
-                (get_or-set_same now place last last (omega (arith, inside, shifted.long)) ∙ sym (get_or-insert_at others place last last within))
-            | inr (inr after) ↦
-                let back : k - 1 + 1 ≡ k = omega (arith, after) in
-                let above = get_or-insert_above others place last last (k - 1) (omega (arith, after)) within in
-                get_or-set_other now place k last last (λ same. absurd (omega (arith, after, same))) ∙ shifted.behind k last after inside'
-                ∙ sym (ap (λ j. get_or (insert others place last) j last) (sym back) ∙ above
-                ∙ get_or-take (length old - 1) old (k - 1) last (omega (arith, after, inside')))
-          ]
+      reads : x ≡ get_or others (place - 1) x
+      reads = is x ∙ kept (place - 1) x (omega (arith, some)) ∙ sym (get_or-take (length old - 1) old (place - 1) x (omega (arith, inside, some)))
 
-  module _ (last : X) (inside : place < length old) (is_last : last ≡ get_or old (length old - 1) last) where
+  module _ (last : X) (is_last : last ≡ get_or old (length old - 1) last) where
     -- then all are there
     pub put_permutes : IsPermutation old (set now place last)
-    put_permutes = rw (put_in last inside) (IsPermutation-trans old (others ++ last ∷ []) (insert others place last) parts
-        (IsPermutation-trans (others ++ last ∷ []) (last ∷ others) (insert others place last) (IsPermutation-append_comm others (last ∷ []))
-        (IsPermutation-insert others place last)))
-      where
-        all : length old - 1 + 1 ≡ length old
-        all = omega (arith, inside)
-
-        split : old ≡ others ++ last ∷ []
-        split = sym (take_all (length old) old (omega arith)) ∙ ap (λ n. take n old) (sym all) ∙ one_more old (length old - 1) last (omega (arith, inside)) is_last
-
-        parts : IsPermutation old (others ++ last ∷ [])
-        parts = subst (λ xs. IsPermutation old xs) split (IsPermutation-refl old)
+    put_permutes = rw (put_in last) (IsPermutation-trans old (last ∷ others) (insert others place last) (IsPermutation-sym (last ∷ others) old
+        (subst (IsPermutation (last ∷ others)) (sym (whole old last (omega (arith, inside)) is_last)) (IsPermutation-insert others (length old - 1) last)))
+        (IsPermutation-insert others place last))
 
     -- and they rise, if the others do, and the last comes after none that is greater
     pub put_rises : (number : X → ℕ) → ((k : ℕ) (d : X) → place ≤ k → k < length old - 1 → number last < number (get_or old k d))
         → ((d : X) → 0 < place → number (get_or now (place - 1) d) ≤ number last)
         → IsNonDecreasingBy number (take (length old - 1) old) → IsNonDecreasingBy number (set now place last)
-    put_rises number later sooner rises = rw (put_in last inside) (IsNonDecreasingBy-insert number others place last rises within low high)
+    put_rises number later sooner rises = rw (put_in last) (IsNonDecreasingBy-insert number others place last rises within low high)
       where
-        within : place ≤ length others
-        within = place_within inside
-
         low : (k : ℕ) (d : X) → k < place → number (get_or others k d) ≤ number last
         low k d below =
             let up = rises k (place - 1) d (omega (arith, below)) (omega (arith, below, within)) in
             let read = ap number (get_or-take (length old - 1) old (place - 1) d (omega (arith, below, inside))) in
-            let kept = ap number (shifted.before (place - 1) d (omega (arith, below))) in
-            omega (arith, up, read, kept, sooner d (omega (arith, below)))
+            omega (arith, ap number (kept (place - 1) d (omega (arith, below))), sooner d (omega (arith, below)))
 
         high : (k : ℕ) (d : X) → place ≤ k → k < length others → number last ≤ number (get_or others k d)
         high k d from below =
             let read = ap number (get_or-take (length old - 1) old k d (omega (arith, below, few))) in
-            omega (arith, read, later k d from (omega (arith, below, few)))
+            omega (arith, later k d from (omega (arith, below, few)))

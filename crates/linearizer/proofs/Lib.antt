@@ -1,20 +1,20 @@
 -- The way of the argument, from a history without violations to its linearization:
+-- Elements: what holds of any lists, at their places.
 -- Times, DifferentTimes: the tickets of lives, which all differ.
 -- Choices, Opposites, ValueOrder: the next value is chosen by the least entry or the first return; so there is one order of values.
--- Sweeping, Choosing, OrderedPlaces: two sorted lists and flags make that choice again and again.
--- LeastEntries, Gaps, FreeGaps, Windows: each enqueue and dequeue has a gap in its window, and gaps rise along the order.
--- Rising, Positions, EachPosition: each operation has one position, and no two have the same.
+-- Sweeping, Choosing, OrderedPlaces: two sorted lists and flags make that choice again and again, and give the gaps of the enqueues.
+-- Windows: each enqueue and dequeue has a gap in its window, and gaps rise along the order.
+-- Positions, EachPosition: each operation has one position, and no two have the same.
 -- Runs, LegalOrder, OneOrder: by their positions the operations are a run that the queue accepts, the one chosen order.
 -- PlacedValues, Additions, Sorting, Merging, Keys, ChosenPlaces: the lists of placed operations, merged, are that order.
 -- NoneTwice, Partition: each operation stands in one of these lists, once.
 -- Told: the order of a timeline, by the places of the history, and from gaps by tickets.
+mod Common
+pub mod Elements
 pub mod Choices
 pub mod Times
 pub mod Opposites
-pub mod FreeGaps
-pub mod Gaps
 mod Inserting
-pub mod Rising
 pub mod Runs
 pub mod Keys
 pub mod DifferentTimes
@@ -28,7 +28,6 @@ pub mod OneOrder
 pub mod OrderedPlaces
 pub mod Sweeping
 pub mod Choosing
-pub mod LeastEntries
 pub mod Additions
 pub mod PlacedValues
 pub mod Sorting

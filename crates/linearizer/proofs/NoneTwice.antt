@@ -1,12 +1,11 @@
 -- Lists in which no element stands twice.
-use Rattle.std.proofs.Common.{◌≡◌, ℕ, zero, suc, Bool, true, false, cond, List, [], ◌∷◌, ◌++◌, Some, refl, sym, subst, inl, inr, arith}
-use Rattle.std.specs.Prelude.{Contains, IsPermutation, filter, flat_map, slice_get, ⊤}
-use Rattle.std.proofs.lemmas.List.Elements.{Contains-append_cases, Contains-append_left, Contains-append_right}
-use Rattle.std.proofs.lemmas.List.Sorted.{Contains-permutation, IsPermutation-cons, IsPermutation-middle, IsPermutation-refl, IsPermutation-sym}
-use Rattle.std.proofs.lemmas.List.Sorted.{IsPermutation-trans}
-use Rattle.history_merge.proofs.Distinct.{contains_cons, not_in_none, place_of}
-use Rattle.linearizer.proofs.Opposites.{one_deeper}
-use Rattle.value_match.proofs.Lists.{passed_filter}
+use Rattle.linearizer.proofs.Common.{[], arith, Bool, cond, Contains, Contains-append_cases, Contains-append_left}
+use Rattle.linearizer.proofs.Common.{Contains-append_right, Contains-get_or, Contains-permutation, contains_cons, false}
+use Rattle.linearizer.proofs.Common.{filter, flat_map, get_or, inl, inr, IsPermutation, IsPermutation-cons}
+use Rattle.linearizer.proofs.Common.{IsPermutation-refl, IsPermutation-remove, IsPermutation-sym, IsPermutation-trans}
+use Rattle.linearizer.proofs.Common.{length, List, not_in_none, one_deeper, passed_filter, place_of, refl, remove}
+use Rattle.linearizer.proofs.Common.{slice_get, Some, subst, suc, sym, true, zero, ℕ, ⊤, ◌++◌, ◌∷◌, ◌≡◌}
+use Rattle.linearizer.proofs.Keys.{OnePlaceEach, once_in_other_order}
 
 -- no element stands twice
 abbrev pub NoneTwice : {X : Type 0} → List X → Type 0
@@ -22,37 +21,18 @@ none_twice_from_places (x ∷ xs) one = (
   none_twice_from_places xs (λ i j y z at_y at_z same. let places = one (suc i) (suc j) y z at_y at_z same in omega arith),
 )
 
--- the list without one of its elements
-record IsTakenOut {X : Type 0} (xs : List X) (x : X) : Type 0 where
-  rest : List X
-  moved : IsPermutation xs (x ∷ rest)
-  none_twice : NoneTwice rest
-  gone : ¬ (Contains rest x)
+at_one_place : {X : Type 0} (xs : List X) (d : X) → NoneTwice xs → OnePlaceEach (λ k. get_or xs k d) (length xs)
+at_one_place [] d none i j in_i in_j same = absurd (omega arith)
+at_one_place (x ∷ xs) d none zero zero in_i in_j same = refl
+at_one_place (x ∷ xs) d none zero (suc j) in_i in_j same = absurd (none.0 (subst (Contains xs) (sym same) (Contains-get_or xs j d (omega arith))))
+at_one_place (x ∷ xs) d none (suc i) zero in_i in_j same = absurd (none.0 (subst (Contains xs) same (Contains-get_or xs i d (omega arith))))
+at_one_place (x ∷ xs) d none (suc i) (suc j) in_i in_j same = omega (arith, at_one_place xs d none.1 i j (omega arith) (omega arith) same)
 
-taken_out : {X : Type 0} (xs : List X) (x : X) → NoneTwice xs → Contains xs x → IsTakenOut xs x
-taken_out [] x none among = absurd (not_in_none x among)
-taken_out {X} (y ∷ xs) x none among = elim (contains_cons y xs x among) [
-  | inl here ↦ record {
-    rest = xs;
-    moved = subst (λ z. IsPermutation (y ∷ xs) (z ∷ xs)) here (IsPermutation-refl (y ∷ xs));
-    none_twice = none.1;
-    gone = λ there. none.0 (subst (Contains xs) (sym here) there);
-  }
-  | inr later ↦ further (taken_out xs x none.1 later) (λ same. none.0 (subst (Contains xs) (sym same) later))
-]
-  where
-    further : IsTakenOut xs x → ¬ (y ≡ x) → IsTakenOut (y ∷ xs) x
-    further out differs = record {
-      rest = y ∷ out.rest;
-      moved = IsPermutation-trans (y ∷ xs) (y ∷ x ∷ out.rest) (x ∷ y ∷ out.rest) (IsPermutation-cons y xs (x ∷ out.rest) out.moved)
-          (IsPermutation-middle (y ∷ []) x out.rest);
-      none_twice = (
-        λ there. none.0 (Contains-permutation (x ∷ out.rest) xs y (IsPermutation-sym xs (x ∷ out.rest) out.moved)
-            (one_deeper x out.rest y there)),
-        out.none_twice,
-      );
-      gone = λ there. elim (contains_cons y out.rest x there) [ inl same ↦ differs same | inr later ↦ out.gone later ];
-    }
+-- nor in another order of the list
+none_twice-permutation : {X : Type 0} (xs ys : List X) → IsPermutation xs ys → NoneTwice xs → NoneTwice ys
+none_twice-permutation xs [] moved none = tt
+none_twice-permutation xs (y ∷ ys) moved none =
+    none_twice_from_places (y ∷ ys) (once_in_other_order (λ x. x) xs (y ∷ ys) y (at_one_place xs y none) moved)
 
 -- lists without repetition that have the same elements are one another in another order
 pub same_elements_permute : {X : Type 0} (xs ys : List X) → NoneTwice xs → NoneTwice ys → ((x : X) → Contains xs x → Contains ys x)
@@ -60,23 +40,21 @@ pub same_elements_permute : {X : Type 0} (xs ys : List X) → NoneTwice xs → N
 same_elements_permute [] [] none_x none_y into back = IsPermutation-refl []
 same_elements_permute [] (y ∷ ys) none_x none_y into back = absurd (not_in_none y (back y (zero, omega arith, refl)))
 same_elements_permute {X} (x ∷ xs) ys none_x none_y into back =
-    join (taken_out ys x none_y (into x (zero, omega arith, refl))) (λ zs none_z into' back'. same_elements_permute xs zs none_x.1 none_z into' back')
+    let at = into x (zero, omega arith, refl) in
+    let rest = remove ys at.0 in
+    let moved = IsPermutation-remove ys at.0 x at.1 (sym at.2) in
+    let none = none_twice-permutation ys (x ∷ rest) moved none_y in
+    let others = same_elements_permute xs rest none_x.1 none.1
+    (λ z among. behind xs rest z among none_x.0 (Contains-permutation ys (x ∷ rest) z moved (into z (one_deeper x xs z among))))
+    (λ z among. behind rest xs z among none.0
+    (back z (Contains-permutation (x ∷ rest) ys z (IsPermutation-sym ys (x ∷ rest) moved) (one_deeper x rest z among)))) in
+    IsPermutation-trans (x ∷ xs) (x ∷ rest) ys (IsPermutation-cons x xs rest others) (IsPermutation-sym ys (x ∷ rest) moved)
   where
-    join : IsTakenOut ys x → ((zs : List X) → NoneTwice zs → ((z : X) → Contains xs z → Contains zs z) → ((z : X) → Contains zs z → Contains xs z)
-        → IsPermutation xs zs) → IsPermutation (x ∷ xs) ys
-    join out rec =
-        IsPermutation-trans (x ∷ xs) (x ∷ out.rest) ys
-        (IsPermutation-cons x xs out.rest (rec out.rest out.none_twice
-        (λ z among. elim (contains_cons x out.rest z (Contains-permutation ys (x ∷ out.rest) z out.moved (into z (one_deeper x xs z among)))) [
-          | inl same ↦ absurd (none_x.0 (subst (Contains xs) (sym same) among))
-          | inr there ↦ there
-        ])
-        (λ z among. elim (contains_cons x xs z (back z (Contains-permutation (x ∷ out.rest) ys z (IsPermutation-sym ys (x ∷ out.rest) out.moved)
-        (one_deeper x out.rest z among)))) [
-          | inl same ↦ absurd (out.gone (subst (Contains out.rest) (sym same) among))
-          | inr there ↦ there
-        ])))
-        (IsPermutation-sym ys (x ∷ out.rest) out.moved)
+    behind : (xs ys : List X) (z : X) → Contains xs z → ¬ (Contains xs x) → Contains (x ∷ ys) z → Contains ys z
+    behind xs ys z among none there = elim (contains_cons x ys z there) [
+      | inl same ↦ absurd (none (subst (Contains xs) (sym same) among))
+      | inr later ↦ later
+    ]
 
 -- in two lists that share none, none stands twice
 pub none_twice-append : {X : Type 0} (xs ys : List X) → NoneTwice xs → NoneTwice ys → ((x : X) → Contains xs x → ¬ (Contains ys x)) → NoneTwice (xs ++ ys)

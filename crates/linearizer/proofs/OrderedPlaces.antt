@@ -1,16 +1,10 @@
 -- The values at the places of their order.
-use Rattle.std.proofs.Common.{◌≡◌, ℕ, zero, suc, ◌<◌, List, [], ◌∷◌, ◌++◌, length, get_or, map, Option, None, Some, refl, sym, ◌∙◌, ap, arith}
-use Rattle.std.specs.Prelude.{All, slice_get}
-use Rattle.std.specs.List.{cons_option}
-use Rattle.std.specs.Option.{option_map}
-use Rattle.std.proofs.lemmas.List.{length-map}
-use Rattle.std.proofs.lemmas.List.Elements.{All-contains, All-head, All-tail, filter_map-append}
-use Rattle.std.proofs.lemmas.Option.{slice_get-get_or, slice_get-map}
-use Rattle.history_merge.specs.declared.operation.Operation.{Operation}
-use Rattle.history_merge.proofs.Distinct.{contains_at}
-use Rattle.value_match.specs.declared.life.MatchedValue.{MatchedValue}
-use Rattle.value_match.specs.Lives.{HoldsLives, lives_of, HasPlaces}
-use Rattle.linearizer.specs.Inner.Placement.{IsOrderOfPlaces, elements_at, lives_at, lives_in}
+use Rattle.linearizer.proofs.Common.{[], All, All-contains, All-head, All-tail, ap, arith, cons_option, contains_at}
+use Rattle.linearizer.proofs.Common.{elements_at, filter_map-append, HasPlaces, HoldsLives, IsOrderOfPlaces}
+use Rattle.linearizer.proofs.Common.{length, length-map, List, lives_at, lives_in, lives_of, map, MatchedValue, None}
+use Rattle.linearizer.proofs.Common.{Operation, Option, option_map, refl, slice_get, slice_get-map}
+use Rattle.linearizer.proofs.Common.{Some, suc, sym, zero, ℕ, ◌++◌, ◌<◌, ◌∙◌, ◌∷◌, ◌≡◌}
+use Rattle.linearizer.proofs.Elements.{at_place}
 
 -- the elements at one place more
 pub elements_push : {X : Type 0} (xs : List X) (places : List ℕ) (p : ℕ) (x : X) → slice_get xs p ≡ Some x
@@ -31,9 +25,8 @@ elements_mapped {X} {Y} f xs (p ∷ places) = ap (λ o. cons_option o (elements_
 -- places in range give one element each
 first_of : {X : Type 0} (xs : List X) (p : ℕ) (places : List ℕ) → p < length xs
     → (x : X) × (slice_get xs p ≡ Some x) × (elements_at xs (p ∷ places) ≡ x ∷ elements_at xs places)
-first_of [] p places below = absurd (omega arith)
-first_of (y ∷ ys) p places below =
-    let at = slice_get-get_or (y ∷ ys) p y below in (get_or (y ∷ ys) p y, at, ap (λ o. cons_option o (elements_at (y ∷ ys) places)) at)
+first_of xs p places below =
+    let x = at_place xs p below in (x.0, x.1, ap (λ o. cons_option o (elements_at xs places)) x.1)
 
 -- as many elements as places
 pub elements_long : {X : Type 0} (xs : List X) (places : List ℕ) → All (λ p. p < length xs) places → length (elements_at xs places) ≡ length places
@@ -74,27 +67,14 @@ pub record IsValueAt (operations : List Operation) (values : List MatchedValue) 
 -- the value at one of the places
 pub value_at : (operations : List Operation) (values : List MatchedValue) (places : List ℕ) (rank place : ℕ) → HoldsLives operations values
     → IsOrderOfPlaces operations places → slice_get places rank ≡ Some place → IsValueAt operations values places rank place
-value_at operations values places rank place holds order at = with_value (get_or values place nowhere) (slice_get-get_or values place nowhere inside)
-  where
-    below : place < length (lives_of operations)
-    below = All-contains (λ p. p < length (lives_of operations)) places place order.within (contains_at places rank place at)
-
-    inside : place < length values
-    inside = omega (arith, below, ap length holds.0, length-map values (λ m. m.life))
-
-    nowhere : MatchedValue
-    nowhere = some_value values inside
-      where
-        some_value : (ms : List MatchedValue) → place < length ms → MatchedValue
-        some_value [] less = absurd (omega arith)
-        some_value (m ∷ ms) less = m
-
-    with_value : (m : MatchedValue) → slice_get values place ≡ Some m → IsValueAt operations values places rank place
-    with_value m at_place = record {
-      value = m;
-      is_at = at_place;
+value_at operations values places rank place holds order at =
+    let below = All-contains (λ p. p < length (lives_of operations)) places place order.within (contains_at places rank place at) in
+    let m = at_place values place (omega (arith, below, ap length holds.0, length-map values (λ m. m.life))) in
+    record {
+      value = m.0;
+      is_at = m.1;
       has_rank =
           element_at (lives_of operations) places rank place order.within at ∙ ap (λ lives. slice_get lives place) (sym holds.0)
-          ∙ slice_get-map (λ m. m.life) values place ∙ ap (option_map (λ m. m.life)) at_place;
-      has_places = All-contains (HasPlaces operations) values m holds.1 (contains_at values place m at_place);
+          ∙ slice_get-map (λ m. m.life) values place ∙ ap (option_map (λ m. m.life)) m.1;
+      has_places = All-contains (HasPlaces operations) values m.0 holds.1 (contains_at values place m.0 m.1);
     }

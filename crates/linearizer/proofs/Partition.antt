@@ -1,27 +1,18 @@
 -- Each operation is an enqueue or the dequeue of one value, an empty dequeue, or a failed enqueue.
-use Rattle.std.proofs.Common.{◌≡◌, zero, ◌<◌, Bool, true, false, cond, List, [], ◌∷◌, ◌++◌}
-use Rattle.std.proofs.Common.{Option, None, Some, refl, sym, ◌∙◌, ap, subst, inl, inr, arith}
-use Rattle.std.specs.Prelude.{AllPairs, Contains, IsPermutation, MatchOption, filter, flat_map, option_to_list}
-use Rattle.std.specs.List.{cons_option}
-use Rattle.std.proofs.lemmas.List.Sorted.{IsPermutation-append_left, IsPermutation-cons, IsPermutation-middle, IsPermutation-refl, IsPermutation-sym}
-use Rattle.std.proofs.lemmas.List.Sorted.{IsPermutation-trans}
-use Rattle.history_merge.specs.declared.operation.Operation.{Operation}
-use Rattle.history_merge.specs.declared.operation.OpKind.{OpKind}
-use Rattle.history_merge.specs.declared.operation.OpKind.TheVariants.{Enq, Deq, Empty, Not}
-use Rattle.history_merge.specs.Operations.{Did, NoneDid}
-use Rattle.history_merge.proofs.Distinct.{contains_cons, not_in_none}
-use Rattle.value_match.specs.declared.life.Life.{Life}
-use Rattle.value_match.specs.Lives.{IsLife, is_empty_answer, is_empty_kind, is_refused, is_refused_kind, dequeue_of, enqueue_of, operations_of_life}
-use Rattle.value_match.specs.Violations.{IsClear}
-use Rattle.linearizer.specs.Values.{IsValueOrder}
-use Rattle.linearizer.specs.Inner.Placement.{dequeues_of, enqueues_of}
+use Rattle.linearizer.proofs.Common.{[], AllPairs, ap, arith, Bool, cond, cons_option, Contains, contains_cons, Deq}
+use Rattle.linearizer.proofs.Common.{dequeue_of, dequeues_of, Did, did_dequeue, Empty, Enq, enqueue_of, enqueues_of}
+use Rattle.linearizer.proofs.Common.{false, filter, flat_map, inl, inr, is_empty_answer, is_empty_kind, is_refused}
+use Rattle.linearizer.proofs.Common.{is_refused_kind, IsClear, IsLife, IsPermutation, IsPermutation-append_left}
+use Rattle.linearizer.proofs.Common.{IsPermutation-cons, IsPermutation-middle, IsPermutation-refl, IsPermutation-sym}
+use Rattle.linearizer.proofs.Common.{IsPermutation-trans, IsValueOrder, Life, List, None, Not, not_in_none, one_deeper}
+use Rattle.linearizer.proofs.Common.{Operation, operations_of_life, OpKind, Option, option_to_list, passed_filter}
+use Rattle.linearizer.proofs.Common.{passes_filter, refl, Some, subst, sym, true, zero, ◌++◌, ◌<◌, ◌∷◌, ◌≡◌}
 use Rattle.linearizer.proofs.Keys.{one_place}
-use Rattle.linearizer.proofs.Opposites.{is_life, one_deeper, stands_in_order}
+use Rattle.linearizer.proofs.Opposites.{is_life, stands_in_order}
 use Rattle.linearizer.proofs.DifferentTimes.{IsOf, not_both_kinds, one_life_of_operation, one_place_of_life}
 use Rattle.linearizer.proofs.EachPosition.{life_of_dequeue, life_of_enqueue}
 use Rattle.linearizer.proofs.NoneTwice.{NoneTwice, from_flat_map, into_flat_map, none_twice-append, none_twice-filter, none_twice_from_places}
 use Rattle.linearizer.proofs.NoneTwice.{same_elements_permute}
-use Rattle.value_match.proofs.Lists.{passed_filter, passes_filter}
 
 -- the enqueues, and then the dequeues
 by_class : (lives : List Life) → IsPermutation (flat_map operations_of_life lives) (enqueues_of lives ++ dequeues_of lives)
@@ -71,14 +62,14 @@ none_twice_by_calls operations rise =
     none_twice_from_places operations (λ i j x y at_x at_y same. one_place (λ o. o.call) operations operations i j x y rise
     (IsPermutation-refl operations) at_x at_y (ap (λ o. o.call) same))
 
+in_option : {X : Type 0} (o : Option X) (x : X) → Contains (option_to_list o) x → o ≡ Some x
+in_option None x among = absurd (not_in_none x among)
+in_option (Some y) x among = elim (contains_cons y [] x among) [ inl same ↦ ap (λ x. Some x) same | inr nowhere ↦ absurd (not_in_none x nowhere) ]
+
 -- the operations in a life are those of it
 of_life : (life : Life) (o : Operation) → Contains (operations_of_life life) o → IsOf life o
 of_life life o among = elim (contains_cons (enqueue_of life) (option_to_list (dequeue_of life)) o among)
-    [ inl enqueues ↦ inl enqueues | inr there ↦ inr (dequeues (dequeue_of life) there) ]
-  where
-    dequeues : (dequeue : Option Operation) → Contains (option_to_list dequeue) o → dequeue ≡ Some o
-    dequeues None there = absurd (not_in_none o there)
-    dequeues (Some d) there = elim (contains_cons d [] o there) [ inl same ↦ ap (λ x. Some x) same | inr nowhere ↦ absurd (not_in_none o nowhere) ]
+    [ inl enqueues ↦ inl enqueues | inr there ↦ inr (in_option (dequeue_of life) o there) ]
 
 in_life : (life : Life) (o : Operation) → IsOf life o → Contains (operations_of_life life) o
 in_life life o (inl enqueues) = (zero, omega arith, enqueues)
@@ -88,17 +79,10 @@ in_life life o (inr dequeues) = one_deeper (enqueue_of life) (option_to_list (de
 module _ (operations : List Operation) (clear : IsClear operations) where
   none_twice_in_life : (life : Life) → IsLife operations life → NoneTwice (operations_of_life life)
   none_twice_in_life life is = (
-    λ among. elim (apart (dequeue_of life) refl among) [ ],
+    λ among. absurd (not_both_kinds operations life life (enqueue_of life) is is refl (in_option (dequeue_of life) (enqueue_of life) among)),
     alone (dequeue_of life),
   )
     where
-      apart : (dequeue : Option Operation) → dequeue_of life ≡ dequeue → Contains (option_to_list dequeue) (enqueue_of life) → ⊥
-      apart None same there = not_in_none (enqueue_of life) there
-      apart (Some d) same there = elim (contains_cons d [] (enqueue_of life) there) [
-        | inl here ↦ not_both_kinds operations life life (enqueue_of life) is is refl (same ∙ ap (λ x. Some x) here)
-        | inr nowhere ↦ not_in_none (enqueue_of life) nowhere
-      ]
-
       alone : (dequeue : Option Operation) → NoneTwice (option_to_list dequeue)
       alone None = tt
       alone (Some d) = (not_in_none d, tt)
@@ -127,8 +111,7 @@ module _ (operations : List Operation) (clear : IsClear operations) where
         by_kind : Contains operations o → (k : OpKind) → o.kind ≡ k → moves_kind k ≡ true → Contains (flat_map operations_of_life lives) o
         by_kind in_o (Enq v) is moves = let life = life_of_enqueue operations o v (in_o, is) in stands life.0 life.1 (inl life.2)
         by_kind in_o (Deq v) is moves = let life = life_of_dequeue operations o v clear (in_o, is) in stands life.0 life.1 (inr life.2)
-        by_kind in_o Empty is moves = cc
-        by_kind in_o (Not v) is moves = cc
+        by_kind in_o _ is moves = cc
 
     from_lives : (o : Operation) → Contains (flat_map operations_of_life lives) o → Contains (filter moves_value operations) o
     from_lives o among = let found = from_flat_map operations_of_life lives o among in
@@ -139,8 +122,7 @@ module _ (operations : List Operation) (clear : IsClear operations) where
             let did : Did operations o (Enq is.0) = subst (λ x. Did operations x (Enq is.0)) enqueues is.1 in
             passes_filter moves_value operations o (ap moves_kind did.1) did.0
         moved life is (inr dequeues) =
-            let did : Did operations o (Deq is.0) = subst (λ e. MatchOption e (NoneDid operations (Deq is.0)) (λ d. Did operations d (Deq is.0)))
-            dequeues is.2 in
+            let did = did_dequeue operations life o is dequeues in
             passes_filter moves_value operations o (ap moves_kind did.1) did.0
 
     -- the operations by kind

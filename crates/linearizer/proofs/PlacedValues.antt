@@ -1,28 +1,17 @@
 -- The enqueues and dequeues of the values are listed, each at its position.
-use Rattle.std.proofs.Common.{◌≡◌, ℕ, ◌+◌, ◌<◌, ◌≤◌, max, List, [], ◌∷◌, ◌++◌, length}
-use Rattle.std.proofs.Common.{get_or, map, take, Option, Some, None, refl, sym, ◌∙◌, ap, subst, arith}
-use Rattle.std.specs.Prelude.{IsPermutation, MatchOption, fold, if◌then◌else◌, nat_lt, option_to_list, slice_get}
-use Rattle.std.specs.List.{AllZip, cons_option}
-use Rattle.std.proofs.lemmas.List.{append-nil, append_assoc, map-append, take_all, take_more}
-use Rattle.std.proofs.lemmas.List.Elements.{filter_map-append}
-use Rattle.std.proofs.lemmas.List.Sorted.{IsPermutation-append_left, IsPermutation-cons, IsPermutation-middle, IsPermutation-refl, IsPermutation-sym}
-use Rattle.std.proofs.lemmas.List.Sorted.{IsPermutation-to_front, IsPermutation-trans}
-use Rattle.std.proofs.lemmas.Option.{get_or_from_slice_get, slice_get-map, slice_get_within}
-use Rattle.std.specs.Option.{option_map}
-use Rattle.history_merge.specs.declared.operation.Operation.{Operation}
-use Rattle.history_merge.specs.declared.operation.OpKind.{OpKind}
-use Rattle.history_merge.specs.declared.operation.OpKind.TheVariants.{Enq, Deq}
-use Rattle.history_merge.specs.Operations.{Did, IsAt, NoneDid}
-use Rattle.history_merge.proofs.Distinct.{contains_at}
-use Rattle.value_match.specs.declared.life.Life.{Life}
-use Rattle.value_match.specs.declared.life.MatchedValue.{MatchedValue}
-use Rattle.value_match.specs.Lives.{HoldsLives, IsLife, IsMaybeAt, leaves_from, dequeue_of, enqueue_of, HasPlaces}
-use Rattle.linearizer.specs.declared.position.Placed.{Placed}
-use Rattle.linearizer.specs.declared.timed.Timed.{Timed}
-use Rattle.linearizer.specs.Values.{IsValueOrder, dequeue_gap, enqueue_gap, greatest_leaves_from}
-use Rattle.linearizer.specs.Order.{IsPositionFor, dequeue_position, earlier_dequeues, enqueues, other_dequeues}
-use Rattle.linearizer.specs.Inner.Placement.{AreEnqueueGaps, HoldsUpTo, HoldsValues, IsOrderOfPlaces, IsPlaced, dequeues_of, enqueues_of, gaps_in, lives_at, places_in}
-use Rattle.linearizer.specs.Inner.Placement.{position_of}
+use Rattle.linearizer.proofs.Common.{[], AllZip, ap, append-nil, append_assoc, AreEnqueueGaps, arith, cons_option}
+use Rattle.linearizer.proofs.Common.{contains_at, dequeue_gap, dequeue_of, dequeue_position, dequeues_of, did_dequeue}
+use Rattle.linearizer.proofs.Common.{earlier_dequeues, enqueue_gap, enqueue_of, enqueues, enqueues_of}
+use Rattle.linearizer.proofs.Common.{filter_map-append, fold, gaps_in, get_or, get_or_from_slice_get}
+use Rattle.linearizer.proofs.Common.{greatest_leaves_from, HasPlaces, HoldsLives, HoldsUpTo, HoldsValues, if◌then◌else◌}
+use Rattle.linearizer.proofs.Common.{IsAt, IsLife, IsMaybeAt, IsOrderOfPlaces, IsPermutation, IsPermutation-append_left}
+use Rattle.linearizer.proofs.Common.{IsPermutation-cons, IsPermutation-middle, IsPermutation-refl, IsPermutation-sym}
+use Rattle.linearizer.proofs.Common.{IsPermutation-to_front, IsPermutation-trans, IsPlaced, IsPositionFor, IsValueOrder}
+use Rattle.linearizer.proofs.Common.{leaves_from, length, Life, List, lives_at, map, map-append, MatchedValue, max}
+use Rattle.linearizer.proofs.Common.{nat_lt, None, Operation, Option, option_map, other_dequeues, Placed, places_in}
+use Rattle.linearizer.proofs.Common.{position_of, refl, slice_get, slice_get-map, slice_get_within, Some, subst, sym}
+use Rattle.linearizer.proofs.Common.{take, take_all, Timed, ℕ, ◌++◌, ◌+◌, ◌<◌, ◌∙◌, ◌∷◌, ◌≡◌, ◌≤◌}
+use Rattle.linearizer.proofs.Elements.{take_next, zip_joined}
 use Rattle.linearizer.proofs.OrderedPlaces.{IsValueAt, lives_long, value_at}
 use Rattle.linearizer.proofs.Opposites.{is_life}
 
@@ -38,22 +27,14 @@ one_more_among xs ys zs x moved =
     (IsPermutation-trans (x ∷ (xs ++ ys)) (x ∷ zs) (zs ++ x ∷ []) (IsPermutation-cons x (xs ++ ys) zs moved)
     (IsPermutation-sym (zs ++ x ∷ []) (x ∷ zs) (IsPermutation-to_front zs x))))
 
--- two zipped lists joined
-pub zip_joined : {A B : Type 0} (R : A → B → Type 0) (xs xs' : List A) (ys ys' : List B) → AllZip R xs ys → AllZip R xs' ys' → AllZip R (xs ++ xs') (ys ++ ys')
-zip_joined R [] xs' [] ys' zip zip' = zip'
-zip_joined R [] xs' (y ∷ ys) ys' zip zip' = absurd zip
-zip_joined R (x ∷ xs) xs' [] ys' zip zip' = absurd zip
-zip_joined R (x ∷ xs) xs' (y ∷ ys) ys' zip zip' = (zip.0, zip_joined R xs xs' ys ys' zip.1 zip')
-
 -- where a dequeue stands that is placed at the greatest of these times
 pub dequeue_stands : (lives : List Life) (i gap left later : ℕ) (placed : Placed) → gap ≡ enqueue_gap lives i
     → left ≡ greatest_leaves_from (take (i + 1) lives) → later ≡ max left gap
     → position_of placed.position ≡ record { gap = later; class = (if nat_lt gap later then earlier_dequeues else other_dequeues); rank = i }
     → position_of placed.position ≡ dequeue_position lives i
 dequeue_stands lives i gap left later placed gap_is left_is later_is stands =
-    let last : later ≡ dequeue_gap lives i = later_is ∙ ap (λ m. max m gap) left_is ∙ ap (max (greatest_leaves_from (take (i + 1) lives))) gap_is in
-    stands ∙ ap (λ g. record { gap = later; class = (if nat_lt g later then earlier_dequeues else other_dequeues); rank = i }) gap_is
-    ∙ ap (λ g. record { gap = g; class = (if nat_lt (enqueue_gap lives i) g then earlier_dequeues else other_dequeues); rank = i }) last
+    let last : later ≡ dequeue_gap lives i = omega (arith, later_is, left_is, gap_is) in
+    rw (← last, ← gap_is) stands
 
 -- one value more, of which the gaps and the tickets are known
 module _ (operations : List Operation) (lives : List Life) (order : IsValueOrder operations lives) (i : ℕ) (life : Life)
@@ -61,49 +42,35 @@ module _ (operations : List Operation) (lives : List Life) (order : IsValueOrder
   is : IsLife operations life
   is = is_life operations lives order life (contains_at lives i life at)
 
-  longer : take (i + 1) lives ≡ take i lives ++ life ∷ []
-  longer = take_more lives i life (slice_get_within lives i life at) ∙ ap (λ x. take i lives ++ x ∷ []) (get_or_from_slice_get lives i life life at)
-
   pub greatest_more : greatest_leaves_from (take (i + 1) lives) ≡ max (greatest_leaves_from (take i lives)) (leaves_from life)
   greatest_more =
-      ap greatest_leaves_from longer ∙ ap (fold max 0) (map-append leaves_from (take i lives) (life ∷ []))
+      ap greatest_leaves_from (take_next lives i life at) ∙ ap (fold max 0) (map-append leaves_from (take i lives) (life ∷ []))
       ∙ fold_max-append 0 (map leaves_from (take i lives)) (leaves_from life ∷ [])
 
   enqueues_more : enqueues_of (take (i + 1) lives) ≡ enqueues_of (take i lives) ++ enqueue_of life ∷ []
-  enqueues_more = ap enqueues_of longer ∙ map-append enqueue_of (take i lives) (life ∷ [])
+  enqueues_more = ap enqueues_of (take_next lives i life at) ∙ map-append enqueue_of (take i lives) (life ∷ [])
 
-  dequeues_more : dequeues_of (take (i + 1) lives) ≡ dequeues_of (take i lives) ++ option_to_list (dequeue_of life)
-  dequeues_more = ap dequeues_of longer ∙ filter_map-append dequeue_of (take i lives) (life ∷ [])
-      ∙ ap (λ os. dequeues_of (take i lives) ++ os) (alone (dequeue_of life))
-    where
-      alone : (o : Option Operation) → cons_option o [] ≡ option_to_list o
-      alone None = refl
-      alone (Some d) = refl
+  dequeues_more : dequeues_of (take (i + 1) lives) ≡ dequeues_of (take i lives) ++ cons_option (dequeue_of life) []
+  dequeues_more = ap dequeues_of (take_next lives i life at) ∙ filter_map-append dequeue_of (take i lives) (life ∷ [])
 
   enqueue_placed : (gap : ℕ) (placed : Placed) → gap ≡ enqueue_gap lives i → IsAt operations placed.operation (enqueue_of life)
       → position_of placed.position ≡ record { gap = gap; class = enqueues; rank = i }
       → IsPlaced operations lives (enqueue_of life) placed
-  enqueue_placed gap placed gap_is names stands = (names, stands_for (enqueue_of life).kind is.1.1)
-    where
-      stands_for : (k : OpKind) → k ≡ Enq is.0 → IsPositionFor operations lives (enqueue_of life) k (position_of placed.position)
-      stands_for k same =
-          subst (λ k. IsPositionFor operations lives (enqueue_of life) k (position_of placed.position)) (sym same)
-          (i, life, at, refl, stands ∙ ap (λ g. record { gap = g; class = enqueues; rank = i }) gap_is)
+  enqueue_placed gap placed gap_is names stands = (
+    names,
+    subst (λ k. IsPositionFor operations lives (enqueue_of life) k (position_of placed.position)) (sym is.1.1)
+        (i, life, at, refl, stands ∙ ap (λ g. record { gap = g; class = enqueues; rank = i }) gap_is),
+  )
 
   dequeue_placed : (gap left later : ℕ) (d : Operation) (placed : Placed) → gap ≡ enqueue_gap lives i
       → left ≡ greatest_leaves_from (take (i + 1) lives) → later ≡ max left gap → dequeue_of life ≡ Some d
       → IsAt operations placed.operation d → position_of placed.position
       ≡ record { gap = later; class = (if nat_lt gap later then earlier_dequeues else other_dequeues); rank = i } → IsPlaced operations lives d placed
-  dequeue_placed gap left later d placed gap_is left_is later_is dequeues names stands = (names, stands_for d.kind did.1)
-    where
-      did : Did operations d (Deq is.0)
-      did = subst (λ e. MatchOption e (NoneDid operations (Deq is.0)) (λ d. Did operations d (Deq is.0))) dequeues is.2
-
-      there : position_of placed.position ≡ dequeue_position lives i
-      there = dequeue_stands lives i gap left later placed gap_is left_is later_is stands
-
-      stands_for : (k : OpKind) → k ≡ Deq is.0 → IsPositionFor operations lives d k (position_of placed.position)
-      stands_for k same = subst (λ k. IsPositionFor operations lives d k (position_of placed.position)) (sym same) (i, life, at, dequeues, there)
+  dequeue_placed gap left later d placed gap_is left_is later_is dequeues names stands = (
+    names,
+    subst (λ k. IsPositionFor operations lives d k (position_of placed.position)) (sym (did_dequeue operations life d is dequeues).1)
+        (i, life, at, dequeues, dequeue_stands lives i gap left later placed gap_is left_is later_is stands),
+  )
 
 -- what is known at the turn of a value: its place, and the gap of its enqueue
 pub record IsTurn (operations : List Operation) (lives : List Life) (i : ℕ) (m : MatchedValue) (gap : ℕ) : Type 0 where
@@ -129,25 +96,17 @@ pub turn_is : (operations : List Operation) (values : List MatchedValue) (timed 
     → HoldsLives operations values → IsOrderOfPlaces operations (places_in timed)
     → AreEnqueueGaps (lives_at operations (places_in timed)) (gaps_in timed) → slice_get timed i ≡ Some t → m ≡ get_or values t.place m
     → IsTurn operations (lives_at operations (places_in timed)) i m t.time
-turn_is operations values timed i t m holds order are_gaps here_is reads = record {
-  order = order.in_order;
-  places = subst (HasPlaces operations) (sym same) here.has_places;
-  at = here.has_rank ∙ ap (λ m. Some m.life) (sym same);
-  gap_is = sym (get_or_from_slice_get gaps i t.time 0 (slice_get-map (λ (x : Timed). x.time) timed i ∙ ap (option_map (λ (x : Timed). x.time)) here_is))
-      ∙ are_gaps.at_each i (slice_get_within (lives_at operations places) i here.value.life here.has_rank);
-}
-  where
-    places : List ℕ
-    places = places_in timed
-
-    gaps : List ℕ
-    gaps = gaps_in timed
-
-    here : IsValueAt operations values places i t.place
-    here = value_read operations values timed i t holds order here_is
-
-    same : m ≡ here.value
-    same = reads ∙ get_or_from_slice_get values t.place here.value m here.is_at
+turn_is operations values timed i t m holds order are_gaps here_is reads =
+    let here = value_read operations values timed i t holds order here_is in
+    let same = reads ∙ get_or_from_slice_get values t.place here.value m here.is_at in
+    record {
+      order = order.in_order;
+      places = subst (HasPlaces operations) (sym same) here.has_places;
+      at = here.has_rank ∙ ap (λ m. Some m.life) (sym same);
+      gap_is =
+          sym (get_or_from_slice_get (gaps_in timed) i t.time 0 (slice_get-map (λ (x : Timed). x.time) timed i ∙ ap (option_map (λ (x : Timed). x.time)) here_is))
+          ∙ are_gaps.at_each i (slice_get_within (lives_at operations (places_in timed)) i here.value.life here.has_rank);
+    }
 
 -- nothing is placed at first
 pub nothing_placed : (operations : List Operation) (lives : List Life) → HoldsUpTo operations lives 0 0 0 []
@@ -157,20 +116,17 @@ nothing_placed operations lives = record { left_is = refl; listed = []; each_onc
 pub all_placed : (operations : List Operation) (places : List ℕ) (i j left : ℕ) (placed : List Placed) → IsOrderOfPlaces operations places
     → length places ≤ i → length places ≤ j
     → HoldsUpTo operations (lives_at operations places) i j left placed → HoldsValues operations placed
-all_placed operations places i j left placed order all_in all_out so_far = record {
-  lives = lives;
-  in_order = order.in_order;
-  listed = so_far.listed;
-  each_once = subst (λ ls. IsPermutation (enqueues_of ls ++ dequeues_of lives) so_far.listed) (take_all i lives (omega (arith, long)))
-      (subst (λ ls. IsPermutation (enqueues_of (take i lives) ++ dequeues_of ls) so_far.listed) (take_all j lives (omega (arith, long))) so_far.each_once);
-  each_placed = so_far.each_placed;
-}
-  where
-    lives : List Life
-    lives = lives_at operations places
-
-    long : length lives ≡ length places
-    long = lives_long operations places order
+all_placed operations places i j left placed order all_in all_out so_far =
+    let lives = lives_at operations places in
+    let long = lives_long operations places order in
+    record {
+      lives = lives;
+      in_order = order.in_order;
+      listed = so_far.listed;
+      each_once = subst (λ ls. IsPermutation (enqueues_of ls ++ dequeues_of lives) so_far.listed) (take_all i lives (omega arith))
+          (subst (λ ls. IsPermutation (enqueues_of (take i lives) ++ dequeues_of ls) so_far.listed) (take_all j lives (omega arith)) so_far.each_once);
+      each_placed = so_far.each_placed;
+    }
 
 -- the next enqueue is placed
 module _ (operations : List Operation) (lives : List Life) (i : ℕ) (m : MatchedValue) (gap : ℕ) (turn : IsTurn operations lives i m gap) where
@@ -198,17 +154,17 @@ module _ (operations : List Operation) (lives : List Life) (j : ℕ) (m : Matche
   pub left_more : left' ≡ greatest_leaves_from (take (j + 1) lives)
   left_more = let more = greatest_more operations lives turn.order j m.life turn.at in omega (arith, more, left_is, so_far.left_is)
 
-  with_rest : (rest : List Placed) → AllZip (IsPlaced operations lives) (option_to_list (dequeue_of m.life)) rest
+  with_rest : (rest : List Placed) → AllZip (IsPlaced operations lives) (cons_option (dequeue_of m.life) []) rest
       → HoldsUpTo operations lives i (j + 1) left' (placed ++ rest)
   with_rest rest zip = record {
     left_is = left_more;
-    listed = so_far.listed ++ option_to_list (dequeue_of m.life);
-    each_once = subst (λ os. IsPermutation os (so_far.listed ++ option_to_list (dequeue_of m.life)))
-        (append_assoc (enqueues_of (take i lives)) (dequeues_of (take j lives)) (option_to_list (dequeue_of m.life))
+    listed = so_far.listed ++ cons_option (dequeue_of m.life) [];
+    each_once = subst (λ os. IsPermutation os (so_far.listed ++ cons_option (dequeue_of m.life) []))
+        (append_assoc (enqueues_of (take i lives)) (dequeues_of (take j lives)) (cons_option (dequeue_of m.life) [])
         ∙ ap (λ os. enqueues_of (take i lives) ++ os) (sym (dequeues_more operations lives turn.order j m.life turn.at)))
-        (IsPermutation-append_left (option_to_list (dequeue_of m.life))
+        (IsPermutation-append_left (cons_option (dequeue_of m.life) [])
         (enqueues_of (take i lives) ++ dequeues_of (take j lives)) so_far.listed so_far.each_once);
-    each_placed = zip_joined (IsPlaced operations lives) so_far.listed (option_to_list (dequeue_of m.life)) placed rest so_far.each_placed zip;
+    each_placed = zip_joined (IsPlaced operations lives) so_far.listed (cons_option (dequeue_of m.life) []) placed rest so_far.each_placed zip;
   }
 
   -- a value that is never dequeued has its turn, and nothing is placed
@@ -217,7 +173,7 @@ module _ (operations : List Operation) (lives : List Life) (j : ℕ) (m : Matche
       (with_rest [] (nothing m.dequeue (dequeue_of m.life) none turn.places.1))
     where
       nothing : (place : Option ℕ) (dequeue : Option Operation) → place ≡ None → IsMaybeAt operations place dequeue
-          → AllZip (IsPlaced operations lives) (option_to_list dequeue) []
+          → AllZip (IsPlaced operations lives) (cons_option dequeue []) []
       nothing None None same places = tt
       nothing None (Some d) same places = absurd places
       nothing (Some p) dequeue same places = cc
@@ -229,7 +185,7 @@ module _ (operations : List Operation) (lives : List Life) (j : ℕ) (m : Matche
   turn_with_dequeue p later second same later_is names stands = with_rest (second ∷ []) (one m.dequeue (dequeue_of m.life) same turn.places.1 refl)
     where
       one : (place : Option ℕ) (dequeue : Option Operation) → place ≡ Some p → IsMaybeAt operations place dequeue → dequeue_of m.life ≡ dequeue
-          → AllZip (IsPlaced operations lives) (option_to_list dequeue) (second ∷ [])
+          → AllZip (IsPlaced operations lives) (cons_option dequeue []) (second ∷ [])
       one None dequeue same places is = cc
       one (Some q) None same places is = absurd places
       one (Some q) (Some d) same places is = (

@@ -1,37 +1,21 @@
 -- Sorted by gap and place, the operations that change nothing never fall.
-use Rattle.std.proofs.Common.{◌≡◌, ℕ, ◌+◌, ◌*◌, ◌<◌, ◌≤◌, ◌⊎◌, List, [], ◌∷◌, length, map, get_or, arith, ap, inl, inr, sym, subst, ◌∙◌}
-use Rattle.std.specs.Prelude.{All, filter, ◌++◌, IsPermutation}
-use Rattle.std.specs.List.{AllZip}
-use Rattle.std.specs.List.Sorted.{IsNonDecreasingBy}
-use Rattle.std.proofs.lemmas.List.{get_or-map, length-map}
-use Rattle.std.proofs.lemmas.List.Elements.{All-cons, All-nil}
-use Rattle.std.proofs.lemmas.List.Sorted.{All-permutation, IsPermutation-map}
-use Rattle.std.proofs.lemmas.Option.{get_or_from_slice_get, slice_get_within}
-use Rattle.history_merge.specs.declared.operation.Operation.{Operation}
-use Rattle.history_merge.specs.declared.operation.OpKind.TheVariants.{Enq}
-use Rattle.history_merge.specs.Complete.{AreComplete}
-use Rattle.history_merge.proofs.Distinct.{calls_rise}
-use Rattle.value_match.specs.Accepted.{operation_at}
-use Rattle.value_match.specs.Lives.{is_empty_answer, is_refused}
-use Rattle.value_match.specs.declared.matching.TheConstants.{MAX_MATCHED}
-use Rattle.linearizer.specs.declared.timed.Timed.{Timed}
-use Rattle.linearizer.specs.declared.timed.TheConstants.{PLACES}
-use Rattle.linearizer.specs.Order.{IsPositionOf, noop_answers}
-use Rattle.value_match.specs.declared.life.Life.{Life}
-use Rattle.linearizer.specs.Inner.Placement.{Adds, HoldsNoops, IsNoopAt, IsPlaced, NeverFall, noop_at}
-use Rattle.linearizer.proofs.PlacedValues.{zip_joined}
+use Rattle.linearizer.proofs.Common.{[], Adds, All, All-permutation, AllZip, ap, AreComplete, arith, cases_lt, Enq}
+use Rattle.linearizer.proofs.Common.{filter, get_or, get_or-map, get_or_from_slice_get, HoldsNoops, inl, inr}
+use Rattle.linearizer.proofs.Common.{is_empty_answer, is_refused, IsNonDecreasingBy, IsNoopAt, IsPermutation}
+use Rattle.linearizer.proofs.Common.{IsPermutation-map, IsPlaced, IsPositionOf, length, length-map, Life, List, map}
+use Rattle.linearizer.proofs.Common.{MAX_MATCHED, NeverFall, noop_answers, noop_at, Operation, operation_at, PLACES}
+use Rattle.linearizer.proofs.Common.{slice_get-get_or, slice_get_within, subst, sym, Timed, ℕ, ◌*◌, ◌++◌, ◌+◌, ◌<◌, ◌∙◌}
+use Rattle.linearizer.proofs.Common.{◌∷◌, ◌≡◌, ◌≤◌, ◌⊎◌}
+use Rattle.linearizer.proofs.Elements.{beside_second, zip_joined}
+use Rattle.linearizer.proofs.OneOrder.{operations_rise}
 
 -- operations come in the order of their calls
 calls_by_place : (operations : List Operation) (p q : ℕ) → AreComplete operations → p ≤ q → q < length operations
     → (operation_at operations p).call ≤ (operation_at operations q).call
-calls_by_place operations p q complete at_most within =
-    let rise = subst (λ os. (i j : ℕ) (d : Operation) → i < j → j < length os → (get_or os i d).call < (get_or os j d).call) (sym complete.2)
-    (calls_rise complete.0 complete.1.tickets_rise) in
-    let cases : (p < q) ⊎ (p ≡ q) = grind (arith, at_most) in
-    elim cases [
-      | inl before ↦ let less = rise p q (record { call = 0; ret = 0; thread = 0; kind = Enq 0 }) before within in omega (arith, less)
-      | inr same ↦ let one = ap (λ r. (operation_at operations r).call) same in omega (arith, one)
-    ]
+calls_by_place operations p q complete at_most within = elim (cases_lt p q) [
+  | inl before ↦ omega (arith, operations_rise operations complete p q (record { call = 0; ret = 0; thread = 0; kind = Enq 0 }) before within)
+  | inr more ↦ let same : p ≡ q = omega arith in omega (arith, ap (λ r. (operation_at operations r).call) same)
+]
 
 -- sorted by gap and place, none stands before an earlier one
 pub noops_never_fall : (operations : List Operation) (sorted : List Timed) → AreComplete operations → length operations ≤ MAX_MATCHED
@@ -60,11 +44,9 @@ noops_never_fall operations sorted complete few within rises i j d below inside 
 -- each of them is an operation
 stands_within : (operations listed : List Operation) (timed : List Timed) → AllZip (IsNoopAt operations) listed timed
     → All (λ t. t.place < length operations) timed
-stands_within operations [] [] each = All-nil (λ t. t.place < length operations)
-stands_within operations [] (t ∷ timed) each = absurd each
-stands_within operations (o ∷ listed) [] each = absurd each
-stands_within operations (o ∷ listed) (t ∷ timed) each =
-    All-cons (λ t. t.place < length operations) t timed (slice_get_within operations t.place o each.0.at) (stands_within operations listed timed each.1)
+stands_within operations listed timed each k d within =
+    let o = beside_second (IsNoopAt operations) listed timed k (get_or timed k d) each (slice_get-get_or timed k d within) in
+    slice_get_within operations (get_or timed k d).place o.0 o.2.at
 
 -- and stands at its position
 stand_placed : (operations listed : List Operation) (timed : List Timed) (lives : List Life) → AllZip (IsNoopAt operations) listed timed

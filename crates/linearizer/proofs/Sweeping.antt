@@ -1,26 +1,16 @@
 -- The values that are left, and the first of them in a list by times.
-use Rattle.std.proofs.Common.{◌≡◌, ℕ, zero, suc, ◌+◌, ◌<◌, ◌≤◌, ◌⊎◌, Bool, true}
-use Rattle.std.proofs.Common.{false, List, [], ◌∷◌, ◌++◌, length, get_or, set, take, replicate}
-use Rattle.std.proofs.Common.{Option, None, Some, refl, sym, ◌∙◌, ap, subst, inl, inr, arith}
-use Rattle.std.specs.Prelude.{All, Contains, IsPermutation, IsSomeAnd, slice_get}
-use Rattle.std.specs.List.Sorted.{IsNonDecreasingBy}
-use Rattle.std.proofs.lemmas.Bool.{cases_lt}
-use Rattle.std.proofs.lemmas.List.{get_or-take, length-take}
-use Rattle.std.proofs.lemmas.List.Elements.{All-contains, All-contains_itself, All-get_or, All-map, All-more, All-nil, All-push, All-weaker}
-use Rattle.std.proofs.lemmas.List.Elements.{Contains-append_left, Contains-push}
-use Rattle.std.proofs.lemmas.List.Sorted.{All-permutation, Contains-permutation, IsPermutation-cons, IsPermutation-middle, IsPermutation-refl}
-use Rattle.std.proofs.lemmas.List.Sorted.{IsPermutation-trans}
-use Rattle.std.proofs.lemmas.Option.{get_or_from_slice_get, slice_get-get_or, slice_get_read, slice_get_within}
-use Rattle.history_merge.proofs.Distinct.{contains_at, one_at, place_of}
-use Rattle.value_match.specs.declared.life.Life.{Life}
-use Rattle.value_match.specs.declared.life.MatchedValue.{MatchedValue}
-use Rattle.value_match.specs.declared.life.TheConstants.{NEVER}
-use Rattle.value_match.specs.Lives.{dequeue_return, entered_by, leaves_from}
-use Rattle.value_match.proofs.Lists.{mapped_to, one_deeper}
-use Rattle.linearizer.specs.declared.timed.Timed.{Timed}
-use Rattle.linearizer.specs.Values.{IsChoice, IsLeastBy}
-use Rattle.linearizer.specs.Inner.Placement.{lives_in}
-use Rattle.linearizer.specs.Inner.Sweep.{AreByTime, IsDequeuedAt, IsFirstLeft, IsLeft, IsTaken, IsTimeOf, TakesOneOf}
+use Rattle.linearizer.proofs.Common.{[], All, All-contains, All-get_or, All-map, All-more, All-nil, All-permutation}
+use Rattle.linearizer.proofs.Common.{All-push, ap, AreByTime, arith, Bool, cases_lt, Contains, Contains-append_left}
+use Rattle.linearizer.proofs.Common.{Contains-get_or, Contains-permutation, Contains-push, contains_at, dequeue_return}
+use Rattle.linearizer.proofs.Common.{entered_by, false, get_or, get_or_from_slice_get, inl, inr, IsChoice, IsDequeuedAt}
+use Rattle.linearizer.proofs.Common.{IsFirstLeft, IsLeastBy, IsLeft, IsNonDecreasingBy, IsPermutation}
+use Rattle.linearizer.proofs.Common.{IsPermutation-cons, IsPermutation-middle, IsPermutation-refl, IsPermutation-sym}
+use Rattle.linearizer.proofs.Common.{IsPermutation-trans, IsTaken, IsTimeOf, leaves_from, length, length-take, Life}
+use Rattle.linearizer.proofs.Common.{List, lives_in, mapped_to, MatchedValue, NEVER, one_at, Option, place_of, refl}
+use Rattle.linearizer.proofs.Common.{replicate, set, slice_get, slice_get-get_or, slice_get_within, Some, subst, suc}
+use Rattle.linearizer.proofs.Common.{sym, take, TakesOneOf, Timed, true, zero, ℕ, ◌++◌, ◌+◌, ◌<◌, ◌∙◌, ◌∷◌, ◌≡◌, ◌≤◌}
+use Rattle.std.proofs.lemmas.List.{get_or-take}
+use Rattle.linearizer.proofs.Elements.{from_some_and}
 
 -- the elements whose flag is not set
 abbrev pub left_of : {X : Type 0} → List X → List Bool → List X
@@ -33,16 +23,6 @@ left_of (x ∷ xs) (false ∷ taken) = x ∷ left_of xs taken
 pub all_left : {X : Type 0} (xs : List X) → left_of xs (replicate (length xs) false) ≡ xs
 all_left [] = refl
 all_left (x ∷ xs) = ap (λ rest. x ∷ rest) (all_left xs)
-
--- an element whose flag is not set is left
-pub left_where : {X : Type 0} (xs : List X) (taken : List Bool) (p : ℕ) (x : X) → slice_get xs p ≡ Some x → slice_get taken p ≡ Some false
-    → Contains (left_of xs taken) x
-left_where [] taken p x at flag = cc
-left_where (y ∷ ys) [] p x at flag = cc
-left_where (y ∷ ys) (true ∷ taken) zero x at flag = cc
-left_where (y ∷ ys) (true ∷ taken) (suc p) x at flag = left_where ys taken p x at flag
-left_where (y ∷ ys) (false ∷ taken) zero x at flag = let same : y ≡ x = cc in (zero, omega arith, same)
-left_where (y ∷ ys) (false ∷ taken) (suc p) x at flag = one_deeper y (left_of ys taken) x (left_where ys taken p x at flag)
 
 -- what is left stands at a place whose flag is not set
 pub place_left : {X : Type 0} (xs : List X) (taken : List Bool) (i : ℕ) (x : X) → slice_get (left_of xs taken) i ≡ Some x
@@ -66,6 +46,14 @@ one_taken (y ∷ ys) (false ∷ taken) (suc p) x at flag =
     let rest = left_of ys (set taken p true) in
     IsPermutation-trans (y ∷ left_of ys taken) (y ∷ x ∷ rest) (x ∷ y ∷ rest)
     (IsPermutation-cons y (left_of ys taken) (x ∷ rest) (one_taken ys taken p x at flag)) (IsPermutation-middle (y ∷ []) x rest)
+
+-- an element whose flag is not set is left
+pub left_where : {X : Type 0} (xs : List X) (taken : List Bool) (p : ℕ) (x : X) → slice_get xs p ≡ Some x → slice_get taken p ≡ Some false
+    → Contains (left_of xs taken) x
+left_where xs taken p x at flag =
+    let rest = left_of xs (set taken p true) in
+    Contains-permutation (x ∷ rest) (left_of xs taken) x (IsPermutation-sym (left_of xs taken) (x ∷ rest) (one_taken xs taken p x at flag))
+    (zero, omega arith, refl)
 
 -- a flag that is set stays set
 pub flag_stays : (taken : List Bool) (p k : ℕ) → slice_get taken k ≡ Some true → slice_get (set taken p true) k ≡ Some true
@@ -95,40 +83,31 @@ module _ (number : Life → ℕ) (values : List MatchedValue) (i : ℕ) (entries
   -- one value more with its time
   pub one_more_timed : (time : ℕ) → time ≡ number m.life → number m.life < NEVER
       → AreTimedSoFar number values (i + 1) (entries ++ record { time = time; place = i } ∷ [])
-  one_more_timed time is past = record {
-    are_timed = All-push (IsTimeOf number values) entries last so_far.are_timed (rw at is);
-    are_past = All-push (λ timed. timed.time < NEVER) entries last so_far.are_past (omega (arith, is, past));
-    has_each = each;
-  }
-    where
-      last : Timed
-      last = record { time = time; place = i }
-
-      each : (place : ℕ) (x : MatchedValue) → place < i + 1 → slice_get values place ≡ Some x → number x.life < NEVER
-          → (timed : Timed) × Contains (entries ++ last ∷ []) timed × (timed.place ≡ place)
-      each place x below here less =
-          let cases : (place < i) ⊎ (place ≡ i) = grind (arith, below) in
-          elim cases [
-            | inl before ↦
-                let found = so_far.has_each place x before here less in
-                (found.0, Contains-append_left entries (last ∷ []) found.0 found.1, found.2)
-            | inr same ↦ (last, Contains-push entries last, sym same)
-          ]
+  one_more_timed time is past =
+      let last : Timed = record { time = time; place = i } in
+      record {
+        are_timed = All-push (IsTimeOf number values) entries last so_far.are_timed (rw at is);
+        are_past = All-push (λ timed. timed.time < NEVER) entries last so_far.are_past (omega (arith, is));
+        has_each = λ place x below here less. elim (cases_lt place i) [
+          | inl before ↦
+              let found = so_far.has_each place x before here less in
+              (found.0, Contains-append_left entries (last ∷ []) found.0 found.1, found.2)
+          | inr more ↦ (last, Contains-push entries last, omega arith)
+        ];
+      }
 
   -- one value more that has no such time
   pub none_more_timed : NEVER ≤ number m.life → AreTimedSoFar number values (i + 1) entries
   none_more_timed never = record {
     are_timed = so_far.are_timed;
     are_past = so_far.are_past;
-    has_each = λ place x below here less.
-        let cases : (place < i) ⊎ (place ≡ i) = grind (arith, below) in
-        elim cases [
-          | inl before ↦ so_far.has_each place x before here less
-          | inr same ↦
-              let one : x ≡ m = one_at values i x m (ap (slice_get values) (sym same) ∙ here) at in
-              let times = ap (λ y. number y.life) one in
-              absurd (omega (arith, never, less, times))
-        ];
+    has_each = λ place x below here less. elim (cases_lt place i) [
+      | inl before ↦ so_far.has_each place x before here less
+      | inr more ↦
+          let same : i ≡ place = omega arith in
+          let one : x ≡ m = one_at values i x m (ap (slice_get values) same ∙ here) at in
+          absurd (omega (arith, ap (λ y. number y.life) one))
+    ];
   }
 
 -- the same entries in another order
@@ -156,19 +135,15 @@ sorted_by_time number values n entries sorted so_far all permutes rises =
 -- an entry before the cursor is taken, so one that is left stands at or after it
 stands_after : (taken : List Bool) (entries : List Timed) (i k : ℕ) (timed : Timed) → All (IsTaken taken) (take i entries)
     → slice_get entries k ≡ Some timed → IsLeft taken timed → i ≤ k
-stands_after taken entries i k timed before at flag =
-    let cases : (k < i) ⊎ (i ≤ k) = grind arith in
-    elim cases [ inl below ↦ absurd (clash below) | inr after ↦ after ]
-  where
-    clash : k < i → ⊥
-    clash below =
-        let inside = slice_get_within entries k timed at in
-        let shorter : k < length (take i entries) = omega (arith, length-take i entries) in
-        let read = get_or_from_slice_get entries k timed timed at in
-        let there = slice_get_read (take i entries) (length (take i entries)) k timed refl shorter (sym (get_or-take i entries k timed below ∙ read)) in
-        let set_before = All-contains (IsTaken taken) (take i entries) timed before (contains_at (take i entries) k timed there) in
-        let both : ◌≡◌ {A = Option Bool} (Some true) (Some false) = sym set_before ∙ flag in
-        cc
+stands_after taken entries i k timed before at flag = elim (cases_lt k i) [
+  | inr after ↦ after
+  | inl below ↦
+      let inside = slice_get_within entries k timed at in
+      let read = get_or-take i entries k timed below ∙ get_or_from_slice_get entries k timed timed at in
+      let is_taken = subst (IsTaken taken) read (before k timed (omega (arith, length-take i entries))) in
+      let both : ◌≡◌ {A = Option Bool} (Some true) (Some false) = sym is_taken ∙ flag in
+      cc
+]
 
 -- where some value is left, the walk along the entries ends
 pub not_past : (taken : List Bool) (entries : List Timed) (i : ℕ) → All (IsTaken taken) (take i entries)
@@ -216,10 +191,6 @@ pub record IsLeastLeft (number : Life → ℕ) (values : List MatchedValue) (tak
   pub is_left : IsLeft taken timed
   pub is_least : IsLeastBy number (lives_in (left_of values taken)) value.life
 
-from_some_and : {X : Type 0} (o : Option X) (P : X → Type 0) → IsSomeAnd o P → (x : X) × (o ≡ Some x) × P x
-from_some_and None P is = absurd is
-from_some_and (Some x) P is = (x, refl, is)
-
 module _ (number : Life → ℕ) (values : List MatchedValue) (entries : List Timed) (taken : List Bool) (are : AreByTime number values entries) where
   value_of : (k : ℕ) (timed : Timed) → slice_get entries k ≡ Some timed
       → (m : MatchedValue) × (slice_get values timed.place ≡ Some m) × (timed.time ≡ number m.life)
@@ -227,29 +198,31 @@ module _ (number : Life → ℕ) (values : List MatchedValue) (entries : List Ti
       from_some_and (slice_get values timed.place) (λ m. timed.time ≡ number m.life)
       (All-contains (IsTimeOf number values) entries timed are.are_timed (contains_at entries k timed at))
 
-  none_less : (i : ℕ) (first : IsFirstLeft entries taken i) (x : Timed) → slice_get entries i ≡ Some x → (y : MatchedValue)
-      → Contains (left_of values taken) y → x.time ≤ number y.life
-  none_less i first x at_x y among = elim (cases_lt (number y.life) NEVER) [
-    | inl past ↦
-        let at = place_of (left_of values taken) y among in
-        let place = place_left values taken at.0 y at.1 in
-        let entry = are.has_each place.0 y place.1 past in
-        let stands = place_of entries entry.0 entry.1 in
-        let flag : IsLeft taken entry.0 = ap (slice_get taken) entry.2 ∙ place.2 in
-        let after = stands_after taken entries i stands.0 entry.0 first.before stands.1 flag in
-        let rises = are.never_falls i stands.0 entry.0 after (slice_get_within entries stands.0 entry.0 stands.1) in
-        let here = get_or_from_slice_get entries i x entry.0 at_x in
-        let there = get_or_from_slice_get entries stands.0 entry.0 entry.0 stands.1 in
-        let same = one_at values place.0 (value_of stands.0 entry.0 stands.1).0 y
-        (sym (ap (slice_get values) entry.2) ∙ (value_of stands.0 entry.0 stands.1).1) place.1 in
-        let time : entry.0.time ≡ number y.life = (value_of stands.0 entry.0 stands.1).2 ∙ ap (λ m. number m.life) same in
-        let times : x.time ≤ entry.0.time = subst (λ e. x.time ≤ e.time) there
-        (subst (λ e. e.time ≤ (get_or entries stands.0 entry.0).time) here rises) in
-        subst (λ n. x.time ≤ n) time times
-    | inr never ↦
-        let less = All-contains (λ timed. timed.time < NEVER) entries x are.are_past (contains_at entries i x at_x) in
-        omega (arith, less, never)
-  ]
+  -- a value that is left and has such a time has its entry at the cursor or behind it
+  entry_of : (i : ℕ) (first : IsFirstLeft entries taken i) (y : MatchedValue) → Contains (left_of values taken) y → number y.life < NEVER
+      → (k : ℕ) × (timed : Timed) × (slice_get entries k ≡ Some timed) × (i ≤ k) × (timed.time ≡ number y.life)
+  entry_of i first y among past =
+      let at = place_of (left_of values taken) y among in
+      let place = place_left values taken at.0 y at.1 in
+      let entry = are.has_each place.0 y place.1 past in
+      let stands = place_of entries entry.0 entry.1 in
+      let value = value_of stands.0 entry.0 stands.1 in
+      let same = one_at values place.0 value.0 y (sym (ap (slice_get values) entry.2) ∙ value.1) place.1 in (
+        stands.0,
+        entry.0,
+        stands.1,
+        stands_after taken entries i stands.0 entry.0 first.before stands.1 (ap (slice_get taken) entry.2 ∙ place.2),
+        value.2 ∙ ap (λ m. number m.life) same,
+      )
+
+  least_among : (m : MatchedValue) → Contains (left_of values taken) m
+      → ((y : MatchedValue) → Contains (left_of values taken) y → number m.life ≤ number y.life)
+      → IsLeastBy number (lives_in (left_of values taken)) m.life
+  least_among m among each = (
+    mapped_to (λ m. m.life) (left_of values taken) m among,
+    All-map (λ other. number m.life ≤ number other) (λ m. m.life) (left_of values taken)
+        (λ k d within. each (get_or (left_of values taken) k d) (Contains-get_or (left_of values taken) k d within)),
+  )
 
   -- the value of the first entry that is left is the least of those left
   pub least_left : (i : ℕ) (first : IsFirstLeft entries taken i) (x : Timed) → slice_get entries i ≡ Some x → IsLeastLeft number values taken x
@@ -261,51 +234,35 @@ module _ (number : Life → ℕ) (values : List MatchedValue) (entries : List Ti
         is_at = found.1;
         time_is = found.2;
         is_left = left;
-        is_least = (
-          mapped_to (λ m. m.life) (left_of values taken) found.0 (left_where values taken x.place found.0 found.1 left),
-          All-map (λ other. number found.0.life ≤ number other) (λ m. m.life) (left_of values taken)
-              (All-weaker (Contains (left_of values taken)) (λ y. number found.0.life ≤ number y.life)
-              (λ y among. subst (λ n. n ≤ number y.life) found.2 (none_less i first x at y among)) (left_of values taken)
-              (All-contains_itself (left_of values taken))),
-        );
+        is_least = least_among found.0 (left_where values taken x.place found.0 found.1 left) (λ y among. elim (cases_lt (number y.life) NEVER) [
+          | inl past ↦
+              let entry = entry_of i first y among past in
+              let rises = are.never_falls i entry.0 x entry.3 (slice_get_within entries entry.0 entry.1 entry.2) in
+              let here = ap (λ (e : Timed). e.time) (get_or_from_slice_get entries i x x at) in
+              let there = ap (λ (e : Timed). e.time) (get_or_from_slice_get entries entry.0 entry.1 x entry.2) in
+              omega (arith, found.2, entry.4)
+          | inr never ↦ omega (arith, found.2, All-contains (λ timed. timed.time < NEVER) entries x are.are_past (contains_at entries i x at))
+        ]);
       }
 
-  -- behind the last entry all that are left have no such time
-  none_timed_left : (i : ℕ) (first : IsFirstLeft entries taken i) → length entries ≤ i → (y : MatchedValue) → Contains (left_of values taken) y
-      → NEVER ≤ number y.life
-  none_timed_left i first past y among = elim (cases_lt (number y.life) NEVER) [
-    | inl less ↦
-        let at = place_of (left_of values taken) y among in
-        let place = place_left values taken at.0 y at.1 in
-        let entry = are.has_each place.0 y place.1 less in
-        let stands = place_of entries entry.0 entry.1 in
-        let after = stands_after taken entries i stands.0 entry.0 first.before stands.1 (ap (slice_get taken) entry.2 ∙ place.2) in
-        let within = slice_get_within entries stands.0 entry.0 stands.1 in
-        absurd (omega (arith, after, within, past))
-    | inr never ↦ never
-  ]
-
-  -- so each of them is the least
+  -- behind the last entry all that are left have no such time, so each of them is the least
   pub none_sooner : (i : ℕ) (first : IsFirstLeft entries taken i) → length entries ≤ i → All (λ m. number m.life ≤ NEVER) values
       → (place : ℕ) (m : MatchedValue) → slice_get values place ≡ Some m → slice_get taken place ≡ Some false
       → IsLeastLeft number values taken (record { time = NEVER; place = place })
   none_sooner i first past bounded place m at left =
       let among = left_where values taken place m at left in
+      let never : (y : MatchedValue) → Contains (left_of values taken) y → NEVER ≤ number y.life = λ y in_left.
+      elim (cases_lt (number y.life) NEVER) [
+        | inl less ↦ let entry = entry_of i first y in_left less in absurd (omega (arith, entry.3, slice_get_within entries entry.0 entry.1 entry.2))
+        | inr late ↦ late
+      ] in
       let most = All-contains (λ x. number x.life ≤ NEVER) values m bounded (contains_at values place m at) in
-      let least = none_timed_left i first past m among in
-      let is : NEVER ≡ number m.life = omega (arith, most, least) in
       record {
         value = m;
         is_at = at;
-        time_is = is;
+        time_is = omega (arith, never m among);
         is_left = left;
-        is_least = (
-          mapped_to (λ x. x.life) (left_of values taken) m among,
-          All-map (λ other. number m.life ≤ number other) (λ x. x.life) (left_of values taken)
-              (All-weaker (Contains (left_of values taken)) (λ y. number m.life ≤ number y.life)
-              (λ y others. subst (λ n. n ≤ number y.life) is (none_timed_left i first past y others)) (left_of values taken)
-              (All-contains_itself (left_of values taken))),
-        );
+        is_least = least_among m among (λ y in_left. omega (arith, never y in_left));
       }
 
 -- the value at a place that is left is the choice
@@ -320,9 +277,9 @@ pub chosen : (values : List MatchedValue) (taken : List Bool) (first_in first_ou
     → IsLeastLeft dequeue_return values taken first_out → TakesOneOf values first_in first_out place → IsNext values taken place
 chosen values taken first_in first_out place a b takes = elim (takes a.value a.is_at) [
   | inl dequeued ↦ next b.value (ap (slice_get values) dequeued.1 ∙ b.is_at) (ap (slice_get taken) dequeued.1 ∙ b.is_left) (λ _. refl)
-      (λ more. absurd (apart (dequeue_return b.value.life) first_out.time (leaves_from a.value.life) b.time_is dequeued.0 more))
+      (λ more. absurd (omega (arith, b.time_is, dequeued.0)))
   | inr entered ↦ next a.value (ap (slice_get values) entered.1 ∙ a.is_at) (ap (slice_get taken) entered.1 ∙ a.is_left)
-      (λ less. absurd (apart' (dequeue_return b.value.life) first_out.time (leaves_from a.value.life) b.time_is entered.0 less)) (λ _. refl)
+      (λ less. absurd (omega (arith, b.time_is, entered.0))) (λ _. refl)
 ]
   where
     next : (value : MatchedValue) → slice_get values place ≡ Some value → slice_get taken place ≡ Some false
@@ -342,26 +299,15 @@ chosen values taken first_in first_out place a b takes = elim (takes a.value a.i
       };
     }
 
-    apart : (r t n : ℕ) → t ≡ r → t < n → n ≤ r → ⊥
-    apart r t n same less more = omega arith
-
-    apart' : (r t n : ℕ) → t ≡ r → n ≤ t → r < n → ⊥
-    apart' r t n same more less = omega arith
-
 -- the values at the two cursors give the choice
 pub next_at : (values : List MatchedValue) (entries dequeues : List Timed) (taken : List Bool) (i j : ℕ) (first_in first_out : Timed) (place : ℕ)
     → AreByTime entered_by values entries → AreByTime dequeue_return values dequeues → All (λ m. dequeue_return m.life ≤ NEVER) values
     → IsFirstLeft entries taken i → IsFirstLeft dequeues taken j → slice_get entries i ≡ Some first_in
     → IsDequeuedAt dequeues j first_in.place first_out → TakesOneOf values first_in first_out place → IsNext values taken place
 next_at values entries dequeues taken i j first_in first_out place are_in are_out bounded a b is_in is_out takes =
-    chosen values taken first_in first_out place least out takes
-  where
-    least : IsLeastLeft entered_by values taken first_in
-    least = least_left entered_by values entries taken are_in i a first_in is_in
-
-    out : IsLeastLeft dequeue_return values taken first_out
-    out = elim is_out [
+    let least = least_left entered_by values entries taken are_in i a first_in is_in in
+    chosen values taken first_in first_out place least (elim is_out [
       | inl at ↦ least_left dequeue_return values dequeues taken are_out j b first_out at
       | inr none ↦ subst (IsLeastLeft dequeue_return values taken) (sym none.1)
           (none_sooner dequeue_return values dequeues taken are_out j b none.0 bounded first_in.place least.value least.is_at least.is_left)
-    ]
+    ]) takes

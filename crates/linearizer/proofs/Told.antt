@@ -1,22 +1,13 @@
 -- The order of a timeline, told by the places and tickets of the history.
-use Rattle.std.proofs.Common.{◌≡◌, ℕ, ◌≤◌, List, [], ◌∷◌, length, map, ◌∙◌, ap, subst, arith}
-use Rattle.std.specs.Prelude.{All, filter, filter_map}
-use Rattle.std.specs.List.{AllZip}
-use Rattle.std.proofs.lemmas.List.Elements.{All-cons, All-filter, All-head, All-nil, All-tail, Contains-get_or}
+use Rattle.linearizer.proofs.Common.{[], All, All-cons, All-filter, All-head, All-nil, All-tail, AllZip, ap}
+use Rattle.linearizer.proofs.Common.{AreChosenAndLegal, AreLeastFreeGaps, ArePlacesOf, arith, clock_of_gap}
+use Rattle.linearizer.proofs.Common.{Contains-get_or, filter, filter_map, is_empty_answer, IsChosenOrder, IsClear}
+use Rattle.linearizer.proofs.Common.{IsLeastFreeGap, IsWholeOrder, length, List, map, MAX_CLOCK, Operation}
+use Rattle.linearizer.proofs.Common.{place_behind, return_in_range, subst, ℕ, ◌∙◌, ◌∷◌, ◌≡◌, ◌≤◌}
 use Rattle.std.proofs.lemmas.List.Folds.{map_fixed}
-use Rattle.event_records.specs.declared.limits.TheConstants.{MAX_CLOCK}
-use Rattle.history_merge.specs.declared.operation.Operation.{Operation}
 use Rattle.history_merge.specs.Initial.{timeline}
-use Rattle.history_merge.specs.Legal.{ArePlacesOf}
-use Rattle.history_merge.proofs.Distinct.{return_in_range}
 use Rattle.history_merge.proofs.Timelines.{all_timeline_orders}
-use Rattle.value_match.specs.Timeline.{clock_of_gap}
-use Rattle.value_match.specs.Lives.{AreLeastFreeGaps, IsLeastFreeGap, is_empty_answer}
-use Rattle.value_match.specs.Told.{place_behind}
-use Rattle.value_match.specs.Violations.{IsClear}
 use Rattle.value_match.proofs.ToldPlaces.{order_back, order_with_none}
-use Rattle.linearizer.specs.Order.{AreChosenAndLegal, IsChosenOrder}
-use Rattle.linearizer.specs.Inner.Merging.{IsWholeOrder}
 
 -- gaps in windows of operations that return in range are in range
 below_returns : (operations listed : List Operation) (k : ℕ) (gaps : List ℕ) → All (λ o. o.ret ≤ MAX_CLOCK) listed

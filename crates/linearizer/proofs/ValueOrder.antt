@@ -1,19 +1,15 @@
 -- There is one order of the values, and one only.
-use Rattle.std.proofs.Common.{◌≡◌, ℕ, zero, suc, ◌<◌, ◌≤◌, ◌⊎◌, List, [], ◌∷◌, length, Some, refl, sym, ◌∙◌, ap, subst, inl, inr, arith, rules}
-use Rattle.std.specs.Prelude.{Contains, IsPermutation, remove, slice_get}
-use Rattle.std.proofs.lemmas.List.Elements.{All-cons, All-nil, All-weaker}
-use Rattle.std.proofs.lemmas.List.Sorted.{IsPermutation-refl, IsPermutation-sym, IsPermutation-cons, IsPermutation-trans, IsPermutation-remove}
-use Rattle.std.proofs.lemmas.List.Sorted.{Contains-permutation, All-permutation, length_permutation}
-use Rattle.history_merge.specs.declared.operation.Operation.{Operation}
-use Rattle.history_merge.proofs.Distinct.{contains_cons, not_in_none, place_of}
-use Rattle.value_match.specs.declared.life.Life.{Life}
-use Rattle.value_match.specs.declared.life.TheConstants.{NEVER}
-use Rattle.value_match.specs.Lives.{IsLife, lives_of, entered_by, leaves_from, dequeue_return}
-use Rattle.value_match.specs.Violations.{IsClear}
-use Rattle.linearizer.specs.Values.{IsLeastBy, IsChoice, EachIsChoice, IsValueOrder}
+use Rattle.linearizer.proofs.Common.{[], All-cons, All-nil, All-permutation, All-weaker, ap, arith, Contains}
+use Rattle.linearizer.proofs.Common.{Contains-permutation, contains_cons, dequeue_return, EachIsChoice, entered_by, inl}
+use Rattle.linearizer.proofs.Common.{inr, IsChoice, IsClear, IsLeastBy, IsLife, IsPermutation, IsPermutation-cons}
+use Rattle.linearizer.proofs.Common.{IsPermutation-refl, IsPermutation-remove, IsPermutation-sym, IsPermutation-trans}
+use Rattle.linearizer.proofs.Common.{IsValueOrder, leaves_from, length, length_permutation, Life, List, lives_of}
+use Rattle.linearizer.proofs.Common.{not_in_none, one_deeper, Operation, refl, remove, rules, subst, suc, sym, zero, ℕ}
+use Rattle.linearizer.proofs.Common.{◌<◌, ◌∙◌, ◌∷◌, ◌≡◌, ◌≤◌, ◌⊎◌}
 use Rattle.linearizer.proofs.Choices.{made, least_at}
-use Rattle.linearizer.proofs.Times.{leaves_in_time, times_of_life, returned_by_never}
-use Rattle.linearizer.proofs.Opposites.{is_life, one_deeper}
+use Rattle.linearizer.proofs.Times.{times_of_life}
+use Rattle.linearizer.proofs.NoneTwice.{NoneTwice, none_twice_from_places}
+use Rattle.linearizer.proofs.Opposites.{is_life}
 use Rattle.linearizer.proofs.DifferentTimes.{one_life_of_entering, one_life_of_dequeue_return, one_place_of_life}
 
 least_by : (number : Life → ℕ) (x : Life) (xs : List Life) → (life : Life) × IsLeastBy number (x ∷ xs) life
@@ -99,12 +95,12 @@ values_have_order operations clear =
     let found = in_order (length (lives_of operations)) (lives_of operations) refl in
     (found.0, record { holds_each_once = found.1; each_is_choice = found.2 })
 
--- lists that have the same elements, each at one place
+-- lists that have the same elements, each once
 pub record AreSame {X : Type 0} (xs ys : List X) : Type 0 where
   pub into : (x : X) → Contains xs x → Contains ys x
   pub back : (x : X) → Contains ys x → Contains xs x
-  pub first_once : (i j : ℕ) (x y : X) → slice_get xs i ≡ Some x → slice_get xs j ≡ Some y → x ≡ y → i ≡ j
-  pub second_once : (i j : ℕ) (x y : X) → slice_get ys i ≡ Some x → slice_get ys j ≡ Some y → x ≡ y → i ≡ j
+  pub first_once : NoneTwice xs
+  pub second_once : NoneTwice ys
 
 least_alike : (number : Life → ℕ) (xs ys : List Life) (a b : Life) → AreSame xs ys → IsLeastBy number xs a → IsLeastBy number ys b → number a ≡ number b
 least_alike number xs ys a b same is_a is_b =
@@ -125,46 +121,33 @@ one_choice operations xs ys c d clear are same is_c is_d =
     let returns = least_alike dequeue_return xs ys b b' same is_c.dequeued_first is_d.dequeued_first in
     let one = one_life_of_entering operations a a' clear is_a is_a' entries in
     let leaves : leaves_from a ≡ leaves_from a' = ap leaves_from one in
-    let in_time = leaves_in_time a (times_of_life operations a clear is_a) (returned_by_never operations a clear is_a) in
+    let in_time = (times_of_life operations a clear is_a).leaves_by_never in
     elim (made xs c is_c) [
       | inl taken ↦ elim (made ys d is_d) [
         | inl taken' ↦ elim (one_life_of_dequeue_return operations b b' clear is_b is_b' returns) [
           | inl one_b ↦ taken.1 ∙ one_b ∙ sym taken'.1
-          | inr never ↦ absurd (late b (leaves_from a) taken.0 never in_time)
+          | inr never ↦ absurd (omega (arith, taken.0))
         ]
-        | inr taken' ↦ absurd (clash (dequeue_return b) (dequeue_return b') (leaves_from a) (leaves_from a') returns leaves taken.0 taken'.0)
+        | inr taken' ↦ absurd (omega (arith, taken.0, taken'.0))
       ]
       | inr taken ↦ elim (made ys d is_d) [
-        | inl taken' ↦ absurd (clash (dequeue_return b') (dequeue_return b) (leaves_from a') (leaves_from a) (sym returns) (sym leaves) taken'.0 taken.0)
+        | inl taken' ↦ absurd (omega (arith, taken.0, taken'.0))
         | inr taken' ↦ taken.1 ∙ one ∙ sym taken'.1
       ]
     ]
-  where
-    late : (b : Life) (n : ℕ) → dequeue_return b < n → dequeue_return b ≡ NEVER → n ≤ NEVER → ⊥
-    late b n less never le = omega arith
-
-    clash : (r s m n : ℕ) → r ≡ s → m ≡ n → r < m → n ≤ s → ⊥
-    clash r s m n returns leaves less more = omega arith
 
 -- lists with the same elements, without one that both have
-pub rest_alike : {X : Type 0} (x y : X) (xs ys : List X) → x ≡ y → AreSame (x ∷ xs) (y ∷ ys) → AreSame xs ys
+rest_alike : {X : Type 0} (x y : X) (xs ys : List X) → x ≡ y → AreSame (x ∷ xs) (y ∷ ys) → AreSame xs ys
 rest_alike {X} x y xs ys one same = record {
-  into = λ z among. pass z x y xs ys one same.first_once (same.into z (deeper x xs z among)) among;
-  back = λ z among. pass z y x ys xs (sym one) same.second_once (same.back z (deeper y ys z among)) among;
-  first_once = λ i j u v at_u at_v is. let places = same.first_once (suc i) (suc j) u v at_u at_v is in omega arith;
-  second_once = λ i j u v at_u at_v is. let places = same.second_once (suc i) (suc j) u v at_u at_v is in omega arith;
+  into = λ z among. behind x y xs ys z one same.first_once.0 among (same.into z (one_deeper x xs z among));
+  back = λ z among. behind y x ys xs z (sym one) same.second_once.0 among (same.back z (one_deeper y ys z among));
+  first_once = same.first_once.1;
+  second_once = same.second_once.1;
 }
   where
-    deeper : (x : X) (xs : List X) (z : X) → Contains xs z → Contains (x ∷ xs) z
-    deeper x xs z among = (suc among.0, omega (arith, among.1), among.2)
-
-    pass : (z x y : X) (xs ys : List X) → x ≡ y → ((i j : ℕ) (u v : X) → slice_get (x ∷ xs) i ≡ Some u → slice_get (x ∷ xs) j ≡ Some v → u ≡ v
-        → i ≡ j) → Contains (y ∷ ys) z → Contains xs z → Contains ys z
-    pass z x y xs ys one once there among = elim (contains_cons y ys z there) [
-      | inl here ↦
-          let place = place_of xs z among in
-          let same_place = once zero (suc place.0) x z refl place.1 (one ∙ here) in
-          absurd (omega arith)
+    behind : (x y : X) (xs ys : List X) (z : X) → x ≡ y → ¬ (Contains xs x) → Contains xs z → Contains (y ∷ ys) z → Contains ys z
+    behind x y xs ys z one none among there = elim (contains_cons y ys z there) [
+      | inl here ↦ absurd (none (subst (Contains xs) (sym (one ∙ here)) among))
       | inr later ↦ later
     ]
 
@@ -187,6 +170,6 @@ values_have_one_order operations xs ys clear order order' =
           (Contains-permutation xs (lives_of operations) x (IsPermutation-sym (lives_of operations) xs order.holds_each_once) among);
       back = λ x among. Contains-permutation (lives_of operations) xs x order.holds_each_once
           (Contains-permutation ys (lives_of operations) x (IsPermutation-sym (lives_of operations) ys order'.holds_each_once) among);
-      first_once = λ i j x y at_x at_y one. one_place_of_life operations xs i j x y clear order at_x at_y one;
-      second_once = λ i j x y at_x at_y one. one_place_of_life operations ys i j x y clear order' at_x at_y one;
+      first_once = none_twice_from_places xs (λ i j x y at_x at_y one. one_place_of_life operations xs i j x y clear order at_x at_y one);
+      second_once = none_twice_from_places ys (λ i j x y at_x at_y one. one_place_of_life operations ys i j x y clear order' at_x at_y one);
     }) order.each_is_choice order'.each_is_choice

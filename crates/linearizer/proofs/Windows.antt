@@ -1,21 +1,22 @@
--- The gaps of the enqueues and dequeues lie in their windows.
-use Rattle.std.proofs.Common.{◌≡◌, ℕ, zero, suc, ◌+◌, ◌<◌, ◌≤◌, ◌⊎◌, min, max, List}
-use Rattle.std.proofs.Common.{[], ◌∷◌, map, take, drop, Some, refl, sym, ap, subst, inl, inr, arith}
-use Rattle.std.specs.Prelude.{slice_get, fold, MatchOption}
-use Rattle.history_merge.specs.declared.operation.Operation.{Operation}
-use Rattle.history_merge.specs.Operations.{IsInWindow, Did, NoneDid}
-use Rattle.history_merge.specs.declared.operation.OpKind.TheVariants.{Deq}
-use Rattle.history_merge.proofs.Distinct.{contains_at, pairs_at, call_before_return, return_in_range, one_at}
-use Rattle.value_match.specs.declared.life.Life.{Life}
-use Rattle.value_match.specs.declared.life.TheConstants.{NEVER}
-use Rattle.value_match.specs.Lives.{IsLife, return_or_never, call_or_never, enqueue_call, enqueue_return, dequeue_call, dequeue_return, entered_by}
-use Rattle.value_match.specs.Lives.{leaves_from, dequeue_of, enqueue_of}
-use Rattle.value_match.specs.Violations.{IsClear, NoOrderViolation}
-use Rattle.linearizer.specs.Values.{IsValueOrder, enqueue_gap, dequeue_gap, least_entered_by, greatest_leaves_from}
-use Rattle.linearizer.proofs.Opposites.{MayStandBefore, is_life, each_may_stand_before}
-use Rattle.linearizer.proofs.Gaps.{least_below_start, greatest_above_start}
-use Rattle.linearizer.proofs.Times.{above, times_of_life}
+-- The gaps of the enqueues and dequeues rise along the order of the values, and lie in their windows.
+use Rattle.linearizer.proofs.Common.{[], ap, arith, call_or_never, dequeue_call, dequeue_gap, dequeue_of}
+use Rattle.linearizer.proofs.Common.{dequeue_return, drop, enqueue_call, enqueue_gap, enqueue_of, entered_by, fold}
+use Rattle.linearizer.proofs.Common.{greatest_leaves_from, IsClear, IsInWindow, IsValueOrder, least_entered_by}
+use Rattle.linearizer.proofs.Common.{leaves_from, Life, List, map, max, min, NEVER, NoOrderViolation, Operation, refl}
+use Rattle.linearizer.proofs.Common.{return_or_never, slice_get, Some, suc, take, zero, ℕ, ◌+◌, ◌<◌, ◌∷◌, ◌≡◌, ◌≤◌}
+use Rattle.linearizer.proofs.Opposites.{is_life_at, may_stand_before}
+use Rattle.linearizer.proofs.Times.{returned_in_time, times_of_life}
 use Rattle.linearizer.proofs.DifferentTimes.{enters_at_no_call, returns_at_no_leave}
+
+-- the least of a number and others is at most it
+least_below_start : (a : ℕ) (xs : List ℕ) → fold min a xs ≤ a
+least_below_start a [] = omega arith
+least_below_start a (x ∷ xs) = let more = least_below_start (min a x) xs in omega arith
+
+-- the greatest of a number and others is at least it
+greatest_above_start : (a : ℕ) (xs : List ℕ) → a ≤ fold max a xs
+greatest_above_start a [] = omega arith
+greatest_above_start a (x ∷ xs) = let more = greatest_above_start (max a x) xs in omega arith
 
 least_at_least : (a b : ℕ) (xs : List Life) → b ≤ a → ((j : ℕ) (y : Life) → slice_get xs j ≡ Some y → b ≤ entered_by y) → b ≤ fold min a (map entered_by xs)
 least_at_least a b [] le each = le
@@ -69,90 +70,49 @@ pub greatest_of_first : (lives : List Life) (i j : ℕ) (y : Life) → j ≤ i �
     → leaves_from y ≤ greatest_leaves_from (take (i + 1) lives)
 greatest_of_first lives i j y le at = greatest_at_least 0 lives (i + 1) j y (omega arith) at
 
--- of two values in their order the first may stand before the other, or they are one
-before_or_same : (operations : List Operation) (lives : List Life) (i j : ℕ) (x y : Life) → IsClear operations → NoOrderViolation operations
-    → IsValueOrder operations lives
-    → i ≤ j → slice_get lives i ≡ Some x → slice_get lives j ≡ Some y → MayStandBefore x y ⊎ (x ≡ y)
-before_or_same operations lives i j x y clear none order le at_x at_y =
-    let places : (i < j) ⊎ (j ≡ i) = grind arith in
-    elim places [
-      | inl below ↦ inl (pairs_at MayStandBefore lives i j x y (each_may_stand_before operations lives clear none order) below at_x at_y)
-      | inr same ↦ inr (one_at lives j x y (subst (λ k. slice_get lives k ≡ Some x) (sym same) at_x) at_y)
-    ]
+-- all gaps rise along the order
+pub gaps_rise : (lives : List Life) (i j : ℕ) → i ≤ j
+    → (enqueue_gap lives i ≤ enqueue_gap lives j) × (dequeue_gap lives i ≤ dequeue_gap lives j) × (enqueue_gap lives i ≤ dequeue_gap lives i)
+gaps_rise lives i j le =
+    let least = at_most_least lives j (least_entered_by (drop i lives)) (least_below_start NEVER (map entered_by (drop i lives)))
+    (λ k y above at. least_of_later lives i k y (omega arith) at) in
+    let greatest = below_greatest lives i (greatest_leaves_from (take (j + 1) lives) + 1) (omega arith)
+    (λ k y below at. let leaves = greatest_of_first lives j k y (omega arith) at in omega arith) in
+    (omega arith, omega arith, omega arith)
 
-called_before_entered : (operations : List Operation) (lives : List Life) (i j : ℕ) (x y : Life) → IsClear operations → NoOrderViolation operations
-    → IsValueOrder operations lives
-    → i ≤ j → slice_get lives i ≡ Some x → slice_get lives j ≡ Some y → enqueue_call x < entered_by y
-called_before_entered operations lives i j x y clear none order le at_x at_y =
-    let is_x = is_life operations lives order x (contains_at lives i x at_x) in
-    let is_y = is_life operations lives order y (contains_at lives j y at_y) in
-    let differs = enters_at_no_call operations y x clear is_y is_x in
-    elim (before_or_same operations lives i j x y clear none order le at_x at_y) [
-      | inl may ↦ above (enqueue_call x) (entered_by y) may.0 differs
-      | inr one ↦
-          let calls : enqueue_call x ≡ enqueue_call y = ap enqueue_call one in
-          let after = (times_of_life operations y clear is_y).enters_after_call in
-          above (enqueue_call x) (entered_by y) (λ less. omega arith) differs
-    ]
+module _ (operations : List Operation) (lives : List Life) (clear : IsClear operations) (none : NoOrderViolation operations)
+    (order : IsValueOrder operations lives) where
+  called_before_entered : (i j : ℕ) (x y : Life) → i ≤ j → slice_get lives i ≡ Some x → slice_get lives j ≡ Some y → enqueue_call x < entered_by y
+  called_before_entered i j x y le at_x at_y =
+      let may = may_stand_before operations lives i j x y clear none order le at_x at_y in
+      omega (arith, may.0, enters_at_no_call operations y x clear (is_life_at operations lives j y order at_y) (is_life_at operations lives i x order at_x))
 
--- the gap of an enqueue lies in its window
-pub enqueue_gap_in_window : (operations : List Operation) (lives : List Life) (i : ℕ) (life : Life) → IsClear operations → NoOrderViolation operations
-    → IsValueOrder operations lives → slice_get lives i ≡ Some life → IsInWindow (enqueue_of life) (enqueue_gap lives i)
-enqueue_gap_in_window operations lives i life clear none order at =
-    let is = is_life operations lives order life (contains_at lives i life at) in
-    let times = times_of_life operations life clear is in
-    let past : enqueue_return life < NEVER = times.enqueue_is_past in
-    let takes_time : enqueue_call life < enqueue_return life = call_before_return operations (enqueue_of life) clear.complete is.1.0 in
-    let bound : enqueue_call life + 1 ≤ least_entered_by (drop i lives) = at_most_least lives i (enqueue_call life + 1) (omega arith)
-    (λ j y le at_y. let before = called_before_entered operations lives i j life y clear none order le at at_y in omega arith) in
-    let least = least_of_later lives i i life (omega arith) at in
-    let entered : entered_by life ≤ enqueue_return life = omega arith in
-    (omega arith, omega arith)
+  -- the gap of an enqueue lies in its window
+  pub enqueue_gap_in_window : (i : ℕ) (life : Life) → slice_get lives i ≡ Some life → IsInWindow (enqueue_of life) (enqueue_gap lives i)
+  enqueue_gap_in_window i life at =
+      let times = times_of_life operations life clear (is_life_at operations lives i life order at) in
+      let bound : enqueue_call life + 1 ≤ least_entered_by (drop i lives) = at_most_least lives i (enqueue_call life + 1) (omega arith)
+      (λ j y le at_y. let before = called_before_entered i j life y le at at_y in omega arith) in
+      let least = least_of_later lives i i life (omega arith) at in
+      (omega arith, omega arith)
 
-left_before_returned : (operations : List Operation) (lives : List Life) (i j : ℕ) (x y : Life) → IsClear operations → NoOrderViolation operations
-    → IsValueOrder operations lives
-    → j ≤ i → slice_get lives i ≡ Some x → slice_get lives j ≡ Some y → dequeue_return x < NEVER → leaves_from y < dequeue_return x
-left_before_returned operations lives i j x y clear none order le at_x at_y returned =
-    let is_x = is_life operations lives order x (contains_at lives i x at_x) in
-    let is_y = is_life operations lives order y (contains_at lives j y at_y) in
-    let differs : ¬ (dequeue_return x ≡ leaves_from y) = λ same. let never = returns_at_no_leave operations x y clear is_x is_y same in omega arith in
-    elim (before_or_same operations lives j i y x clear none order le at_y at_x) [
-      | inl may ↦ above (leaves_from y) (dequeue_return x) may.1 differs
-      | inr one ↦
-          let returns : dequeue_return x ≡ dequeue_return y = ap dequeue_return (sym one) in
-          elim (times_of_life operations y clear is_y).leaves_before_return [ inl left ↦ omega arith | inr never ↦ absurd (omega arith) ]
-    ]
+  left_before_returned : (i j : ℕ) (x y : Life) → j ≤ i → slice_get lives i ≡ Some x → slice_get lives j ≡ Some y → dequeue_return x < NEVER
+      → leaves_from y < dequeue_return x
+  left_before_returned i j x y le at_x at_y returned =
+      let may = may_stand_before operations lives j i y x clear none order le at_y at_x in
+      let never = returns_at_no_leave operations x y clear (is_life_at operations lives i x order at_x) (is_life_at operations lives j y order at_y) in
+      let differs : ¬ (dequeue_return x ≡ leaves_from y) = λ same. let is = never same in omega arith in
+      omega (arith, may.1)
 
--- the gap of a dequeue lies before its return
-pub dequeue_gap_before_return : (operations : List Operation) (lives : List Life) (i : ℕ) (life : Life) → IsClear operations
-    → NoOrderViolation operations → IsValueOrder operations lives
-    → slice_get lives i ≡ Some life → dequeue_return life < NEVER → dequeue_gap lives i < dequeue_return life
-dequeue_gap_before_return operations lives i life clear none order at returned =
-    let is = is_life operations lives order life (contains_at lives i life at) in
-    let left = left_before_returned operations lives i i life life clear none order (omega arith) at at returned in
-    let greatest = below_greatest lives i (dequeue_return life) (omega arith)
-    (λ j y le at_y. left_before_returned operations lives i j life y clear none order le at at_y returned) in
-    let least = least_of_later lives i i life (omega arith) at in
-    let entered : entered_by life ≤ dequeue_return life = omega arith in
-    omega arith
-
--- the gap of a dequeue lies in its window
-pub dequeue_gap_in_window : (operations : List Operation) (lives : List Life) (i : ℕ) (life : Life) (d : Operation) → IsClear operations
-    → NoOrderViolation operations → IsValueOrder operations lives → slice_get lives i ≡ Some life → dequeue_of life ≡ Some d
-    → IsInWindow d (dequeue_gap lives i)
-dequeue_gap_in_window operations lives i life d clear none order at dequeues =
-    let calls : dequeue_call life ≡ d.call = ap call_or_never dequeues in
-    let returns : dequeue_return life ≡ d.ret = ap return_or_never dequeues in
-    let is = is_life operations lives order life (contains_at lives i life at) in
-    let in_range : dequeue_return life < NEVER = dequeued_in_time is in
-    let greatest = greatest_of_first lives i i life (omega arith) at in
-    let below = dequeue_gap_before_return operations lives i life clear none order at in_range in
-    let leaves : dequeue_call life ≤ leaves_from life = omega arith in
-    (omega arith, omega arith)
-  where
-    dequeued_in_time : IsLife operations life → dequeue_return life < NEVER
-    dequeued_in_time is =
-        let did = subst (λ e. MatchOption e (NoneDid operations (Deq is.0)) (λ d. Did operations d (Deq is.0))) dequeues is.2 in
-        let range = return_in_range operations d clear.complete did.0 in
-        let returns : dequeue_return life ≡ d.ret = ap return_or_never dequeues in
-        omega arith
+  -- the gap of a dequeue lies in its window
+  pub dequeue_gap_in_window : (i : ℕ) (life : Life) (d : Operation) → slice_get lives i ≡ Some life → dequeue_of life ≡ Some d
+      → IsInWindow d (dequeue_gap lives i)
+  dequeue_gap_in_window i life d at dequeues =
+      let calls : dequeue_call life ≡ d.call = ap call_or_never dequeues in
+      let returns : dequeue_return life ≡ d.ret = ap return_or_never dequeues in
+      let returned = returned_in_time operations life d clear (is_life_at operations lives i life order at) dequeues in
+      let left = left_before_returned i i life life (omega arith) at at returned in
+      let below = below_greatest lives i (dequeue_return life) (omega arith) (λ j y le at_y. left_before_returned i j life y le at at_y returned) in
+      let greatest = greatest_of_first lives i i life (omega arith) at in
+      let least = least_of_later lives i i life (omega arith) at in
+      (omega arith, omega arith)

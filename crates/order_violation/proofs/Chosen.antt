@@ -1,5 +1,5 @@
 -- A value that overtakes another is an order violation, and each order violation is one.
-use Rattle.order_violation.proofs.Common.{◌<◌, ◌∙◌, ◌≡◌, ◌≤◌, All, All-contains, All-weaker, ap, arith, Contains, length, List}
+use Rattle.order_violation.proofs.Common.{◌<◌, ◌∙◌, ◌≡◌, ◌≤◌, All, All-contains, ap, arith, Contains, length, List}
 use Rattle.order_violation.proofs.Common.{MatchOption, None, Option, option_map, refl, Some, subst, sym, ℕ}
 use Rattle.order_violation.proofs.Common.{call_or_never, dequeue_call, dequeue_of, dequeue_return, enqueue_of}
 use Rattle.order_violation.proofs.Common.{HoldsLives, IsFirstOvertaking, IsLife, IsLongestOf, IsMaybeAt, Life}
@@ -16,7 +16,9 @@ use Rattle.value_match.specs.Told.{told_place, told_source}
 use Rattle.value_match.specs.Violations.{IsClear, IsOrderViolation, NoOrderViolation}
 use Rattle.order_violation.specs.Overtaking.{IsFirstOvertaker}
 use Rattle.order_violation.specs.Pairs.{IsChosenPair, IsOrderAnswer, told_pair}
-use Rattle.std.proofs.lemmas.List.Elements.{All-contains_itself}
+use Rattle.std.proofs.Common.{get_or}
+use Rattle.std.proofs.lemmas.List.Elements.{Contains-get_or}
+use Rattle.std.proofs.lemmas.Option.{MatchOption-at_some}
 use Rattle.value_match.specs.Lives.{HasPlaces}
 use Rattle.value_match.proofs.RepeatedDequeues.{one_place}
 use Rattle.value_match.proofs.Lives.{value_is_life, value_of_life, places_of_value}
@@ -27,6 +29,11 @@ call_in_range : (operations : List Operation) (v : ℕ) (dequeue : Option Operat
 call_in_range operations v None complete none = omega arith
 call_in_range operations v (Some d) complete did =
     let range = return_in_range operations d complete did.0 in let order = call_before_return operations d complete did.0 in omega arith
+
+-- what ends a life is a dequeue of its value
+pub did_dequeue : (operations : List Operation) (life : Life) (d : Operation) (is : IsLife operations life) → dequeue_of life ≡ Some d
+    → Did operations d (Deq is.0)
+did_dequeue operations life d is dequeues = MatchOption-at_some (NoneDid operations (Deq is.0)) (λ d. Did operations d (Deq is.0)) d dequeues is.2
 
 -- a value that overtakes another is dequeued
 dequeued : (operations : List Operation) (a b : Life) → IsClear operations → IsLife operations a → Overtakes b a → (d : Operation) × (dequeue_of b ≡ Some d)
@@ -53,14 +60,21 @@ overtaking_violates operations a b deq_b is_a is_b dequeues overtakes = record {
   b = is_b.0;
   enqueues_a = is_a.1;
   enqueues_b = is_b.1;
-  dequeues_b = subst (λ dequeue. MatchOption dequeue (NoneDid operations (Deq is_b.0)) (λ d. Did operations d (Deq is_b.0))) dequeues is_b.2;
+  dequeues_b = did_dequeue operations b deq_b is_b dequeues;
   enqueued_first = overtakes.0;
   dequeued_later = dequeued_later operations is_a.0 deq_b (dequeue_of a) is_a.2
       (subst (λ dequeue. return_or_never dequeue < dequeue_call a) dequeues overtakes.1);
 }
 
+-- where there is no order violation, no value overtakes another
+pub none_overtakes : (operations : List Operation) (a b : Life) → IsClear operations → NoOrderViolation operations → IsLife operations a
+    → IsLife operations b → ¬ (Overtakes b a)
+none_overtakes operations a b clear none is_a is_b overtakes =
+    let dequeue = dequeued operations a b clear is_a overtakes in
+    none (enqueue_of a) (enqueue_of b) dequeue.0 (dequeue_of a) (overtaking_violates operations a b dequeue.0 is_a is_b dequeue.1 overtakes)
+
 -- the lives of an order violation
-life_a : (operations : List Operation) (enq_a enq_b deq_b : Operation) (deq_a : Option Operation)
+pub life_a : (operations : List Operation) (enq_a enq_b deq_b : Operation) (deq_a : Option Operation)
     → IsOrderViolation operations enq_a enq_b deq_b deq_a → IsLife operations (record { enqueue = enq_a; dequeue = deq_a })
 life_a operations enq_a enq_b deq_b deq_a violation = (violation.a, violation.enqueues_a, named deq_a violation.dequeued_later)
   where
@@ -70,7 +84,8 @@ life_a operations enq_a enq_b deq_b deq_a violation = (violation.a, violation.en
     named None none = none
     named (Some d) later = later.0
 
-violation_overtakes : (operations : List Operation) (enq_a enq_b deq_b : Operation) (deq_a : Option Operation) → IsClear operations
+-- the value that was enqueued later overtakes the other
+pub violation_overtakes : (operations : List Operation) (enq_a enq_b deq_b : Operation) (deq_a : Option Operation) → IsClear operations
     → IsOrderViolation operations enq_a enq_b deq_b deq_a
     → Overtakes (record { enqueue = enq_b; dequeue = Some deq_b }) (record { enqueue = enq_a; dequeue = deq_a })
 violation_overtakes operations enq_a enq_b deq_b deq_a clear violation = (violation.enqueued_first, before deq_a violation.dequeued_later)
@@ -117,18 +132,11 @@ no_overtaking operations values clear holds none enq_a enq_b deq_b deq_a violati
     All-contains (λ a. ¬ (Overtakes found.b.life a.life)) values found.a
     (All-contains (λ b. NonePasses (Overtakes b.life) values) values found.b none found.among_b) found.among_a found.overtakes
 
-place_named : (operations : List Operation) (place : Option ℕ) (o : Option Operation) (d : Operation) (p : ℕ) → IsMaybeAt operations place o
-    → o ≡ Some d → place ≡ Some p → IsAt operations p d
-place_named operations None o d p at is named = cc
-place_named operations (Some q) None d p at is named = cc
-place_named operations (Some q) (Some e) d p at is named = let ops : e ≡ d = cc in let places : q ≡ p = cc in
-    subst (λ r. IsAt operations r d) places (subst (IsAt operations q) ops at)
-
-place_missing : (operations : List Operation) (place : Option ℕ) (o : Option Operation) (d : Operation) → IsMaybeAt operations place o → o ≡ Some d
-    → place ≡ None → ⊥
-place_missing operations None None d at is missing = cc
-place_missing operations None (Some e) d at is missing = at
-place_missing operations (Some q) o d at is missing = cc
+place_there : (operations : List Operation) (place : Option ℕ) (o : Option Operation) (d : Operation) → IsMaybeAt operations place o → o ≡ Some d
+    → (p : ℕ) × (place ≡ Some p)
+place_there operations (Some p) o d at is = (p, refl)
+place_there operations None None d at is = cc
+place_there operations None (Some e) d at is = absurd at
 
 module _ (initial : List ℕ) (operations : List Operation) (values : List MatchedValue) (clear : IsClear (timeline initial operations))
     (holds : HoldsLives (timeline initial operations) values) (a b : MatchedValue) (first : IsFirstOvertaking values values b)
@@ -181,8 +189,8 @@ module _ (initial : List ℕ) (operations : List Operation) (values : List Match
         deq_a = dequeue_of a.life;
         at_a = at_a.0;
         at_b = at_b.0;
-        dequeued_b = place_named all _ (dequeue_of b.life) dequeue_of_b.0 _ at_b.1 dequeue_of_b.1
-            (ap (λ q. option_map (behind k) (option_map (told_place k) q)) named);
+        dequeued_b = subst (IsMaybeAt all (Some (behind k (told_place k p)))) dequeue_of_b.1
+            (subst (λ q. IsMaybeAt all (option_map (behind k) (option_map (told_place k) q)) (dequeue_of b.life)) named at_b.1);
         dequeued_a = at_a.1;
         is_chosen = record {
           violates = overtaking_violates all a.life b.life dequeue_of_b.0 is_a is_b dequeue_of_b.1 longest.passes;
@@ -191,18 +199,11 @@ module _ (initial : List ℕ) (operations : List Operation) (values : List Match
         };
       }
 
-  -- its dequeue has a place
-  pub dequeue_is_named : b.dequeue ≡ None → ⊥
-  dequeue_is_named missing = place_missing all b.dequeue (dequeue_of b.life) dequeue_of_b.0
-      (places_of_value all values b holds first.among).1 dequeue_of_b.1 missing
-
   -- so their pair is the answer
   pub is_answer : IsOrderAnswer initial operations (told_pair k a b)
-  is_answer = answer b.dequeue refl
-    where
-      answer : (dequeue : Option ℕ) → b.dequeue ≡ dequeue → IsOrderAnswer initial operations (told_pair k a b)
-      answer None missing = absurd (dequeue_is_named missing)
-      answer (Some p) named = rw named (is_chosen_pair p named)
+  is_answer =
+      let place = place_there all b.dequeue (dequeue_of b.life) dequeue_of_b.0 (places_of_value all values b holds first.among).1 dequeue_of_b.1 in
+      rw place.1 (is_chosen_pair place.0 place.1)
 
 same_place : (operations : List Operation) (p q : Option ℕ) (o : Option Operation) → AreComplete operations → IsMaybeAt operations p o
     → IsMaybeAt operations q o → p ≡ q
@@ -221,9 +222,9 @@ first_of_values operations values b clear holds is = record {
   overtaken = a.0;
   overtaken_among = a.1;
   overtakes = subst (Overtakes b.life) (sym a.2) is.overtakes;
-  first = All-weaker (Contains values) (λ other. (x : MatchedValue) → Contains values x → Overtakes other.life x.life → dequeue_return b.life ≤ dequeue_return other.life)
-      (λ other among x also overtakes. is.first other.life x.life (value_is_life operations values other holds among) (value_is_life operations values x holds also) overtakes)
-      values (All-contains_itself values);
+  first = λ k d within x also overtakes. is.first (get_or values k d).life x.life
+      (value_is_life operations values (get_or values k d) holds (Contains-get_or values k d within))
+      (value_is_life operations values x holds also) overtakes;
 }
   where
     m : (m : MatchedValue) × Contains values m × (m.life ≡ b.life)

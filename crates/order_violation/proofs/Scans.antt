@@ -1,6 +1,6 @@
 -- The first that overtakes another, of two lists of candidates and of one more in a scan.
 use Rattle.order_violation.proofs.Common.{[], ◌++◌, ◌+◌, ◌<◌, ◌∷◌, ◌≡◌, ◌≤◌, All, All-append, All-contains, All-nil}
-use Rattle.order_violation.proofs.Common.{All-push, All-weaker, arith, Contains, Contains-append_left}
+use Rattle.order_violation.proofs.Common.{All-push, arith, Contains, Contains-append_left}
 use Rattle.order_violation.proofs.Common.{Contains-append_right, Contains-push, false, get_or, inl, inr, is_some}
 use Rattle.order_violation.proofs.Common.{length, List, MatchOption, None, Option, Some, subst, sym, take, true, ℕ}
 use Rattle.order_violation.proofs.Common.{dequeue_call, dequeue_return, enqueue_call, EntersBefore, FindsFirst}
@@ -12,66 +12,48 @@ use Rattle.value_match.proofs.Lists.{one_more}
 abbrev ComesNoLater : List MatchedValue → MatchedValue → MatchedValue → Type 0
 ComesNoLater values b other = (a : MatchedValue) → Contains values a → Overtakes other.life a.life → dequeue_return b.life ≤ dequeue_return other.life
 
-overtakes_nobody : (values : List MatchedValue) (b other : MatchedValue) → NonePasses (Overtakes other.life) values → ComesNoLater values b other
-overtakes_nobody values b other none a among overtakes = absurd (All-contains (λ a. ¬ (Overtakes other.life a.life)) values a none among overtakes)
-
 overtake_nobody : (values candidates : List MatchedValue) (b : MatchedValue) → All (λ other. NonePasses (Overtakes other.life) values) candidates
     → All (ComesNoLater values b) candidates
-overtake_nobody values candidates b none = All-weaker (λ other. NonePasses (Overtakes other.life) values) (ComesNoLater values b)
-    (λ other not. overtakes_nobody values b other not) candidates none
+overtake_nobody values candidates b none k d within a among overtakes =
+    absurd (All-contains (λ a. ¬ (Overtakes (get_or candidates k d).life a.life)) values a (none k d within) among overtakes)
 
-no_later_than : (values candidates : List MatchedValue) (x y : MatchedValue) → dequeue_return y.life ≤ dequeue_return x.life
-    → All (ComesNoLater values x) candidates → All (ComesNoLater values y) candidates
-no_later_than values candidates x y le later = All-weaker (ComesNoLater values x) (ComesNoLater values y)
-    (λ other before c among over. further other (before c among over)) candidates later
-  where
-    further : (other : MatchedValue) → dequeue_return x.life ≤ dequeue_return other.life → dequeue_return y.life ≤ dequeue_return other.life
-    further other far = omega (arith, le, far)
+-- the first of some candidates is the first of others of which none is sooner
+first_of : (values side candidates : List MatchedValue) (x : MatchedValue) → IsFirstOvertaking values side x → Contains candidates x
+    → All (ComesNoLater values x) candidates → IsFirstOvertaking values candidates x
+first_of values side candidates x is among first = record {
+  among = among;
+  overtaken = is.overtaken;
+  overtaken_among = is.overtaken_among;
+  overtakes = is.overtakes;
+  first = first;
+}
 
 -- of the first of some candidates and the first of others, the sooner is the first of both
 pub sooner_is_first : (values low high : List MatchedValue) (a b r : MatchedValue) → IsFirstOvertaking values low a → IsFirstOvertaking values high b
     → IsSoonerOf a b r → IsFirstOvertaking values (low ++ high) r
 sooner_is_first values low high a b r is_a is_b sooner = elim sooner.is_one [
-  | inl same ↦ one_of low a is_a same (Contains-append_left low high a is_a.among)
-  | inr same ↦ one_of high b is_b same (Contains-append_right low high b is_b.among)
+  | inl same ↦ one_of low (Contains-append_left low high r) (subst (IsFirstOvertaking values low) (sym same) is_a)
+  | inr same ↦ one_of high (Contains-append_right low high r) (subst (IsFirstOvertaking values high) (sym same) is_b)
 ]
   where
-    first : All (ComesNoLater values r) (low ++ high)
-    first = All-append (ComesNoLater values r) low high (no_later_than values low a r sooner.before_first is_a.first)
-        (no_later_than values high b r sooner.before_second is_b.first)
-
-    one_of : (side : List MatchedValue) (x : MatchedValue) → IsFirstOvertaking values side x → r ≡ x → Contains (low ++ high) x
+    one_of : (side : List MatchedValue) → (Contains side r → Contains (low ++ high) r) → IsFirstOvertaking values side r
         → IsFirstOvertaking values (low ++ high) r
-    one_of side x is same among = record {
-      among = subst (Contains (low ++ high)) (sym same) among;
-      overtaken = is.overtaken;
-      overtaken_among = is.overtaken_among;
-      overtakes = subst (λ (y : MatchedValue). Overtakes y.life is.overtaken.life) (sym same) is.overtakes;
-      first = first;
-    }
+    one_of side into is = first_of values side (low ++ high) r is (into is.among) (All-append (ComesNoLater values r) low high
+        (λ k d within x among over. omega (arith, sooner.before_first, is_a.first k d within x among over))
+        (λ k d within x among over. omega (arith, sooner.before_second, is_b.first k d within x among over)))
 
 -- if none of the others overtakes a value, the first is the first of all
 pub low_is_first : (values low high : List MatchedValue) (a : MatchedValue) → IsFirstOvertaking values low a
     → All (λ b. NonePasses (Overtakes b.life) values) high → IsFirstOvertaking values (low ++ high) a
-low_is_first values low high a is none = record {
-  among = Contains-append_left low high a is.among;
-  overtaken = is.overtaken;
-  overtaken_among = is.overtaken_among;
-  overtakes = is.overtakes;
-  first = All-append (ComesNoLater values a) low high is.first (overtake_nobody values high a none);
-}
+low_is_first values low high a is none = first_of values low (low ++ high) a is (Contains-append_left low high a is.among)
+    (All-append (ComesNoLater values a) low high is.first (overtake_nobody values high a none))
 
 -- if none of the first part overtakes, the first of the second part is the first
 pub high_is_first : (values low high : List MatchedValue) (found : Option MatchedValue) → All (λ b. NonePasses (Overtakes b.life) values) low
     → FindsFirst values high found → FindsFirst values (low ++ high) found
 high_is_first values low high None none not = All-append (λ b. NonePasses (Overtakes b.life) values) low high none not
-high_is_first values low high (Some b) none is = record {
-  among = Contains-append_right low high b is.among;
-  overtaken = is.overtaken;
-  overtaken_among = is.overtaken_among;
-  overtakes = is.overtakes;
-  first = All-append (ComesNoLater values b) low high (overtake_nobody values low b none) is.first;
-}
+high_is_first values low high (Some b) none is = first_of values high (low ++ high) b is (Contains-append_right low high b is.among)
+    (All-append (ComesNoLater values b) low high (overtake_nobody values low b none) is.first)
 
 -- it is the first of itself
 first_of_one : (values : List MatchedValue) (x a : MatchedValue) → Contains values a → Overtakes x.life a.life → IsFirstOvertaking values (x ∷ []) x
@@ -116,9 +98,7 @@ first_changes values candidates i x a r first within is so_far among overtakes s
 -- the values that b overtakes are among those that entered before it, so the longest of these is the longest of those,
 -- unless b overtakes none
 pub none_overtaken : (values : List MatchedValue) (b : Life) → NonePasses (EntersBefore (enqueue_call b)) values → NonePasses (Overtakes b) values
-none_overtaken values b none =
-    All-weaker (λ value. ¬ (EntersBefore (enqueue_call b) value.life)) (λ value. ¬ (Overtakes b value.life))
-    (λ value not overtakes. not overtakes.0) values none
+none_overtaken values b none k d within overtakes = none k d within overtakes.0
 
 -- the longest of those before is overtaken by what is dequeued before it
 pub longest_is_overtaken : (values : List MatchedValue) (b : Life) (a : MatchedValue) → IsLongestOf (EntersBefore (enqueue_call b)) values a
@@ -126,19 +106,13 @@ pub longest_is_overtaken : (values : List MatchedValue) (b : Life) (a : MatchedV
 longest_is_overtaken values b a is later = record {
   among = is.among;
   passes = (is.passes, later);
-  longest = All-weaker (λ other. EntersBefore (enqueue_call b) other.life → StaysAtLeast a.life other.life)
-      (λ other. Overtakes b other.life → StaysAtLeast a.life other.life)
-      (λ other stays overtakes. stays overtakes.0) values is.longest;
+  longest = λ k d within overtakes. is.longest k d within overtakes.0;
 }
 
 -- if the longest of those before isn't overtaken, none is
 pub longest_is_not_overtaken : (values : List MatchedValue) (b : Life) (a : MatchedValue) → IsLongestOf (EntersBefore (enqueue_call b)) values a
     → dequeue_call a.life ≤ dequeue_return b → NonePasses (Overtakes b) values
-longest_is_not_overtaken values b a is sooner =
-    All-weaker (λ other. EntersBefore (enqueue_call b) other.life → StaysAtLeast a.life other.life) (λ value. ¬ (Overtakes b value.life)) none values is.longest
-  where
-    none : (other : MatchedValue) → (EntersBefore (enqueue_call b) other.life → StaysAtLeast a.life other.life) → ¬ (Overtakes b other.life)
-    none other stays overtakes = let past = stays overtakes.0 in omega (arith, past.0, overtakes.1)
+longest_is_not_overtaken values b a is sooner k d within overtakes = omega (arith, (is.longest k d within overtakes.0).0, overtakes.1)
 
 -- if a longest overtaken value was found, a value is overtaken, otherwise none is
 pub overtaken_one : (values : List MatchedValue) (b : Life) (longest : Option MatchedValue) → FindsLongest (Overtakes b) values longest

@@ -1,6 +1,4 @@
-use Rattle.std.proofs.Common.{◌-◌, ◌≤◌, length, take}
-use Rattle.std.specs.Prelude.{All}
-use Rattle.value_match.specs.Lives.{dequeue_call}
+use Rattle.empty_witness.proofs.Common.{All, dequeue_call, length, take, ◌-◌, ◌≤◌}
 use Rattle.empty_witness.proofs.cover.count_gone.Given as goal
 
 abbrev pub invariant-loop-count : goal.invariant-loop-count

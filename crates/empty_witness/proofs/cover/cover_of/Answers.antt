@@ -1,7 +1,5 @@
-use Rattle.std.proofs.Common.{ℕ, List, ◌<◌, ◌∙◌, ap, arith, length, sym, subst}
-use Rattle.value_match.specs.Lives.{dequeue_call}
-use Rattle.value_match.specs.Longest.{EntersBefore, FindsLongest, IsLongestOf}
-use Rattle.empty_witness.specs.Inner.Covered.{NamesChosenCover}
+use Rattle.empty_witness.proofs.Common.{ap, arith, dequeue_call, EntersBefore, FindsLongest, IsLongestOf, length, List}
+use Rattle.empty_witness.proofs.Common.{NamesChosenCover, subst, sym, ℕ, ◌<◌, ◌∙◌}
 use Rattle.empty_witness.proofs.Walks.{longest_of_all, no_steps_yet, next_is_found, found_longest, frontier_rises, one_more_step, cover_is_whole}
 use Rattle.empty_witness.proofs.cover.cover_of.Goals as goal
 use Rattle.empty_witness.proofs.cover.cover_of.Goals.{After-longest_before, After-unwrap-value}

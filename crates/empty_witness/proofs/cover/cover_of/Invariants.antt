@@ -1,4 +1,4 @@
-use Rattle.std.proofs.Common.{◌-◌}
+use Rattle.empty_witness.proofs.Common.{◌-◌}
 use Rattle.empty_witness.proofs.Walks.{IsCoverSoFar}
 use Rattle.empty_witness.proofs.cover.cover_of.Given as goal
 

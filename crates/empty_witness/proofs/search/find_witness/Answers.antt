@@ -1,6 +1,4 @@
-use Rattle.std.proofs.Common.{rules}
-use Rattle.std.proofs.lemmas.List.{nil_from_length}
-use Rattle.value_match.specs.Timeline.{timeline_of}
+use Rattle.empty_witness.proofs.Common.{nil_from_length, rules, timeline_of}
 use Rattle.empty_witness.proofs.Answers.{places_are_empty}
 use Rattle.empty_witness.proofs.search.find_witness.Goals as goal
 

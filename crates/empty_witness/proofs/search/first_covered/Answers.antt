@@ -1,9 +1,5 @@
-use Rattle.std.proofs.Common.{◌≡◌, ◌++◌, get_or, rules, subst, sym}
-use Rattle.std.proofs.lemmas.List.{append-nil, take_all}
-use Rattle.history_merge.specs.Operations.{IsAt}
-use Rattle.empty_witness.specs.Covered.{IsFirstCovered}
-use Rattle.empty_witness.proofs.Answers.{answer_is_empty, covered_if_none, gap_if_some, one_more_covered, one_more_free}
-use Rattle.value_match.specs.Timeline.{timeline_of}
+use Rattle.empty_witness.proofs.Common.{append-nil, IsFirstCovered, rules, subst, sym, take_all, timeline_of, ◌++◌}
+use Rattle.empty_witness.proofs.Answers.{answer_is_empty, covered_if_none, first_of_one, gap_if_some, one_more_covered, one_more_free}
 use Rattle.empty_witness.proofs.search.first_covered.Goals as goal
 use Rattle.empty_witness.proofs.search.first_covered.Goals.{then-is_none, else-is_none}
 
@@ -24,16 +20,10 @@ loop-empty-preserved c = λ seen first.
     let window = c.least_free_gap.ensures operations c.requires.spans in
     elim c.if-is_none.branch [
       | then-is_none w ↦
-          let is = subst (λ p. p ≡ get_or others i p) (sym answer.ensures.place) c.empty-item.is in
-          let covered = covered_if_none operations answer.result.operation c.least_free_gap.result window (search rules) in
-          rw w.first-is
-          (one_more_covered operations seen others i c.loop-empty.first answer.result w.sooner_of-first.result c.loop-empty-test.true is so_far
-          (record {
-            at = subst (λ p. IsAt operations p answer.result.operation) (sym answer.ensures.place) answer.ensures.at;
-            is_empty =
-                answer.ensures.is_empty;
-            is_covered = covered;
-          }) w.sooner_of-first.ensures)
+          let covered = first_of_one operations c.empty-item.result answer.result answer.ensures.place answer.ensures.at answer.ensures.is_empty
+          (covered_if_none operations answer.result.operation c.least_free_gap.result window (search rules)) in
+          rw w.first-is (one_more_covered operations seen others i c.empty-item.result c.loop-empty.first answer.result w.sooner_of-first.result
+          c.loop-empty-test.true c.empty-item.is so_far covered w.sooner_of-first.ensures)
       | else-is_none w ↦
           let gap = gap_if_some operations answer.result.operation c.least_free_gap.result window (search rules) in
           rw w.first-is (one_more_free operations seen others i c.empty-item.result gap.0 answer.result.operation c.loop-empty.first

@@ -1,6 +1,4 @@
-use Rattle.std.proofs.Common.{ℕ, List, ◌++◌, take}
-use Rattle.empty_witness.specs.Covered.{IsFirstCovered}
-use Rattle.value_match.specs.Timeline.{timeline_of}
+use Rattle.empty_witness.proofs.Common.{IsFirstCovered, List, take, timeline_of, ℕ, ◌++◌}
 use Rattle.empty_witness.proofs.search.first_covered.Given as goal
 
 abbrev pub invariant-loop-empty : goal.invariant-loop-empty

@@ -1,10 +1,5 @@
-use Rattle.std.proofs.Common.{◌≡◌, ℕ, List, ap, arith, length, subst, sym}
-use Rattle.std.proofs.lemmas.Option.{slice_get_within}
-use Rattle.history_merge.specs.declared.operation.Operation.{Operation}
-use Rattle.history_merge.specs.Operations.{IsAt}
-use Rattle.value_match.specs.Timeline.{behind, timeline_of}
-use Rattle.empty_witness.specs.Answers.{IsEmptyAnswerAt}
-use Rattle.empty_witness.specs.Spans.{AreSpansOf}
+use Rattle.empty_witness.proofs.Common.{ap, AreSpansOf, arith, behind, IsAt, IsEmptyAnswerAt, length, List, Operation}
+use Rattle.empty_witness.proofs.Common.{slice_get_within, subst, sym, timeline_of, ℕ, ◌≡◌}
 use Rattle.empty_witness.proofs.ToldGaps.{empty_behind, gap_told}
 use Rattle.empty_witness.proofs.search.gap_for.Goals as goal
 use Rattle.empty_witness.proofs.search.gap_for.Goals.{After-answer_at-answer}

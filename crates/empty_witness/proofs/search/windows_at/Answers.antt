@@ -1,10 +1,5 @@
-use Rattle.std.proofs.Common.{◌≡◌, ◌+◌, get_or, subst, sym}
-use Rattle.std.specs.Prelude.{All}
-use Rattle.std.proofs.lemmas.List.Elements.{All-drop}
-use Rattle.history_merge.specs.Operations.{IsAt}
-use Rattle.empty_witness.specs.Answers.{IsEmptyAnswerAt}
-use Rattle.empty_witness.proofs.Answers.{answer_is_empty, from_the_first, one_more_gap}
-use Rattle.value_match.specs.Timeline.{timeline_of}
+use Rattle.empty_witness.proofs.Common.{All, All-drop, IsEmptyAnswerAt, subst, sym, timeline_of, ◌+◌}
+use Rattle.empty_witness.proofs.Answers.{answer_is_empty, first_of_one, from_the_first, one_more_gap}
 use Rattle.empty_witness.proofs.search.windows_at.Goals as goal
 
 pub answer_at-answer-requires : goal.answer_at-answer-requires
@@ -23,16 +18,10 @@ returns-in-None c =
     let empties = c.args.empties.now in
     let answer = c.answer_at-answer in
     let i = c.loop-index.index in
-    let is = subst (λ p. p ≡ get_or empties i p) (sym answer.ensures.place) c.index-empties-index.is in
-    let covered = c.in-None.ensures operations c.requires.spans in
-    from_the_first operations empties c.loop-index.gaps.items c.split_at.result.1.now i answer.result c.first_covered.result c.loop-index-test.true is
-    c.loop-index.invariant
-    (record {
-      at = subst (λ p. IsAt operations p answer.result.operation) (sym answer.ensures.place) answer.ensures.at;
-      is_empty =
-          answer.ensures.is_empty;
-      is_covered = covered;
-    }) c.split_at.ensures.back c.first_covered.ensures
+    let covered = first_of_one operations c.index-empties-index.result answer.result answer.ensures.place answer.ensures.at answer.ensures.is_empty
+    (c.in-None.ensures operations c.requires.spans) in
+    from_the_first operations empties c.loop-index.gaps.items c.split_at.result.1.now i c.index-empties-index.result answer.result
+    c.first_covered.result c.loop-index-test.true c.index-empties-index.is c.loop-index.invariant covered c.split_at.ensures.back c.first_covered.ensures
 
 pub loop-index-preserved : goal.loop-index-preserved
 loop-index-preserved c =

@@ -1,6 +1,4 @@
-use Rattle.std.proofs.Common.{take}
-use Rattle.empty_witness.specs.Answers.{AreGapsAt}
-use Rattle.value_match.specs.Timeline.{timeline_of}
+use Rattle.empty_witness.proofs.Common.{AreGapsAt, take, timeline_of}
 use Rattle.empty_witness.proofs.search.windows_at.Given as goal
 
 abbrev pub invariant-loop-index : goal.invariant-loop-index

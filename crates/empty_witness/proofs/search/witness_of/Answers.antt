@@ -1,7 +1,4 @@
-use Rattle.std.proofs.Common.{ℕ, List, ap, length, subst}
-use Rattle.value_match.specs.Timeline.{timeline_of}
-use Rattle.value_match.proofs.ToldPlaces.{empty_told}
-use Rattle.empty_witness.specs.Covered.{AreAllWindows}
+use Rattle.empty_witness.proofs.Common.{ap, AreAllWindows, empty_told, length, List, subst, timeline_of, ℕ}
 use Rattle.empty_witness.proofs.Answers.{first_is_chosen, gaps_are_all}
 use Rattle.empty_witness.proofs.ToldGaps.{gaps_told}
 use Rattle.empty_witness.proofs.search.witness_of.Goals as goal

@@ -1,6 +1,4 @@
-use Rattle.std.proofs.Common.{◌+◌, ◌<◌, ◌≡◌, ◌∙◌, ap, arith, length, refl, sym}
-use Rattle.std.proofs.lemmas.List.{get_or_read}
-use Rattle.empty_witness.specs.declared.spans.Span.{Span}
+use Rattle.empty_witness.proofs.Common.{ap, arith, get_or_read, length, refl, Span, sym, ◌+◌, ◌<◌, ◌∙◌, ◌≡◌}
 use Rattle.empty_witness.proofs.Adding.{last_grown}
 use Rattle.empty_witness.proofs.spans.add_stay.Goals as goal
 

@@ -1,5 +1,4 @@
-use Rattle.std.proofs.Common.{◌<◌, arith, length, subst}
-use Rattle.empty_witness.specs.Inner.Spans.{IsWithSpan}
+use Rattle.empty_witness.proofs.Common.{arith, IsWithSpan, length, subst, ◌<◌}
 use Rattle.empty_witness.proofs.ValueSpans.{are_spans, no_spans, with_value, without_value}
 use Rattle.empty_witness.proofs.spans.spans_of.Goals as goal
 use Rattle.empty_witness.proofs.spans.spans_of.Goals.{then-stay+in_ok-add_stay, else-stay}

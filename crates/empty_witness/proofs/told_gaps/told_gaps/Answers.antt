@@ -1,4 +1,4 @@
-use Rattle.std.proofs.Common.{sym}
+use Rattle.empty_witness.proofs.Common.{sym}
 use Rattle.empty_witness.proofs.ToldGaps.{gaps_with_none}
 use Rattle.empty_witness.proofs.told_gaps.told_gaps.Goals as goal
 

@@ -1,9 +1,5 @@
-use Rattle.std.proofs.Common.{◌+◌, ◌<◌, ◌++◌, ◌∷◌, [], arith, length, refl}
-use Rattle.std.proofs.lemmas.List.Elements.{All-contains}
-use Rattle.std.proofs.lemmas.Option.{slice_get_read}
-use Rattle.history_merge.proofs.Distinct.{contains_at}
-use Rattle.value_match.specs.declared.life.TheConstants.{NEVER}
-use Rattle.value_match.specs.Lives.{dequeue_return, entered_by}
+use Rattle.linearizer.proofs.Common.{[], All-contains, arith, contains_at, dequeue_return, entered_by, length, NEVER}
+use Rattle.linearizer.proofs.Common.{refl, slice_get_read, ◌++◌, ◌+◌, ◌<◌, ◌∷◌}
 use Rattle.linearizer.proofs.Sweeping.{moved_so_far, none_more_timed, none_timed, one_more_timed, sorted_by_time}
 use Rattle.linearizer.proofs.by_time.by_time.Goals as goal
 use Rattle.linearizer.proofs.by_time.by_time.Goals.{then-time-lt-NEVER+in_ok-add-2, else-time-lt-NEVER}

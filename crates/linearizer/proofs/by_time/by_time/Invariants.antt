@@ -1,4 +1,4 @@
-use Rattle.value_match.specs.Lives.{dequeue_return, entered_by}
+use Rattle.linearizer.proofs.Common.{dequeue_return, entered_by}
 use Rattle.linearizer.specs.Inner.TimedLists.{IsAsSorted}
 use Rattle.linearizer.proofs.Sweeping.{AreTimedSoFar}
 use Rattle.linearizer.proofs.by_time.by_time.Given as goal

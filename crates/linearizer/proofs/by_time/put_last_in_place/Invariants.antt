@@ -1,5 +1,4 @@
-use Rattle.std.proofs.Common.{◌-◌, ◌<◌, ◌≤◌, ℕ, length, get_or}
-use Rattle.linearizer.specs.declared.timed.PackedTimed.{PackedTimed}
+use Rattle.linearizer.proofs.Common.{get_or, length, PackedTimed, ℕ, ◌-◌, ◌<◌, ◌≤◌}
 use Rattle.linearizer.proofs.Inserting.{IsShifted}
 use Rattle.linearizer.proofs.by_time.put_last_in_place.Given as goal
 

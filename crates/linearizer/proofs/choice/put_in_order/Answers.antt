@@ -1,18 +1,11 @@
-use Rattle.std.proofs.Common.{◌≡◌, ◌∙◌, ◌<◌, ◌≤◌, Some, ap, refl, subst, sym, arith, false, length, replicate, rules}
-use Rattle.std.proofs.lemmas.List.{length-map}
-use Rattle.std.proofs.lemmas.List.Elements.{All-contains}
-use Rattle.std.proofs.lemmas.Option.{get_or_from_slice_get, slice_get_read, slice_get_within}
-use Rattle.std.specs.Prelude.{slice_get}
-use Rattle.history_merge.proofs.Distinct.{contains_at}
-use Rattle.value_match.specs.declared.life.TheConstants.{NEVER}
-use Rattle.value_match.specs.Lives.{dequeue_return, enqueue_call, entered_by}
-use Rattle.linearizer.specs.Inner.Placement.{gaps_in, places_in}
-use Rattle.linearizer.specs.Inner.Sweep.{IsFirstLeft}
-use Rattle.linearizer.specs.Inner.Swept.{IsPassedOver}
+use Rattle.linearizer.proofs.Common.{All-contains, ap, arith, contains_at, dequeue_return, enqueue_call, entered_by}
+use Rattle.linearizer.proofs.Common.{false, get_or_from_slice_get, IsFirstLeft, IsPassedOver, length, length-map, NEVER}
+use Rattle.linearizer.proofs.Common.{places_in, refl, replicate, rules, slice_get, slice_get_read, slice_get_within}
+use Rattle.linearizer.proofs.Common.{Some, subst, sym, ◌<◌, ◌∙◌, ◌≡◌, ◌≤◌}
 use Rattle.linearizer.proofs.Sweeping.{IsLeastLeft, IsNext, least_left, next_at, not_past}
 use Rattle.linearizer.proofs.Choosing.{all_swept, flags_within, nothing_swept, passed_over, some_left, swept_next}
 use Rattle.linearizer.proofs.choice.put_in_order.Goals as goal
-use Rattle.linearizer.proofs.choice.put_in_order.Goals.{After-first_left-first_in, After-first_left-first_out, After-choice-next}
+use Rattle.linearizer.proofs.choice.put_in_order.Goals.{After-first_left-first_in, After-first_left-first_out, After-unpack-entry, After-choice-next}
 
 pub loop-entries-init : goal.loop-entries-init
 loop-entries-init c =
@@ -20,16 +13,12 @@ loop-entries-init c =
     rw (flags, c.in_ok-order.ensures.items) (nothing_swept c.args.values.now c.as_slice-entries.result.now c.as_slice-dequeues.result.now)
 
 pub first_left-first_in-requires-clause-flagged : goal.first_left-first_in-requires-clause-flagged
-first_left-first_in-requires-clause-flagged c =
-    rw c.deref.ensures.value
-    (flags_within entered_by c.args.values.now c.as_slice-entries.result.now c.loop-entries.taken.items (rw c.as_slice-entries.ensures.value c.in_ok-by_time.ensures.entries)
-    c.loop-entries.invariant.one_flag_each)
+first_left-first_in-requires-clause-flagged c = rw c.deref.ensures.value
+    (flags_within entered_by _ _ _ (rw c.as_slice-entries.ensures.value c.in_ok-by_time.ensures.entries) c.loop-entries.invariant.one_flag_each)
 
 pub first_left-first_out-requires-clause-flagged : goal.first_left-first_out-requires-clause-flagged
-first_left-first_out-requires-clause-flagged c =
-    rw c.deref-in-loop-entries.ensures.value
-    (flags_within dequeue_return c.args.values.now c.as_slice-dequeues.result.now c.loop-entries.taken.items (rw c.as_slice-dequeues.ensures.value c.in_ok-by_time.ensures.dequeues)
-    c.loop-entries.invariant.one_flag_each)
+first_left-first_out-requires-clause-flagged c = rw c.deref-in-loop-entries.ensures.value
+    (flags_within dequeue_return _ _ _ (rw c.as_slice-dequeues.ensures.value c.in_ok-by_time.ensures.dequeues) c.loop-entries.invariant.one_flag_each)
 
 -- the cursors stand at the first that is left of each list
 entered : (c : After-first_left-first_in) → IsFirstLeft c.as_slice-entries.result.now c.loop-entries.taken.items c.first_left-first_in.result
@@ -41,16 +30,15 @@ dequeued c = rw c.deref-in-loop-entries.ensures.value at c.first_left-first_out.
 -- some value is left, so the first cursor stands at an entry
 inside : (c : After-first_left-first_in) → c.first_left-first_in.result < length c.as_slice-entries.result.now
 inside c =
-    not_past c.loop-entries.taken.items c.as_slice-entries.result.now c.first_left-first_in.result (entered c).before
-    (some_left entered_by c.args.values.now c.as_slice-entries.result.now c.loop-entries.taken.items (places_in c.loop-entries.order.items)
-    (gaps_in c.loop-entries.order.items) (rw c.as_slice-entries.ensures.value c.in_ok-by_time.ensures.entries) c.requires.entries
-    c.loop-entries.invariant.within c.loop-entries.invariant.so_far (omega (
+    let fewer : length (places_in c.loop-entries.order.items) < length c.args.values.now = omega (
       arith,
       length-map c.loop-entries.order.items (λ timed. timed.place),
       c.loop-entries-test.true,
       c.len-in-loop-entries.ensures,
       c.len-in-loop-entries-2.ensures,
-    )))
+    ) in
+    not_past _ _ _ (entered c).before (some_left entered_by _ _ _ _ _ (rw c.as_slice-entries.ensures.value c.in_ok-by_time.ensures.entries)
+    c.requires.entries c.loop-entries.invariant.within c.loop-entries.invariant.so_far fewer)
 
 pub bounds-entries-first_in : goal.bounds-entries-first_in
 bounds-entries-first_in c = inside (goal.at.bounds-entries-first_in c).After-first_left-first_in
@@ -58,42 +46,38 @@ bounds-entries-first_in c = inside (goal.at.bounds-entries-first_in c).After-fir
 pub offset_bounds-entries-first_in : goal.offset_bounds-entries-first_in
 offset_bounds-entries-first_in c = let within = inside (goal.at.offset_bounds-entries-first_in c).After-first_left-first_in in search rules
 
-pub choice-next-requires : goal.choice-next-requires
-choice-next-requires c =
-    let states = goal.at.choice-next-requires c in
-    let first = least_left entered_by c.args.values.now c.as_slice-entries.result.now c.loop-entries.taken.items
-    (rw c.as_slice-entries.ensures.value c.in_ok-by_time.ensures.entries) c.first_left-first_in.result (entered states.After-first_left-first_in)
-    c.unpack-entry.result
-    (slice_get_read _ _ _ _ refl (inside states.After-first_left-first_in) c.index-entries-first_in.is ∙ ap Some (sym c.unpack-entry.ensures)) in
-    slice_get_within _ _ first.value first.is_at
-
-module _ (c : After-choice-next) (within : c.first_left-first_in.result < length c.as_slice-entries.result.now) where
+module _ (c : After-unpack-entry) (within : c.first_left-first_in.result < length c.as_slice-entries.result.now) where
   at_first : slice_get c.as_slice-entries.result.now c.first_left-first_in.result ≡ Some c.unpack-entry.result
   at_first = slice_get_read _ _ _ _ refl within c.index-entries-first_in.is ∙ ap Some (sym c.unpack-entry.ensures)
 
   -- it is the least of those that are left
   least : IsLeastLeft entered_by c.args.values.now c.loop-entries.taken.items c.unpack-entry.result
-  least = least_left entered_by c.args.values.now c.as_slice-entries.result.now c.loop-entries.taken.items
-      (rw c.as_slice-entries.ensures.value c.in_ok-by_time.ensures.entries) c.first_left-first_in.result
-      (rw c.deref.ensures.value at c.first_left-first_in.ensures) c.unpack-entry.result at_first
-
-  -- the choice of this turn
-  next : IsNext c.args.values.now c.loop-entries.taken.items c.choice-next.result
-  next = next_at c.args.values.now c.as_slice-entries.result.now c.as_slice-dequeues.result.now c.loop-entries.taken.items c.first_left-first_in.result
-      c.first_left-first_out.result c.unpack-entry.result c.dequeued_at.result c.choice-next.result
-      (rw c.as_slice-entries.ensures.value c.in_ok-by_time.ensures.entries) (rw c.as_slice-dequeues.ensures.value c.in_ok-by_time.ensures.dequeues)
-      c.requires.dequeues (rw c.deref.ensures.value at c.first_left-first_in.ensures)
-      (rw c.deref-in-loop-entries.ensures.value at c.first_left-first_out.ensures) at_first c.dequeued_at.ensures c.choice-next.ensures
-
-  -- it is in range
-  chosen_within : c.choice-next.result < length c.args.values.now
-  chosen_within = slice_get_within c.args.values.now c.choice-next.result next.value next.is_at
+  least = least_left entered_by _ _ _ (rw c.as_slice-entries.ensures.value c.in_ok-by_time.ensures.entries) _
+      (rw c.deref.ensures.value at c.first_left-first_in.ensures) _ at_first
 
   bounded : entered_by least.value.life ≤ NEVER
   bounded =
       let less = All-contains (λ value. entered_by value.life < NEVER) c.args.values.now least.value c.requires.entries
       (contains_at c.args.values.now c.unpack-entry.result.place least.value least.is_at) in
       omega (arith, less)
+
+pub choice-next-requires : goal.choice-next-requires
+choice-next-requires c =
+    let states = goal.at.choice-next-requires c in
+    let first = least states.After-unpack-entry (inside states.After-first_left-first_in) in
+    slice_get_within _ _ first.value first.is_at
+
+module _ (c : After-choice-next) (within : c.first_left-first_in.result < length c.as_slice-entries.result.now) where
+  -- the choice of this turn
+  next : IsNext c.args.values.now c.loop-entries.taken.items c.choice-next.result
+  next = next_at _ _ _ _ _ _ _ _ _ (rw c.as_slice-entries.ensures.value c.in_ok-by_time.ensures.entries)
+      (rw c.as_slice-dequeues.ensures.value c.in_ok-by_time.ensures.dequeues) c.requires.dequeues
+      (rw c.deref.ensures.value at c.first_left-first_in.ensures) (rw c.deref-in-loop-entries.ensures.value at c.first_left-first_out.ensures)
+      (slice_get_read _ _ _ _ refl within c.index-entries-first_in.is ∙ ap Some (sym c.unpack-entry.ensures)) c.dequeued_at.ensures c.choice-next.ensures
+
+  -- it is in range
+  chosen_within : c.choice-next.result < length c.args.values.now
+  chosen_within = slice_get_within c.args.values.now c.choice-next.result next.value next.is_at
 
 pub index_mut-requires : goal.index_mut-requires
 index_mut-requires c =
@@ -120,7 +104,7 @@ pub new-requires-clause-time : goal.new-requires-clause-time
 new-requires-clause-time c =
     let states = goal.at.new-requires-clause-time c in
     let first = inside states.After-first_left-first_in in
-    omega (arith, bounded states.After-choice-next first, (least states.After-choice-next first).time_is)
+    omega (arith, bounded states.After-unpack-entry first, (least states.After-unpack-entry first).time_is)
 
 pub returns-then-entry-enqueue_call : goal.returns-then-entry-enqueue_call
 returns-then-entry-enqueue_call c =
@@ -133,7 +117,7 @@ returns-then-entry-enqueue_call c =
     ∙ get_or_from_slice_get c.args.values.now c.choice-next.result turn.value c.get-then-entry-enqueue_call.result turn.is_at in
     subst (IsPassedOver c.args.values.now) (sym told)
     (passed_over c.args.values.now c.loop-entries.taken.items _ _ c.choice-next.result c.unpack-entry.result turn
-    c.loop-entries.invariant.so_far (least states.After-choice-next first) (omega (arith, called, c.if-entry-enqueue_call.true)))
+    c.loop-entries.invariant.so_far (least states.After-unpack-entry first) (omega (arith, called, c.if-entry-enqueue_call.true)))
 
 pub loop-entries-preserved : goal.loop-entries-preserved
 loop-entries-preserved c =
@@ -146,7 +130,7 @@ loop-entries-preserved c =
     (swept_next c.args.values.now c.as_slice-entries.result.now c.as_slice-dequeues.result.now c.loop-entries.taken.items _ _ _ _
     c.loop-entries.order.items c.choice-next.result c.unpack-entry.result turn c.loop-entries.invariant
     (entered states.After-first_left-first_in) (dequeued states.After-first_left-first_out)
-    (least states.After-choice-next first) (bounded states.After-choice-next first) (omega (arith, called, c.if-entry-enqueue_call.false))
+    (least states.After-unpack-entry first) (bounded states.After-unpack-entry first) (omega (arith, called, c.if-entry-enqueue_call.false))
     c.requires.takes_time)
 
 pub returns : goal.returns

@@ -1,6 +1,4 @@
-use Rattle.std.proofs.Common.{◌-◌, length}
-use Rattle.std.proofs.Common.{vec_len}
-use Rattle.linearizer.specs.Inner.Placement.{gaps_in, places_in}
+use Rattle.linearizer.proofs.Common.{gaps_in, length, places_in, vec_len, ◌-◌}
 use Rattle.linearizer.proofs.Choosing.{IsSwept}
 use Rattle.linearizer.proofs.choice.put_in_order.Given as goal
 

@@ -1,11 +1,6 @@
-use Rattle.std.proofs.Common.{◌≡◌, ℕ, ◌<◌, ◌∙◌, length, get_or, Some, refl, sym, ap, rules}
-use Rattle.std.specs.Prelude.{filter}
-use Rattle.std.proofs.lemmas.List.{length_push}
-use Rattle.std.proofs.lemmas.Option.{slice_get_read}
-use Rattle.std.proofs.lemmas.Slice.Zip.{zip_end, zip_turn}
-use Rattle.value_match.specs.Lives.{is_empty_answer}
+use Rattle.linearizer.proofs.Common.{ap, filter, get_or, is_empty_answer, length, length_push, refl, rules}
+use Rattle.linearizer.proofs.Common.{slice_get_read, Some, sym, timeline_of, zip_end, zip_turn, ℕ, ◌<◌, ◌∙◌, ◌≡◌}
 use Rattle.linearizer.proofs.Additions.{IsNamed, adds_all, adds_empty, gap_beside, named, named_early, named_few}
-use Rattle.value_match.specs.Timeline.{timeline_of}
 use Rattle.linearizer.proofs.noops.add_empties.Goals as goal
 use Rattle.linearizer.proofs.noops.add_empties.Goals.{After-place}
 

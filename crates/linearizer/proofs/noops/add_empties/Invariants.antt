@@ -1,8 +1,4 @@
-use Rattle.std.proofs.Common.{length, take}
-use Rattle.std.specs.Prelude.{filter}
-use Rattle.value_match.specs.Lives.{is_empty_answer}
-use Rattle.linearizer.specs.Inner.Placement.{Adds}
-use Rattle.value_match.specs.Timeline.{timeline_of}
+use Rattle.linearizer.proofs.Common.{Adds, filter, is_empty_answer, length, take, timeline_of}
 use Rattle.linearizer.proofs.noops.add_empties.Given as goal
 
 abbrev pub invariant-loop-id : goal.invariant-loop-id

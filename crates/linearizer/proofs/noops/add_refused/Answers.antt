@@ -1,10 +1,6 @@
-use Rattle.std.proofs.Common.{◌∙◌, Some, refl, subst, sym, ap}
-use Rattle.std.specs.Prelude.{filter}
-use Rattle.std.proofs.lemmas.Option.{slice_get_read}
-use Rattle.history_merge.specs.Operations.{IsAt}
-use Rattle.value_match.specs.Lives.{is_refused}
+use Rattle.linearizer.proofs.Common.{ap, filter, is_refused, IsAt, refl, slice_get_read, Some, subst, sym, timeline_of}
+use Rattle.linearizer.proofs.Common.{◌∙◌}
 use Rattle.linearizer.proofs.Additions.{IsNamed, adds_refused, named, named_at, named_few, named_within}
-use Rattle.value_match.specs.Timeline.{timeline_of}
 use Rattle.linearizer.proofs.noops.add_refused.Goals as goal
 use Rattle.linearizer.proofs.noops.add_refused.Goals.{After-place}
 

@@ -1,11 +1,6 @@
-use Rattle.std.proofs.Common.{[], ◌+◌, ◌*◌, rules, subst}
-use Rattle.std.specs.Prelude.{filter}
-use Rattle.std.proofs.lemmas.List.Sorted.{IsNonDecreasingBy-from_sort_by_key}
-use Rattle.value_match.specs.Lives.{is_empty_answer}
-use Rattle.linearizer.specs.Inner.Placement.{Adds}
-use Rattle.linearizer.specs.declared.timed.TheConstants.{PLACES}
+use Rattle.linearizer.proofs.Common.{[], Adds, filter, is_empty_answer, IsNonDecreasingBy-from_sort_by_key, PLACES}
+use Rattle.linearizer.proofs.Common.{rules, subst, timeline_of, ◌*◌, ◌+◌}
 use Rattle.linearizer.proofs.Sorting.{noops_held, noops_never_fall, noops_within}
-use Rattle.value_match.specs.Timeline.{timeline_of}
 use Rattle.linearizer.proofs.noops.noops_of.Goals as goal
 use Rattle.linearizer.proofs.noops.noops_of.Goals.{After-sort_unstable_by_key}
 

@@ -1,11 +1,5 @@
-use Rattle.std.proofs.Common.{◌≡◌, ◌≤◌, ◌∙◌, ℕ, List, ap, length, subst, sym}
-use Rattle.std.specs.Prelude.{All, filter_map}
-use Rattle.std.proofs.lemmas.Result.{IfOk-weaker}
-use Rattle.event_records.specs.declared.limits.TheConstants.{MAX_CLOCK}
-use Rattle.value_match.specs.Timeline.{clock_of_gap, timeline_of}
-use Rattle.value_match.specs.Told.{place_behind}
-use Rattle.linearizer.specs.Order.{AreChosenAndLegal}
-use Rattle.linearizer.specs.Inner.Merging.{IsWholeOrder}
+use Rattle.linearizer.proofs.Common.{All, ap, AreChosenAndLegal, clock_of_gap, filter_map, IfOk-weaker, IsWholeOrder}
+use Rattle.linearizer.proofs.Common.{length, List, MAX_CLOCK, place_behind, subst, sym, timeline_of, ℕ, ◌∙◌, ◌≡◌, ◌≤◌}
 use Rattle.linearizer.proofs.Told.{gaps_in_range, gaps_of_none, order_of_none, order_told}
 use Rattle.linearizer.proofs.order.linearize.Goals as goal
 use Rattle.linearizer.proofs.order.linearize.Goals.{After-initial-initial_count}

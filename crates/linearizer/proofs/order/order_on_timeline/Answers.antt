@@ -1,7 +1,5 @@
-use Rattle.std.proofs.lemmas.Result.{IfOk-weaker}
-use Rattle.linearizer.specs.Inner.Merging.{IsMerge, IsWholeOrder}
+use Rattle.linearizer.proofs.Common.{IfOk-weaker, IsMerge, IsWholeOrder, timeline_of}
 use Rattle.linearizer.proofs.ChosenPlaces.{chosen_and_legal}
-use Rattle.value_match.specs.Timeline.{timeline_of}
 use Rattle.linearizer.proofs.order.order_on_timeline.Goals as goal
 
 pub returns : goal.returns

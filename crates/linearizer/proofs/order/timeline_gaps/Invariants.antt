@@ -1,6 +1,4 @@
-use Rattle.std.proofs.Common.{◌≡◌, take}
-use Rattle.std.specs.Prelude.{map}
-use Rattle.value_match.specs.Timeline.{clock_of_gap}
+use Rattle.linearizer.proofs.Common.{clock_of_gap, map, take, ◌≡◌}
 use Rattle.linearizer.proofs.order.timeline_gaps.Given as goal
 
 abbrev pub invariant-loop-gap : goal.invariant-loop-gap

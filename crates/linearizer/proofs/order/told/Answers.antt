@@ -1,6 +1,5 @@
-use Rattle.std.proofs.Common.{arith}
+use Rattle.linearizer.proofs.Common.{arith, filter_map-append}
 use Rattle.std.proofs.lemmas.Grind.{common_steps}
-use Rattle.std.proofs.lemmas.List.Elements.{filter_map-append}
 use Rattle.linearizer.proofs.order.told.Goals as goal
 
 pub loop-place-preserved : goal.loop-place-preserved

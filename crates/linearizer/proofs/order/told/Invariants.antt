@@ -1,5 +1,4 @@
-use Rattle.std.proofs.Common.{◌≡◌, filter_map, take}
-use Rattle.value_match.specs.Told.{place_behind}
+use Rattle.linearizer.proofs.Common.{filter_map, place_behind, take, ◌≡◌}
 use Rattle.linearizer.proofs.order.told.Given as goal
 
 abbrev pub invariant-loop-place : goal.invariant-loop-place

@@ -1,21 +1,21 @@
-use Rattle.std.proofs.Common.{subst}
-use Rattle.linearizer.specs.Inner.Placement.{AreCalledInTime, AreEnqueueGaps, gaps_in, lives_at, places_in}
-use Rattle.linearizer.specs.Inner.Sweep.{IsInOrder}
-use Rattle.linearizer.specs.Inner.Swept.{IsPassedOver, IsSweepOf}
+use Rattle.linearizer.proofs.Common.{AreCalledInTime, AreEnqueueGaps, arith, gaps_in, IsInOrder, IsPassedOver}
+use Rattle.linearizer.proofs.Common.{IsSweepOf, lives_at, places_in, subst, timeline_of}
 use Rattle.linearizer.proofs.Choosing.{places_in_order}
-use Rattle.linearizer.proofs.Fitting.{dequeued_in_time, entered_in_time, few_values, is_first_overtaker, no_order_violation, passed_over, take_time}
+use Rattle.linearizer.proofs.Fitting.{each_has_times, few_values, is_first_overtaker, no_order_violation, passed_over}
 use Rattle.linearizer.proofs.OrderedPlaces.{lives_are}
-use Rattle.value_match.specs.Timeline.{timeline_of}
 use Rattle.linearizer.proofs.ordered_values.order_values.Goals as goal
 
 pub put_in_order-requires-clause-entries : goal.put_in_order-requires-clause-entries
-put_in_order-requires-clause-entries c = entered_in_time (timeline_of c.args.matching.now) c.values.result c.values.ensures.clear c.values.ensures.values
+put_in_order-requires-clause-entries c k d within =
+    omega (arith, (each_has_times (timeline_of c.args.matching.now) c.values.result c.values.ensures.clear c.values.ensures.values k d within).enqueue_is_past)
 
 pub put_in_order-requires-clause-dequeues : goal.put_in_order-requires-clause-dequeues
-put_in_order-requires-clause-dequeues c = dequeued_in_time (timeline_of c.args.matching.now) c.values.result c.values.ensures.clear c.values.ensures.values
+put_in_order-requires-clause-dequeues c k d within =
+    (each_has_times (timeline_of c.args.matching.now) c.values.result c.values.ensures.clear c.values.ensures.values k d within).returns_by_never
 
 pub put_in_order-requires-clause-takes_time : goal.put_in_order-requires-clause-takes_time
-put_in_order-requires-clause-takes_time c = take_time (timeline_of c.args.matching.now) c.values.result c.values.ensures.clear c.values.ensures.values
+put_in_order-requires-clause-takes_time c k d within =
+    omega (arith, (each_has_times (timeline_of c.args.matching.now) c.values.result c.values.ensures.clear c.values.ensures.values k d within).dequeue_takes_time)
 
 pub put_in_order-requires-clause-few : goal.put_in_order-requires-clause-few
 put_in_order-requires-clause-few c = few_values (timeline_of c.args.matching.now) c.values.result c.values.ensures.values c.timeline-operations.ensures.few

@@ -1,9 +1,7 @@
-use Rattle.std.proofs.Common.{arith, inl, inr, length, None, subst}
-use Rattle.std.proofs.lemmas.List.{length-map}
-use Rattle.linearizer.specs.Inner.Placement.{AreEnqueueGaps, IsOrderOfPlaces, gaps_in, lives_at, places_in}
-use Rattle.linearizer.proofs.Merging.{all_merged, no_enqueue}
+use Rattle.linearizer.proofs.Common.{AreEnqueueGaps, arith, gaps_in, inl, inr, IsEnqueueFrom, IsOrderOfPlaces, length}
+use Rattle.linearizer.proofs.Common.{length-map, lives_at, None, NoneBelow, places_in, subst, timeline_of}
+use Rattle.linearizer.proofs.Merging.{all_merged}
 use Rattle.linearizer.proofs.OrderedPlaces.{lives_long}
-use Rattle.value_match.specs.Timeline.{timeline_of}
 use Rattle.linearizer.proofs.placing.merge.Goals as goal
 
 pub place_enqueues-requires-clause-gaps : goal.place_enqueues-requires-clause-gaps
@@ -19,7 +17,8 @@ returns-clause-merged c =
     let long = length-map timed (λ t. t.place) in
     let is = subst (λ all. IsOrderOfPlaces all order) c.requires.values c.order-order.ensures.order in
     let start = c.in_ok-so_far.ensures in
-    let none = no_enqueue (lives_at operations order) (length timed) None (omega (arith, lives_long operations order is, long)) in
+    let none : NoneBelow (IsEnqueueFrom (lives_at operations order) (length timed)) None =
+    (λ p left. absurd (omega (arith, lives_long operations order is, long, left.1, left.2))) in
     let past = c.in_ok-place_dequeues.ensures.up_to (length timed) none start in
     let merged = c.in_ok-place_noops.ensures.adds operations (lives_at operations order) (length timed) _ _
     (λ p left. elim left [ inl enqueue ↦ none p enqueue | inr dequeue ↦ past p dequeue ]) (c.in_ok-place_dequeues.ensures.adds (length timed) none start) in

@@ -1,15 +1,10 @@
-use Rattle.std.proofs.Common.{Some, ◌≡◌, ℕ, ◌+◌, ◌<◌, ◌∙◌, ap, length, max, refl, subst, sym, take, arith}
-use Rattle.std.proofs.lemmas.List.{length-map}
-use Rattle.std.proofs.lemmas.Option.{slice_get_read, slice_get_within}
-use Rattle.value_match.specs.Lives.{leaves_from}
-use Rattle.linearizer.specs.Values.{greatest_leaves_from}
-use Rattle.linearizer.specs.Order.{StandsBefore}
-use Rattle.linearizer.specs.Inner.Placement.{lives_at, places_in, position_of}
-use Rattle.linearizer.specs.Inner.Merging.{IsDequeueFrom, IsMergedUpTo}
-use Rattle.linearizer.proofs.Merging.{below_limit, below_next, dequeue_added, next_dequeue, no_dequeue, none_of_values, passed, stands_after, stands_not_after}
+use Rattle.linearizer.proofs.Common.{ap, arith, greatest_leaves_from, inl, inr, IsDequeueFrom, IsMergedUpTo}
+use Rattle.linearizer.proofs.Common.{IsValueFrom, leaves_from, length, length-map, lives_at, max, NoneBelow, places_in}
+use Rattle.linearizer.proofs.Common.{refl, slice_get_read, slice_get_within, Some, StandsBefore, subst, sym, take}
+use Rattle.linearizer.proofs.Common.{timeline_of, ℕ, ◌+◌, ◌<◌, ◌∙◌, ◌≡◌}
+use Rattle.linearizer.proofs.Merging.{below_limit, below_next, dequeue_added, next_dequeue, passed}
 use Rattle.linearizer.proofs.OrderedPlaces.{lives_long}
 use Rattle.linearizer.proofs.PlacedValues.{IsTurn, dequeue_stands, left_more, turn_alone, turn_is, turn_with_dequeue, turn_within}
-use Rattle.value_match.specs.Timeline.{timeline_of}
 use Rattle.linearizer.proofs.placing.place_dequeues.Goals as goal
 use Rattle.linearizer.proofs.placing.place_dequeues.Goals.{After-max-left, in-Some+else-stands_after+in_ok-place_noops+in_ok-push, in_default}
 
@@ -45,9 +40,7 @@ returns-then-stands_after-clause-up_to c = λ i none before.
     let stands = dequeue_stands _ _ _ _ _ c.dequeue-dequeue.result (turn here).gap_is
     (left_so_far here i (c.loop-so_far.invariant i none before)) c.max.ensures c.dequeue-dequeue.ensures.position in
     below_limit (IsDequeueFrom (lives_at (timeline_of c.args.matching.now) (places_in c.args.order.now)) c.loop-so_far.so_far.dequeues) c.args.before
-    (position_of c.dequeue-dequeue.result.position)
-    (λ p is. subst (λ q. ¬ (StandsBefore p q)) (sym stands) (next_dequeue _ _ p (within here) is))
-    (stands_after c.args.before c.dequeue-dequeue.result c.stands_after.result c.stands_after.ensures c.if-stands_after.true)
+    c.dequeue-dequeue.result c.stands_after.result c.stands_after.ensures c.if-stands_after.true (λ p is. subst (λ q. ¬ (StandsBefore p q)) (sym stands) (next_dequeue _ _ p is))
 
 pub loop-so_far-preserved : goal.loop-so_far-preserved
 loop-so_far-preserved c = λ i none before.
@@ -57,9 +50,12 @@ loop-so_far-preserved c = λ i none before.
       | in-Some+else-stands_after+in_ok-place_noops+in_ok-push w ↦
           let stands = dequeue_stands _ _ _ _ _ w.dequeue-dequeue.result (turn here).gap_is
           (left_so_far here i merged) w.max.ensures w.dequeue-dequeue.ensures.position in
-          let enqueues = below_next _ c.args.before w.dequeue-dequeue.result none
-          (stands_not_after c.args.before w.dequeue-dequeue.result w.stands_after.result w.stands_after.ensures w.if-stands_after.false) in
-          let values = none_of_values _ i _ w.dequeue-dequeue.result (within here) stands enqueues in
+          let enqueues = below_next _ c.args.before w.dequeue-dequeue.result w.stands_after.result w.stands_after.ensures w.if-stands_after.false none in
+          let values : NoneBelow (IsValueFrom (lives_at (timeline_of c.args.matching.now) (places_in c.args.order.now)) i c.loop-so_far.so_far.dequeues)
+          (Some w.dequeue-dequeue.result.position) = λ p is. elim is [
+            | inl enqueue ↦ enqueues p enqueue
+            | inr dequeue ↦ subst (λ q. ¬ (StandsBefore p q)) (sym stands) (next_dequeue _ _ p dequeue)
+          ] in
           let noops = w.in_ok-place_noops.ensures.adds _ _ i _ _ values merged in
           rw (w.so_far-is, w.places-is, w.in_ok-push.ensures.items)
           (dequeue_added _ _ _ _ _ _ _ _ noops c.max-left.result w.dequeue-dequeue.result
@@ -71,11 +67,11 @@ loop-so_far-preserved c = λ i none before.
     ]
 
 pub returns-clause-up_to : goal.returns-clause-up_to
-returns-clause-up_to c = λ i none before. no_dequeue (lives_at (timeline_of c.args.matching.now) (places_in c.args.order.now))
-    c.loop-so_far.so_far.dequeues c.args.before
-    (omega (
-      arith,
-      c.loop-so_far-test.false,
-      lives_long (timeline_of c.args.matching.now) (places_in c.args.order.now) c.requires.order,
-      length-map c.args.order.now (λ timed. timed.place),
-    ))
+returns-clause-up_to c = λ i none before p is. absurd (omega (
+  arith,
+  c.loop-so_far-test.false,
+  lives_long (timeline_of c.args.matching.now) (places_in c.args.order.now) c.requires.order,
+  length-map c.args.order.now (λ timed. timed.place),
+  is.1,
+  is.2,
+))

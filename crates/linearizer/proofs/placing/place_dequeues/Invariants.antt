@@ -1,7 +1,5 @@
-use Rattle.std.proofs.Common.{ℕ, ◌-◌, length}
-use Rattle.linearizer.specs.Inner.Merging.{IsEnqueueFrom, IsMergedUpTo, NoneBelow}
-use Rattle.linearizer.specs.Inner.Placement.{lives_at, places_in}
-use Rattle.value_match.specs.Timeline.{timeline_of}
+use Rattle.linearizer.proofs.Common.{IsEnqueueFrom, IsMergedUpTo, length, lives_at, NoneBelow, places_in, timeline_of}
+use Rattle.linearizer.proofs.Common.{ℕ, ◌-◌}
 use Rattle.linearizer.proofs.placing.place_dequeues.Given as goal
 
 abbrev pub invariant-loop-so_far : goal.invariant-loop-so_far

@@ -1,11 +1,9 @@
-use Rattle.std.proofs.Common.{◌≡◌, ◌∙◌, ap, inl, inr, refl, arith, rules, subst, sym, length, Some}
-use Rattle.std.proofs.lemmas.Option.{slice_get_read, slice_get_within}
-use Rattle.linearizer.specs.Order.{StandsBefore, enqueue_position, enqueues}
-use Rattle.linearizer.specs.Inner.Placement.{lives_at, places_in, position_of}
-use Rattle.linearizer.specs.Inner.Merging.{IsEnqueueFrom, IsMergedUpTo, IsValueFrom, NoneBelow}
+use Rattle.linearizer.proofs.Common.{ap, arith, enqueue_position, enqueues, inl, inr, IsEnqueueFrom, IsMergedUpTo}
+use Rattle.linearizer.proofs.Common.{IsValueFrom, length, lives_at, NoneBelow, places_in, position_of, refl, rules}
+use Rattle.linearizer.proofs.Common.{slice_get_read, slice_get_within, Some, StandsBefore, subst, sym, timeline_of, ◌∙◌}
+use Rattle.linearizer.proofs.Common.{◌≡◌}
 use Rattle.linearizer.proofs.Merging.{enqueue_added, next_enqueue, nothing_merged}
 use Rattle.linearizer.proofs.PlacedValues.{enqueue_more, turn_is, turn_within}
-use Rattle.value_match.specs.Timeline.{timeline_of}
 use Rattle.linearizer.proofs.placing.place_enqueues.Goals as goal
 
 pub get-requires : goal.get-requires
@@ -29,7 +27,7 @@ loop-rank-preserved c =
     let stands : position_of x.position ≡ enqueue_position lives i =
     c.enqueue-enqueue.ensures.position ∙ ap (λ g. record { gap = g; class = enqueues; rank = i }) turn.gap_is in
     let none : NoneBelow (IsEnqueueFrom lives i) (Some x.position) =
-    (λ p is. subst (λ q. ¬ (StandsBefore p q)) (sym stands) (next_enqueue lives i p within is)) in
+    (λ p is. subst (λ q. ¬ (StandsBefore p q)) (sym stands) (next_enqueue lives i p is)) in
     let past = c.in_ok-place_dequeues.ensures.up_to i none c.loop-rank.invariant in
     let values : NoneBelow (IsValueFrom lives i c.place_dequeues.new.so_far.dequeues) (Some x.position) =
     (λ p is. elim is [ inl enqueue ↦ none p enqueue | inr dequeue ↦ past p dequeue ]) in

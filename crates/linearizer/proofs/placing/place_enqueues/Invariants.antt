@@ -1,6 +1,4 @@
-use Rattle.linearizer.specs.Inner.Merging.{IsMergedUpTo}
-use Rattle.linearizer.specs.Inner.Placement.{lives_at, places_in}
-use Rattle.value_match.specs.Timeline.{timeline_of}
+use Rattle.linearizer.proofs.Common.{IsMergedUpTo, lives_at, places_in, timeline_of}
 use Rattle.linearizer.proofs.placing.place_enqueues.Given as goal
 
 abbrev pub invariant-loop-rank : goal.invariant-loop-rank

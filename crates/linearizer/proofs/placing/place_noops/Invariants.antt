@@ -1,7 +1,4 @@
-use Rattle.std.proofs.Common.{ℕ, List, length, ◌-◌}
-use Rattle.history_merge.specs.declared.operation.Operation.{Operation}
-use Rattle.value_match.specs.declared.life.Life.{Life}
-use Rattle.linearizer.specs.Inner.Merging.{IsMergedUpTo, IsValueFrom, NoneBelow}
+use Rattle.linearizer.proofs.Common.{IsMergedUpTo, IsValueFrom, length, Life, List, NoneBelow, Operation, ℕ, ◌-◌}
 use Rattle.linearizer.proofs.placing.place_noops.Given as goal
 
 abbrev pub invariant-loop-count : goal.invariant-loop-count

@@ -1,4 +1,4 @@
-use Rattle.std.proofs.Common.{◌≡◌, ◌∙◌, false, get_or, subst, true}
+use Rattle.linearizer.proofs.Common.{false, get_or, subst, true, ◌∙◌, ◌≡◌}
 use Rattle.linearizer.proofs.Sweeping.{ended, stopped, walked}
 use Rattle.linearizer.proofs.timed.first_left.Goals as goal
 

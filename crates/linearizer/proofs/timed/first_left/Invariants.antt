@@ -1,6 +1,4 @@
-use Rattle.std.proofs.Common.{◌-◌, length, take}
-use Rattle.std.specs.Prelude.{All}
-use Rattle.linearizer.specs.Inner.Sweep.{IsTaken}
+use Rattle.linearizer.proofs.Common.{All, IsTaken, length, take, ◌-◌}
 use Rattle.linearizer.proofs.timed.first_left.Given as goal
 
 abbrev pub invariant-loop-first : goal.invariant-loop-first

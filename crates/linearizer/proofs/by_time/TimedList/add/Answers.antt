@@ -1,5 +1,4 @@
-use Rattle.std.proofs.Common.{ap, arith}
-use Rattle.std.proofs.lemmas.List.Sorted.{IsNonDecreasingBy-push}
+use Rattle.linearizer.proofs.Common.{ap, arith, IsNonDecreasingBy-push}
 use Rattle.linearizer.proofs.by_time.TimedList.add.Goals as goal
 
 pub returns-clause-sorted : goal.returns-clause-sorted

@@ -1,5 +1,4 @@
-use Rattle.std.proofs.Common.{rules}
-use Rattle.std.proofs.lemmas.List.Sorted.{IsNonDecreasingBy-from_sort_by_key}
+use Rattle.linearizer.proofs.Common.{IsNonDecreasingBy-from_sort_by_key, rules}
 use Rattle.linearizer.proofs.by_time.TimedList.sorted.Goals as goal
 
 pub returns-then-not-is_sorted-clause-never_falls : goal.returns-then-not-is_sorted-clause-never_falls
