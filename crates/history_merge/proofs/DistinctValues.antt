@@ -1,36 +1,75 @@
--- Values that no two calls share.
-use Rattle.std.proofs.Common.{◌≡◌, ℕ, zero, suc, ◌+◌, ◌<◌, ◌||◌, true, false, List, [], ◌∷◌, ◌++◌, length, take}
-use Rattle.std.proofs.Common.{drop, Option, Some, None, refl, sym, ◌∙◌, ap, subst, inl, inr, arith, nat_eq, length-append}
+-- Values that no two calls share, and initial values.
+use Rattle.std.proofs.Common.{◌≡◌, ◌≢◌, ℕ, ◌<◌, true, false, List, [], ◌∷◌, ◌++◌, length, take, Some, refl, sym, ◌∙◌}
+use Rattle.std.proofs.Common.{subst, inr, arith, nat_eq, length-append, suc, ◌+◌, ◌||◌, drop, Option, None, ap, inl}
 use Rattle.std.specs.Prelude.{slice_get}
+use Rattle.std.proofs.lemmas.Bool.{eq-eqb, eqb-true, false≢true, cases_lt, false_from_ne_true}
+use Rattle.std.proofs.lemmas.List.{get_or_append_left, get_or_default, get_or-take, length-take, take_all, append-nil}
+use Rattle.std.proofs.lemmas.List.{append_assoc}
+use Rattle.std.proofs.lemmas.List.Folds.{Any-from_list_any, list_any_at, list_any-append}
+use Rattle.std.proofs.lemmas.List.Quantifiers.{all_pairs_push}
+use Rattle.std.proofs.lemmas.Option.{slice_get_within, get_or_from_slice_get}
+use Rattle.event_records.specs.declared.event.Event.{Event}
+use Rattle.history_merge.specs.declared.fault.HistoryFault.TheVariants.{InitialTwice}
+use Rattle.history_merge.specs.Complete.{AreDistinct, called_values, called_value}
+use Rattle.history_merge.specs.Faults.{IsFirstTwice, is_initial, calls_initial, was_called, repeats_value}
+use Rattle.history_merge.specs.Gathering.{HasRefusedInitial}
+use Rattle.history_merge.specs.Initial.{IsCompleteFrom}
 use Rattle.std.specs.Option.{option_map_or}
 use Rattle.std.specs.List.{cons_option, list_any}
-use Rattle.std.proofs.lemmas.Bool.{cases_lt, eqb-true, false_from_ne_true}
 use Rattle.std.proofs.Math.Bool.{or_comm}
-use Rattle.std.proofs.Math.Seq.{get_or-append_seam}
-use Rattle.std.proofs.lemmas.List.{append-nil, append_assoc, get_or_append_left}
+use Rattle.std.proofs.Math.Seq.{get_or-append_seam, split_at}
 use Rattle.std.proofs.lemmas.List.Elements.{filter_map-append}
-use Rattle.std.proofs.lemmas.List.Folds.{list_any-append, Any-from_list_any}
-use Rattle.event_records.specs.declared.event.Event.{Event}
 use Rattle.history_merge.proofs.Distinct.{one_at}
-use Rattle.history_merge.proofs.InitialValues.{distinct_more}
-use Rattle.history_merge.specs.Complete.{AreDistinct, called_value, called_values}
-use Rattle.history_merge.specs.Faults.{calls_initial, is_initial, was_called, repeats_value}
+
+-- ---- initial values: distinct so far, or the first that stands twice
+
+-- a value that isn't there yet
+pub distinct_more : (values : List ℕ) (v : ℕ) → AreDistinct values → is_initial values v ≡ false → AreDistinct (values ++ v ∷ [])
+distinct_more values v distinct new = all_pairs_push (λ x y. x ≢ y) values v distinct
+    (λ k d below same. false≢true (sym new ∙ list_any_at (λ w. nat_eq w v) values k d below (eq-eqb _ _ same)))
+
+-- a value that is there
+pub twice_at : (initial : List ℕ) (j v : ℕ) → slice_get initial j ≡ Some v → AreDistinct (take j initial) → is_initial (take j initial) v ≡ true
+    → HasRefusedInitial initial (InitialTwice j)
+twice_at initial j v here distinct there =
+    let found = Any-from_list_any (λ w. nat_eq w v) (take j initial) there in
+    let same = eqb-true _ _ found.4 in
+    inr (j, refl, (distinct, (v, here, (found.0, found.2, get_or_default (take j initial) found.0 v found.1 found.2 ∙ found.3 ∙ same))))
+
+-- if a value stands twice before place n, the values before it aren't distinct
+pub twice_before : (initial : List ℕ) (j n : ℕ) → j < n → AreDistinct (take n initial) → IsFirstTwice initial j → ⊥
+twice_before initial j n below distinct (before, (v, here, earlier)) =
+    let inside = slice_get_within initial j v here in
+    let short = length-take j initial in
+    let long = length-take n initial in
+    let low : earlier.0 < j = omega (arith, earlier.1, short) in
+    distinct earlier.0 j v low (omega (arith, long, inside, below))
+    (get_or-take n initial earlier.0 v (omega arith) ∙ sym (get_or-take j initial earlier.0 v low) ∙ earlier.2
+    ∙ sym (get_or_from_slice_get initial j v v here) ∙ sym (get_or-take n initial j v below))
+
+-- of distinct values none stands twice
+pub twice_not_distinct : (initial : List ℕ) (j : ℕ) → AreDistinct initial → IsFirstTwice initial j → ⊥
+twice_not_distinct initial j distinct twice =
+    let inside = slice_get_within initial j twice.1.0 twice.1.1 in
+    twice_before initial j (length initial) inside (subst AreDistinct (sym (take_all (length initial) initial (omega arith))) distinct) twice
+
+-- of a history that is complete from its initial values, these are distinct
+pub initial_distinct : (initial : List ℕ) (events : List Event) → IsCompleteFrom initial events → AreDistinct initial
+initial_distinct initial events complete i j d below inside same =
+    let long = length-append initial (called_values events) in
+    complete.values_are_distinct i j d below (omega arith)
+    (get_or_append_left initial (called_values events) d i (omega arith) ∙ same ∙ sym (get_or_append_left initial (called_values events) d j inside))
+
+-- ---- values of calls
 
 -- a list is cut at the element of a place
 pub cut_at : {X : Type 0} (xs : List X) (i : ℕ) (x : X) → slice_get xs i ≡ Some x → xs ≡ take i xs ++ x ∷ drop (suc i) xs
-cut_at [] i x at = cc
-cut_at (y ∷ xs) zero x at = let same : y ≡ x = cc in ap (λ z. z ∷ xs) same
-cut_at (y ∷ xs) (suc i) x at = ap (λ zs. y ∷ zs) (cut_at xs i x at)
+cut_at xs i x at = split_at xs i x (slice_get_within xs i x at) ∙ ap (λ y. take i xs ++ y ∷ drop (suc i) xs) (get_or_from_slice_get xs i x x at)
 
 -- a value was called if it is among the values of the calls
 was_called_is : (events : List Event) (v : ℕ) → was_called events v ≡ list_any (λ w. nat_eq w v) (called_values events)
 was_called_is [] v = refl
-was_called_is (e ∷ events) v = join (called_value e.what) (was_called_is events v)
-  where
-    join : (called : Option ℕ) → was_called events v ≡ list_any (λ w. nat_eq w v) (called_values events)
-        → (option_map_or (λ w. nat_eq w v) called false || was_called events v) ≡ list_any (λ w. nat_eq w v) (cons_option called (called_values events))
-    join None more = more
-    join (Some w) more = ap (λ b. nat_eq w v || b) more
+was_called_is (e ∷ events) v = grind (arith, was_called_is events v)
 
 -- the same of a value that may be initial too
 pub known_is : (initial : List ℕ) (events : List Event) (v : ℕ)

@@ -1,36 +1,88 @@
 -- A list of events is a complete history if and only if it has no fault.
-use Rattle.std.proofs.Common.{◌≡◌, ℕ, zero, suc, ◌+◌, ◌<◌, ◌≤◌, List, [], ◌∷◌, ◌++◌, length, get_or, take, drop}
-use Rattle.std.proofs.Common.{Option, Some, None, refl, sym, ◌∙◌}
-use Rattle.std.proofs.Common.{subst, inl, inr, arith, nat_eq, length-append}
-use Rattle.std.specs.Prelude.{All, Contains, MatchOption, ⊤}
-use Rattle.std.specs.List.{last_or}
-use Rattle.std.proofs.Math.Seq.{get_or-append_seam, take-suc}
-use Rattle.std.proofs.lemmas.List.{append-nil, get_or-append-add, get_or_append_left, take_all}
-use Rattle.std.proofs.lemmas.List.Elements.{All-nil, All-push, All-contains, Contains-append_right, filter-append}
-use Rattle.std.proofs.lemmas.List.Quantifiers.{all_pairs_push}
-use Rattle.std.proofs.lemmas.Option.{slice_get-get_or, slice_get_within}
-use Rattle.std.proofs.lemmas.Bool.{cases_lt, eq-eqb}
-use Rattle.std.proofs.lemmas.Bool.Decides.{eqb_tells}
+use Rattle.std.proofs.Common.{ℕ, ◌↔◌, List, ◌≡◌, ◌<◌, ◌≤◌, ◌||◌, false, take, Option, Some, None, refl, sym, subst}
+use Rattle.std.proofs.Common.{arith, zero, suc, ◌+◌, [], ◌∷◌, ◌++◌, length, get_or, drop, ◌∙◌, inl, inr, length-append}
+use Rattle.std.proofs.lemmas.Option.{MatchOption-at_none, slice_get-get_or, slice_get_within}
+use Rattle.std.proofs.lemmas.Bool.Decides.{nat_tests, eqb_tells}
 use Rattle.event_records.specs.declared.event.Event.{Event}
-use Rattle.event_records.specs.declared.event.What.TheVariants.{CallEnq}
+use Rattle.history_merge.specs.declared.fault.HistoryFault.{HistoryFault}
+use Rattle.history_merge.specs.declared.fault.HistoryFault.TheVariants.{TicketOrder, BadThread, CallWhilePending}
+use Rattle.history_merge.specs.declared.fault.HistoryFault.TheVariants.{ReturnWithoutCall, WrongReturn, DuplicateValue}
+use Rattle.history_merge.specs.declared.fault.HistoryFault.TheVariants.{Pending, Memory, InitialTwice}
+use Rattle.history_merge.specs.Faults.{IsFirstFault, IsFirstFaultAt, fault_at}
+use Rattle.history_merge.specs.Faults.{calls_initial, repeats_value, pending_call, NoFaultBefore}
+use Rattle.std.specs.Prelude.{MatchOption, ⊤, All, Contains}
+use Rattle.std.specs.List.{last_or}
+use Rattle.std.proofs.lemmas.Bool.{cases_lt}
 use Rattle.event_records.specs.declared.limits.TheConstants.{MAX_TICKET, MAX_THREAD}
 use Rattle.event_records.specs.Turns.{TakesTurns, TicketsRise}
+use Rattle.history_merge.specs.Inner.Forming.{FitsTurn}
+use Rattle.history_merge.proofs.Turns.{projection-at, projection-push_own, projection-push_other, TurnsSoFar}
+use Rattle.history_merge.proofs.Turns.{finished, turns_push, fits_in_turns, nothing_after_turns}
+use Rattle.std.proofs.Math.Seq.{get_or-append_seam, take-suc}
+use Rattle.std.proofs.lemmas.List.{append-nil, get_or-append-add, get_or_append_left, take_all}
+use Rattle.std.proofs.lemmas.List.Elements.{All-nil, All-push, All-contains, Contains-append_right}
+use Rattle.std.proofs.lemmas.List.Quantifiers.{all_pairs_push}
+use Rattle.event_records.specs.declared.event.What.TheVariants.{CallEnq}
 use Rattle.event_records.specs.Projection.{projection}
-use Rattle.history_merge.specs.declared.fault.HistoryFault.{HistoryFault}
-use Rattle.history_merge.specs.declared.fault.HistoryFault.TheVariants.{Memory}
 use Rattle.history_merge.specs.Complete.{AreDistinct, IsCompleteHistory, called_values}
-use Rattle.history_merge.specs.Faults.{NoFaultBefore, IsFirstFault, IsFirstFaultAt}
 use Rattle.history_merge.specs.Initial.{IsCompleteFrom}
 use Rattle.history_merge.specs.Forming.{operations_so_far}
 use Rattle.history_merge.specs.Inner.Faults.{NothingPending}
 use Rattle.history_merge.specs.Inner.History.{IsRunOf}
-use Rattle.history_merge.proofs.Tracking.{projection-push_own, projection-push_other}
-use Rattle.history_merge.proofs.DistinctValues.{cut_at, distinct_push, new_from_distinct}
+use Rattle.history_merge.proofs.DistinctValues.{cut_at, distinct_push, new_from_distinct, initial_distinct}
+use Rattle.history_merge.proofs.DistinctValues.{twice_not_distinct}
 use Rattle.history_merge.proofs.TheirEvents.{run_of}
-use Rattle.history_merge.proofs.Turns.{TurnsSoFar, finished, turns_push, fits_in_turns, nothing_after_turns}
-use Rattle.history_merge.proofs.FaultKinds.{by_kind}
-use Rattle.history_merge.proofs.FirstFaults.{MayFollow, may_follow, no_fault}
-use Rattle.history_merge.proofs.InitialValues.{initial_distinct, twice_not_distinct}
+
+-- ---- the kinds of faults: the six of an event are alike, and each of the three others stands alone
+
+-- a fault of the event at place i, whichever of the six it is: what it means that it is the first, and that it is one at its place
+pub record IsOfEvent (i : ℕ) (fault : HistoryFault) : Type 0 where
+  pub first : (initial : List ℕ) (events : List Event) → IsFirstFault initial events fault ↔ IsFirstFaultAt initial events i fault
+  pub place : (initial : List ℕ) (before : List Event) (k : ℕ) (e : Event) → fault_at initial before k e ≡ Some fault → k ≡ i
+
+same : (A : Type 0) → A ↔ A
+same A = (λ a. a, λ a. a)
+
+-- what holds of each fault of an event, and of the three others, holds of every fault
+pub by_kind : (P : HistoryFault → Type 0) → ((i : ℕ) (fault : HistoryFault) → IsOfEvent i fault → P fault) → ((ticket : ℕ) → P (Pending ticket))
+    → P Memory → ((j : ℕ) → P (InitialTwice j)) → (fault : HistoryFault) → P fault
+by_kind P at pending memory twice (TicketOrder i) = at i _ (record { first = λ _ _. same _; place = λ initial before k e is. grind arith })
+by_kind P at pending memory twice (BadThread i) = at i _ (record { first = λ _ _. same _; place = λ initial before k e is. grind arith })
+by_kind P at pending memory twice (CallWhilePending i) = at i _ (record { first = λ _ _. same _; place = λ initial before k e is. grind arith })
+by_kind P at pending memory twice (ReturnWithoutCall i) = at i _ (record { first = λ _ _. same _; place = λ initial before k e is. grind arith })
+by_kind P at pending memory twice (WrongReturn i) = at i _ (record { first = λ _ _. same _; place = λ initial before k e is. grind arith })
+by_kind P at pending memory twice (DuplicateValue i) = at i _ (record { first = λ _ _. same _; place = λ initial before k e is. grind arith })
+by_kind P at pending memory twice (Pending ticket) = pending ticket
+by_kind P at pending memory twice Memory = memory
+by_kind P at pending memory twice (InitialTwice j) = twice j
+
+-- ---- the rules that an event breaks
+
+-- the event breaks no rule after the events before it
+pub record MayFollow (initial : List ℕ) (before : List Event) (e : Event) : Type 0 where
+  pub rises : MatchOption (last_or None before) ⊤ (λ last. last.ticket < e.ticket)
+  pub ticket_in_range : e.ticket ≤ MAX_TICKET
+  pub thread_in_range : e.thread ≤ MAX_THREAD
+  pub fits : FitsTurn (pending_call e.thread before) e
+  pub is_new : (repeats_value before e || calls_initial initial e) ≡ false
+
+-- an event without a fault may follow
+pub may_follow : (initial : List ℕ) (before : List Event) (i : ℕ) (e : Event) → fault_at initial before i e ≡ None → MayFollow initial before e
+may_follow initial before i e none =
+    record { rises = grind arith; ticket_in_range = grind arith; thread_in_range = grind arith; fits = grind arith; is_new = grind arith }
+
+-- an event that may follow has no fault
+pub no_fault : (initial : List ℕ) (before : List Event) (i : ℕ) (e : Event) → MayFollow initial before e → fault_at initial before i e ≡ None
+no_fault initial before i e may = grind (arith, nat_tests, may.rises, may.fits, may.is_new)
+
+-- the fault found at a place is the first
+pub first_fault_at : (initial : List ℕ) (events : List Event) (i : ℕ) (fault : HistoryFault) → IsFirstFaultAt initial events i fault
+    → IsFirstFault initial events fault
+first_fault_at initial events i fault = by_kind (λ f. IsFirstFaultAt initial events i f → IsFirstFault initial events f)
+    (λ j f of found. (of.first initial events).1
+    (subst (λ n. IsFirstFaultAt initial events n f) (of.place initial (take i events) i found.2.0 found.2.2) found))
+    (λ ticket found. absurd (let other = found.2.2 in grind arith)) (λ found. tt)
+    (λ j found. absurd (let other = found.2.2 in grind arith)) fault
 
 -- ---- no fault, hence a complete history
 
@@ -110,20 +162,12 @@ pub complete_without_fault : (initial : List ℕ) (events : List Event) → AreD
     → NothingPending events → IsCompleteFrom initial events
 complete_without_fault initial events distinct none nothing =
     let sound = sound_without_fault initial events distinct none in
-    record {
-      complete = record {
-        tickets_rise = sound.tickets_rise;
-        tickets_in_range = sound.tickets_in_range;
-        threads_in_range = sound.threads_in_range;
-        threads_take_turns = λ thread. subst (λ pending. MatchOption pending (TakesTurns (projection thread events))
-            (λ call. (done : List Event) × (projection thread events ≡ done ++ call ∷ []) × TakesTurns done)) (nothing thread) (sound.turns thread);
-        values_are_distinct = λ i j d below inside same.
-            let long = length-append initial (called_values events) in
-            sound.values_are_distinct (length initial + i) (length initial + j) d (omega (arith, below)) (omega arith)
-            (get_or-append-add initial (called_values events) i d ∙ same ∙ sym (get_or-append-add initial (called_values events) j d));
-      };
-      values_are_distinct = sound.values_are_distinct;
-    }
+    let turns : (thread : ℕ) → TakesTurns (projection thread events) = λ thread. MatchOption-at_none _ _ (nothing thread) (sound.turns thread) in
+    let apart : AreDistinct (called_values events) = λ i j d below inside same.
+    let long = length-append initial (called_values events) in
+    sound.values_are_distinct (length initial + i) (length initial + j) d (omega (arith, below)) (omega arith)
+    (get_or-append-add initial (called_values events) i d ∙ same ∙ sym (get_or-append-add initial (called_values events) j d)) in
+    assumption (sound, turns, apart)
 
 -- ---- a complete history, hence no fault
 
@@ -132,7 +176,8 @@ may_follow_in initial before later e whole = record {
   rises = rises before complete.tickets_rise;
   ticket_in_range = All-contains (λ x. x.ticket ≤ MAX_TICKET) (before ++ e ∷ later) e complete.tickets_in_range among;
   thread_in_range = All-contains (λ x. x.thread ≤ MAX_THREAD) (before ++ e ∷ later) e complete.threads_in_range among;
-  fits = fits_in_turns (projection e.thread before) e (projection e.thread later) (subst TakesTurns projected (complete.threads_take_turns e.thread));
+  fits = fits_in_turns (projection e.thread before) e (projection e.thread later)
+      (subst TakesTurns (projection-at before later e) (complete.threads_take_turns e.thread));
   is_new = new_from_distinct initial before later e whole.values_are_distinct;
 }
   where
@@ -141,9 +186,6 @@ may_follow_in initial before later e whole = record {
 
     among : Contains (before ++ e ∷ later) e
     among = Contains-append_right before (e ∷ later) e (zero, omega arith, refl)
-
-    projected : projection e.thread (before ++ e ∷ later) ≡ projection e.thread before ++ e ∷ projection e.thread later
-    projected = let own = eq-eqb e.thread e.thread refl in filter-append (λ x. nat_eq x.thread e.thread) before (e ∷ later) ∙ rw own refl
 
     rises : (xs : List Event) → TicketsRise (xs ++ e ∷ later) → MatchOption (last_or None xs) ⊤ (λ last. last.ticket < e.ticket)
     rises [] rise = tt

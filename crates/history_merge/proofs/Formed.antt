@@ -1,51 +1,140 @@
--- What a history builder keeps, after one more event and at the end.
-use Rattle.std.proofs.Common.{◌≡◌, ◌≢◌, ℕ, ◌+◌, ◌<◌, ◌≤◌, ◌||◌, Bool, true, false, cond, not, List, [], ◌∷◌, ◌++◌, length, get_or, set}
-use Rattle.std.proofs.Common.{Option, Some, None, refl, sym, ◌∙◌}
-use Rattle.std.proofs.Common.{ap, subst, inl, inr, arith, nat_eq, append_assoc, length-set, get_or-set_same, get_or-set_other}
-use Rattle.std.specs.Prelude.{slice_get, option_and_then, option_map, is_none, is_some}
-use Rattle.std.specs.Bool.{then_some}
-use Rattle.std.specs.List.{last_or}
+-- The operations of the events so far, and what a history builder keeps of them, after one more event and at the end.
+use Rattle.std.proofs.Common.{◌≡◌, ℕ, suc, ◌||◌, ◌≢◌, true, false, cond, List, [], ◌∷◌, ◌++◌, length, set}
+use Rattle.std.proofs.Common.{Option, Some, None, refl, sym, ◌∙◌, ap, subst, inl, inr, nat_eq, arith, ◌+◌, ◌<◌, ◌≤◌}
+use Rattle.std.proofs.Common.{not, get_or, append_assoc, length-set, get_or-set_same, get_or-set_other}
+use Rattle.std.specs.Prelude.{slice_get, option_map, is_none, is_some}
 use Rattle.std.specs.Option.{option_map_or}
-use Rattle.std.proofs.lemmas.Bool.Decides.{eqb_tells}
-use Rattle.std.proofs.lemmas.Bool.{eq-eqb, le-ltb, false≢true}
-use Rattle.std.proofs.lemmas.List.{append-nil}
-use Rattle.std.proofs.lemmas.List.Elements.{filter-append, All-push}
-use Rattle.std.proofs.lemmas.Option.{slice_get_within, get_or_from_slice_get}
+use Rattle.std.proofs.lemmas.Bool.Decides.{eqb_tells, nat_tests}
+use Rattle.std.proofs.lemmas.Bool.{false≢true, le-ltb, cases_Bool}
+use Rattle.std.proofs.lemmas.List.Folds.{find-append}
 use Rattle.event_records.specs.declared.event.Event.{Event}
 use Rattle.event_records.specs.declared.event.What.{What}
-use Rattle.event_records.specs.declared.event.What.TheVariants.{CallEnq, RetEnq, RetNot, CallDeq, RetDeq, RetEmpty}
-use Rattle.event_records.specs.declared.limits.TheConstants.{MAX_EVENTS, MAX_THREAD}
+use Rattle.event_records.specs.declared.event.What.TheVariants.{RetEnq}
 use Rattle.event_records.specs.Turns.{is_call, answers, TakesTurns}
+use Rattle.history_merge.specs.Complete.{called_value, IsCompleteHistory}
+use Rattle.history_merge.specs.Faults.{was_called, answers_pending, breaks_ticket_order, calls_initial, fault_at}
+use Rattle.history_merge.specs.Faults.{pending_call, repeats_value}
+use Rattle.history_merge.specs.Operations.{operations_of, operation_of, kind_of}
+use Rattle.history_merge.specs.Forming.{begun, answered, operation_so_far, operations_so_far, waiting}
+use Rattle.history_merge.specs.Inner.Forming.{is_called_in, IsFormedOf}
+use Rattle.history_merge.specs.Inner.History.{next_of, IsKept, IsRunOf}
+use Rattle.std.specs.Bool.{then_some}
+use Rattle.std.proofs.lemmas.List.{append-nil}
+use Rattle.std.proofs.lemmas.List.Elements.{All-push}
+use Rattle.std.proofs.lemmas.Option.{slice_get_within, get_or_from_slice_get}
+use Rattle.event_records.specs.declared.limits.TheConstants.{MAX_EVENTS, MAX_THREAD}
 use Rattle.event_records.specs.Projection.{projection}
-use Rattle.history_merge.specs.declared.fault.HistoryFault.TheVariants.{CallWhilePending, DuplicateValue, ReturnWithoutCall, WrongReturn}
+use Rattle.history_merge.specs.declared.fault.HistoryFault.TheVariants.{CallWhilePending, DuplicateValue}
+use Rattle.history_merge.specs.declared.fault.HistoryFault.TheVariants.{ReturnWithoutCall, WrongReturn}
 use Rattle.history_merge.specs.declared.operation.OpKind.{OpKind}
 use Rattle.history_merge.specs.declared.operation.Operation.{Operation}
 use Rattle.history_merge.specs.declared.forming.Forming.{Forming}
-use Rattle.history_merge.specs.Complete.{IsCompleteHistory, called_value}
-use Rattle.history_merge.specs.Faults.{answers_pending, breaks_ticket_order, calls_initial, fault_at, pending_call, repeats_value}
-use Rattle.history_merge.specs.Operations.{operations_of, operation_of, kind_of}
-use Rattle.history_merge.specs.Forming.{begun, answered, operation_so_far, operations_so_far, waiting}
 use Rattle.history_merge.specs.Events.{call_event, called_by, events_of}
 use Rattle.history_merge.specs.Initial.{IsCompleteFrom}
-use Rattle.history_merge.specs.Inner.Forming.{IsFormedOf}
-use Rattle.history_merge.specs.Inner.History.{IsKept, IsRunOf, next_of}
 use Rattle.history_merge.specs.Gathering.{HasFormed}
-use Rattle.history_merge.proofs.TheirEvents.{run_of, told_of_run}
-use Rattle.history_merge.proofs.Tracking.{last_or-push, pending_call-push_own, pending_call-push_other}
-use Rattle.history_merge.proofs.Turns.{answer_is_return}
-use Rattle.history_merge.proofs.Gathered.{formed_call, waits_call, waits_answer, waits_other, formed_answer}
+use Rattle.history_merge.proofs.TheirEvents.{run_of, told_of_run, call_so_far, next_is_first}
+use Rattle.history_merge.proofs.Turns.{last_or-push, pending_call-push_own, pending_call-push_other, answer_is_return}
+use Rattle.history_merge.proofs.Turns.{projection-at}
+use Rattle.std.proofs.lemmas.Option.{some_pair_parts}
 
-none_waits : (o : Option (ℕ × Event)) → option_map (λ found. found.1) o ≡ None → o ≡ None
-none_waits None h = refl
-none_waits (Some w) h = cc
+-- ---- how one more event changes the operations of the events so far
+
+-- a later event of another thread is not the next one
+next_other : (thread : ℕ) (events : List Event) (r : Event) → nat_eq r.thread thread ≡ false → next_of thread (events ++ r ∷ []) ≡ next_of thread events
+next_other thread events r other = grind (arith, find-append (λ x. nat_eq x.thread thread) events (r ∷ []))
+
+-- one thread has one next event at most
+one_next : (events : List Event) (s t : ℕ) → s ≡ t → next_of s events ≡ next_of t events
+one_next events s t same = ap (λ thread. next_of thread events) same
+
+-- of a thread without an event no call waits
+none_waits : (thread : ℕ) (events : List Event) → next_of thread events ≡ None → waiting thread events ≡ None
+none_waits thread [] none = refl
+none_waits thread (e ∷ later) none = grind (arith, none_waits thread later)
+
+-- ---- one more call
+
+-- a call adds its operation, if no call of its thread waits
+pub formed_call : (events : List Event) (r : Event) → waiting r.thread events ≡ None → is_call r.what ≡ true
+    → operations_so_far (events ++ r ∷ []) ≡ operations_so_far events ++ operation_so_far r None ∷ []
+formed_call [] r none call = rw call refl
+formed_call (e ∷ later) r none call =
+    grind (arith, nat_tests, formed_call later r, find-append (λ x. nat_eq x.thread e.thread) later (r ∷ []), one_next later r.thread e.thread)
+
+-- it waits at the end of the operations
+pub waits_call : (events : List Event) (r : Event) → is_call r.what ≡ true → waiting r.thread (events ++ r ∷ []) ≡ Some (length (operations_so_far events), r)
+waits_call [] r call = grind (arith, nat_tests)
+waits_call (e ∷ later) r call = grind (arith, waits_call later r call)
+
+-- ---- one more return
+
+-- no call of its thread waits any more
+pub waits_answer : (events : List Event) (r : Event) → is_call r.what ≡ false → waiting r.thread (events ++ r ∷ []) ≡ None
+waits_answer [] r call = grind (arith, nat_tests)
+waits_answer (e ∷ later) r call =
+    grind (arith, nat_tests, waits_answer later r call, find-append (λ x. nat_eq x.thread r.thread) later (r ∷ []))
+
+-- an event of another thread changes nothing
+pub waits_other : (thread : ℕ) (events : List Event) (r : Event) → nat_eq r.thread thread ≡ false → waiting thread (events ++ r ∷ []) ≡ waiting thread events
+waits_other thread [] r other = rw other refl
+waits_other thread (e ∷ later) r other = grind (arith, waits_other thread later r other, next_other thread later r other)
+
+-- a return of a thread that has no event there changes no operation
+unanswered : (events : List Event) (r : Event) → next_of r.thread events ≡ None → is_call r.what ≡ false
+    → operations_so_far (events ++ r ∷ []) ≡ operations_so_far events
+unanswered [] r none call = rw call refl
+unanswered (e ∷ later) r none call =
+    grind (arith, nat_tests, unanswered later r, find-append (λ x. nat_eq x.thread e.thread) later (r ∷ []))
+
+-- where a call of the new event's thread waits, no thread's next event changes
+kept_next : (e r : Event) (later : List Event) (w : ℕ × Event) → waiting r.thread later ≡ Some w
+    → next_of e.thread (later ++ r ∷ []) ≡ next_of e.thread later
+kept_next e r later w is =
+    grind (arith, nat_tests, none_waits r.thread later, one_next later r.thread e.thread, find-append (λ x. nat_eq x.thread e.thread) later (r ∷ []))
+
+-- a return completes the operation of the call that waits
+pub record IsAnswered (events : List Event) (r : Event) (place : ℕ) (call : Event) : Type 0 where
+  pub operations : operations_so_far (events ++ r ∷ []) ≡ set (operations_so_far events) place (operation_so_far call (Some r))
+  pub was : slice_get (operations_so_far events) place ≡ Some (operation_so_far call None)
+
+-- a return answers the call that waits for it
+pub formed_answer : (events : List Event) (r : Event) (place : ℕ) (call : Event) → waiting r.thread events ≡ Some (place, call)
+    → is_call r.what ≡ false → IsAnswered events r place call
+formed_answer [] r place call waits returns = cc
+formed_answer (e ∷ later) r place call waits returns = join (waiting r.thread later) refl (formed_answer later r)
+  where
+    behind : (p : ℕ) (c : Event) → waiting r.thread later ≡ Some (p, c) → IsAnswered later r p c → IsAnswered (e ∷ later) r place call
+    behind p c is done = elim (cases_Bool (is_call e.what)) [
+      | inl calls ↦
+          let parts = some_pair_parts (suc p) place c call (rw (is, calls) at waits) in
+          let now = kept_next e r later (p, c) is in
+          record { operations = rw (calls, ← parts.0, ← parts.1, now, done.operations) refl; was = rw (calls, ← parts.0, ← parts.1) done.was }
+      | inr other ↦
+          let parts = some_pair_parts p place c call (rw (is, other) at waits) in
+          record { operations = rw (other, ← parts.0, ← parts.1) done.operations; was = rw (other, ← parts.0, ← parts.1) done.was }
+    ]
+
+    join : (o : Option (ℕ × Event)) → waiting r.thread later ≡ o
+        → ((p : ℕ) (c : Event) → waiting r.thread later ≡ Some (p, c) → is_call r.what ≡ false → IsAnswered later r p c)
+        → IsAnswered (e ∷ later) r place call
+    join (Some (p, c)) is more = behind p c is (more p c is returns)
+    join None is more = record {
+      operations = grind (arith, nat_tests, unanswered later r, one_next later r.thread e.thread, find-append (λ x. nat_eq x.thread e.thread) later (r ∷ []));
+      was = grind (arith, nat_tests, one_next later r.thread e.thread);
+    }
+
+-- ---- values of the calls
+
+-- the operations tell the values that were called
+pub called_in_operations : (events : List Event) (v : ℕ) → was_called events v ≡ is_called_in (operations_so_far events) v
+called_in_operations [] v = refl
+called_in_operations (e ∷ later) v = grind (arith, called_in_operations later v)
+
+-- ---- what the builder keeps
 
 waits_at : (o : Option (ℕ × Event)) (place : ℕ) → Some place ≡ option_map (λ found. found.0) o → (call : Event) × (o ≡ Some (place, call))
 waits_at None place h = cc
-waits_at (Some w) place h = let same : w.0 ≡ place = cc in (w.1, ap (λ n. Some (n, w.1)) same)
-
-no_place : (o : Option (ℕ × Event)) → None ≡ option_map (λ found. found.0) o → o ≡ None
-no_place None h = refl
-no_place (Some w) h = cc
+waits_at (Some w) place h = (w.1, let same : w.0 ≡ place = cc in ap (λ n. Some (n, w.1)) same)
 
 -- an event of another thread keeps what waits of a thread
 waits_more : (events : List Event) (e : Event) → option_map (λ found. found.1) (waiting e.thread (events ++ e ∷ [])) ≡ then_some (is_call e.what) e
@@ -88,9 +177,9 @@ pub formed_after_call : (events : List Event) (e : Event) (old new : Forming) �
     → new.timeline.operations ≡ old.timeline.operations ++ operation_so_far e None ∷ [] → new.least_ticket ≡ e.ticket + 1
     → new.pending ≡ set old.pending e.thread (Some (length old.timeline.operations)) → HasFormed (events ++ e ∷ []) new
 formed_after_call events e old new below call none known added last placed =
+    let nothing : waiting e.thread events ≡ None = grind (arith, known.waits e.thread ∙ none) in
     formed_more events e old new (Some (length old.timeline.operations)) below known
-    (added ∙ ap (λ os. os ++ operation_so_far e None ∷ []) known.operations ∙ sym (formed_call events e (none_waits _ (known.waits e.thread ∙ none)) call))
-    last placed
+    (added ∙ ap (λ os. os ++ operation_so_far e None ∷ []) known.operations ∙ sym (formed_call events e nothing call)) last placed
     (rw (waits_call events e call) (ap (λ os. Some (length os)) known.operations))
     (ap (option_map (λ found. found.1)) (waits_call events e call) ∙ rw call refl)
 
@@ -105,14 +194,6 @@ record IsPendingAt (events : List Event) (thread : ℕ) (old : Forming) (place :
   pub answered : (e : Event) → e.thread ≡ thread → is_call e.what ≡ false
       → operations_so_far (events ++ e ∷ []) ≡ set old.timeline.operations place (operation_so_far call (Some e))
 
-calls_alone : (o : Option Event) (call : Event) → option_and_then (λ e. then_some (is_call e.what) e) o ≡ Some call → is_call call.what ≡ true
-calls_alone None call h = cc
-calls_alone (Some e) call h = join (is_call e.what) refl
-  where
-    join : (called : Bool) → is_call e.what ≡ called → is_call call.what ≡ true
-    join true is = let found : Some e ≡ Some call = rw is at h in let same : e ≡ call = cc in subst (λ x. is_call x.what ≡ true) same is
-    join false is = let none : ◌≡◌ {A = Option Event} None (Some call) = rw is at h in cc
-
 -- the place that is kept of a thread is that of its pending call
 pending_at : (events : List Event) (thread : ℕ) (old : Forming) (place : ℕ) → thread ≤ MAX_THREAD → HasFormed events old
     → get_or old.pending thread None ≡ Some place → IsPendingAt events thread old place
@@ -126,7 +207,7 @@ pending_at events thread old place within known is =
     record {
       call = call;
       pending = pending;
-      calls = calls_alone (last_or None (projection thread events)) call pending;
+      calls = grind (arith, pending);
       inside = slice_get_within old.timeline.operations place (operation_so_far call None) stands;
       was = stands;
       is = λ d. get_or_from_slice_get old.timeline.operations place (operation_so_far call None) d stands;
@@ -137,14 +218,14 @@ pending_at events thread old place within known is =
 pub none_pending_at : (events : List Event) (thread : ℕ) (old : Forming) → thread ≤ MAX_THREAD → HasFormed events old
     → get_or old.pending thread None ≡ None → pending_call thread events ≡ None
 none_pending_at events thread old within known is =
-    sym (known.waits thread) ∙ ap (option_map (λ w. w.1)) (no_place (waiting thread events) (sym is ∙ known.places thread within))
+    let nothing : waiting thread events ≡ None = grind (arith, sym is ∙ known.places thread within) in
+    sym (known.waits thread) ∙ ap (option_map (λ w. w.1)) nothing
 
 -- ---- what a call and a return are judged by
 
 -- a return calls with no value
 no_value : (what : What) → is_call what ≡ false → called_value what ≡ None
-no_value (CallEnq v) h = cc
-no_value _ h = refl
+no_value what h = grind arith
 
 pub fault_of_call : (initial : List ℕ) (events : List Event) (place : ℕ) (e : Event) → breaks_ticket_order events e ≡ false → e.thread ≤ MAX_THREAD
     → is_call e.what ≡ true
@@ -160,29 +241,11 @@ fault_of_return initial events place e order below returns =
     rw (order, le-ltb MAX_THREAD e.thread below, returns, no_value e.what returns) refl
 
 kind_answered : (call answer : What) → answers call answer ≡ true → kind_of call answer ≡ Some (answered (begun call) answer)
-kind_answered (CallEnq v) RetEnq h = refl
-kind_answered (CallEnq v) RetNot h = refl
-kind_answered CallDeq (RetDeq v) h = refl
-kind_answered CallDeq RetEmpty h = refl
-kind_answered _ _ h = cc
+kind_answered call answer h = grind arith
 
 -- whether a return answers a call, by what their operation did
 kind_tells : (call answer : What) → answers call answer ≡ is_some (kind_of call answer)
-kind_tells (CallEnq v) RetEnq = refl
-kind_tells (CallEnq v) RetNot = refl
-kind_tells CallDeq (RetDeq v) = refl
-kind_tells CallDeq RetEmpty = refl
-kind_tells _ _ = refl
-
--- what was called is known of a pending operation
-called_begun : (call : What) → is_call call ≡ true → called_by (begun call) ≡ call
-called_begun (CallEnq v) h = refl
-called_begun CallDeq h = refl
-called_begun _ h = cc
-
--- a pending call is the call event of its operation
-call_event_begun : (call : Event) → is_call call.what ≡ true → call_event (operation_so_far call None) ≡ call
-call_event_begun call h = rw (called_begun call.what h) refl
+kind_tells call answer = grind arith
 
 -- a return is of the kind of the pending call, whose operation stands at the place that is kept of its thread
 record IsAnswerOf (events : List Event) (e : Event) (old : Forming) (place : ℕ) (o : Operation) : Type 0 where
@@ -195,7 +258,7 @@ answer_of : (events : List Event) (e : Event) (old : Forming) (place : ℕ) (o d
 answer_of events e old place o d below known is found =
     let at = pending_at events e.thread old place below known is in
     let was : o ≡ operation_so_far at.call None = found ∙ at.is d in
-    record { at = at; was = was; called = ap (λ x. called_by x.kind) was ∙ called_begun at.call.what at.calls }
+    record { at = at; was = was; called = ap (λ x. called_by x.kind) was ∙ ap (λ x. x.what) (call_so_far at.call None at.calls) }
 
 -- a return that isn't of its call's kind
 pub wrong_return : (initial : List ℕ) (events : List Event) (n : ℕ) (e : Event) (old : Forming) (place : ℕ) (o d : Operation)
@@ -232,7 +295,7 @@ pub call_at : (events : List Event) (thread : ℕ) (old : Forming) (place : ℕ)
     → get_or old.pending thread None ≡ Some place → found ≡ slice_get old.timeline.operations place → option_map call_event found ≡ pending_call thread events
 call_at events thread old place found below known is stands =
     let at = pending_at events thread old place below known is in
-    rw (stands, at.was) (ap (λ e. Some e) (call_event_begun at.call at.calls) ∙ sym at.pending)
+    rw (stands, at.was) (ap (λ e. Some e) (call_so_far at.call None at.calls) ∙ sym at.pending)
 
 -- an operation stands at the place that is kept of a thread
 pub inside_at : (events : List Event) (thread : ℕ) (old : Forming) (place : ℕ) → thread ≤ MAX_THREAD → HasFormed events old
@@ -243,47 +306,29 @@ inside_at events thread old place below known is = (pending_at events thread old
 
 -- in events of one thread that take turns, a call is followed by its answer
 next_in_turns : (before : List Event) (e : Event) (later : List Event) → TakesTurns (before ++ e ∷ later) → is_call e.what ≡ true
-    → (a : Event) × (rest : List Event) × (later ≡ a ∷ rest) × (answers e.what a.what ≡ true)
+    → (a : Event) × (slice_get later 0 ≡ Some a) × (answers e.what a.what ≡ true)
 next_in_turns [] e [] turns call = elim turns [ ]
-next_in_turns [] e (a ∷ rest) turns call = (a, rest, refl, turns.0)
+next_in_turns [] e (a ∷ rest) turns call = (a, refl, turns.0)
 next_in_turns (c ∷ []) e later turns call = absurd (false≢true (sym (answer_is_return c.what e.what turns.0) ∙ call))
 next_in_turns (c ∷ a ∷ before) e later turns call = next_in_turns before e later turns.1 call
 
--- the first that passes is the next
-next_from_projection : (thread : ℕ) (events : List Event) (a : Event) (rest : List Event) → projection thread events ≡ a ∷ rest → next_of thread events ≡ Some a
-next_from_projection thread [] a rest h = cc
-next_from_projection thread (e ∷ later) a rest h = join (next_from_projection thread later a rest) (nat_eq e.thread thread) refl
-  where
-    join : (projection thread later ≡ a ∷ rest → next_of thread later ≡ Some a) → (own : Bool) → nat_eq e.thread thread ≡ own
-        → next_of thread (e ∷ later) ≡ Some a
-    join more true own = let is : e ∷ projection thread later ≡ a ∷ rest = rw own at h in let same : e ≡ a = cc in rw own (ap (λ x. Some x) same)
-    join more false own = rw own (more (rw own at h))
-
-kind_of_no_call : (call answer : What) → is_call call ≡ false → kind_of call answer ≡ None
-kind_of_no_call (CallEnq v) answer h = cc
-kind_of_no_call CallDeq answer h = cc
-kind_of_no_call _ answer h = refl
-
 no_operation : (e : Event) (next : Option Event) → is_call e.what ≡ false → operation_of e next ≡ None
-no_operation e None h = refl
-no_operation e (Some answer) h = rw (kind_of_no_call e.what answer.what h, operation_of) refl
+no_operation e next h = grind arith
 
 operation_answered : (e answer : Event) → answers e.what answer.what ≡ true → operation_of e (Some answer) ≡ Some (operation_so_far e (Some answer))
-operation_answered e answer h = rw (kind_answered e.what answer.what h, operation_of) refl
+operation_answered e answer h = grind arith
 
 formed_from : (before later : List Event) → ((thread : ℕ) → TakesTurns (projection thread (before ++ later))) → operations_so_far later ≡ operations_of later
 formed_from before [] turns = refl
-formed_from before (e ∷ later) turns = join (formed_from (before ++ e ∷ []) later (λ thread. rw append_assoc (turns thread))) (is_call e.what) refl
-  where
-    join : operations_so_far later ≡ operations_of later → (called : Bool) → is_call e.what ≡ called → operations_so_far (e ∷ later) ≡ operations_of (e ∷ later)
-    join more false is = rw (is, no_operation e (next_of e.thread later) is) more
-    join more true is =
-        let own = eq-eqb e.thread e.thread refl in
-        let split : projection e.thread (before ++ e ∷ later) ≡ projection e.thread before ++ e ∷ projection e.thread later =
-        filter-append (λ x. nat_eq x.thread e.thread) before (e ∷ later) ∙ rw own refl in
-        let next = next_in_turns (projection e.thread before) e (projection e.thread later) (subst TakesTurns split (turns e.thread)) is in
-        let found = next_from_projection e.thread later next.0 next.1 next.2 in
-        rw (is, found, operation_answered e next.0 next.3, more) refl
+formed_from before (e ∷ later) turns =
+    let more = formed_from (before ++ e ∷ []) later (λ thread. rw append_assoc (turns thread)) in
+    elim (cases_Bool (is_call e.what)) [
+      | inr returns ↦ rw (returns, no_operation e (next_of e.thread later) returns) more
+      | inl call ↦
+          let own = subst TakesTurns (projection-at before later e) (turns e.thread) in
+          let next = next_in_turns (projection e.thread before) e (projection e.thread later) own call in
+          rw (call, next_is_first e.thread later ∙ next.1, operation_answered e next.0 next.2, more) refl
+    ]
 
 -- the operations of a complete history are all there
 pub all_formed : (events : List Event) → IsCompleteHistory events → operations_so_far events ≡ operations_of events
@@ -297,16 +342,16 @@ run_of_complete events complete = run_of events complete.tickets_rise complete.t
 -- so its operations tell them
 pub formed_of_complete : (events : List Event) (operations : List Operation) → IsCompleteHistory events → operations ≡ operations_so_far events
     → IsFormedOf events operations
-formed_of_complete events operations complete so_far = record {
-  formed = so_far ∙ all_formed events complete;
-  told = ap events_of so_far ∙ told_of_run events (operations_so_far events) (run_of_complete events complete);
-}
+formed_of_complete events operations complete so_far = assumption (
+  so_far ∙ all_formed events complete,
+  ap events_of so_far ∙ told_of_run events (operations_so_far events) (run_of_complete events complete),
+)
 
 -- a history keeps them
 pub kept_of_formed : (initial : List ℕ) (events : List Event) (operations : List Operation) → IsFormedOf events operations
     → IsCompleteFrom initial events → length events ≤ MAX_EVENTS → IsKept initial operations
-kept_of_formed initial events operations formed complete few = record {
-  complete = subst (IsCompleteFrom initial) (sym formed.told) complete;
-  formed = formed.formed ∙ ap operations_of (sym formed.told);
-  few_events = subst (λ es. length es ≤ MAX_EVENTS) (sym formed.told) few;
-}
+kept_of_formed initial events operations formed complete few = assumption (
+  subst (IsCompleteFrom initial) (sym formed.told) complete,
+  formed.formed ∙ ap operations_of (sym formed.told),
+  subst (λ es. length es ≤ MAX_EVENTS) (sym formed.told) few,
+)

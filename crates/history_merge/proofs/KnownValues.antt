@@ -1,13 +1,12 @@
 -- Which values were noted, after one more.
 use Rattle.std.proofs.Common.{◌≡◌, ℕ, zero, suc, ◌+◌, ◌||◌, Bool, true, false, not, cond, List, [], ◌∷◌, ◌++◌, length}
-use Rattle.std.proofs.Common.{get_or, Option, Some, None, take}
-use Rattle.std.proofs.Common.{◌⊎◌, inl, inr, refl, sym, ◌∙◌, ap, subst, arith, nat_eq, append_assoc}
+use Rattle.std.proofs.Common.{get_or, take, inl, inr, refl, sym, ◌∙◌, ap, subst, arith, nat_eq, append_assoc}
 use Rattle.std.specs.Prelude.{map, ◌*◌, ◌<◌}
 use Rattle.std.specs.List.{cons_option}
 use Rattle.std.specs.Option.{option_map_or}
 use Rattle.std.specs.Ordering.{nat_cmp, is_eq}
 use Rattle.std.specs.BTreeSet.{contains}
-use Rattle.std.proofs.lemmas.Bool.{eqb-true}
+use Rattle.std.proofs.lemmas.Bool.{eqb-true, or_cases}
 use Rattle.std.proofs.lemmas.Bool.Decides.{nat_tests}
 use Rattle.std.proofs.lemmas.List.{take-append-le}
 use Rattle.std.proofs.lemmas.List.Elements.{filter_map-append}
@@ -24,12 +23,9 @@ use Rattle.history_merge.specs.Initial.{TimelineView, enqueue_at, enqueues_from,
 use Rattle.history_merge.specs.Inner.Forming.{AreCalledIn, is_called_in}
 use Rattle.history_merge.specs.Operations.{enqueued_value}
 use Rattle.history_merge.proofs.DistinctValues.{known_is}
-use Rattle.history_merge.proofs.Gathered.{called_in_operations}
+use Rattle.history_merge.proofs.Formed.{called_in_operations}
 use Rattle.history_merge.proofs.TimelineOperations.{length_enqueues}
-
-or_false : (b : Bool) → (b || false) ≡ b
-or_false true = refl
-or_false false = refl
+use Rattle.std.proofs.Math.Bool.{or_comm}
 
 -- the comparison of numbers finds equal ones
 pub is_eq-nat_cmp : (v q : ℕ) → is_eq (nat_cmp v q) ≡ nat_eq v q
@@ -37,16 +33,9 @@ is_eq-nat_cmp v q = grind (arith, nat_tests)
 
 -- a value is among some and one more if it is among these or is that one
 pub among-push : (values : List ℕ) (v w : ℕ) → is_among (values ++ v ∷ []) w ≡ (is_among values w || nat_eq v w)
-among-push values v w = list_any-append (λ x. nat_eq x w) values (v ∷ []) ∙ ap (λ b. is_among values w || b) (or_false (nat_eq v w))
+among-push values v w = grind (arith, list_any-append (λ x. nat_eq x w) values (v ∷ []))
 
 -- ---- one value more
-
-or_true : (a b : Bool) → (a || b) ≡ true → (a ≡ true) ⊎ (b ≡ true)
-or_true true b is = inl refl
-or_true false b is = inr is
-
-or_left : (a b : Bool) → a ≡ true → (a || b) ≡ true
-or_left a b is = rw is refl
 
 -- a value of a loose name
 pub knows_loose : (values : List ℕ) (old new : CalledValues) (v : ℕ) → Knows values old → get_or old.least (name_in v) 0 ≡ LOOSE
@@ -54,32 +43,21 @@ pub knows_loose : (values : List ℕ) (old new : CalledValues) (v : ℕ) → Kno
     → Knows (values ++ v ∷ []) new
 knows_loose values old new v knows is adds same = record {
   one_each = rw same knows.one_each;
-  rising = λ w among rises. elim (or_true (is_among values w) (nat_eq v w) (sym (among-push values v w) ∙ among)) [
+  rising = λ w among rises. elim (or_cases (is_among values w) (nat_eq v w) (sym (among-push values v w) ∙ among)) [
     | inl before ↦ rw same (knows.rising w before (rw same at rises))
     | inr own ↦ absurd (let at : get_or old.least (name_in w) 0 ≡ LOOSE = subst (λ x. get_or old.least (name_in x) 0 ≡ LOOSE) (eqb-true v w own) is in
         let less = rw same at rises in omega (arith, at, less))
   ];
   loose = λ w loose. held w ∙ ap (λ b. b || nat_eq v w) (knows.loose w (rw same at loose)) ∙ sym (among-push values v w);
-  only = λ w there. elim (or_true (contains nat_cmp old.loose w) (nat_eq v w) (sym (held w) ∙ there)) [
-    | inl before ↦ among-push values v w ∙ or_left (is_among values w) (nat_eq v w) (knows.only w before)
-    | inr own ↦ among-push values v w ∙ ap (λ b. is_among values w || b) own ∙ or_right (is_among values w)
-  ];
+  only = λ w there. grind (arith, held w, among-push values v w, knows.only w);
 }
   where
-    or_right : (a : Bool) → (a || true) ≡ true
-    or_right true = refl
-    or_right false = refl
-
-    or_cond : (here before : Bool) → cond here true before ≡ (before || here)
-    or_cond here before = grind (arith, nat_tests)
-
     held : (w : ℕ) → contains nat_cmp new.loose w ≡ (contains nat_cmp old.loose w || nat_eq v w)
-    held w = adds w ∙ ap (λ b. cond b true (contains nat_cmp old.loose w)) (is_eq-nat_cmp v w) ∙ or_cond (nat_eq v w) (contains nat_cmp old.loose w)
+    held w = grind (arith, adds w, is_eq-nat_cmp v w)
 
 -- the set decides whether the value is new
 pub repeats_by_set : (added has was : Bool) → added ≡ not has → has ≡ was → not added ≡ was
-repeats_by_set added true was is same = rw is same
-repeats_by_set added false was is same = rw is same
+repeats_by_set added has was is same = grind arith
 
 -- ---- the values that the operations of a timeline called to enqueue
 
@@ -93,12 +71,6 @@ called_in_later : (n : ℕ) (operations : List Operation) (v : ℕ) → is_calle
 called_in_later n [] v = refl
 called_in_later n (o ∷ operations) v = ap (λ b. option_map_or (λ w. nat_eq w v) (enqueued_value o.kind) false || b) (called_in_later n operations v)
 
-either_way : (a b : Bool) → (a || b) ≡ (b || a)
-either_way true true = refl
-either_way true false = refl
-either_way false true = refl
-either_way false false = refl
-
 -- those of the timeline of events
 pub called_in_timeline : (initial : List ℕ) (events : List Event) (operations : List Operation) → operations ≡ operations_so_far events
     → AreCalledIn (timeline initial operations) (initial ++ called_values events)
@@ -107,17 +79,12 @@ called_in_timeline initial events operations is = λ v.
     (map (later_by (2 * length initial)) operations)
     ∙ ap (λ b. b || is_called_in (map (later_by (2 * length initial)) operations) v) (called_in_enqueues 0 initial v)
     ∙ ap (λ b. is_initial initial v || b) (called_in_later (2 * length initial) operations v ∙ ap (λ os. is_called_in os v) is ∙ sym (called_in_operations events v))
-    ∙ either_way (is_initial initial v) (was_called events v) ∙ known_is initial events v
+    ∙ or_comm (is_initial initial v) (was_called events v) ∙ known_is initial events v
 
 -- whether an event calls with a value that isn't new
 pub repeats_is : (initial : List ℕ) (events : List Event) (e : Event)
     → option_map_or (is_among (initial ++ called_values events)) (called_value e.what) false ≡ (repeats_value events e || calls_initial initial e)
-repeats_is initial events e = join (called_value e.what)
-  where
-    join : (called : Option ℕ) → option_map_or (is_among (initial ++ called_values events)) called false
-        ≡ (option_map_or (was_called events) called false || option_map_or (is_initial initial) called false)
-    join None = refl
-    join (Some v) = sym (known_is initial events v)
+repeats_is initial events e = grind (arith, known_is initial events)
 
 -- the values after one more event
 pub values_more : (initial : List ℕ) (events : List Event) (e : Event)

@@ -1,17 +1,92 @@
 -- Enqueues that precede all other operations stand first in each linearization.
-use Rattle.std.proofs.Common.{◌≡◌, ℕ, zero, suc, List, [], ◌∷◌, ◌++◌, refl, sym, ◌∙◌, ap, subst, inl, inr, arith}
-use Rattle.std.specs.Prelude.{All, Contains, IsPermutation, map, ⊤}
+use Rattle.std.proofs.Common.{◌≡◌, ℕ, zero, suc, ◌≤◌, ◌⊎◌, List, [], ◌∷◌, refl, sym, ◌∙◌, ap, inl, inr, arith, ◌++◌}
+use Rattle.std.proofs.Common.{subst}
+use Rattle.std.specs.Prelude.{Contains, IsPermutation, sum_by, All, map, ⊤}
+use Rattle.std.specs.List.{remove}
+use Rattle.std.proofs.lemmas.Bool.{cases_eq}
+use Rattle.std.proofs.lemmas.List.Sorted.{IsPermutation-cons, IsPermutation-refl, IsPermutation-remove}
+use Rattle.std.proofs.lemmas.List.Sorted.{IsPermutation-sym, IsPermutation-trans, sum_by-IsPermutation, All-permutation}
+use Rattle.std.proofs.lemmas.List.Sorted.{Contains-permutation}
+use Rattle.std.proofs.lemmas.List.Sums.{sum_by-cons}
+use Rattle.history_merge.specs.declared.operation.Operation.{Operation}
+use Rattle.history_merge.specs.declared.operation.OpKind.{OpKind}
+use Rattle.history_merge.specs.declared.operation.OpKind.TheVariants.{Enq, Deq, Empty, Not}
 use Rattle.std.proofs.lemmas.List.{append-nil, append_assoc}
 use Rattle.std.proofs.lemmas.List.Elements.{All-contains}
 use Rattle.std.proofs.lemmas.List.Kept.{AllPairs-cons}
-use Rattle.std.proofs.lemmas.List.Sorted.{All-permutation, Contains-permutation, IsPermutation-cons, IsPermutation-sym}
-use Rattle.history_merge.specs.declared.operation.Operation.{Operation}
-use Rattle.history_merge.specs.declared.operation.OpKind.TheVariants.{Enq}
 use Rattle.history_merge.specs.Legal.{IsLegalOrder}
 use Rattle.history_merge.specs.Operations.{Precedes}
 use Rattle.history_merge.specs.Queue.{IsAccepted}
-use Rattle.history_merge.proofs.Cancelling.{rest_permutes}
 use Rattle.history_merge.proofs.Distinct.{contains_cons, not_in_none}
+
+-- ---- operations in another order, without one that stands first in both
+
+-- two of them are equal or differ
+abbrev EqualOrNot : {X : Type 0} → X → X → Type 0
+EqualOrNot x y = (x ≡ y) ⊎ (x ≡ y → ⊥)
+
+abbrev as_number : {X : Type 0} (x y : X) → EqualOrNot x y → ℕ
+as_number x y (inl same) = 1
+as_number x y (inr other) = 0
+
+-- how often an element stands in a list
+module _ {X : Type 0} (which : (x y : X) → EqualOrNot x y) where
+  abbrev one : X → X → ℕ
+  one z y = as_number z y (which z y)
+
+  one_itself : (z : X) → one z z ≡ 1
+  one_itself z = grind arith
+
+  counted : (z : X) (ys : List X) → 1 ≤ sum_by (one z) ys → Contains ys z
+  counted z [] some = absurd (omega arith)
+  counted z (y ∷ ys) some = join (which z y) refl (counted z ys)
+    where
+      join : (w : EqualOrNot z y) → which z y ≡ w → (1 ≤ sum_by (one z) ys → Contains ys z) → Contains (y ∷ ys) z
+      join (inl same) is more = (zero, omega arith, sym same)
+      join (inr other) is more =
+          let none : one z y ≡ 0 = ap (as_number z y) is in
+          let both = sum_by-cons (one z) y ys in
+          let there = more (omega (arith, some, none, both)) in (suc there.0, omega (arith, there.1), there.2)
+
+  -- lists in which each element stands equally often
+  same_counts : (xs ys : List X) → ((z : X) → sum_by (one z) xs ≡ sum_by (one z) ys) → IsPermutation xs ys
+  same_counts [] [] same = IsPermutation-refl []
+  same_counts [] (y ∷ ys) same = let here = same y in let own = one_itself y in let both = sum_by-cons (one y) y ys in absurd (omega (arith, here, own, both))
+  same_counts (x ∷ xs) ys same =
+      let here = same x in
+      let own = one_itself x in
+      let both = sum_by-cons (one x) x xs in
+      let there = counted x ys (omega (arith, here, own, both)) in
+      let moved = IsPermutation-remove ys there.0 x there.1 (sym there.2) in
+      let rest = same_counts xs (remove ys there.0)
+      (λ z. let whole = sum_by-IsPermutation (one z) ys (x ∷ remove ys there.0) moved in
+      let each = same z in
+      let left = sum_by-cons (one z) x xs in
+      let right = sum_by-cons (one z) x (remove ys there.0) in omega (arith, whole, each, left, right)) in
+      IsPermutation-trans (x ∷ xs) (x ∷ remove ys there.0) ys (IsPermutation-cons x xs (remove ys there.0) rest)
+      (IsPermutation-sym ys (x ∷ remove ys there.0) moved)
+
+  cancelled : (x : X) (xs ys : List X) → IsPermutation (x ∷ xs) (x ∷ ys) → IsPermutation xs ys
+  cancelled x xs ys moved = same_counts xs ys
+      (λ z. let whole = sum_by-IsPermutation (one z) (x ∷ xs) (x ∷ ys) moved in
+      let left = sum_by-cons (one z) x xs in
+      let right = sum_by-cons (one z) x ys in omega (arith, whole, left, right))
+
+kind_or_not : (j k : OpKind) → EqualOrNot j k
+kind_or_not (Enq v) (Enq w) = grind (arith, cases_eq v w)
+kind_or_not (Not v) (Not w) = grind (arith, cases_eq v w)
+kind_or_not (Deq v) (Deq w) = grind (arith, cases_eq v w)
+kind_or_not Empty Empty = inl refl
+kind_or_not _ _ = inr (λ same. cc)
+
+operation_or_not : (x y : Operation) → EqualOrNot x y
+operation_or_not x y = grind (arith, cases_eq x.call y.call, cases_eq x.ret y.ret, cases_eq x.thread y.thread, kind_or_not x.kind y.kind)
+
+-- an operation that stands first in both may be left out
+pub rest_permutes : (x : Operation) (xs ys : List Operation) → IsPermutation (x ∷ xs) (x ∷ ys) → IsPermutation xs ys
+rest_permutes = cancelled operation_or_not
+
+-- ---- enqueues that stand first
 
 -- each linearization begins with an enqueue that precedes all other operations, and goes on from the queue that holds its value too
 pub first_begins : (queue : List ℕ) (v : ℕ) (x : Operation) (others order : List Operation) → x.kind ≡ Enq v → All (Precedes x) others
@@ -37,14 +112,13 @@ first_begins queue v x others (h ∷ rest) kind first legal = (
         late (subst (λ o. Precedes o h) (sym later.2) early)
 
     heads : h ≡ x
-    heads = elim (contains_cons h rest x (Contains-permutation (x ∷ others) (h ∷ rest) x legal.holds_each_once (zero, omega arith, refl))) [
-      | inl same ↦ same
-      | inr later ↦ elim (contains_cons x others h (Contains-permutation (h ∷ rest) (x ∷ others) h
-          (IsPermutation-sym (x ∷ others) (h ∷ rest) legal.holds_each_once) (zero, omega arith, refl))) [
-            | inl same ↦ sym same
-            | inr among ↦ absurd (behind among later)
-          ]
-    ]
+    heads = grind (
+      arith,
+      behind,
+      contains_cons h rest x (Contains-permutation (x ∷ others) (h ∷ rest) x legal.holds_each_once (zero, omega arith, refl)),
+      contains_cons x others h (Contains-permutation (h ∷ rest) (x ∷ others) h
+          (IsPermutation-sym (x ∷ others) (h ∷ rest) legal.holds_each_once) (zero, omega arith, refl)),
+    )
 
 -- an enqueue that no other operation precedes may stand first
 pub first_put : (queue : List ℕ) (v : ℕ) (x : Operation) (others rest : List Operation) → x.kind ≡ Enq v → All (λ o. ¬ (Precedes o x)) others

@@ -1,13 +1,11 @@
 -- The faults of events to which more are added.
-use Rattle.std.proofs.Common.{◌≡◌, ◌++◌, ◌∷◌, ◌⊎◌, [], ℕ, zero, suc, ◌<◌, ◌≤◌, List, length, take, Option, Some, None, refl}
-use Rattle.std.proofs.Common.{sym, ◌∙◌, subst, inl, inr}
-use Rattle.std.proofs.Common.{arith, length-append}
+use Rattle.std.proofs.Common.{◌≡◌, ◌++◌, ◌∷◌, ◌⊎◌, [], ℕ, ◌<◌, ◌≤◌, List, length, take, Option, Some, None, refl, sym}
+use Rattle.std.proofs.Common.{◌∙◌, subst, inl, inr, arith, length-append}
 use Rattle.std.specs.Prelude.{slice_get, Err, IfErr, IfOk, IfSome, MatchOption, MatchResult, Ok, Result, is_some, true, false}
 use Rattle.std.specs.Result.{IsErrAnd, result_err}
 use Rattle.std.proofs.Math.Seq.{take-append_seam}
-use Rattle.std.proofs.lemmas.Bool.{cases_lt}
 use Rattle.std.proofs.lemmas.List.{append-nil, take-append-le}
-use Rattle.std.proofs.lemmas.Option.{slice_get_within}
+use Rattle.std.proofs.lemmas.Option.{slice_get_within, gets, MatchOption-at_none, MatchOption-at_some}
 use Rattle.event_records.specs.declared.event.Event.{Event}
 use Rattle.event_records.specs.declared.limits.TheConstants.{MAX_EVENTS, MAX_INITIAL}
 use Rattle.history_merge.specs.declared.called.CalledValues.{CalledValues}
@@ -20,13 +18,12 @@ use Rattle.history_merge.specs.Complete.{AreDistinct}
 use Rattle.history_merge.specs.Faults.{fault_at, NoFaultBefore, IsFirstFault}
 use Rattle.history_merge.specs.Gathering.{HasFormed, HasGathered, HasMetFault, HasRefusedInitial, IsForming, Knows}
 use Rattle.history_merge.specs.Inner.History.{IsRunOf}
-use Rattle.history_merge.proofs.ExactFaults.{run_without_fault}
-use Rattle.history_merge.proofs.FirstFaults.{first_fault_at}
+use Rattle.history_merge.proofs.ExactFaults.{run_without_fault, first_fault_at}
+use Rattle.std.proofs.lemmas.Grind.{common_steps}
+use Rattle.history_merge.proofs.DistinctValues.{each_more}
 
 pub slice_get-append_left : (xs ys : List Event) (i : ℕ) → i < length xs → slice_get (xs ++ ys) i ≡ slice_get xs i
-slice_get-append_left [] ys i below = absurd (omega arith)
-slice_get-append_left (x ∷ xs) ys zero below = refl
-slice_get-append_left (x ∷ xs) ys (suc i) below = slice_get-append_left xs ys i (omega arith)
+slice_get-append_left xs ys i below = grind (arith, common_steps, gets)
 
 pub slice_get-append_seam : (xs : List Event) (y : Event) → slice_get (xs ++ y ∷ []) (length xs) ≡ Some y
 slice_get-append_seam [] y = refl
@@ -41,15 +38,10 @@ no_fault-append initial events later n within none i e below here =
 -- one more event without a fault
 pub no_fault-push : (initial : List ℕ) (events : List Event) (e : Event) → fault_at initial events (length events) e ≡ None
     → NoFaultBefore initial events (length events) → NoFaultBefore initial (events ++ e ∷ []) (length (events ++ e ∷ []))
-no_fault-push initial events e here none i x below at = elim (cases_lt i (length events)) [
-  | inl before ↦ no_fault-append initial events (e ∷ []) (length events) (omega arith) none i x before at
-  | inr above ↦
-      let short = simp length-append at below in
-      let last : length events ≡ i = omega arith in
-      subst (λ k. slice_get (events ++ e ∷ []) k ≡ Some x → fault_at initial (take k (events ++ e ∷ [])) k x ≡ None) last
-      (λ at_last. let same : e ≡ x = cc (slice_get-append_seam events e) in
-      subst (λ y. fault_at initial (take (length events) (events ++ e ∷ [])) (length events) y ≡ None) same (rw take-append_seam here)) at
-]
+no_fault-push initial events e here none i x below at =
+    let short = simp length-append at below in
+    each_more (λ k y. fault_at initial (take k (events ++ e ∷ [])) k y ≡ None) (events ++ e ∷ []) (length events) e (slice_get-append_seam events e)
+    (rw take-append_seam here) (no_fault-append initial events (e ∷ []) (length events) (omega arith) none) i x short at
 
 -- a fault that was met stays the first
 pub met_fault-append : (initial : List ℕ) (events later : List Event) (fault : HistoryFault) → HasMetFault initial events fault
@@ -103,12 +95,11 @@ gathered_after_fault initial events e g some few clash known = record {
     join (Some fault) h met = met_fault-append initial events (e ∷ []) fault met
 
 pub none_kept : (kept : Option HistoryFault) → false ≡ is_some kept → kept ≡ None
-none_kept None none = refl
-none_kept (Some fault) none = cc
+none_kept kept none = grind arith
 
 -- if no fault is kept, the events have none so far
 pub still_forming : (initial : List ℕ) (events : List Event) (g : Gathering) → g.fault ≡ None → HasGathered initial events g → IsForming initial events g
-still_forming initial events g none known = subst (λ fault. MatchOption fault (IsForming initial events g) (HasMetFault initial events)) none known.gathered
+still_forming initial events g none known = MatchOption-at_none _ _ none known.gathered
 
 -- while none was met, the events have none
 pub none_met : (initial : List ℕ) (events : List Event) (g : Gathering) → false ≡ is_some g.fault → HasGathered initial events g → IsForming initial events g
@@ -117,8 +108,7 @@ none_met initial events g none = still_forming initial events g (none_kept g.fau
 -- a fault that is kept was met
 pub kept_is_met : (initial : List ℕ) (events : List Event) (g : Gathering) (fault : HistoryFault) → g.fault ≡ Some fault → HasGathered initial events g
     → HasMetFault initial events fault
-kept_is_met initial events g fault kept known =
-    subst (λ kept. MatchOption kept (IsForming initial events g) (HasMetFault initial events)) kept known.gathered
+kept_is_met initial events g fault kept known = MatchOption-at_some _ _ fault kept known.gathered
 
 -- without a fault, the operations are those of a run
 pub run_of_formed : (initial : List ℕ) (events : List Event) (forming : Forming) → HasFormed events forming → AreDistinct initial

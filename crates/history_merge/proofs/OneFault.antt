@@ -1,56 +1,38 @@
 -- Initial values and events have one first fault.
-use Rattle.std.proofs.Common.{◌≡◌, ◌≢◌, ℕ, ◌<◌, ◌≤◌, ◌⊎◌, List, length, take, Some, refl, sym, ◌∙◌, ap, subst, inl, inr, arith}
+use Rattle.std.proofs.Common.{◌≡◌, ◌≢◌, ℕ, ◌<◌, List, length, take, Some, refl, sym, ◌∙◌, ap, subst, inl, inr, arith}
 use Rattle.std.proofs.lemmas.Bool.{cases_order}
-use Rattle.std.proofs.lemmas.Option.{slice_get_within}
+use Rattle.std.proofs.lemmas.Option.{slice_get_within, none-some}
 use Rattle.event_records.specs.declared.event.Event.{Event}
 use Rattle.history_merge.specs.declared.fault.HistoryFault.{HistoryFault}
 use Rattle.history_merge.specs.declared.fault.HistoryFault.TheVariants.{Pending, Memory, InitialTwice}
-use Rattle.history_merge.specs.Complete.{AreDistinct}
 use Rattle.history_merge.specs.Faults.{IsFirstFault, IsFirstFaultAt, IsFirstTwice, IsLeastPending, NoFaultBefore, fault_at}
 use Rattle.history_merge.proofs.Distinct.{one_at}
-use Rattle.history_merge.proofs.FaultKinds.{by_kind}
-use Rattle.history_merge.proofs.InitialValues.{twice_before, twice_not_distinct}
+use Rattle.history_merge.proofs.ExactFaults.{by_kind}
+use Rattle.history_merge.proofs.DistinctValues.{twice_before, twice_not_distinct}
 
 -- there is one least ticket
 pub one_least : (events : List Event) (t u : ℕ) → IsLeastPending events t → IsLeastPending events u → t ≡ u
 one_least events t u least_t least_u =
     let a = least_t.0 in
     let b = least_u.0 in
-    let below : t ≤ b.1.ticket = least_t.1 b.0 b.1 b.2 in
-    let above : u ≤ a.1.ticket = least_u.1 a.0 a.1 a.2 in
-    let is_t : a.1.ticket ≡ t = a.3 in
-    let is_u : b.1.ticket ≡ u = b.3 in omega arith
+    omega (arith, least_t.1 b.0 b.1 b.2, least_u.1 a.0 a.1 a.2, a.3, b.3)
 
--- an initial value stands twice
-abbrev StandsTwice : List ℕ → HistoryFault → Type 0
-StandsTwice initial fault = (j : ℕ) × (fault ≡ InitialTwice j) × IsFirstTwice initial j
-
--- an event has the fault
-abbrev IsOfEvent : List ℕ → List Event → HistoryFault → Type 0
-IsOfEvent initial events fault = (i : ℕ) × IsFirstFaultAt initial events i fault
-
--- no event has a fault, and this is the least ticket of a call without return
-abbrev EndsPending : List ℕ → List Event → HistoryFault → Type 0
-EndsPending initial events fault =
-    (ticket : ℕ) × (fault ≡ Pending ticket) × (AreDistinct initial × NoFaultBefore initial events (length events) × IsLeastPending events ticket)
-
--- a fault that isn't out of memory is that of an initial value, of an event, or of what is pending at the end
-where_it_is : (initial : List ℕ) (events : List Event) (fault : HistoryFault) → IsFirstFault initial events fault → fault ≢ Memory
-    → StandsTwice initial fault ⊎ (IsOfEvent initial events fault ⊎ EndsPending initial events fault)
-where_it_is initial events = by_kind
-    (λ f. IsFirstFault initial events f → f ≢ Memory → StandsTwice initial f ⊎ (IsOfEvent initial events f ⊎ EndsPending initial events f))
-    (λ i f of first known. inr (inl (i, (of.first initial events).0 first))) (λ ticket first known. inr (inr (ticket, refl, first)))
-    (λ first known. absurd (known refl)) (λ j first known. inl (j, refl, first))
+-- what holds of each first fault of an event, of a pending call and of an initial value holds of each that isn't out of memory
+by_first : (P : HistoryFault → Type 0) (initial : List ℕ) (events : List Event) → ((i : ℕ) (f : HistoryFault) → IsFirstFaultAt initial events i f → P f)
+    → ((ticket : ℕ) → IsFirstFault initial events (Pending ticket) → P (Pending ticket)) → ((j : ℕ) → IsFirstTwice initial j → P (InitialTwice j))
+    → (f : HistoryFault) → f ≢ Memory → IsFirstFault initial events f → P f
+by_first P initial events at pending twice = by_kind (λ f. f ≢ Memory → IsFirstFault initial events f → P f)
+    (λ i f of known first. at i f ((of.first initial events).0 first)) (λ ticket known. pending ticket) (λ known first. absurd (known refl)) (λ j known. twice j)
 
 -- an event before which, and up to which, there is no fault has none
 not_before : (initial : List ℕ) (events : List Event) (i n : ℕ) (fault : HistoryFault) → IsFirstFaultAt initial events i fault
     → NoFaultBefore initial events n → i < n → ⊥
-not_before initial events i n fault at none below =
-    let some = at.2.2 in
-    let nothing = none i at.2.0 below at.2.1 in cc
+not_before initial events i n fault at none below = none-some fault (sym (none i at.2.0 below at.2.1) ∙ at.2.2)
 
-within : (initial : List ℕ) (events : List Event) (i : ℕ) (fault : HistoryFault) → IsFirstFaultAt initial events i fault → i < length events
-within initial events i fault at = slice_get_within events i at.2.0 at.2.1
+-- so if no event has a fault
+not_among : (initial : List ℕ) (events : List Event) (i : ℕ) (fault : HistoryFault) → IsFirstFaultAt initial events i fault
+    → NoFaultBefore initial events (length events) → ⊥
+not_among initial events i fault at none = not_before initial events i (length events) fault at none (slice_get_within events i at.2.0 at.2.1)
 
 -- the fault at one place is one
 one_here : (initial : List ℕ) (events : List Event) (i : ℕ) (f g : HistoryFault) → IsFirstFaultAt initial events i f
@@ -79,22 +61,10 @@ one_twice initial j k at_j at_k = elim (cases_order j k) [
 -- two first faults of the same initial values and events, neither of which is out of memory, are equal
 pub one_first_fault : (initial : List ℕ) (events : List Event) (f g : HistoryFault) → f ≢ Memory → g ≢ Memory
     → IsFirstFault initial events f → IsFirstFault initial events g → f ≡ g
-one_first_fault initial events f g known_f known_g first_f first_g =
-    by_places (where_it_is initial events f first_f known_f) (where_it_is initial events g first_g known_g)
-  where
-    distinct : (h : HistoryFault) → IsOfEvent initial events h ⊎ EndsPending initial events h → AreDistinct initial
-    distinct h (inl of) = of.1.0
-    distinct h (inr ends) = ends.2.0
-
-    by_events : IsOfEvent initial events f ⊎ EndsPending initial events f → IsOfEvent initial events g ⊎ EndsPending initial events g → f ≡ g
-    by_events (inl a) (inl b) = one_place initial events a.0 b.0 f g a.1 b.1
-    by_events (inl a) (inr b) = absurd (not_before initial events a.0 (length events) f a.1 b.2.1 (within initial events a.0 f a.1))
-    by_events (inr a) (inl b) = absurd (not_before initial events b.0 (length events) g b.1 a.2.1 (within initial events b.0 g b.1))
-    by_events (inr a) (inr b) = a.1 ∙ ap (λ ticket. Pending ticket) (one_least events a.0 b.0 a.2.2 b.2.2) ∙ sym b.1
-
-    by_places : StandsTwice initial f ⊎ (IsOfEvent initial events f ⊎ EndsPending initial events f)
-        → StandsTwice initial g ⊎ (IsOfEvent initial events g ⊎ EndsPending initial events g) → f ≡ g
-    by_places (inl a) (inl b) = a.1 ∙ ap (λ j. InitialTwice j) (one_twice initial a.0 b.0 a.2 b.2) ∙ sym b.1
-    by_places (inl a) (inr b) = absurd (twice_not_distinct initial a.0 (distinct g b) a.2)
-    by_places (inr a) (inl b) = absurd (twice_not_distinct initial b.0 (distinct f a) b.2)
-    by_places (inr a) (inr b) = by_events a b
+one_first_fault initial events f g known_f known_g first_f first_g = by_first (λ f. f ≡ g) initial events
+    (λ i f a. by_first (λ g. f ≡ g) initial events (λ k g b. one_place initial events i k f g a b)
+    (λ ticket b. absurd (not_among initial events i f a b.1)) (λ j b. absurd (twice_not_distinct initial j a.0 b)) g known_g first_g)
+    (λ ticket a. by_first (λ g. Pending ticket ≡ g) initial events (λ k g b. absurd (not_among initial events k g b a.1))
+    (λ u b. ap (λ t. Pending t) (one_least events ticket u a.2 b.2)) (λ j b. absurd (twice_not_distinct initial j a.0 b)) g known_g first_g)
+    (λ j a. by_first (λ g. InitialTwice j ≡ g) initial events (λ k g b. absurd (twice_not_distinct initial j b.0 a))
+    (λ u b. absurd (twice_not_distinct initial j b.0 a)) (λ k b. ap (λ n. InitialTwice n) (one_twice initial j k a b)) g known_g first_g) f known_f first_f

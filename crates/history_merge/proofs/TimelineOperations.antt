@@ -6,6 +6,7 @@ use Rattle.std.specs.Prelude.{All, OnErr, OnOk, option_map, slice_get}
 use Rattle.std.proofs.lemmas.Bool.Decides.{nat_tests}
 use Rattle.std.proofs.Math.Seq.{drop-append_seam}
 use Rattle.std.proofs.lemmas.List.{get_or-drop, get_or-map, length-append, length-map, map-append, map-set, set-append_right, take_more}
+use Rattle.std.proofs.lemmas.List.{nil_from_length}
 use Rattle.std.proofs.lemmas.List.Elements.{All-map}
 use Rattle.std.proofs.lemmas.Option.{slice_get-map}
 use Rattle.event_records.specs.declared.limits.TheConstants.{MAX_INITIAL}
@@ -17,8 +18,7 @@ use Rattle.history_merge.proofs.Later.{all_back}
 
 -- a list without elements
 pub no_elements : (xs : List ℕ) → true ≡ (length xs == 0) → xs ≡ []
-no_elements [] none = refl
-no_elements (x ∷ xs) none = absurd (grind (arith, nat_tests))
+no_elements xs none = nil_from_length xs (grind (arith, nat_tests))
 
 -- an enqueue for each initial value
 pub length_enqueues : (n : ℕ) (initial : List ℕ) → length (enqueues_from n initial) ≡ length initial

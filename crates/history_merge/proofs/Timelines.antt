@@ -1,8 +1,7 @@
 -- The timeline: what a queue holds first is enqueued before all else.
-use Rattle.std.proofs.Common.{◌≡◌, ℕ, ◌+◌, ◌*◌, ◌<◌, ◌≤◌, ◌↔◌, Bool, true, false, cond, List, [], ◌∷◌, ◌++◌, length, Option, Some, None}
-use Rattle.std.proofs.Common.{refl, sym, ◌∙◌, ap, subst, arith, nat_eq}
+use Rattle.std.proofs.Common.{◌≡◌, ℕ, ◌+◌, ◌*◌, ◌<◌, ◌≤◌, ◌↔◌, List, [], ◌∷◌, ◌++◌, length, refl, sym, ◌∙◌, ap, subst}
+use Rattle.std.proofs.Common.{arith, nat_eq, inl, inr}
 use Rattle.std.specs.Prelude.{All, map}
-use Rattle.std.specs.List.{cons_option}
 use Rattle.std.proofs.lemmas.List.{append_cancel_left}
 use Rattle.std.proofs.lemmas.List.Elements.{All-cons, All-map}
 use Rattle.std.proofs.lemmas.List.Kept.{AllPairs-cons}
@@ -16,10 +15,11 @@ use Rattle.history_merge.specs.declared.operation.OpKind.TheVariants.{Enq}
 use Rattle.history_merge.specs.Complete.{AreComplete, AreDistinct, IsCompleteUpTo, called_values}
 use Rattle.history_merge.specs.Initial.{IsCompleteFrom, event_later_by, timeline, timeline_events, enqueue_events_from, enqueues_from, later_by}
 use Rattle.history_merge.specs.Legal.{IsLegalOrder, IsLinearizable}
-use Rattle.history_merge.specs.Operations.{operation_of, operations_of}
+use Rattle.history_merge.specs.Operations.{operations_of}
 use Rattle.history_merge.proofs.Later.{later_injective, legal_earlier, legal_later}
 use Rattle.history_merge.proofs.Later.{operations_later, projection_later, rise_later, turns_later, values_later}
 use Rattle.history_merge.proofs.Leading.{Enqueue, LeadAll, enqueues_begin, enqueues_put}
+use Rattle.std.proofs.lemmas.Bool.{cases_Bool}
 
 -- ---- legal orders
 
@@ -87,19 +87,11 @@ linearizable_from_exactly initial operations = (
 
 -- ---- complete histories
 
--- a return is no call of an operation
-not_called : (answer : Event) (o : Option Event) → answer.what ≡ RetEnq → operation_of answer o ≡ None
-not_called answer None is = refl
-not_called answer (Some e) is = rw is refl
-
 -- the operations of the enqueues' events are its enqueues
 operations_of_enqueues : (clock : ℕ) (values : List ℕ) (later : List Event)
     → operations_of (enqueue_events_from clock values ++ later) ≡ enqueues_from clock values ++ operations_of later
 operations_of_enqueues clock [] later = refl
-operations_of_enqueues clock (v ∷ values) later =
-    ap (λ os. record { call = clock; ret = clock + 1; thread = 0; kind = Enq v } ∷ os)
-    (ap (λ o. cons_option o (operations_of (enqueue_events_from (clock + 2) values ++ later)))
-    (not_called (record { ticket = clock + 1; thread = 0; what = RetEnq }) _ refl) ∙ operations_of_enqueues (clock + 2) values later)
+operations_of_enqueues clock (v ∷ values) later = grind (arith, operations_of_enqueues (clock + 2) values later)
 
 -- the operations of the events of the timeline
 pub timeline_operations : (initial : List ℕ) (events : List Event)
@@ -110,46 +102,38 @@ timeline_operations initial events =
 
 -- what holds of each event of the enqueues and of each later one
 all_enqueue_events : (P : Event → Type 0) (clock end : ℕ) (values : List ℕ) (later : List Event) → clock + 2 * length values ≤ end
-    → ((t v : ℕ) → clock ≤ t → t < end → P (record { ticket = t; thread = 0; what = CallEnq v }))
-    → ((t : ℕ) → clock ≤ t → t < end → P (record { ticket = t; thread = 0; what = RetEnq }))
-    → All P later → All P (enqueue_events_from clock values ++ later)
-all_enqueue_events P clock end [] later after calls returns rest = rest
-all_enqueue_events P clock end (v ∷ values) later after calls returns rest =
-    All-cons P (record { ticket = clock; thread = 0; what = CallEnq v })
-    (record { ticket = clock + 1; thread = 0; what = RetEnq } ∷ (enqueue_events_from (clock + 2) values ++ later)) (calls clock v (omega arith) (omega arith))
-    (All-cons P (record { ticket = clock + 1; thread = 0; what = RetEnq }) (enqueue_events_from (clock + 2) values ++ later)
-    (returns (clock + 1) (omega arith) (omega arith))
-    (all_enqueue_events P (clock + 2) end values later (omega arith) (λ t w low. calls t w (omega arith)) (λ t low. returns t (omega arith)) rest))
+    → ((e : Event) → clock ≤ e.ticket → e.ticket < end → e.thread ≡ 0 → P e) → All P later → All P (enqueue_events_from clock values ++ later)
+all_enqueue_events P clock end [] later after each rest = rest
+all_enqueue_events P clock end (v ∷ values) later after each rest =
+    let call : Event = record { ticket = clock; thread = 0; what = CallEnq v } in
+    let answer : Event = record { ticket = clock + 1; thread = 0; what = RetEnq } in
+    let others = enqueue_events_from (clock + 2) values ++ later in
+    All-cons P call (answer ∷ others) (each call (omega arith) (omega arith) refl) (All-cons P answer others (each answer (omega arith) (omega arith) refl)
+    (all_enqueue_events P (clock + 2) end values later (omega arith) (λ e low. each e (omega arith)) rest))
 
 -- tickets of the enqueues rise, up to those of later events
 enqueues_rise : (clock end : ℕ) (values : List ℕ) (later : List Event) → clock + 2 * length values ≤ end → TicketsRise later
     → All (λ e. end ≤ e.ticket) later → TicketsRise (enqueue_events_from clock values ++ later)
 enqueues_rise clock end [] later after rise above = rise
 enqueues_rise clock end (v ∷ values) later after rise above =
-    let rest = enqueues_rise (clock + 2) end values later (omega arith) rise above in
-    let high = all_enqueue_events (λ e. clock + 2 ≤ e.ticket) (clock + 2) end values later (omega arith) (λ t w low high. low) (λ t low high. low)
+    let call : Event = record { ticket = clock; thread = 0; what = CallEnq v } in
+    let answer : Event = record { ticket = clock + 1; thread = 0; what = RetEnq } in
+    let others = enqueue_events_from (clock + 2) values ++ later in
+    let high = all_enqueue_events (λ e. clock + 2 ≤ e.ticket) (clock + 2) end values later (omega arith) (λ e low high own. low)
     (λ k d below. let far = above k d below in omega (arith, far)) in
-    AllPairs-cons (λ earlier later. earlier.ticket < later.ticket) (record { ticket = clock; thread = 0; what = CallEnq v })
-    (record { ticket = clock + 1; thread = 0; what = RetEnq } ∷ (enqueue_events_from (clock + 2) values ++ later))
-    (All-cons (λ e. clock < e.ticket) (record { ticket = clock + 1; thread = 0; what = RetEnq }) (enqueue_events_from (clock + 2) values ++ later)
-    (omega arith) (λ k d below. let far = high k d below in omega (arith, far)))
-    (AllPairs-cons (λ earlier later. earlier.ticket < later.ticket) (record { ticket = clock + 1; thread = 0; what = RetEnq })
-    (enqueue_events_from (clock + 2) values ++ later) (λ k d below. let far = high k d below in omega (arith, far)) rest)
+    AllPairs-cons (λ x y. x.ticket < y.ticket) call (answer ∷ others)
+    (All-cons (λ e. clock < e.ticket) answer others (omega arith) (λ k d below. let far = high k d below in omega (arith, far)))
+    (AllPairs-cons (λ x y. x.ticket < y.ticket) answer others (λ k d below. let far = high k d below in omega (arith, far))
+    (enqueues_rise (clock + 2) end values later (omega arith) rise above))
 
 -- each thread takes turns in the enqueues, and goes on with its later events
 turns_of_enqueues : (clock thread : ℕ) (values : List ℕ) (later : List Event) → TakesTurns (projection thread later)
     → TakesTurns (projection thread (enqueue_events_from clock values ++ later))
 turns_of_enqueues clock thread [] later turns = turns
-turns_of_enqueues clock thread (v ∷ values) later turns = join (nat_eq 0 thread) (turns_of_enqueues (clock + 2) thread values later turns)
-  where
-    join : (own : Bool) → TakesTurns (projection thread (enqueue_events_from (clock + 2) values ++ later))
-        → TakesTurns (cond own (record { ticket = clock; thread = 0; what = CallEnq v }
-        ∷ cond own (record { ticket = clock + 1; thread = 0; what = RetEnq } ∷ projection thread (enqueue_events_from (clock + 2) values ++ later))
-        (projection thread (enqueue_events_from (clock + 2) values ++ later)))
-        (cond own (record { ticket = clock + 1; thread = 0; what = RetEnq } ∷ projection thread (enqueue_events_from (clock + 2) values ++ later))
-        (projection thread (enqueue_events_from (clock + 2) values ++ later))))
-    join true more = (refl, more)
-    join false more = more
+turns_of_enqueues clock thread (v ∷ values) later turns = elim (cases_Bool (nat_eq 0 thread)) [
+  | inl own ↦ rw own (refl, turns_of_enqueues (clock + 2) thread values later turns)
+  | inr other ↦ rw other (turns_of_enqueues (clock + 2) thread values later turns)
+]
 
 -- the calls of the enqueues have the values, in their order
 values_enqueued : (clock : ℕ) (values : List ℕ) (later : List Event)
@@ -163,11 +147,10 @@ pub timeline_is_complete : (initial : List ℕ) (events : List Event) → IsComp
 timeline_is_complete initial events whole few = record {
   tickets_rise = enqueues_rise 0 n initial behind (omega arith) (rise_later n events whole.complete.tickets_rise)
       (All-map (λ e. n ≤ e.ticket) (event_later_by n) events (λ k d below. omega arith));
-  tickets_in_range = all_enqueue_events (λ e. e.ticket ≤ MAX_CLOCK) 0 n initial behind (omega arith) (λ t v low high. omega (arith, high, few))
-      (λ t low high. omega (arith, high, few))
+  tickets_in_range = all_enqueue_events (λ e. e.ticket ≤ MAX_CLOCK) 0 n initial behind (omega arith) (λ e low high own. omega (arith, high, few))
       (All-map (λ e. e.ticket ≤ MAX_CLOCK) (event_later_by n) events
       (λ k d below. let low = whole.complete.tickets_in_range k d below in omega (arith, low, few)));
-  threads_in_range = all_enqueue_events (λ e. e.thread ≤ MAX_THREAD) 0 n initial behind (omega arith) (λ t v low high. omega arith) (λ t low high. omega arith)
+  threads_in_range = all_enqueue_events (λ e. e.thread ≤ MAX_THREAD) 0 n initial behind (omega arith) (λ e low high own. omega (arith, own))
       (All-map (λ e. e.thread ≤ MAX_THREAD) (event_later_by n) events whole.complete.threads_in_range);
   threads_take_turns = λ thread. turns_of_enqueues 0 thread initial behind
       (subst TakesTurns (sym (projection_later n thread events)) (turns_later n (projection thread events) (whole.complete.threads_take_turns thread)));

@@ -1,30 +1,102 @@
--- Calls and returns of one thread, event by event.
-use Rattle.std.proofs.Common.{◌≡◌, Bool, true, false, List, [], ◌∷◌, ◌++◌, Option, Some, None, refl, sym, ◌∙◌, ap, subst, append_assoc}
-use Rattle.std.specs.Prelude.{MatchOption}
+-- What a walk over the events keeps of each thread, and calls and returns of one thread, event by event.
+use Rattle.std.proofs.Common.{◌≡◌, ℕ, ◌+◌, ◌≤◌, ◌<◌, false, List, [], ◌∷◌, ◌++◌, Option, Some, None, refl, ◌∙◌, ap, inl}
+use Rattle.std.proofs.Common.{inr, arith, nat_eq, true, sym, subst, append_assoc}
+use Rattle.std.specs.Prelude.{All, option_and_then, MatchOption}
 use Rattle.std.specs.Bool.{then_some}
+use Rattle.std.specs.List.{last_or}
+use Rattle.std.proofs.lemmas.Bool.Decides.{nat_tests}
+use Rattle.std.proofs.lemmas.Bool.{eq-eqb, cases_lt}
 use Rattle.std.proofs.lemmas.List.{append-nil}
+use Rattle.std.proofs.lemmas.List.Elements.{filter-append, All-head, All-tail}
 use Rattle.event_records.specs.declared.event.Event.{Event}
+use Rattle.event_records.specs.declared.limits.TheConstants.{MAX_THREAD}
+use Rattle.event_records.specs.Turns.{is_call, TakesTurns, answers}
+use Rattle.event_records.specs.Projection.{projection}
+use Rattle.history_merge.specs.Faults.{IsLeastPending, pending_call}
+use Rattle.history_merge.specs.Inner.Faults.{NothingPending}
 use Rattle.event_records.specs.declared.event.What.{What}
-use Rattle.event_records.specs.declared.event.What.TheVariants.{CallEnq, CallDeq, RetEnq, RetEmpty}
-use Rattle.event_records.specs.Turns.{TakesTurns, is_call, answers}
+use Rattle.event_records.specs.declared.event.What.TheVariants.{CallEnq, RetEnq, RetEmpty}
 use Rattle.history_merge.specs.Inner.Forming.{FitsTurn}
-use Rattle.history_merge.proofs.Tracking.{pending_in, pending_in-push}
+
+-- ---- the pending calls, and how one more event changes them
+
+-- the pending call of a list of events of one thread
+abbrev pub pending_in : List Event → Option Event
+pending_in events = option_and_then (λ e. then_some (is_call e.what) e) (last_or None events)
+
+-- the last of a list with one element more
+pub last_or-push : {X : Type 0} (o : Option X) (xs : List X) (x : X) → last_or o (xs ++ x ∷ []) ≡ Some x
+last_or-push o [] x = refl
+last_or-push o (y ∷ xs) x = last_or-push (Some y) xs x
+
+-- what is pending after one event more
+pub pending_in-push : (events : List Event) (e : Event) → pending_in (events ++ e ∷ []) ≡ then_some (is_call e.what) e
+pending_in-push events e = rw (last_or-push None events e, pending_in) refl
+
+-- an event between others is between its thread's own
+pub projection-at : (before later : List Event) (e : Event)
+    → projection e.thread (before ++ e ∷ later) ≡ projection e.thread before ++ e ∷ projection e.thread later
+projection-at before later e = let own = eq-eqb e.thread e.thread refl in filter-append (λ x. nat_eq x.thread e.thread) before (e ∷ later) ∙ rw own refl
+
+-- one event more of a thread is one more of its own
+pub projection-push_own : (events : List Event) (e : Event) → projection e.thread (events ++ e ∷ []) ≡ projection e.thread events ++ e ∷ []
+projection-push_own events e = projection-at events [] e
+
+-- an event of another thread changes none of its own
+pub projection-push_other : (events : List Event) (e : Event) (thread : ℕ) → nat_eq e.thread thread ≡ false
+    → projection thread (events ++ e ∷ []) ≡ projection thread events
+projection-push_other events e thread other = filter-append (λ x. nat_eq x.thread thread) events (e ∷ []) ∙ rw other (append-nil (projection thread events))
+
+-- what is pending in a thread after one event of it
+pub pending_call-push_own : (events : List Event) (e : Event) → pending_call e.thread (events ++ e ∷ []) ≡ then_some (is_call e.what) e
+pending_call-push_own events e = ap pending_in (projection-push_own events e) ∙ pending_in-push (projection e.thread events) e
+
+-- an event of another thread leaves what is pending
+pub pending_call-push_other : (events : List Event) (e : Event) (thread : ℕ) → nat_eq e.thread thread ≡ false
+    → pending_call thread (events ++ e ∷ []) ≡ pending_call thread events
+pending_call-push_other events e thread other = ap pending_in (projection-push_other events e thread other)
+
+-- a thread above the greatest has no event
+projection-above : (events : List Event) (thread : ℕ) → MAX_THREAD < thread → All (λ e. e.thread ≤ MAX_THREAD) events → projection thread events ≡ []
+projection-above [] thread above within = refl
+projection-above (e ∷ events) thread above within =
+    let here = All-head (λ x. x.thread ≤ MAX_THREAD) e events within in
+    let more = projection-above events thread above (All-tail (λ x. x.thread ≤ MAX_THREAD) e events within) in grind (arith, nat_tests, here, more)
+
+pub pending_call-above : (events : List Event) (thread : ℕ) → MAX_THREAD < thread → All (λ e. e.thread ≤ MAX_THREAD) events → pending_call thread events ≡ None
+pending_call-above events thread above within = ap pending_in (projection-above events thread above within)
+
+-- the least ticket of the pending calls of the threads before this one
+abbrev pub IsLeastBefore : List Event → ℕ → Option ℕ → Type 0
+IsLeastBefore events n None = (k : ℕ) → k < n → pending_call k events ≡ None
+IsLeastBefore events n (Some ticket) =
+    ((k : ℕ) × (call : Event) × (k < n) × (pending_call k events ≡ Some call) × (call.ticket ≡ ticket))
+    × ((k : ℕ) (call : Event) → k < n → pending_call k events ≡ Some call → ticket ≤ call.ticket)
+
+-- the least of the pending calls, or that there is none
+pub least_pending : (events : List Event) (least : Option ℕ) → All (λ e. e.thread ≤ MAX_THREAD) events → IsLeastBefore events (MAX_THREAD + 1) least
+    → MatchOption least (NothingPending events) (IsLeastPending events)
+least_pending events None within least = λ thread. elim (cases_lt MAX_THREAD thread) [
+  | inl above ↦ pending_call-above events thread above within
+  | inr below ↦ least thread (omega arith)
+]
+least_pending events (Some ticket) within least = (
+  (least.0.0, least.0.1, least.0.3, least.0.4),
+  λ thread call is. elim (cases_lt MAX_THREAD thread) [
+    | inl above ↦ let none = pending_call-above events thread above within in cc
+    | inr below ↦ least.1 thread call (omega arith) is
+  ],
+)
+
+-- ---- one thread in turn
 
 -- what is answered is a call
 pub answered_is_call : (call answer : What) → answers call answer ≡ true → is_call call ≡ true
-answered_is_call (CallEnq v) answer h = refl
-answered_is_call CallDeq answer h = refl
-answered_is_call _ answer h = cc
+answered_is_call call answer h = grind arith
 
 -- what answers is a return
 pub answer_is_return : (call answer : What) → answers call answer ≡ true → is_call answer ≡ false
-answer_is_return (CallEnq v) (CallEnq w) h = cc
-answer_is_return (CallEnq v) CallDeq h = cc
-answer_is_return CallDeq (CallEnq w) h = cc
-answer_is_return CallDeq CallDeq h = cc
-answer_is_return (CallEnq v) _ h = refl
-answer_is_return CallDeq _ h = refl
-answer_is_return _ _ h = cc
+answer_is_return call answer h = grind arith
 
 -- a call with its answer leaves what the events after it leave
 pending_in-pair : (call answer : Event) (rest : List Event) → is_call answer.what ≡ false → pending_in (call ∷ answer ∷ rest) ≡ pending_in rest
@@ -49,7 +121,7 @@ fits_in_turns (call ∷ answer ∷ before) e later turns =
 
 TakesTurns-append : (events later : List Event) → TakesTurns events → TakesTurns later → TakesTurns (events ++ later)
 TakesTurns-append [] later turns more = more
-TakesTurns-append (call ∷ []) later turns more = elim turns [ ]
+TakesTurns-append (call ∷ []) later turns more = absurd turns
 TakesTurns-append (call ∷ answer ∷ rest) later turns more = (turns.0, TakesTurns-append rest later turns.1 more)
 
 -- an answer to a call
@@ -58,9 +130,7 @@ answer_to (CallEnq v) = RetEnq
 answer_to _ = RetEmpty
 
 answers_it : (call : What) → is_call call ≡ true → answers call (answer_to call) ≡ true
-answers_it (CallEnq v) h = refl
-answers_it CallDeq h = refl
-answers_it _ h = cc
+answers_it call h = grind arith
 
 -- calls and returns take turns, but for a call at the end that may wait for its return
 abbrev pub TurnsSoFar : List Event → Type 0
@@ -81,11 +151,7 @@ turns_push events e turns fits = join (pending_in events) turns fits
 
 -- what waits is a call
 call_waits : (call : Event) → then_some (is_call call.what) call ≡ Some call → is_call call.what ≡ true
-call_waits call last = pick (is_call call.what) refl last
-  where
-    pick : (is : Bool) → is_call call.what ≡ is → then_some is call ≡ Some call → is_call call.what ≡ true
-    pick true is some = is
-    pick false is some = cc
+call_waits call last = grind arith
 
 -- with an answer to the call that waits, they take turns
 pub finished : (events : List Event) → TurnsSoFar events → (more : List Event) × TakesTurns (events ++ more)

@@ -2,7 +2,7 @@
 use Rattle.history_text.proofs.Common.{[], ◌++◌, ◌+◌, ◌-◌, ◌<◌, ◌∙◌, ◌∷◌, ◌≡◌, ◌≤◌, ap, append_assoc, arith, drop}
 use Rattle.history_text.proofs.Common.{drop-drop, false, IfSome, length, length-append, length-drop, length-take-le, List}
 use Rattle.history_text.proofs.Common.{nat_lt, nat_tests, None, Option, refl, Some, subst, sym, take, take_all, ℕ}
-use Rattle.history_text.proofs.Common.{Ahead, EndOfInput, Ending, HasMore, IsOver, Takes, with_front}
+use Rattle.history_text.proofs.Common.{Ahead, EndOfInput, HasMore, IsOver, Takes, with_front}
 use Rattle.std.proofs.Common.{not, suc, take-add, zero}
 use Rattle.std.proofs.Math.Seq.{take-append-add}
 use Rattle.std.proofs.lemmas.List.Edits.{take-paste}
@@ -72,11 +72,3 @@ moved_and_read bytes more at filled n (Some a) (Some b) in_order within kept tak
           ∙ ap (λ (r : List ℕ). r ++ b.bytes) (sym whole),
       takes.1,
     )
-
--- a fact on what is ahead, where nothing was taken
-pub nothing_taken : (old new : Option Ahead) (P : Ahead → Type 0) → Takes old new [] → IfSome new P → IfSome old P
-nothing_taken None new P takes holds = tt
-nothing_taken (Some a) None P takes holds = absurd takes
-nothing_taken (Some a) (Some b) P takes holds =
-    subst (λ (r : List ℕ). P (record { bytes = r; ending = a.ending })) (sym takes.0)
-    (subst (λ (e : Ending). P (record { bytes = b.bytes; ending = e })) takes.1 holds)

@@ -17,39 +17,24 @@ use Rattle.history_text.proofs.FormLines.{IsReadAs, row_back, read_says, item_re
 -- ---- what is read is spelled so
 
 empty_row : (numbers : List ℕ) → AreOfForm empty_operation numbers → IsSpelled operation_format (spelled empty_operation numbers) (operation_of Empty numbers)
-empty_row [] h = absurd h
-empty_row (c ∷ []) h = absurd (h.2)
-empty_row (c ∷ r ∷ []) h = absurd (h.2.2)
 empty_row (c ∷ r ∷ t ∷ []) h = record { text = refl; line = record { call = h.1; ret = h.2.1; thread = h.2.2.1; value = tt } }
-empty_row (c ∷ r ∷ t ∷ x ∷ xs) h = absurd (h.2.2.2)
+empty_row _ h = absurd (search)
 
 valued_row : (word : List ℕ) (kind : OpKind)
     → ((v : ℕ) → v ≤ greatest_value → (word ∷ decimal v ∷ [] ≡ kind_fields (kind_with kind v)) × IsKindInRange (kind_with kind v))
     → (numbers : List ℕ) → AreOfForm (valued_operation word) numbers
     → IsSpelled operation_format (spelled (valued_operation word) numbers) (operation_of kind numbers)
-valued_row word kind is [] h = absurd h
-valued_row word kind is (c ∷ []) h = absurd (h.2)
-valued_row word kind is (c ∷ r ∷ []) h = absurd (h.2.2)
-valued_row word kind is (c ∷ r ∷ t ∷ []) h = absurd (h.2.2.2)
 valued_row word kind is (c ∷ r ∷ t ∷ v ∷ []) h =
-    let made = is v h.2.2.2.1 in
-    record {
-      text = ap (λ (f : List (List ℕ)). decimal c ∷ decimal r ∷ decimal t ∷ f) made.0;
-      line = record { call = h.1; ret = h.2.1; thread = h.2.2.1; value = made.1 };
-    }
-valued_row word kind is (c ∷ r ∷ t ∷ v ∷ x ∷ xs) h = absurd (h.2.2.2.2)
+    let made = is v h.2.2.2.1 in assumption (made, ap (λ (f : List (List ℕ)). decimal c ∷ decimal r ∷ decimal t ∷ f) made.0)
+valued_row word kind is _ h = absurd (search)
 
 rows : AllByRecursion (λ row. (numbers : List ℕ) → AreOfForm row.1 numbers → IsSpelled operation_format (spelled row.1 numbers) (operation_of row.0 numbers))
     operation_forms
-rows = (
+rows = assumption (
   valued_row (codes "enq") (Enq 0) (λ v r. (refl, r)),
-  (
-    valued_row (codes "deq") (Deq 0) (λ v r. (refl, r)),
-    (
-      empty_row,
-      (valued_row (codes "not") (Not 0) (λ v r. (refl, r)), tt),
-    ),
-  ),
+  valued_row (codes "deq") (Deq 0) (λ v r. (refl, r)),
+  empty_row,
+  valued_row (codes "not") (Not 0) (λ v r. (refl, r)),
 )
 
 -- what a line is judged as spells it
@@ -67,9 +52,8 @@ operation_ok n fields o e =
     ]
 
 initial_row : (numbers : List ℕ) → AreOfForm initial_form numbers → IsSpelled claim_line_format (spelled initial_form numbers) (initial_of tt numbers)
-initial_row [] h = absurd h
 initial_row (v ∷ []) h = record { text = refl; line = h.1 }
-initial_row (v ∷ x ∷ xs) h = absurd (h.2)
+initial_row _ h = absurd (search)
 
 -- the fields of a line of a `NO` are spelled as it is written
 pub claim_line_ok : (n : ℕ) (fields : List (List ℕ)) (l : ClaimLine) → claim_line_in n fields ≡ Ok l → IsSpelled claim_line_format fields l
@@ -136,8 +120,7 @@ claim_line_back (Op o) range =
     let is = operation_back o range in
     record { one = is.one; read_back = λ n. rw (no_initial o range, is.read_back n) refl }
 claim_line_back (Initial v) range =
-    let is = row_back initial_forms initial_of tt initial_form (v ∷ []) refl refl (λ n. refl) (omega arith, range, tt) in
-    record { one = is.one; read_back = λ n. is.read_back n }
+    assumption (row_back initial_forms initial_of tt initial_form (v ∷ []) refl refl (λ n. refl) (omega arith, range, tt))
 
 -- the line of a `NO` is read as that line
 pub claim_line_front : (n k : ℕ) (ending : Ending) (l : ClaimLine) (rest : List ℕ) → HasClaimLine l → k < MAX_CLAIM_LINES

@@ -1,6 +1,5 @@
 -- The names that most proofs of this crate cite, passed on from one place. Declares nothing.
-pub use Rattle.std.proofs.Common.{[], ◌%◌, ◌&&◌, ◌*◌, ◌++◌, ◌+◌, ◌-◌, ◌/◌, ◌<◌}
-pub use Rattle.std.proofs.Common.{◌==◌, ◌^◌, ◌∙◌, ◌∷◌, ◌≡◌, ◌≤◌, All, ap}
+pub use Rattle.std.proofs.Common.{[], ◌%◌, ◌&&◌, ◌*◌, ◌++◌, ◌+◌, ◌-◌, ◌/◌, ◌<◌, ◌==◌, ◌^◌, ◌∙◌, ◌∷◌, ◌≡◌, ◌≤◌, All, ap}
 pub use Rattle.std.proofs.Common.{append-nil, append_assoc, ap₂, arith, Bool, bytes_eq, codes, cond, Contains, decimal}
 pub use Rattle.std.proofs.Common.{drop, drop-drop, Err, false, filter_map, flat_map, get_or, IfErr, IfOk, IfSome, inl}
 pub use Rattle.std.proofs.Common.{inr, is_err, IsErrAnd, length, length-append, length-drop, length-take-le, List, map}
@@ -9,9 +8,11 @@ pub use Rattle.std.proofs.Common.{rules, slice_get, Some, subst, sym, take, take
 pub use Rattle.std.proofs.lemmas.Bool.Decides.{nat_tests}
 pub use Rattle.std.proofs.lemmas.Fmt.{decimal_digit, decimal_nonempty, decimal_step, length-decimal-le}
 pub use Rattle.std.proofs.lemmas.Grind.{flat_map-append}
-pub use Rattle.std.proofs.lemmas.List.{append_cancel_left, drop_more, length-map, take-append-le, take_rest}
+pub use Rattle.std.proofs.lemmas.List.{append_cancel_left, drop_more, length-map, take_rest}
 pub use Rattle.std.proofs.lemmas.List.Splits.{join_with_byte-slice_split}
-pub use Rattle.std.proofs.lemmas.Result.{err_from_is_err_and, MatchResult-weaker}
+pub use Rattle.std.proofs.lemmas.Bool.{and_right, false_from_ne_true}
+pub use Rattle.std.proofs.lemmas.Option.{none-some, same_Some}
+pub use Rattle.std.proofs.lemmas.Result.{err_from_is_err_and, IfErr-weaker, MatchResult-weaker}
 pub use Rattle.std.specs.List.{AllByRecursion, cons_option, list_all, onto_first}
 pub use Rattle.std.specs.declared.result.Result.{Result}
 pub use Rattle.event_records.specs.declared.event.Event.{Event}
@@ -19,7 +20,7 @@ pub use Rattle.event_records.specs.declared.limits.TheConstants.{MAX_CLAIM_LINES
 pub use Rattle.event_records.specs.declared.limits.TheConstants.{MAX_THREAD, MAX_TICKET}
 pub use Rattle.text_lines.specs.Forms.{AreOfForm, FieldForm, Number, numbers_in, parse_line, spelled, Table, Word}
 pub use Rattle.text_lines.specs.Inner.Lines.{IsPartOfLine}
-pub use Rattle.text_lines.specs.Input.{Ahead, Ending, EndOfInput, Failure, IsOver, ReadTakes, Takes}
+pub use Rattle.text_lines.specs.Input.{Ahead, Ending, EndOfInput, Failure, IsOver, Takes}
 pub use Rattle.text_lines.specs.Lines.{◌>>=◌, After, begins_as_end, end_in, end_line, end_word, fields_of, Front}
 pub use Rattle.text_lines.specs.Lines.{front_of, greatest_value, header_fault, is_line_feed, line, longest_line}
 pub use Rattle.text_lines.specs.Lines.{Nothing, spaced, Unfinished, Whole}
@@ -47,8 +48,8 @@ pub use Rattle.history_text.specs.Claims.{initial_forms, initial_of, is_initial,
 pub use Rattle.history_text.specs.Claims.{IsVerdictTextFault, kind_with, NoRoomForVerdict, operation_format}
 pub use Rattle.history_text.specs.Claims.{operation_forms, operation_in, operation_of, valued_operation}
 pub use Rattle.history_text.specs.Histories.{event_format, event_forms, event_in, event_line, event_of, HasEventLine}
-pub use Rattle.history_text.specs.Histories.{HasHistoryText, HasValueInRange, header, lines_to_end, plain_event}
-pub use Rattle.history_text.specs.Histories.{valued_event, what_fields, what_with}
+pub use Rattle.history_text.specs.Histories.{HasHistoryText, HasValueInRange, lines_to_end, plain_event, valued_event}
+pub use Rattle.history_text.specs.Histories.{what_fields, what_with}
 pub use Rattle.history_text.specs.Inner.Taking.{HasFaultAmong, HasFirstLineFault, HasHeaderFault, HasInitialFault}
 pub use Rattle.history_text.specs.Inner.Taking.{HasItemFault, HasItemsFault, HasLineFault, HasNoVersion, IsItemLine}
 pub use Rattle.history_text.specs.Inner.Taking.{IsOfInput, IsSpelled, NoLineFault, TakesEnd, TakesItem, TakesLine}

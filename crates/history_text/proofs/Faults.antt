@@ -1,10 +1,12 @@
--- What the line ahead is, by what was taken of it.
+-- What the line ahead is, by what was taken of it and by what its fields say.
 use Rattle.history_text.proofs.Common.{[], ◌++◌, ◌<◌, ◌∷◌, ◌≡◌, arith, Bool, Err, false, IfErr, IfOk, IfSome, length}
 use Rattle.history_text.proofs.Common.{List, None, Ok, Option, refl, Result, Some, subst, sym, true, ℕ, Ahead, before}
 use Rattle.history_text.proofs.Common.{before_end, Cut, end_line, Ending, EndOfInput, Failure, Format, Front, front_of}
 use Rattle.history_text.proofs.Common.{front_too_long, front_unfinished, HasItemFault, is_line_feed, IsItemLine, IsOver}
 use Rattle.history_text.proofs.Common.{IsPartOfLine, item_at_front, item_at_nothing, item_in, line, longest_line}
 use Rattle.history_text.proofs.Common.{Nothing, Read, Takes, TakesEnd, TakesItem, TextFault, Unfinished, Whole, whole}
+use Rattle.history_text.proofs.Common.{◌∙◌, ap, join_with_byte-slice_split, fields_of, HasLineFault, IsSpelled}
+use Rattle.history_text.proofs.Common.{line_at_front, line_of, spaced}
 use Rattle.text_lines.specs.Lines.{TooLong}
 
 -- what holds of the front of the input
@@ -48,14 +50,12 @@ at_line P old new bytes taken part holds =
 -- a failed read is a fault, whether a last line is wanted or not
 pub failure_is_fault : {A : Type 0} (is_counted : Bool) → (let found : Result (Option A × List ℕ) TextFault = item_at_nothing is_counted Failure in
     found ≡ Err Read)
-failure_is_fault true = refl
-failure_is_fault false = refl
+failure_is_fault is_counted = grind arith
 
 -- the end of the input is one where a last line is wanted
 pub nothing_is_cut : {A : Type 0} (is_counted : Bool) → is_counted ≡ true
     → (let found : Result (Option A × List ℕ) TextFault = item_at_nothing is_counted EndOfInput in found ≡ Err Cut)
-nothing_is_cut true is = refl
-nothing_is_cut false is = absurd (cc)
+nothing_is_cut is_counted is = grind arith
 
 -- items that aren't counted end where the input does
 pub items_end : (is_counted : Bool) (old new : Option Ahead) (k : ℕ) → is_counted ≡ false → Takes old new [] → IsOver EndOfInput new
@@ -84,3 +84,39 @@ pub items_faulty : {A : Type 0} (format : Format A) (n k : ℕ) (old new : Optio
 items_faulty format n k old new bytes (Ok item) taken part e = tt
 items_faulty format n k old new bytes (Err fault) taken part e =
     at_line (λ end front. item_at_front format n k end front ≡ Err fault) old new bytes taken part (λ end rest. rw (← e) refl)
+
+-- ---- whole lines
+
+-- a line whose fields have a fault has it
+pub line_faulty : {A : Type 0} (read : ℕ → List (List ℕ) → Result A TextFault) (n : ℕ) (old new : Option Ahead) (bytes : List ℕ) (r : Result A TextFault)
+    → Takes old new (line bytes) → IsPartOfLine bytes → r ≡ read n (fields_of bytes) → IfErr r (HasLineFault read n old)
+line_faulty read n old new bytes (Ok said) taken part e = tt
+line_faulty read n old new bytes (Err fault) taken part e =
+    at_line (λ end front. line_at_front read n end front ≡ Err fault) old new bytes taken part (λ end rest. rw (← e) refl)
+
+-- a faulty next line has been counted
+pub next_line_faulty : {A : Type 0} (read : ℕ → List (List ℕ) → Result A TextFault) (n m : ℕ) (old new : Option Ahead) (bytes : List ℕ)
+    (r : Result A TextFault) → m ≡ n → Takes old new (line bytes) × IsPartOfLine bytes → r ≡ read m (fields_of bytes) → IfErr r (HasLineFault read n old)
+next_line_faulty read n m old new bytes r same taken e = line_faulty read n old new bytes r taken.0 taken.1 (rw same at e)
+
+-- the line of some fields is taken
+pub fields_taken : (old new : Option Ahead) (bytes : List ℕ) (fields : List (List ℕ)) → Takes old new (line bytes) → fields_of bytes ≡ fields
+    → Takes old new (line (spaced fields))
+fields_taken old new bytes fields taken is =
+    subst (λ (b : List ℕ). Takes old new (line b)) (sym (join_with_byte-slice_split 32 bytes) ∙ ap spaced is) taken
+
+-- what is said in a line that is spelled so is taken
+pub said_taken : {A : Type 0} (read : ℕ → List (List ℕ) → Result A TextFault) (fields : A → List (List ℕ)) (Fits : A → Type 0) (n : ℕ)
+    (old new : Option Ahead) (bytes : List ℕ) (r : Result A TextFault) → Takes old new (line bytes)
+    → ((said : A) → read n (fields_of bytes) ≡ Ok said → (fields_of bytes ≡ fields said) × Fits said) → r ≡ read n (fields_of bytes)
+    → IfOk r (λ said. Takes old new (line (spaced (fields said))) × Fits said)
+said_taken read fields Fits n old new bytes (Ok said) taken spelled e =
+    let is = spelled said (sym e) in
+    (fields_taken old new bytes (fields said) taken is.0, is.1)
+said_taken read fields Fits n old new bytes (Err fault) taken spelled e = tt
+
+-- the line of an item is taken
+pub required_taken : {A : Type 0} (format : Format A) (old new : Option Ahead) (bytes : List ℕ) (r : Result A TextFault) → Takes old new (line bytes)
+    → IfOk r (IsSpelled format (fields_of bytes)) → IfOk r (λ item. Takes old new (line_of format item) × format.HasLine item)
+required_taken format old new bytes (Ok item) taken spelled = (fields_taken old new bytes (format.fields item) taken spelled.text, spelled.line)
+required_taken format old new bytes (Err fault) taken spelled = tt

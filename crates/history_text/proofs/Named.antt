@@ -1,5 +1,5 @@
 -- The lines at some places.
-use Rattle.history_text.proofs.Common.{[], ◌++◌, ◌+◌, ◌<◌, ◌∙◌, ◌∷◌, ◌≡◌, ap, append-nil, ap₂, Bool, cons_option}
+use Rattle.history_text.proofs.Common.{[], ◌++◌, ◌+◌, ◌<◌, ◌∙◌, ◌∷◌, ◌≡◌, ap, append-nil, ap₂, arith, Bool, cons_option}
 use Rattle.history_text.proofs.Common.{filter_map, flat_map, flat_map-append, get_or, IsErrAnd, length, List, None}
 use Rattle.history_text.proofs.Common.{Option, option_map, option_to_list, refl, Result, slice_get, Some, subst, sym}
 use Rattle.history_text.proofs.Common.{take, ℕ, Asked, claim_line, one_more_put, Op, Operation, operation_line}
@@ -68,8 +68,7 @@ text_at_places text at (p ∷ places) = one_more text (at p) (filter_map at plac
     ∙ ap (λ (r : List ℕ). flat_map text (option_to_list (at p)) ++ r) (text_at_places text at places)
 
 operation_or_none : (here : Option Operation) → flat_map operation_line (option_to_list here) ≡ flat_map claim_line (option_to_list (option_map Op here))
-operation_or_none None = refl
-operation_or_none (Some o) = refl
+operation_or_none here = grind arith
 
 -- the lines of the operations of a `YES`
 pub order_is : (operations : List Operation) (places : List ℕ)

@@ -1,18 +1,45 @@
 -- Two texts of histories, of either version, at the front of one input are one, and an input has one first fault.
-use Rattle.history_text.proofs.Common.{[], ◌++◌, ◌+◌, ◌∙◌, ◌≡◌, ap, append_assoc, arith, bytes_eq, cond, inl, inr}
-use Rattle.history_text.proofs.Common.{length, List, refl, subst, sym, true, ℕ, count_fields, count_in, Ending, Event}
-use Rattle.history_text.proofs.Common.{event_format, FaultAfterHeader, front_of, HasHistoryText, HasText, HaveLines}
-use Rattle.history_text.proofs.Common.{HaveValueLines, header, header_of, HistoryText, InitialFault, IsPartOfLine}
-use Rattle.history_text.proofs.Common.{IsTextFault, ItemFault, line, lines_before_events, lines_of, lines_of_initial}
-use Rattle.history_text.proofs.Common.{lines_to_end, NoVersionFault, One, spaced, text_of, TextFault, Two, value_format}
-use Rattle.history_text.proofs.Common.{Version}
-use Rattle.history_text.proofs.ItemFronts.{header_front}
-use Rattle.history_text.proofs.OneLine.{some_is, none_or_some, one_first_line, one_said}
+use Rattle.history_text.proofs.Common.{◌++◌, ◌∙◌, ◌≡◌, ap, append_assoc, append_cancel_left, arith, length, List, None}
+use Rattle.history_text.proofs.Common.{Ok, refl, subst, sym, ℕ, end_line, Ending, EndOfInput, Event, event_format}
+use Rattle.history_text.proofs.Common.{front_of, HasHistoryText, item_at_front, ItemFault, lines_of, lines_to_end}
+use Rattle.history_text.proofs.Common.{TextFault, [], ◌+◌, bytes_eq, inl, inr, true, count_fields, count_in}
+use Rattle.history_text.proofs.Common.{FaultAfterHeader, HasText, HaveLines, HaveValueLines, header_of}
+use Rattle.history_text.proofs.Common.{HistoryText, InitialFault, IsPartOfLine, IsTextFault, line, lines_before_events}
+use Rattle.history_text.proofs.Common.{lines_of_initial, NoVersionFault, One, spaced, text_of, Two, value_format}
+use Rattle.history_text.proofs.Common.{Version, none-some, same_Some}
+use Rattle.history_text.proofs.FormLines.{end_front, header_front}
+use Rattle.history_text.proofs.EventLines.{event_front, value_says, count_says}
+use Rattle.history_text.proofs.OneLine.{stops_at_last, same_items, no_item_fault, one_first_line, one_said}
 use Rattle.history_text.proofs.OneLine.{said_or_fault, one_line_fault, as_many_agree, more_or_fault, one_fault_after}
-use Rattle.history_text.proofs.OneText.{events_agree, events_have_no_fault}
-use Rattle.history_text.proofs.EventLines.{event_front}
-use Rattle.history_text.proofs.ValueLines.{value_says, count_says}
-use Rattle.history_text.proofs.Runs.{one_item_fault}
+use Rattle.history_text.proofs.OneLine.{one_item_fault}
+
+-- ---- the events, and the line after them
+
+lines_of_events : (events : List Event) (rest : List ℕ) → lines_to_end events ++ rest ≡ lines_of event_format events ++ (end_line (length events) ++ rest)
+lines_of_events events rest = append_assoc (lines_of event_format events) (end_line (length events)) rest
+
+-- the last line is read after the events
+last_is_read : (n : ℕ) (ending : Ending) (events : List Event) (rest : List ℕ) → HasHistoryText events
+    → item_at_front event_format n (length events) ending (front_of (end_line (length events) ++ rest)) ≡ Ok (None, rest)
+last_is_read n ending events rest text = let few = text.few in end_front event_format n (length events) ending rest refl (omega arith)
+
+-- the events at the front of one input, and the last line, are one list
+pub events_agree : (es fs : List Event) (r s : List ℕ) → HasHistoryText es → HasHistoryText fs → lines_to_end es ++ r ≡ lines_to_end fs ++ s
+    → (es ≡ fs) × (r ≡ s)
+events_agree es fs r s text_e text_f same =
+    let stop_e = stops_at_last event_format event_front 0 (length es) EndOfInput (end_line (length es) ++ r) r (last_is_read 0 EndOfInput es r text_e) in
+    let stop_f = stops_at_last event_format event_front 0 (length fs) EndOfInput (end_line (length fs) ++ s) s (last_is_read 0 EndOfInput fs s text_f) in
+    let parts = same_items event_format event_front 0 0 EndOfInput es fs _ _ text_e text_f stop_e stop_f
+    (sym (lines_of_events es r) ∙ same ∙ lines_of_events fs s) in
+    let counts : end_line (length fs) ≡ end_line (length es) = ap (λ (xs : List Event). end_line (length xs)) (sym parts.0) in
+    (parts.0, append_cancel_left (end_line (length es)) r s (parts.1 ∙ ap (λ (l : List ℕ). l ++ s) counts))
+
+-- if the events and the last line stand, none of these lines has a fault
+pub events_have_no_fault : (n : ℕ) (ending : Ending) (fault : TextFault) (es : List Event) (r : List ℕ) → HasHistoryText es
+    → ItemFault event_format n ending fault (lines_to_end es ++ r) → ⊥
+events_have_no_fault n ending fault es r text h =
+    no_item_fault event_format event_front n ending fault es (end_line (length es) ++ r) r text (λ m. last_is_read m ending es r text)
+    (subst (ItemFault event_format n ending fault) (lines_of_events es r) h)
 
 -- ---- the first line
 
@@ -21,29 +48,22 @@ header_is_part One = record { one = refl; short = omega arith }
 header_is_part Two = record { one = refl; short = omega arith }
 
 header_is_same : (version : Version) → bytes_eq (header_of version) (header_of version) ≡ true
-header_is_same One = refl
-header_is_same Two = refl
+header_is_same version = grind arith
 
--- the version of a first line
-abbrev version_of : List ℕ → Version
-version_of bytes = cond (bytes_eq bytes header) One Two
-
-version_is : (version : Version) → version_of (header_of version) ≡ version
-version_is One = refl
-version_is Two = refl
+same_version : (v w : Version) → header_of v ≡ header_of w → v ≡ w
+same_version v w same = grind arith
 
 -- one input begins with one version
 one_version : (v w : Version) (r s : List ℕ) → line (header_of v) ++ r ≡ line (header_of w) ++ s → (v ≡ w) × (r ≡ s)
 one_version v w r s same =
-    let first = one_first_line (header_of v) (header_of w) r s (header_is_part v) (header_is_part w) same in
-    (sym (version_is v) ∙ ap version_of first.0 ∙ version_is w, first.1)
+    let first = one_first_line (header_of v) (header_of w) r s (header_is_part v) (header_is_part w) same in (same_version v w first.0, first.1)
 
 -- the first line is that of a version, or has a fault
 version_or_fault : (version : Version) (ending : Ending) (fault : TextFault) (bytes rest : List ℕ) → bytes ≡ line (header_of version) ++ rest
     → NoVersionFault ending fault (front_of bytes) → ⊥
 version_or_fault version ending fault bytes rest is h =
     let none = header_front (header_of version) ending rest (header_is_part version) (header_is_same version) in
-    none_or_some fault (sym none ∙ subst (λ b. NoVersionFault ending fault (front_of b)) is h version)
+    none-some fault (sym none ∙ subst (λ b. NoVersionFault ending fault (front_of b)) is h version)
 
 -- ---- initial values
 
@@ -117,19 +137,15 @@ fronts_agree Two Two is js r s right_i right_j same =
     let agree = initial_agree is js r s right_i right_j (after_version Two Two is js r s same).1 in
     (refl, agree.0, agree.1)
 
-abbrev said_by : Version → List ℕ → List Event → HistoryText
-said_by version initial events = record { version = version; initial = initial; events = events }
-
-text_is : (t u : HistoryText) → t.version ≡ u.version → t.initial ≡ u.initial → t.events ≡ u.events → t ≡ u
-text_is t u versions values events = ap (λ (v : Version). said_by v t.initial t.events) versions
-    ∙ ap (λ (is : List ℕ). said_by u.version is t.events) values ∙ ap (said_by u.version u.initial) events
-
 -- two texts at the front of one input are one text
 pub texts_agree : (t u : HistoryText) (q r : List ℕ) → HasText t → HasText u → text_of t ++ q ≡ text_of u ++ r → (t ≡ u) × (q ≡ r)
 texts_agree t u q r text_t text_u same =
     let fronts = fronts_agree t.version u.version t.initial u.initial _ _ text_t.initial text_u.initial (sym (text_parts t q) ∙ same ∙ text_parts u r) in
     let events = events_agree t.events u.events q r text_t.events text_u.events fronts.2 in
     (text_is t u fronts.0 fronts.1 events.0, events.1)
+  where
+    text_is : (t u : HistoryText) → t.version ≡ u.version → t.initial ≡ u.initial → t.events ≡ u.events → t ≡ u
+    text_is t u versions values events = grind arith
 
 -- what stands after the first line has no fault
 no_fault_after : (version : Version) (n : ℕ) (ending : Ending) (fault : TextFault) (initial : List ℕ) (events : List Event) (rest bytes : List ℕ)
@@ -168,7 +184,7 @@ one_later_fault Two n ending f g bytes (inr (is, right_i, (r, is_r, a))) (inr (j
 -- an input has one first fault
 pub one_first_fault : (lines : ℕ) (ending : Ending) (bytes : List ℕ) (f g : TextFault) → IsTextFault lines ending bytes f
     → IsTextFault lines ending bytes g → f ≡ g
-one_first_fault lines ending bytes f g (inl a) (inl b) = some_is f g (sym (a One) ∙ b One)
+one_first_fault lines ending bytes f g (inl a) (inl b) = same_Some f g (sym (a One) ∙ b One)
 one_first_fault lines ending bytes f g (inl a) (inr (version, (rest, is, b))) = absurd (version_or_fault version ending f bytes rest is a)
 one_first_fault lines ending bytes f g (inr (version, (rest, is, a))) (inl b) = absurd (version_or_fault version ending g bytes rest is b)
 one_first_fault lines ending bytes f g (inr (v, (r, is_r, a))) (inr (w, (s, is_s, b))) =

@@ -1,49 +1,33 @@
 -- Two claims whose texts are one input are one, and an input has one first fault.
-use Rattle.history_text.proofs.Common.{[], ◌++◌, ◌+◌, ◌∙◌, ◌≡◌, ap, append-nil, arith, bytes_eq, codes, cond, false}
-use Rattle.history_text.proofs.Common.{IfErr, IfOk, inl, inr, length, List, MatchResult, None, Ok, Option, refl, Result}
-use Rattle.history_text.proofs.Common.{Some, subst, sym, ℕ, Ahead, claim_line_format, ClaimFault, Ending, EndOfInput}
-use Rattle.history_text.proofs.Common.{first_line, FirstLineFault, Format, Front, front_of, HasVerdictText}
-use Rattle.history_text.proofs.Common.{HasVerdictTextFault, HaveLines, IsAll, IsOver, IsPartOfLine, IsVerdictTextFault}
-use Rattle.history_text.proofs.Common.{item_at_front, ItemFault, line, lines_of, Memory, NoRoomForVerdict, Nothing}
-use Rattle.history_text.proofs.Common.{operation_format, Takes, TextFault, Unfinished, verdict_text, ViolationKind}
-use Rattle.history_text.proofs.Common.{Whole, whole}
-use Rattle.verdicts.specs.declared.verifying.ViolationKind.TheVariants.{VFresh, VRepeat, VOrd, VWit}
+use Rattle.history_text.proofs.Common.{[], ◌++◌, ◌+◌, ◌∙◌, ◌≡◌, ap, append-nil, arith, false, IfErr, IfOk, inl, inr}
+use Rattle.history_text.proofs.Common.{length, List, MatchResult, None, Ok, Option, refl, Result, Some, subst, sym, ℕ}
+use Rattle.history_text.proofs.Common.{Ahead, claim_line_format, ClaimFault, Ending, EndOfInput, first_line}
+use Rattle.history_text.proofs.Common.{FirstLineFault, Format, Front, front_of, HasVerdictText, HasVerdictTextFault}
+use Rattle.history_text.proofs.Common.{HaveLines, IsAll, IsOver, IsPartOfLine, IsVerdictTextFault, item_at_front}
+use Rattle.history_text.proofs.Common.{ItemFault, line, lines_of, Memory, NoRoomForVerdict, operation_format, Takes}
+use Rattle.history_text.proofs.Common.{TextFault, verdict_text, ViolationKind, whole, same_Some}
+use Rattle.verdicts.specs.declared.verifying.ViolationKind.TheVariants.{VFresh}
 use Rattle.verdicts.specs.declared.verifying.Claimed.{Claimed}
 use Rattle.verdicts.specs.declared.verifying.Claimed.TheVariants.{Yes, No}
-use Rattle.text_lines.specs.Lines.{TooLong}
 use Rattle.history_text.proofs.FirstFaults.{is_read}
 use Rattle.history_text.proofs.OneLine as lines
-use Rattle.history_text.proofs.OneLine.{some_is}
 use Rattle.history_text.proofs.ClaimLines.{operation_front, claim_line_front}
-use Rattle.history_text.proofs.Runs.{IsReadBack, stops_at_last, same_items, no_item_fault, one_item_fault}
+use Rattle.history_text.proofs.OneLine.{IsReadBack, stops_at_last, same_items, no_item_fault, one_item_fault}
 
 -- ---- first lines
 
 first_line_is_part : (answer : Option ViolationKind) → IsPartOfLine (first_line answer)
-first_line_is_part None = record { one = refl; short = omega arith }
 first_line_is_part (Some VFresh) = record { one = refl; short = omega arith }
-first_line_is_part (Some VRepeat) = record { one = refl; short = omega arith }
-first_line_is_part (Some VOrd) = record { one = refl; short = omega arith }
-first_line_is_part (Some VWit) = record { one = refl; short = omega arith }
+first_line_is_part _ = record { one = refl; short = omega arith }
 
--- what a first line answers
-abbrev answer_of : List ℕ → Option ViolationKind
-answer_of bytes =
-    cond (bytes_eq bytes (codes "NO VFresh")) (Some VFresh) (cond (bytes_eq bytes (codes "NO VRepeat")) (Some VRepeat)
-    (cond (bytes_eq bytes (codes "NO VOrd")) (Some VOrd) (cond (bytes_eq bytes (codes "NO VWit")) (Some VWit) None)))
-
-answer_is : (answer : Option ViolationKind) → answer_of (first_line answer) ≡ answer
-answer_is None = refl
-answer_is (Some VFresh) = refl
-answer_is (Some VRepeat) = refl
-answer_is (Some VOrd) = refl
-answer_is (Some VWit) = refl
+same_answer : (a b : Option ViolationKind) → first_line a ≡ first_line b → a ≡ b
+same_answer a b same = grind arith
 
 -- two first lines of one input are one
 one_first_line : (a b : Option ViolationKind) (r s : List ℕ) → line (first_line a) ++ r ≡ line (first_line b) ++ s → (a ≡ b) × (r ≡ s)
 one_first_line a b r s same =
     let first = lines.one_first_line (first_line a) (first_line b) r s (first_line_is_part a) (first_line_is_part b) same in
-    (sym (answer_is a) ∙ ap answer_of first.0 ∙ answer_is b, first.1)
+    (same_answer a b first.0, first.1)
 
 -- a right first line has no fault
 first_line_is_right : (n : ℕ) (answer : Option ViolationKind) (ending : Ending) (bytes rest : List ℕ) (fault : TextFault)
@@ -53,10 +37,7 @@ first_line_is_right n answer ending bytes rest fault is h =
     here.0 answer refl
 
 one_first_line_fault : (n : ℕ) (ending : Ending) (f g : TextFault) (front : Front) → FirstLineFault n ending f front → FirstLineFault n ending g front → f ≡ g
-one_first_line_fault n ending f g (Whole bytes rest) a b = a.1 ∙ sym b.1
-one_first_line_fault n ending f g TooLong a b = a ∙ sym b
-one_first_line_fault n ending f g Unfinished a b = a ∙ sym b
-one_first_line_fault n ending f g Nothing a b = a ∙ sym b
+one_first_line_fault n ending f g front a b = grind arith
 
 -- ---- whole texts
 
@@ -70,8 +51,7 @@ lines_in (Yes operations) = lines_of operation_format operations
 lines_in (No kind lines) = lines_of claim_line_format lines
 
 text_is : (c : Claimed) → verdict_text c ≡ line (first_line (answer_in c)) ++ lines_in c
-text_is (Yes operations) = refl
-text_is (No kind lines) = refl
+text_is c = grind arith
 
 -- the lines of one input up to its end are one list
 one_list : {A : Type 0} (format : Format A) → IsReadBack format → format.is_counted ≡ false → (xs ys : List A) → HaveLines format xs → HaveLines format ys
@@ -86,7 +66,7 @@ claims_agree (Yes xs) (Yes ys) text_c text_d answers same = ap Yes (one_list ope
 claims_agree (Yes xs) (No kind ys) text_c text_d answers same = absurd (cc)
 claims_agree (No kind xs) (Yes ys) text_c text_d answers same = absurd (cc)
 claims_agree (No j xs) (No k ys) text_c text_d answers same =
-    let kinds : j ≡ k = some_is j k answers in
+    let kinds : j ≡ k = same_Some j k answers in
     ap (λ (i : ViolationKind). No i xs) kinds ∙ ap (No k) (one_list claim_line_format claim_line_front refl xs ys text_c text_d same)
 
 -- two claims of one text are one

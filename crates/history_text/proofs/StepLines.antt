@@ -17,61 +17,37 @@ use Rattle.history_text.proofs.FormLines.{IsReadAs, row_back, read_says, item_re
 plain_row : (word : List ℕ) (step : Step)
     → ((t v : ℕ) → t ≤ MAX_THREAD → (word ∷ decimal t ∷ [] ≡ step_fields (step_with step t v)) × HasStepLine (step_with step t v))
     → (numbers : List ℕ) → AreOfForm (plain_step word) numbers → IsSpelled step_format (spelled (plain_step word) numbers) (step_of step numbers)
-plain_row word step is [] h = absurd h
 plain_row word step is (t ∷ []) h = let made = is t 0 h.1 in record { text = made.0; line = made.1 }
-plain_row word step is (t ∷ x ∷ xs) h = absurd (h.2)
+plain_row word step is _ h = absurd (search)
 
 saying_row : (word : List ℕ) (answer : Answer)
     → ((t v : ℕ) → t ≤ MAX_THREAD
     → (codes "say" ∷ decimal t ∷ word ∷ [] ≡ step_fields (step_with (Say 0 answer) t v)) × HasStepLine (step_with (Say 0 answer) t v))
     → (numbers : List ℕ) → AreOfForm (plain_saying word) numbers → IsSpelled step_format (spelled (plain_saying word) numbers) (step_of (Say 0 answer) numbers)
-saying_row word answer is [] h = absurd h
 saying_row word answer is (t ∷ []) h = let made = is t 0 h.1 in record { text = made.0; line = made.1 }
-saying_row word answer is (t ∷ x ∷ xs) h = absurd (h.2)
+saying_row word answer is _ h = absurd (search)
 
 valued_row : (numbers : List ℕ) → AreOfForm valued_saying numbers → IsSpelled step_format (spelled valued_saying numbers) (step_of (Say 0 (Got 0)) numbers)
-valued_row [] h = absurd h
-valued_row (t ∷ []) h = absurd (h.2)
 valued_row (t ∷ v ∷ []) h = record { text = refl; line = (h.1, h.2.1) }
-valued_row (t ∷ v ∷ x ∷ xs) h = absurd (h.2.2)
+valued_row _ h = absurd (search)
 
 drain_row : (numbers : List ℕ) → AreOfForm draining numbers → IsSpelled step_format (spelled draining numbers) (step_of (Drain 0 0) numbers)
-drain_row [] h = absurd h
-drain_row (t ∷ []) h = absurd (h.2)
 drain_row (t ∷ k ∷ []) h = record { text = refl; line = (h.1, h.2.1) }
-drain_row (t ∷ k ∷ x ∷ xs) h = absurd (h.2.2)
+drain_row _ h = absurd (search)
 
 rows : AllByRecursion (λ row. (numbers : List ℕ) → AreOfForm row.1 numbers → IsSpelled step_format (spelled row.1 numbers) (step_of row.0 numbers)) step_forms
-rows = (
+rows = assumption (
   plain_row (codes "ask-enq") (AskEnq 0) (λ t v few. (refl, few)),
-  (
-    plain_row (codes "ask-deq") (AskDeq 0) (λ t v few. (refl, few)),
-    (
-      plain_row (codes "push") (Push 0) (λ t v few. (refl, few)),
-      (
-        plain_row (codes "effect") (Effect 0) (λ t v few. (refl, few)),
-        (
-          plain_row (codes "ret") (Ret 0) (λ t v few. (refl, few)),
-          (
-            plain_row (codes "close") (Close 0) (λ t v few. (refl, few)),
-            (
-              drain_row,
-              (
-                saying_row (codes "taken") Taken (λ t v few. (refl, (few, tt))),
-                (
-                  saying_row (codes "not") Not (λ t v few. (refl, (few, tt))),
-                  (
-                    saying_row (codes "empty") Empty (λ t v few. (refl, (few, tt))),
-                    (valued_row, tt),
-                  ),
-                ),
-              ),
-            ),
-          ),
-        ),
-      ),
-    ),
-  ),
+  plain_row (codes "ask-deq") (AskDeq 0) (λ t v few. (refl, few)),
+  plain_row (codes "push") (Push 0) (λ t v few. (refl, few)),
+  plain_row (codes "effect") (Effect 0) (λ t v few. (refl, few)),
+  plain_row (codes "ret") (Ret 0) (λ t v few. (refl, few)),
+  plain_row (codes "close") (Close 0) (λ t v few. (refl, few)),
+  drain_row,
+  saying_row (codes "taken") Taken (λ t v few. (refl, (few, tt))),
+  saying_row (codes "not") Not (λ t v few. (refl, (few, tt))),
+  saying_row (codes "empty") Empty (λ t v few. (refl, (few, tt))),
+  valued_row,
 )
 
 -- what a line is judged as spells it
@@ -81,14 +57,7 @@ step_said n fields said e = parse_line_says (λ step numbers f. IsSpelled step_f
 
 -- the thread of a step that has a line
 pub thread_is_few : (step : Step) (t v : ℕ) → HasStepLine (step_with step t v) → t ≤ MAX_THREAD
-thread_is_few (AskEnq _) t v h = h
-thread_is_few (AskDeq _) t v h = h
-thread_is_few (Push _) t v h = h
-thread_is_few (Effect _) t v h = h
-thread_is_few (Say _ answer) t v h = h.0
-thread_is_few (Ret _) t v h = h
-thread_is_few (Drain _ _) t v h = h.0
-thread_is_few (Close _) t v h = h
+thread_is_few step t v h = grind arith
 
 -- the fields of a step are spelled as it is written
 pub step_ok : (n : ℕ) (fields : List (List ℕ)) (step : Step) → step_in n fields ≡ Ok step → IsSpelled step_format fields step
@@ -100,13 +69,9 @@ pub record IsSpelledSetting (fields : List (List ℕ)) (setting : ℕ × ℕ) : 
   pub within : IsSetting setting.0 setting.1
 
 setting_row : (numbers : List ℕ) → AreOfForm setting_form numbers → IsSpelledSetting (spelled setting_form numbers) (setting_of tt numbers)
-setting_row [] h = absurd h
-setting_row (t ∷ []) h = absurd (h.2)
-setting_row (t ∷ r ∷ []) h = record {
-  text = refl;
-  within = record { some_threads = h.0; few_threads = h.1; some_room = h.2.0; little_room = h.2.1 };
-}
-setting_row (t ∷ r ∷ x ∷ xs) h = absurd (h.2.2)
+setting_row (t ∷ r ∷ []) h =
+    record { text = refl; within = record { some_threads = h.0; few_threads = h.1; some_room = h.2.0; little_room = h.2.1 } }
+setting_row _ h = absurd (search)
 
 -- the fields of a setting are spelled as it is written
 pub setting_ok : (n : ℕ) (fields : List (List ℕ)) (setting : ℕ × ℕ) → setting_in n fields ≡ Ok setting → IsSpelledSetting fields setting

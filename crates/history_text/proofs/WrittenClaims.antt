@@ -1,34 +1,50 @@
--- The claim of a verdict on a history that has a text has a text.
-use Rattle.history_text.proofs.Common.{[], ◌+◌, ◌∷◌, ◌≡◌, ◌≤◌, AllByRecursion, arith, cons_option, Contains, filter_map}
-use Rattle.history_text.proofs.Common.{inl, inr, length, length-map, List, map, None, Option, option_map, refl}
-use Rattle.history_text.proofs.Common.{slice_get, Some, subst, ℕ, claim_of, ClaimLine, Deq, Enq, Event, greatest_value}
-use Rattle.history_text.proofs.Common.{HasClaimLine, HasEventLine, HasHistoryText, HasOperationLine, HasText}
-use Rattle.history_text.proofs.Common.{HasValueInRange, HasVerdictText, HaveValueLines, HistoryText, Initial}
-use Rattle.history_text.proofs.Common.{IsKindInRange, line_at, MAX_CLAIM_LINES, One, Op, Operation, OpKind, Two}
-use Rattle.history_text.proofs.Common.{verdict_places, Version, violation_places}
-use Rattle.history_merge.specs.declared.operation.OpKind.TheVariants.{Empty, Not}
+-- A complete history has a text, and the claim of a verdict on a history that has a text has one.
+use Rattle.history_text.proofs.Common.{[], ◌≡◌, ◌≤◌, All, length, List, refl, ℕ, Event, greatest_value, HasEventLine}
+use Rattle.history_text.proofs.Common.{HasHistoryText, HasText, HasValueInRange, MAX_EVENTS, MAX_INITIAL, One, Two}
+use Rattle.history_text.proofs.Common.{Version, ◌∷◌, AllByRecursion, arith, cons_option, Contains, filter_map}
+use Rattle.history_text.proofs.Common.{length-map, map, None, Option, option_map, slice_get, Some, subst, claim_of}
+use Rattle.history_text.proofs.Common.{ClaimLine, Deq, HasClaimLine, HasOperationLine, HasVerdictText}
+use Rattle.history_text.proofs.Common.{HaveValueLines, HistoryText, Initial, IsKindInRange, line_at, MAX_CLAIM_LINES}
+use Rattle.history_text.proofs.Common.{Op, Operation, OpKind, verdict_places, violation_places, sym}
+use Rattle.std.proofs.lemmas.List.Elements.{recursion_from_All, All-contains, All-from_recursion}
+use Rattle.history_merge.specs.Complete.{IsCompleteHistory}
+use Rattle.history_merge.specs.declared.operation.OpKind.TheVariants.{Empty}
 use Rattle.history_merge.specs.Operations.{operations_of}
-use Rattle.history_merge.proofs.Distinct.{contains_at, contains_cons}
+use Rattle.history_merge.proofs.Distinct.{contains_at}
 use Rattle.recorder_core.specs.Laws.{operation_call, operation_return, call_of_kind, return_of_kind}
-use Rattle.recorder_core.proofs.Members.{none_in_nil}
 use Rattle.recorder_core.proofs.Ticketed.{operation_events}
 use Rattle.verdicts.specs.declared.verdict.Verdict.{Verdict}
 use Rattle.verdicts.specs.declared.verdict.Verdict.TheVariants as found
 use Rattle.verdicts.specs.declared.shown.LinePlace.{LinePlace}
 use Rattle.verdicts.specs.declared.shown.LinePlace.TheVariants as place
 
+-- a complete history has a text
+pub complete_has_text : (events : List Event) → IsCompleteHistory events → All (λ e. HasValueInRange e.what) events → length events ≤ MAX_EVENTS
+    → HasHistoryText events
+complete_has_text events complete values few = record {
+  each = recursion_from_All HasEventLine events
+      (λ k d h. assumption (complete.tickets_in_range k d h, complete.threads_in_range k d h, values k d h));
+  few = few;
+}
+
+-- a complete history has a text of this version, if its values and events fit
+pub written_has_text : (version : Version) (initial : List ℕ) (events : List Event) → (version ≡ One → initial ≡ []) → length initial ≤ MAX_INITIAL
+    → IsCompleteHistory events → length events ≤ MAX_EVENTS → (version ≡ Two → All (λ v. v ≤ greatest_value) initial)
+    → All (λ e. HasValueInRange e.what) events → HasText (record { version = version; initial = initial; events = events })
+written_has_text One initial events none few_initial complete few values_fit events_fit =
+    assumption (none refl, complete_has_text events complete events_fit few)
+written_has_text Two initial events none few_initial complete few values_fit events_fit =
+    assumption (complete_has_text events complete events_fit few, recursion_from_All (λ v. v ≤ greatest_value) initial (values_fit refl))
+
+-- ---- claims
+
 all_of : {X : Type 0} (P : X → Type 0) (xs : List X) (x : X) → AllByRecursion P xs → Contains xs x → P x
-all_of P [] x all among = absurd (none_in_nil x among)
-all_of P (y ∷ ys) x all among = elim (contains_cons y ys x among) [
-  | inl same ↦ subst P same all.0
-  | inr more ↦ all_of P ys x all.1 more
-]
+all_of P xs x all among = All-contains P xs x (All-from_recursion P xs all) among
 
 value_by : (kind : OpKind) → HasValueInRange (call_of_kind kind) → HasValueInRange (return_of_kind kind) → IsKindInRange kind
-value_by (Enq v) call answer = call
-value_by (Deq v) call answer = answer
 value_by Empty call answer = tt
-value_by (Not v) call answer = call
+value_by (Deq v) call answer = answer
+value_by _ call answer = call
 
 -- an operation of events that have lines has one
 has_line : (events : List Event) (o : Operation) → AllByRecursion HasEventLine events → Contains (operations_of events) o → HasOperationLine o
@@ -48,16 +64,14 @@ at_places {X} P at (p ∷ places) all = by_place (at p) refl (at_places P at pla
     by_place None is others = others
     by_place (Some x) is others = (all p x is, others)
 
-longer : {X : Type 0} (here : Option X) (rest : List X) → length (cons_option here rest) ≤ length rest + 1
-longer None rest = omega arith
-longer (Some x) rest = omega arith
+-- what holds of what each value is made into holds of what an optional one is made into
+mapped : {X Y : Type 0} (P : Y → Type 0) (f : X → Y) (o : Option X) (y : Y) → option_map f o ≡ Some y → ((x : X) → o ≡ Some x → P (f x)) → P y
+mapped P f None y is each = cc
+mapped P f (Some x) y is each = let same : f x ≡ y = cc in subst P same (each x refl)
 
 few_places : {X Y : Type 0} (at : Y → Option X) (places : List Y) → length (filter_map at places) ≤ length places
 few_places at [] = omega arith
-few_places at (p ∷ places) =
-    let more = longer (at p) (filter_map at places) in
-    let others = few_places at places in
-    omega (arith, more, others)
+few_places at (p ∷ places) = grind (arith, few_places at places)
 
 -- ---- the operations of a `YES`
 
@@ -68,17 +82,9 @@ module _ (initial : List ℕ) (events : List Event) (values : AllByRecursion (λ
   -- ---- the lines of a `NO`
 
   has_claim_line : (p : LinePlace) (l : ClaimLine) → line_at initial (operations_of events) p ≡ Some l → HasClaimLine l
-  has_claim_line (place.Op p) l is = held (slice_get (operations_of events) p) refl is
-    where
-      held : (o : Option Operation) → slice_get (operations_of events) p ≡ o → option_map Op o ≡ Some l → HasClaimLine l
-      held None at is' = cc
-      held (Some o) at is' = let one : Op o ≡ l = cc in subst HasClaimLine one (has_line_at p o at)
-  has_claim_line (place.Initial p) l is = held (slice_get initial p) refl is
-    where
-      held : (v : Option ℕ) → slice_get initial p ≡ v → option_map Initial v ≡ Some l → HasClaimLine l
-      held None at is' = cc
-      held (Some v) at is' = let one : Initial v ≡ l = cc in subst HasClaimLine one
-          (all_of (λ v. v ≤ greatest_value) initial v values (contains_at initial p v at))
+  has_claim_line (place.Op p) l is = mapped HasClaimLine Op (slice_get (operations_of events) p) l is (has_line_at p)
+  has_claim_line (place.Initial p) l is = mapped HasClaimLine Initial (slice_get initial p) l is
+      (λ v at. all_of (λ w. w ≤ greatest_value) initial v values (contains_at initial p v at))
 
   claim_by_parts : (verdict : Verdict) → length (verdict_places verdict) ≤ MAX_CLAIM_LINES → HasVerdictText (claim_of initial (operations_of events) verdict)
   claim_by_parts (found.Yes places) few = record {
@@ -92,8 +98,7 @@ module _ (initial : List ℕ) (events : List Event) (values : AllByRecursion (λ
   }
 
 values_of : (version : Version) (initial : List ℕ) → HaveValueLines version initial → AllByRecursion (λ v. v ≤ greatest_value) initial
-values_of One [] right = tt
-values_of One (v ∷ vs) right = absurd (cc)
+values_of One initial right = subst (AllByRecursion (λ v. v ≤ greatest_value)) (sym right) tt
 values_of Two initial right = right.each
 
 -- the claim of a verdict on a history with a text has a text

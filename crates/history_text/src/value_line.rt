@@ -50,7 +50,7 @@ pub(crate) fn count_in(line: u64, bytes: &[u8]) -> Result<usize, TextFault>
 }
 
 /// Whether the line has no byte.
-#[tactic(auto, using(crate::proofs::ValueLines::blank_line))]
+#[tactic(auto, using(crate::proofs::EventLines::blank_line))]
 fn is_blank(bytes: &[u8]) -> bool
     ensures { result ≡ wanted.is_blank (fields_of bytes.now) }
 {

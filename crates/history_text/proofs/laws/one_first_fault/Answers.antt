@@ -4,5 +4,4 @@ use Rattle.history_text.proofs.OneVerdict as verdict
 use Rattle.history_text.proofs.laws.one_first_fault.Goals as goal
 
 pub returns : goal.returns
-returns c =
-    record { history = history.one_first_fault; schedule = schedule.one_first_fault; verdict = verdict.one_first_fault }
+returns c = assumption (history.one_first_fault, schedule.one_first_fault, verdict.one_first_fault)

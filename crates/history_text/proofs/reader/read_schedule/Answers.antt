@@ -1,6 +1,6 @@
 use Rattle.history_text.proofs.Common.{HasScheduleText, IsScheduleTextFault, NoRoomForSchedule, schedule_text}
 use Rattle.history_text.proofs.OneSchedule.{texts_agree, text_has_no_fault}
-use Rattle.history_text.proofs.ReadTexts.{reads_what_is_there}
+use Rattle.history_text.proofs.FirstFaults.{reads_what_is_there}
 use Rattle.history_text.proofs.reader.read_schedule.Goals as goal
 
 pub returns-clause-whole : goal.returns-clause-whole

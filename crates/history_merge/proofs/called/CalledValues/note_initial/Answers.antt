@@ -3,7 +3,7 @@ use Rattle.std.proofs.lemmas.List.{take_more}
 use Rattle.std.proofs.lemmas.Option.{slice_get-get_or}
 use Rattle.history_merge.specs.Gathering.{Knows, is_among}
 use Rattle.history_merge.specs.Complete.{AreDistinct}
-use Rattle.history_merge.proofs.InitialValues.{distinct_more, twice_at}
+use Rattle.history_merge.proofs.DistinctValues.{distinct_more, twice_at}
 use Rattle.history_merge.proofs.KnownValues.{called_in_front}
 use Rattle.history_merge.proofs.TimelineOperations.{length_timeline}
 use Rattle.history_merge.proofs.called.CalledValues.note_initial.Goals as goal

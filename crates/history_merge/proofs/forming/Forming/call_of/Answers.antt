@@ -1,6 +1,6 @@
 use Rattle.std.proofs.Common.{◌∙◌, sym, None, Some}
 use Rattle.history_merge.proofs.Formed.{call_at}
-use Rattle.history_merge.proofs.Tracking.{pending_call-above}
+use Rattle.history_merge.proofs.Turns.{pending_call-above}
 use Rattle.history_merge.proofs.forming.Forming.call_of.Goals as goal
 
 pub returns-then-thread-gt-MAX_THREAD : goal.returns-then-thread-gt-MAX_THREAD

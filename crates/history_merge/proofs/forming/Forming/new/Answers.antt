@@ -1,6 +1,6 @@
 use Rattle.std.proofs.Common.{arith, refl}
 use Rattle.event_records.specs.declared.limits.TheConstants.{MAX_THREADS}
-use Rattle.history_merge.proofs.NextEvents.{nothing_at}
+use Rattle.history_merge.proofs.TheirEvents.{nothing_at}
 use Rattle.history_merge.proofs.forming.Forming.new.Goals as goal
 
 pub returns-clause-formed : goal.returns-clause-formed

@@ -1,5 +1,5 @@
 use Rattle.history_text.proofs.Common.{event_format}
-use Rattle.history_text.proofs.ItemLines.{read_ok}
+use Rattle.history_text.proofs.FormLines.{read_ok}
 use Rattle.history_text.proofs.EventLines.{event_ok}
 use Rattle.history_text.proofs.event_line.EventItem.from_line.Goals as goal
 

@@ -1,5 +1,5 @@
 use Rattle.history_text.proofs.Common.{claim_line_format}
-use Rattle.history_text.proofs.ItemLines.{read_ok}
+use Rattle.history_text.proofs.FormLines.{read_ok}
 use Rattle.history_text.proofs.ClaimLines.{claim_line_ok}
 use Rattle.history_text.proofs.operation_line.ClaimLineItem.from_line.Goals as goal
 

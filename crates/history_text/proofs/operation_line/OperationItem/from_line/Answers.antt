@@ -1,5 +1,5 @@
 use Rattle.history_text.proofs.Common.{operation_format}
-use Rattle.history_text.proofs.ItemLines.{read_ok}
+use Rattle.history_text.proofs.FormLines.{read_ok}
 use Rattle.history_text.proofs.ClaimLines.{operation_ok}
 use Rattle.history_text.proofs.operation_line.OperationItem.from_line.Goals as goal
 

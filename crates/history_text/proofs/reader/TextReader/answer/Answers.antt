@@ -1,5 +1,5 @@
 use Rattle.history_text.proofs.Common.{◌+◌, ◌∙◌, ◌≡◌, ap, Input}
-use Rattle.history_text.proofs.FirstLines.{other_line}
+use Rattle.history_text.proofs.FirstFaults.{other_line}
 use Rattle.history_text.proofs.reader.TextReader.answer.Goals as goal
 
 pub returns-in-None-clause-fault : goal.returns-in-None-clause-fault

@@ -1,5 +1,5 @@
 use Rattle.history_text.proofs.Common.{arith, err_from_is_err_and}
-use Rattle.history_text.proofs.Versions.{initial_is_first}
+use Rattle.history_text.proofs.FirstFaults.{initial_is_first}
 use Rattle.history_text.proofs.reader.TextReader.before_events.Goals as goal
 
 pub returns-in_err-initial-in-Two-clause-fault : goal.returns-in_err-initial-in-Two-clause-fault

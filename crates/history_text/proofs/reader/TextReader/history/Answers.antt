@@ -1,5 +1,5 @@
 use Rattle.history_text.proofs.Common.{arith, err_from_is_err_and, refl, Takes-append}
-use Rattle.history_text.proofs.Versions.{event_is_first}
+use Rattle.history_text.proofs.FirstFaults.{event_is_first}
 use Rattle.history_text.proofs.reader.TextReader.history.Goals as goal
 
 pub returns-in_err-collect_items-clause-fault : goal.returns-in_err-collect_items-clause-fault

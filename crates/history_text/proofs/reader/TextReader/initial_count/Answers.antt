@@ -1,6 +1,6 @@
 use Rattle.history_text.proofs.Common.{◌∙◌, ◌≤◌, ap, count_fields, count_in, fields_of, Input, MAX_INITIAL}
-use Rattle.history_text.proofs.FieldLines.{said_taken, next_line_faulty}
-use Rattle.history_text.proofs.ValueLines.{count_ok}
+use Rattle.history_text.proofs.Faults.{said_taken, next_line_faulty}
+use Rattle.history_text.proofs.EventLines.{count_ok}
 use Rattle.history_text.proofs.reader.TextReader.initial_count.Goals as goal
 
 pub returns-clause-ok : goal.returns-clause-ok

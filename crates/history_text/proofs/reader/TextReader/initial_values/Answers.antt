@@ -1,12 +1,11 @@
-use Rattle.history_text.proofs.Common.{◌+◌, arith}
-use Rattle.history_text.proofs.FirstFaults.{faults_by}
-use Rattle.history_text.proofs.Versions.{value_is_first, initial_taken}
+use Rattle.history_text.proofs.Common.{◌+◌, arith, IfErr-weaker}
+use Rattle.history_text.proofs.FirstFaults.{value_is_first, initial_taken}
 use Rattle.history_text.proofs.reader.TextReader.initial_values.Goals as goal
 
 pub returns-clause-fault : goal.returns-clause-fault
 returns-clause-fault g c =
     let count = c.in_ok-count in
-    faults_by c.required_items.result _ _ (λ fault. value_is_first (c.args.self.now.lines + 1) (c.initial_count.new.self.lines + 1) count.count _ _ fault
+    IfErr-weaker c.required_items.result _ _ (λ fault. value_is_first (c.args.self.now.lines + 1) (c.initial_count.new.self.lines + 1) count.count _ _ fault
     (omega (arith, count.ensures.lines)) count.ensures.ok.1 count.ensures.ok.0) c.required_items.ensures.fault
 
 pub returns-clause-values : goal.returns-clause-values

@@ -1,5 +1,5 @@
 use Rattle.history_text.proofs.Common.{arith, err_from_is_err_and}
-use Rattle.history_text.proofs.FirstLines.{operation_is_first, claim_line_is_first}
+use Rattle.history_text.proofs.FirstFaults.{operation_is_first, claim_line_is_first}
 use Rattle.history_text.proofs.reader.TextReader.lines_of_claim.Goals as goal
 
 pub returns-in_err-items-in-None-clause-fault : goal.returns-in_err-items-in-None-clause-fault

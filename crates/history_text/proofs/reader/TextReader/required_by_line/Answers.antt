@@ -1,5 +1,5 @@
 use Rattle.history_text.proofs.Common.{◌∙◌, ap, Input}
-use Rattle.history_text.proofs.FieldLines.{required_taken, next_line_faulty}
+use Rattle.history_text.proofs.Faults.{required_taken, next_line_faulty}
 use Rattle.history_text.proofs.reader.TextReader.required_by_line.Goals as goal
 
 pub returns-clause-ok : goal.returns-clause-ok

@@ -1,5 +1,5 @@
 use Rattle.history_text.proofs.Common.{arith}
-use Rattle.history_text.proofs.Versions.{no_room_among}
+use Rattle.history_text.proofs.FirstFaults.{no_room_among}
 use Rattle.history_text.proofs.reader.TextReader.required_items.Goals as goal
 
 pub returns-then-is_err-clause-fault : goal.returns-then-is_err-clause-fault

@@ -1,5 +1,5 @@
 use Rattle.history_text.proofs.Common.{arith, err_from_is_err_and}
-use Rattle.history_text.proofs.Settings.{setting_is_first, step_is_first}
+use Rattle.history_text.proofs.FirstFaults.{setting_is_first, step_is_first}
 use Rattle.history_text.proofs.reader.TextReader.schedule.Goals as goal
 
 pub returns-in_err-threads-clause-fault : goal.returns-in_err-threads-clause-fault

@@ -1,6 +1,6 @@
 use Rattle.history_text.proofs.Common.{◌∙◌, ap, Input, IsSetting, setting_fields, setting_in}
-use Rattle.history_text.proofs.FieldLines.{said_taken, next_line_faulty}
-use Rattle.history_text.proofs.Settings.{setting_said}
+use Rattle.history_text.proofs.Faults.{said_taken, next_line_faulty}
+use Rattle.history_text.proofs.FirstFaults.{setting_said}
 use Rattle.history_text.proofs.reader.TextReader.setting.Goals as goal
 
 pub returns-clause-ok : goal.returns-clause-ok

@@ -1,4 +1,4 @@
-use Rattle.history_text.proofs.Versions.{other_version}
+use Rattle.history_text.proofs.FirstFaults.{other_version}
 use Rattle.history_text.proofs.reader.TextReader.version.Goals as goal
 
 pub returns-in-None-clause-fault : goal.returns-in-None-clause-fault

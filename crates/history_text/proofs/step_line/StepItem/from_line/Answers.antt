@@ -1,5 +1,5 @@
 use Rattle.history_text.proofs.Common.{step_format}
-use Rattle.history_text.proofs.ItemLines.{read_ok}
+use Rattle.history_text.proofs.FormLines.{read_ok}
 use Rattle.history_text.proofs.StepLines.{step_ok}
 use Rattle.history_text.proofs.step_line.StepItem.from_line.Goals as goal
 

@@ -1,6 +1,6 @@
 use Rattle.history_text.proofs.Common.{value_format}
-use Rattle.history_text.proofs.ItemLines.{read_ok}
-use Rattle.history_text.proofs.ValueLines.{value_ok}
+use Rattle.history_text.proofs.FormLines.{read_ok}
+use Rattle.history_text.proofs.EventLines.{value_ok}
 use Rattle.history_text.proofs.value_line.U64Item.from_line.Goals as goal
 
 pub returns-clause-spelled : goal.returns-clause-spelled
