@@ -26,7 +26,7 @@ pub use Rattle.history_text.specs.Versions.{NoRoomForText, said_in, text_of, val
 pub use Rattle.history_text.specs.declared.version.Version.{Version}
 pub use Rattle.history_text.specs.declared.version.Version.TheVariants.{One, Two}
 pub use Rattle.history_merge.specs.Complete.{IsCompleteHistory}
-pub use Rattle.history_merge.specs.Initial.{HistoryView, IsCompleteFrom}
+pub use Rattle.history_merge.specs.Initial.{Contents, HistoryView, IsCompleteFrom}
 pub use Rattle.history_merge.specs.Legal.{IsLinearizable}
 pub use Rattle.history_merge.specs.Merge.{IsMerged}
 pub use Rattle.history_merge.specs.Operations.{operations_of}
@@ -38,7 +38,7 @@ pub use Rattle.recorder_core.specs.Setting.{Setting}
 pub use Rattle.verdicts.specs.Claiming.{claim_of, operations_at}
 pub use Rattle.verdicts.specs.Claims.{IsTrueClaim}
 pub use Rattle.verdicts.specs.Decided.{IsDecided}
-pub use Rattle.verdicts.specs.Selection.{ArePartOf, Contents, KeepsViolation, StaysChosen}
+pub use Rattle.verdicts.specs.Selection.{ArePartOf, KeepsViolation, StaysChosen}
 pub use Rattle.verdicts.specs.Verdicts.{IsEvidence, IsExact, IsVerdict}
 pub use Rattle.verdicts.specs.declared.verdict.Verdict.{Verdict}
 pub use Rattle.verdicts.specs.declared.verifying.Claimed.{Claimed}

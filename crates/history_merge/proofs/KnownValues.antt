@@ -19,7 +19,7 @@ use Rattle.history_merge.specs.Complete.{called_value, called_values}
 use Rattle.history_merge.specs.Faults.{calls_initial, is_initial, repeats_value, was_called}
 use Rattle.history_merge.specs.Forming.{operations_so_far}
 use Rattle.history_merge.specs.Gathering.{Knows, is_among, name_in}
-use Rattle.history_merge.specs.Initial.{TimelineView, enqueue_at, enqueues_from, later_by, timeline}
+use Rattle.history_merge.specs.Initial.{Contents, enqueue_at, enqueues_from, later_by, timeline}
 use Rattle.history_merge.specs.Inner.Forming.{AreCalledIn, is_called_in}
 use Rattle.history_merge.specs.Operations.{enqueued_value}
 use Rattle.history_merge.proofs.DistinctValues.{known_is}
@@ -100,7 +100,7 @@ take_enqueues clock (suc n) [] = refl
 take_enqueues clock (suc n) (v ∷ values) = ap (λ os. enqueue_at clock v ∷ os) (take_enqueues (clock + 2) n values)
 
 -- the first operations of a timeline called with the first initial values
-pub called_in_front : (view : TimelineView) (all : List Operation) (n : ℕ) → all ≡ timeline view.initial view.operations → n < length view.initial
+pub called_in_front : (view : Contents) (all : List Operation) (n : ℕ) → all ≡ timeline view.initial view.operations → n < length view.initial
     → AreCalledIn (take n all) (take n view.initial)
 called_in_front view all n is few = λ v.
     let later = map (later_by (2 * length view.initial)) view.operations in
@@ -110,9 +110,9 @@ called_in_front view all n is few = λ v.
     ∙ called_in_enqueues 0 (take n view.initial) v
 
 -- those of what a builder has
-pub called_so_far : (initial : List ℕ) (events : List Event) (view same : TimelineView) (all : List Operation) → all ≡ timeline view.initial view.operations
+pub called_so_far : (initial : List ℕ) (events : List Event) (view same : Contents) (all : List Operation) → all ≡ timeline view.initial view.operations
     → view ≡ same → same.initial ≡ initial → same.operations ≡ operations_so_far events → AreCalledIn all (initial ++ called_values events)
 called_so_far initial events view same all is are initial_is operations_are =
     subst (λ os. AreCalledIn os (initial ++ called_values events))
-    (sym (is ∙ ap (λ (v : TimelineView). timeline v.initial v.operations) are ∙ ap (λ values. timeline values same.operations) initial_is))
+    (sym (is ∙ ap (λ (v : Contents). timeline v.initial v.operations) are ∙ ap (λ values. timeline values same.operations) initial_is))
     (called_in_timeline initial events same.operations operations_are)

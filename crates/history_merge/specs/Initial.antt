@@ -16,6 +16,11 @@ pub record HistoryView : Type 0 where
   pub initial : List ℕ
   pub events : List Event
 
+-- what a queue holds first, and the operations on it
+pub record Contents : Type 0 where
+  pub initial : List ℕ
+  pub operations : List Operation
+
 -- ---- the timeline: the queue is empty first, and the initial values are enqueued before all else
 
 -- an enqueue of the value that is called at this clock
@@ -34,11 +39,6 @@ later_by n o = record { call = o.call + n; ret = o.ret + n; thread = o.thread; k
 -- the initial values are enqueued one after another, and then come the operations
 abbrev pub timeline : List ℕ → List Operation → List Operation
 timeline initial operations = enqueues_from 0 initial ++ map (later_by (2 * length initial)) operations
-
--- what a timeline is of: initial values and operations
-pub record TimelineView : Type 0 where
-  pub initial : List ℕ
-  pub operations : List Operation
 
 -- ---- the events of the timeline
 

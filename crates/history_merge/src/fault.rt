@@ -3,41 +3,45 @@ ghost use Rattle.history_merge.specs.declared.fault.HistoryFault.TheVariants.{Me
 ghost use Rattle.history_merge.specs.Names.{name_of, place_in};
 
 use std::alloc::AllocError;
-use thiserror::Error;
+use std::error::Error;
+use std::fmt;
 
 /// Why initial values and a list of events are no complete history. Places count from 0.
 ///
 /// If one event has several faults, the one that stands first here is returned.
-#[derive(Clone, Copy, Debug, PartialEq, Eq, Error)]
+#[derive(Clone, Copy, Debug, PartialEq, Eq)]
 pub enum HistoryFault {
     /// The ticket of the event at this place is not above that of the event before, or is above `MAX_TICKET`.
-    #[error("{name} {0}", name = self.name())]
     TicketOrder(usize),
     /// The thread of the event at this place is above `MAX_THREAD`.
-    #[error("{name} {0}", name = self.name())]
     BadThread(usize),
     /// The event at this place is a call, and the last event of its thread was a call too.
-    #[error("{name} {0}", name = self.name())]
     CallWhilePending(usize),
     /// The event at this place is a return, and its thread has no pending call.
-    #[error("{name} {0}", name = self.name())]
     ReturnWithoutCall(usize),
     /// The event at this place is a return of another kind than its thread's call.
-    #[error("{name} {0}", name = self.name())]
     WrongReturn(usize),
     /// The event at this place calls to enqueue an initial value, or one that an earlier event called to enqueue.
-    #[error("{name} {0}", name = self.name())]
     DuplicateValue(usize),
     /// No event has a fault, but the call of this ticket has no return, and each call before it has one.
-    #[error("{name} {0}", name = self.name())]
     Pending(u64),
     /// Memory ran out.
-    #[error("{name}", name = self.name())]
     Memory,
     /// The initial value at this place stands among them earlier too. This is looked for before the events.
-    #[error("{name} {0}", name = self.name())]
     InitialTwice(usize),
 }
+
+impl fmt::Display for HistoryFault {
+    fn fmt<W: fmt::Write>(&self, f: &mut fmt::Formatter<W>) -> fmt::Result {
+        f.write_str(self.name())?;
+        match self.place() {
+            Some(place) => write!(f, " {place}"),
+            None => Ok(()),
+        }
+    }
+}
+
+impl Error for HistoryFault {}
 
 impl From<AllocError> for HistoryFault {
     ghost from_gives = { λ _ fault. fault ≡ Memory };

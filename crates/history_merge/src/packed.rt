@@ -1,7 +1,8 @@
 //! Operations as a history keeps them.
-ghost use Rattle.std.specs.Prelude.{◌≡◌, ◌<◌};
+ghost use Rattle.std.specs.Prelude.{◌≡◌, ◌<◌, ℕ, Some};
+ghost use Rattle.history_merge.specs.Operations.{enqueued_value};
 ghost use Rattle.history_merge.specs.declared.packed.TheConstants.{PACKED_LIMIT};
-ghost use Rattle.history_merge.specs.Inner.Packed.{tag_of, value_of};
+ghost use Rattle.history_merge.specs.Inner.Packed.{joined, tag_of, value_of};
 
 use crate::operation::{OpKind, Operation};
 use std::fmt::{Debug, Error, Formatter, Write};
@@ -98,6 +99,14 @@ impl PackedOperation {
         }
     }
 
+    /// Returns the value that was called or answered, without a look at which of them; 0 if there is none.
+    #[inline(always)]
+    pub fn value(&self) -> u64
+        ensures called { (v : ℕ) → enqueued_value self.now.kind ≡ Some v → result ≡ v }
+    {
+        joined(self.upper_value, self.value)
+    }
+
     /// Returns the operation.
     #[inline(always)]
     pub fn unpack(self) -> Operation
@@ -105,7 +114,7 @@ impl PackedOperation {
         ensures call { result.call < PACKED_LIMIT }
         ensures ret { result.ret < PACKED_LIMIT }
     {
-        let value = u64::from(self.upper_value) * LOWER + u64::from(self.value);
+        let value = joined(self.upper_value, self.value);
         Operation {
             call: u64::from(self.upper_call) * LOWER + u64::from(self.call),
             ret: u64::from(self.upper_ret) * LOWER + u64::from(self.ret),
@@ -124,6 +133,14 @@ impl Debug for PackedOperation {
     fn fmt<W: Write>(&self, f: &mut Formatter<W>) -> Result<(), Error> {
         self.unpack().fmt(f)
     }
+}
+
+/// The number of two halves.
+#[inline(always)]
+fn joined(upper: u32, lower: u32) -> u64
+    ensures { result ≡ joined upper lower }
+{
+    u64::from(upper) * LOWER + u64::from(lower)
 }
 
 #[inline(always)]

@@ -24,10 +24,10 @@ pub(crate) struct Timeline {
 
 impl Model for Timeline {
     ghost use Rattle.std.specs.Prelude.{length};
-    ghost use Rattle.history_merge.specs.Initial.{TimelineView};
+    ghost use Rattle.history_merge.specs.Initial.{Contents};
     ghost use Rattle.history_merge.specs.Inner.Timeline.{IsTimeline, operations_on};
 
-    ghost Value = { TimelineView };
+    ghost Value = { Contents };
 
     ghost view = { λ t. record { initial = t.initial.items; operations = operations_on (length t.initial.items) t.all.items } };
 

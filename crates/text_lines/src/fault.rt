@@ -1,42 +1,46 @@
 ghost use Rattle.std.specs.Prelude.{◌≡◌, ◌≤◌, length};
 ghost use Rattle.text_lines.specs.Faults.{line_in, name_of};
 
-use thiserror::Error;
+use std::error::Error;
+use std::fmt;
 
 /// What is wrong with a text: the first fault in the order of its bytes.
 ///
 /// Lines are counted from 1 over all that the reader reads.
-#[derive(Clone, Copy, Debug, PartialEq, Eq, Error)]
+#[derive(Clone, Copy, Debug, PartialEq, Eq)]
 pub enum TextFault {
     /// The source failed in this call, before the text was whole.
-    #[error("{name}", name = self.name())]
     Read,
     /// The first line isn't that of a history or of a schedule, or is longer than 80 bytes.
-    #[error("{name}", name = self.name())]
     Header,
     /// The line has more than 80 bytes, or its words or the number of its fields are wrong; of a verdict, also its
     /// first line.
-    #[error("{name} {0}", name = self.name())]
     Line(u64),
     /// A field of the line that should be a number isn't: the digit 0, or digits that don't begin with 0.
-    #[error("{name} {0}", name = self.name())]
     Number(u64),
     /// A number of the line is out of its range, or the line is one more than a text may have.
-    #[error("{name} {0}", name = self.name())]
     Limit(u64),
     /// The last line's count isn't the number of lines before it.
-    #[error("{name}", name = self.name())]
     Count,
     /// The input ends within a line or before the last one; in a verdict, before the first one.
-    #[error("{name}", name = self.name())]
     Cut,
     /// The input goes on after its text.
-    #[error("{name}", name = self.name())]
     Trailing,
     /// Memory ran out for what a line without fault says.
-    #[error("{name}", name = self.name())]
     Memory,
 }
+
+impl fmt::Display for TextFault {
+    fn fmt<W: fmt::Write>(&self, f: &mut fmt::Formatter<W>) -> fmt::Result {
+        f.write_str(self.name())?;
+        match self.line() {
+            Some(line) => write!(f, " {line}"),
+            None => Ok(()),
+        }
+    }
+}
+
+impl Error for TextFault {}
 
 impl TextFault {
     /// Returns its name, which is printed before the number of its line.

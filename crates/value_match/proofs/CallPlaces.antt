@@ -21,65 +21,38 @@ use Rattle.history_merge.proofs.Distinct.{place_of}
 use Rattle.history_merge.proofs.DistinctValues.{each_more}
 use Rattle.history_merge.proofs.KnownValues.{is_eq-nat_cmp}
 use Rattle.value_match.specs.declared.others.Call.{Call}
-use Rattle.value_match.specs.Inner.Others.{IsCall, NoneOf, HoldsOthers, IsNearSource, HoldsNear}
+use Rattle.value_match.specs.Inner.Others.{CallsNoneOf, IsCall, NoneOf, HoldsOthers, IsNearSource, HoldsNear}
 use Rattle.value_match.specs.Inner.Sources.{AreFound, AreFoundTo, AreTakersTo, IsCallPlace, IsSourceOf, HoldsSources, first_of}
 
--- the place of the call for a value among the first n operations
-abbrev pub MetCall : List Operation → ℕ → ℕ → Option ℕ → Type 0
-MetCall operations n v None = (k : ℕ) (o : Operation) → k < n → IsAt operations k o → ¬ (enqueued_value o.kind ≡ Some v)
-MetCall operations n v (Some place) = (o : Operation) × IsAt operations place o × (enqueued_value o.kind ≡ Some v)
-
--- an operation that calls no value
-pub met_no_call : (operations : List Operation) (i : ℕ) (o : Operation) (v : ℕ) (found : Option ℕ) → IsAt operations i o → enqueued_value o.kind ≡ None
-    → MetCall operations i v found → MetCall operations (i + 1) v found
-met_no_call operations i o v None here none met =
-    each_more (λ k x. ¬ (enqueued_value x.kind ≡ Some v)) operations i o here (λ same. let wrong = sym none ∙ same in cc) (λ k x below at. met k x below at)
-met_no_call operations i o v (Some place) here none met = met
-
--- an operation that calls another value
-pub met_other : (operations : List Operation) (i : ℕ) (o : Operation) (v : ℕ) (found : Option ℕ) → IsAt operations i o → ¬ (enqueued_value o.kind ≡ Some v)
-    → MetCall operations i v found → MetCall operations (i + 1) v found
-met_other operations i o v None here other m = each_more (λ k x. ¬ (enqueued_value x.kind ≡ Some v)) operations i o here other m
-met_other operations i o v (Some place) here other m = m
-
--- the call that was met is that of the whole list
-pub met_all : (operations : List Operation) (n v : ℕ) (found : Option ℕ) → length operations ≤ n → MetCall operations n v found → IsCallPlace operations v found
-met_all operations n v None all met =
-    λ o among calls. let at = place_of operations o among in met at.0 o (let within = slice_get_within operations at.0 o at.1 in omega arith) at.1 calls
-met_all operations n v (Some place) all met = met
+-- none of the first n operations called to enqueue the value
+abbrev pub NotCalledTo : List Operation → ℕ → ℕ → Type 0
+NotCalledTo operations n v = (k : ℕ) (o : Operation) → k < n → IsAt operations k o → ¬ (enqueued_value o.kind ≡ Some v)
 
 -- of the values that are wanted, the calls among the first n operations
 pub record MetOthers (wanted : BTreeSet ℕ) (operations : List Operation) (n : ℕ) (calls : List Call) : Type 0 where
   pub are_calls : All (IsCall operations) calls
-  pub has_all : (v : ℕ) → contains nat_cmp wanted v ≡ true → NoneOf calls v → MetCall operations n v None
+  pub has_all : (v : ℕ) → contains nat_cmp wanted v ≡ true → NoneOf calls v → NotCalledTo operations n v
 
--- an operation that called to enqueue nothing, a call of a value that isn't wanted, and any other call
+-- an operation that calls no value that is wanted, and one that does
 module _ (wanted : BTreeSet ℕ) (operations : List Operation) (i : ℕ) (o : Operation) (calls : List Call) (here : IsAt operations i o)
     (met : MetOthers wanted operations i calls) where
-  -- an operation that calls to enqueue nothing adds no call
-  pub others_no_call : enqueued_value o.kind ≡ None → MetOthers wanted operations (i + 1) calls
-  others_no_call none = record {
+  -- the first adds no call
+  pub others_unwanted : CallsNoneOf wanted o → MetOthers wanted operations (i + 1) calls
+  others_unwanted none = record {
     are_calls = met.are_calls;
-    has_all = λ v is_wanted none_of. met_no_call operations i o v None here none (met.has_all v is_wanted none_of);
+    has_all = λ v is_wanted none_of.
+        each_more (λ k x. ¬ (enqueued_value x.kind ≡ Some v)) operations i o here (none v is_wanted) (met.has_all v is_wanted none_of);
   }
 
-  -- a call whose value isn't wanted adds none
-  pub others_unwanted : (w : ℕ) → enqueued_value o.kind ≡ Some w → contains nat_cmp wanted w ≡ false → MetOthers wanted operations (i + 1) calls
-  others_unwanted w called unwanted = record {
-    are_calls = met.are_calls;
-    has_all = λ v is_wanted none_of. met_other operations i o v None here
-        (λ same. let e : w ≡ v = let both = sym called ∙ same in cc in false≢true (sym unwanted ∙ ap (contains nat_cmp wanted) e ∙ is_wanted))
-        (met.has_all v is_wanted none_of);
-  }
-
-  -- any other call is added with its place
+  -- the second is added with its place
   pub others_more : (w : ℕ) → enqueued_value o.kind ≡ Some w → MetOthers wanted operations (i + 1) (calls ++ record { value = w; place = i } ∷ [])
   others_more w called = record {
     are_calls = All-push (IsCall operations) calls (record { value = w; place = i }) met.are_calls (o, here, called);
     has_all = λ v is_wanted none_of.
         let parts = All-pop (λ (call : Call). ¬ (call.value ≡ v)) (calls ++ record { value = w; place = i } ∷ []) calls
         (Some (record { value = w; place = i })) refl none_of in
-        met_other operations i o v None here (λ same. parts.1 (let e = sym called ∙ same in cc)) (met.has_all v is_wanted parts.0);
+        each_more (λ k x. ¬ (enqueued_value x.kind ≡ Some v)) operations i o here (λ same. parts.1 (let e = sym called ∙ same in cc))
+        (met.has_all v is_wanted parts.0);
   }
 
 -- all calls of values that are wanted, by their values
@@ -88,8 +61,10 @@ pub others_sorted : (wanted : BTreeSet ℕ) (operations : List Operation) (n : �
     → IsNonDecreasingBy (λ call. call.value) sorted → HoldsOthers wanted operations sorted
 others_sorted wanted operations n calls sorted all met moved rises = record {
   are_calls = All-permutation (IsCall operations) calls sorted moved met.are_calls;
-  has_all = λ v is_wanted none_of. met_all operations n v None all
-      (met.has_all v is_wanted (All-permutation (λ (call : Call). ¬ (call.value ≡ v)) sorted calls (IsPermutation-sym calls sorted moved) none_of));
+  has_all = λ v is_wanted none_of o among called.
+      let at = place_of operations o among in
+      met.has_all v is_wanted (All-permutation (λ (call : Call). ¬ (call.value ≡ v)) sorted calls (IsPermutation-sym calls sorted moved) none_of)
+      at.0 o (let within = slice_get_within operations at.0 o at.1 in omega arith) at.1 called;
   rises = rises;
 }
 

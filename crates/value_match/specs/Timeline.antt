@@ -1,16 +1,11 @@
 -- What holds of a history, by its timeline, in which the initial values are enqueued before all else.
 use Rattle.std.specs.Prelude.{ℕ, ◌+◌, ◌*◌, ◌/◌, nat_lt, ℤ, pos, ◌-ℤ◌, List, if◌then◌else◌}
 use Rattle.history_merge.specs.declared.operation.Operation.{Operation}
-use Rattle.history_merge.specs.Initial.{enqueue_at, timeline}
+use Rattle.history_merge.specs.Initial.{Contents, enqueue_at, timeline}
 
--- what a matching is of: a history's initial values and its operations
-pub record MatchingView : Type 0 where
-  pub initial : List ℕ
-  pub operations : List Operation
-
--- the operations of its timeline
-abbrev pub timeline_of : MatchingView → List Operation
-timeline_of matching = timeline matching.initial matching.operations
+-- the operations of their timeline
+abbrev pub timeline_of : Contents → List Operation
+timeline_of contents = timeline contents.initial contents.operations
 
 -- on the timeline, the enqueue of the initial value v at place j
 abbrev pub initial_enqueue : ℕ → ℕ → Operation

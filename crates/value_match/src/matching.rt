@@ -41,12 +41,11 @@ pub struct Matching<'a> {
 }
 
 impl<'a> Model for Matching<'a> {
-    ghost use Rattle.history_merge.specs.Initial.{timeline};
+    ghost use Rattle.history_merge.specs.Initial.{Contents, timeline};
     ghost use Rattle.history_merge.specs.Operations.{operations_of};
-    ghost use Rattle.value_match.specs.Timeline.{MatchingView};
     ghost use Rattle.value_match.specs.Inner.SortedOut.{IsSortedOutOf};
 
-    ghost Value = { MatchingView };
+    ghost Value = { Contents };
 
     ghost view = { λ a. record { initial = a.history.now.initial; operations = operations_of a.history.now.events } };
 

@@ -1,8 +1,9 @@
-ghost use Rattle.std.specs.Prelude.{◌≡◌, ◌↔◌, Contains, IfOk, IsTrue, MatchOption, Some};
+ghost use Rattle.std.specs.Prelude.{◌≡◌, ◌↔◌, Contains, IfOk, IsTrue, MatchOption, Some, true};
 ghost use Rattle.std.specs.BTreeSet.{contains};
 ghost use Rattle.std.specs.List.Sorted.{IsNonDecreasingBy};
 ghost use Rattle.std.specs.Ordering.{nat_cmp};
-ghost use Rattle.value_match.specs.Inner.Others.{AreBounds, HoldsOthers, NoneOf};
+ghost use Rattle.history_merge.specs.Operations.{enqueued_value};
+ghost use Rattle.value_match.specs.Inner.Others.{AreBounds, CallsNoneOf, HoldsOthers, NoneOf};
 ghost use Rattle.value_match.specs.Inner.Sources.{IsCallPlace};
 
 use history_merge::PackedOperation;
@@ -38,10 +39,7 @@ pub(crate) fn others_of(
     let bounds = bounds_of(wanted);
     let mut others = Vec::new(alloc);
     for (place, operation) in operations.iter().enumerate() {
-        let Some(value) = operation.unpack().kind.enqueued_value() else {
-            continue;
-        };
-        if is_wanted(wanted, bounds, value) {
+        if let Some(value) = wanted_call(wanted, bounds, operation) {
             others.push(Call { value, place })?;
         }
     }
@@ -66,13 +64,23 @@ fn bounds_of(wanted: &BTreeSet<u64>) -> Bounds
     }
 }
 
-/// Whether the value is wanted. Few are, and most others are out of bounds, so that they need no look-up.
+/// The value that the operation called to enqueue, if it is wanted. Few are, and most others are out of bounds, so that they need
+/// neither a look at what was called nor a look-up.
 #[inline(always)]
-fn is_wanted(wanted: &BTreeSet<u64>, bounds: Bounds, value: u64) -> bool
+fn wanted_call(
+    wanted: &BTreeSet<u64>,
+    bounds: Bounds,
+    operation: &PackedOperation,
+) -> Option<u64>
     requires { AreBounds wanted.now bounds }
-    ensures { result ≡ contains nat_cmp wanted.now value }
+    ensures { MatchOption result (CallsNoneOf wanted.now operation.now) (λ v. (enqueued_value operation.now.kind ≡ Some v) × (contains nat_cmp wanted.now v ≡ true)) }
 {
-    bounds.least <= value && value <= bounds.greatest && wanted.contains(&value)
+    let value = operation.value();
+    if value < bounds.least || bounds.greatest < value {
+        return None;
+    }
+    let called = operation.unpack().kind.enqueued_value()?;
+    wanted.contains(&called).then_some(called)
 }
 
 /// The place of a call of this value among calls by value, if there is one.

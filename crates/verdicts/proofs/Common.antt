@@ -40,7 +40,7 @@ pub use Rattle.event_records.specs.declared.limits.TheConstants.{MAX_CLOCK, MAX_
 pub use Rattle.event_records.specs.declared.limits.TheConstants.{MAX_TICKET}
 pub use Rattle.history_merge.specs.Complete.{AreComplete, AreDistinct, called_value, called_values, IsCompleteHistory}
 pub use Rattle.history_merge.specs.Complete.{IsCompleteUpTo}
-pub use Rattle.history_merge.specs.Initial.{timeline, enqueues_from, HistoryView, IsCompleteFrom, later_by}
+pub use Rattle.history_merge.specs.Initial.{timeline, enqueues_from, Contents, HistoryView, IsCompleteFrom, later_by}
 pub use Rattle.history_merge.specs.Legal.{ArePlacesOf, IsLegalOrder, IsLinearizable}
 pub use Rattle.history_merge.specs.Operations.{Did, IsAt, NoneDid, operation_of, operations_of, Precedes}
 pub use Rattle.history_merge.specs.Queue.{accept, accept_all, IsAccepted}
@@ -87,7 +87,7 @@ pub use Rattle.verdicts.specs.Claims.{ShowsViolation, StandFor, stands_for}
 pub use Rattle.verdicts.specs.Decided.{IsDecided}
 pub use Rattle.verdicts.specs.Inner.Claims.{CallsRise, ShowsCover, ShowsKind, StandForCover, StandForLife}
 pub use Rattle.verdicts.specs.Inner.Selecting.{call_in, holds_ticket, SelectsNamed, value_in}
-pub use Rattle.verdicts.specs.Selection.{AreLinearizable, ArePartOf, Contents, contents_of, IsMinimal, IsShortestCover}
+pub use Rattle.verdicts.specs.Selection.{AreLinearizable, ArePartOf, contents_of, IsMinimal, IsShortestCover}
 pub use Rattle.verdicts.specs.Selection.{KeepsViolation, select, selects, StaysChosen, value_of, violation_lines}
 pub use Rattle.verdicts.specs.Shown.{maybe_place, place_of_source, places_of_step, violation_places}
 pub use Rattle.verdicts.specs.Verdicts.{timeline_of_history, IsVerdict}

@@ -4,7 +4,7 @@ use Rattle.std.specs.Option.{option_map_or}
 use Rattle.history_merge.specs.declared.operation.Operation.{Operation}
 use Rattle.history_merge.specs.declared.operation.OpKind.{OpKind}
 use Rattle.history_merge.specs.declared.operation.OpKind.TheVariants.{Enq, Deq, Empty, Not}
-use Rattle.history_merge.specs.Initial.{HistoryView}
+use Rattle.history_merge.specs.Initial.{Contents, HistoryView}
 use Rattle.history_merge.specs.Legal.{IsLinearizable}
 use Rattle.history_merge.specs.Operations.{operations_of}
 use Rattle.value_match.specs.declared.life.Life.{Life}
@@ -28,12 +28,7 @@ value_of Empty = None
 abbrev pub selects : (ℕ → Bool) → (ℕ → Bool) → Operation → Bool
 selects values empties o = option_map_or values (value_of o.kind) (empties o.call)
 
--- what a queue holds first, and the operations on it
-pub record Contents : Type 0 where
-  pub initial : List ℕ
-  pub operations : List Operation
-
--- those of a history
+-- what the queue of a history holds first, and its operations
 abbrev pub contents_of : HistoryView → Contents
 contents_of history = record { initial = history.initial; operations = operations_of history.events }
 

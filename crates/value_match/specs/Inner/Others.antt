@@ -6,7 +6,7 @@ use Rattle.std.specs.Ordering.{nat_cmp}
 use Rattle.history_merge.specs.declared.operation.Operation.{Operation}
 use Rattle.history_merge.specs.declared.operation.OpKind.{OpKind}
 use Rattle.history_merge.specs.declared.operation.OpKind.TheVariants.{Deq}
-use Rattle.history_merge.specs.Operations.{IsAt}
+use Rattle.history_merge.specs.Operations.{IsAt, enqueued_value}
 use Rattle.value_match.specs.declared.others.Bounds.{Bounds}
 use Rattle.value_match.specs.declared.others.Call.{Call}
 use Rattle.value_match.specs.Inner.Sources.{IsCallPlace, IsSourceOf}
@@ -22,6 +22,10 @@ NoneOf calls v = All (λ call. ¬ (call.value ≡ v)) calls
 -- what is wanted lies within the bounds
 abbrev pub AreBounds : BTreeSet ℕ → Bounds → Type 0
 AreBounds wanted bounds = (v : ℕ) → v < 2 ^ 64 → contains nat_cmp wanted v ≡ true → (bounds.least ≤ v) × (v ≤ bounds.greatest)
+
+-- the operation called to enqueue none of the values that are wanted
+abbrev pub CallsNoneOf : BTreeSet ℕ → Operation → Type 0
+CallsNoneOf wanted o = (v : ℕ) → contains nat_cmp wanted v ≡ true → ¬ (enqueued_value o.kind ≡ Some v)
 
 -- the calls of all values that are wanted, by rising value
 pub record HoldsOthers (wanted : BTreeSet ℕ) (operations : List Operation) (calls : List Call) : Type 0 where

@@ -1,7 +1,7 @@
 use Rattle.std.proofs.Common.{◌∙◌, ap, subst, sym}
 use Rattle.std.specs.Prelude.{ℕ, List}
 use Rattle.event_records.specs.declared.event.Event.{Event}
-use Rattle.history_merge.specs.Initial.{IsCompleteFrom, TimelineView}
+use Rattle.history_merge.specs.Initial.{IsCompleteFrom, Contents}
 use Rattle.history_merge.specs.Gathering.{HasGathered}
 use Rattle.history_merge.specs.Inner.Forming.{IsFormedOf}
 use Rattle.history_merge.proofs.ExactFaults.{complete_without_fault}
@@ -31,14 +31,14 @@ formed : (c : After-into_timeline) (initial : List ℕ) (events : List Event) �
 formed c initial events gathered =
     let known = still_forming initial events c.args.self c.in_default.is gathered in
     formed_of_complete events c.into_timeline.result.operations (whole c initial events gathered).complete
-    (ap (λ (view : TimelineView). view.operations) c.into_timeline.ensures ∙ known.formed.operations)
+    (ap (λ (view : Contents). view.operations) c.into_timeline.ensures ∙ known.formed.operations)
 
 pub new-requires : goal.new-requires
 new-requires c =
     let initial = c.requires.0 in
     let events = c.requires.1 in
     let known = still_forming initial events c.args.self c.in_default.is c.requires.2 in
-    let initial_is = ap (λ (view : TimelineView). view.initial) c.into_timeline.ensures ∙ known.initial_is in
+    let initial_is = ap (λ (view : Contents). view.initial) c.into_timeline.ensures ∙ known.initial_is in
     record {
       formed = (
         events,
@@ -52,6 +52,6 @@ pub returns-clause-outcome : goal.returns-clause-outcome
 returns-clause-outcome c = λ initial events gathered.
     let known = still_forming initial events c.args.self c.in_default.is gathered in
     let at = goal.at.returns-clause-outcome c in (
-      c.new.ensures.initial ∙ ap (λ (view : TimelineView). view.initial) c.into_timeline.ensures ∙ known.initial_is,
+      c.new.ensures.initial ∙ ap (λ (view : Contents). view.initial) c.into_timeline.ensures ∙ known.initial_is,
       c.new.ensures.events events (formed at.After-into_timeline initial events gathered),
     )

@@ -1,5 +1,5 @@
 use Rattle.std.proofs.Common.{◌≡◌, ◌*◌, ap, arith, drop, length, map, ◌∙◌}
-use Rattle.history_merge.specs.Initial.{TimelineView, later_by}
+use Rattle.history_merge.specs.Initial.{Contents, later_by}
 use Rattle.history_merge.specs.Inner.Timeline.{operations_on}
 use Rattle.history_merge.proofs.TimelineOperations.{behind_enqueues, length_timeline}
 use Rattle.history_merge.proofs.timeline.Timeline.behind.Goals as goal
@@ -19,4 +19,4 @@ returns c =
     let count : c.len.result ≡ length initial = omega (arith, c.len.ensures) in
     c.split_at.ensures.back ∙ ap (drop c.len.result) c.as_slice.ensures.value ∙ ap (λ n. drop n all) count
     ∙ behind_enqueues initial all (operations_on (length initial) all) c.self.invariant.is
-    ∙ ap (λ (view : TimelineView). map (later_by (2 * length view.initial)) view.operations) c.self.view_is
+    ∙ ap (λ (view : Contents). map (later_by (2 * length view.initial)) view.operations) c.self.view_is

@@ -1,7 +1,7 @@
 use Rattle.std.proofs.Common.{◌≡◌, ◌+◌, ◌*◌, ◌<◌, ap, arith, get_or, length, set, subst, sym, ◌∙◌}
 use Rattle.std.proofs.lemmas.Option.{get_or_from_slice_get}
 use Rattle.history_merge.specs.declared.operation.Operation.{Operation}
-use Rattle.history_merge.specs.Initial.{TimelineView, timeline}
+use Rattle.history_merge.specs.Initial.{Contents, timeline}
 use Rattle.history_merge.specs.Inner.Timeline.{operations_on}
 use Rattle.history_merge.proofs.TimelineOperations.{completed, is_timeline, operations_back}
 use Rattle.history_merge.proofs.timeline.Timeline.complete.Goals.{After-self-1}
@@ -18,13 +18,13 @@ changed c =
     let place = c.args.place in
     let d = c.index.result.now in
     let count : c.len.result ≡ length initial = omega (arith, c.len.ensures) in
-    let ticks = c.ticks.ensures ∙ ap (λ (view : TimelineView). 2 * length view.initial) (sym c.self.view_is) in
-    let within : place < length own = subst (λ (view : TimelineView). place < length view.operations) (sym c.self.view_is) c.requires.place in
+    let ticks = c.ticks.ensures ∙ ap (λ (view : Contents). 2 * length view.initial) (sym c.self.view_is) in
+    let within : place < length own = subst (λ (view : Contents). place < length view.operations) (sym c.self.view_is) c.requires.place in
     let at = c.unpack-pending.ensures.operation ∙ c.index.ensures ∙ ap (λ k. get_or all (k + place) d) count in
     ap (λ k. set all (k + place) c.new.result) count
     ∙ ap (set all (length initial + place)) (c.new.ensures ∙ ap (λ n. record c.unpack-pending.result { ret = c.args.ret + n; kind = c.args.kind }) ticks)
     ∙ completed initial all own place c.args.ret c.args.kind d c.unpack-pending.result c.self.invariant.is within at
-    ∙ ap (λ (view : TimelineView). timeline initial (set view.operations place (record (get_or view.operations place d) { ret = c.args.ret; kind = c.args.kind })))
+    ∙ ap (λ (view : Contents). timeline initial (set view.operations place (record (get_or view.operations place d) { ret = c.args.ret; kind = c.args.kind })))
     c.self.view_is
 
 pub invariant_of-self : goal.invariant_of-self

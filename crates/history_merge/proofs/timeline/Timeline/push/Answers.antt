@@ -1,6 +1,6 @@
 use Rattle.std.proofs.Common.{[], ◌++◌, ◌≡◌, ◌∷◌, ◌*◌, ap, inl, inr, length, subst, sym, ◌∙◌}
 use Rattle.std.proofs.lemmas.Result.{on_ok_weaker}
-use Rattle.history_merge.specs.Initial.{TimelineView, later_by, timeline}
+use Rattle.history_merge.specs.Initial.{Contents, later_by, timeline}
 use Rattle.history_merge.specs.Inner.Timeline.{IsTimeline, operations_on}
 use Rattle.history_merge.proofs.TimelineOperations.{is_timeline, operations_back, pushed, timeline_push}
 use Rattle.history_merge.proofs.timeline.Timeline.push.Goals.{After-push}
@@ -11,11 +11,11 @@ more : (c : After-push) → c.self.inside.all.items ++ c.later-later.result ∷ 
 more c =
     let initial = c.self.inside.initial.items in
     let own = operations_on (length initial) c.self.inside.all.items in
-    let ticks = c.ticks.ensures ∙ ap (λ (view : TimelineView). 2 * length view.initial) (sym c.self.view_is) in
+    let ticks = c.ticks.ensures ∙ ap (λ (view : Contents). 2 * length view.initial) (sym c.self.view_is) in
     ap (λ os. os ++ c.later-later.result ∷ []) c.self.invariant.is
     ∙ ap (λ o. timeline initial own ++ o ∷ []) (c.later-later.ensures ∙ ap (λ n. later_by n c.args.operation) ticks)
     ∙ timeline_push initial own c.args.operation
-    ∙ ap (λ (view : TimelineView). timeline initial (view.operations ++ c.args.operation ∷ [])) c.self.view_is
+    ∙ ap (λ (view : Contents). timeline initial (view.operations ++ c.args.operation ∷ [])) c.self.view_is
 
 pub invariant_of-self : goal.invariant_of-self
 invariant_of-self c =
