@@ -16,14 +16,14 @@ use std::alloc::{AllocError, Global};
 use value_match::{Matching, told_place};
 
 /// An empty dequeue of a timeline, with its place there.
-#[derive(Clone, Copy, Debug)]
+#[derive(Clone, Copy)]
 pub struct EmptyAnswer {
     pub place: OpId,
     pub operation: Operation,
 }
 
 /// What a search finds in the windows of some empty dequeues of a timeline, by its clocks.
-#[derive(Debug, Drop)]
+#[derive(Drop)]
 pub enum WindowsAnswer {
     /// None is covered: the least free gap of each, in their order.
     Free(Vec<u64>),

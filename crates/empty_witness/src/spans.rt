@@ -7,7 +7,7 @@ use std::alloc::{AllocError, Global};
 use value_match::{Life, Matching};
 
 /// The gaps from the start to before the end.
-#[derive(Clone, Copy, Debug)]
+#[derive(Clone, Copy)]
 pub struct Span {
     pub start: u64,
     pub end: u64,

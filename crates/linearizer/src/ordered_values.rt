@@ -13,7 +13,7 @@ use value_match::{MatchedValue, Matching};
 /// The accepted values of a matching in their chosen order, with the gap of each enqueue; seen as the operations that they are of.
 ///
 /// It borrows the operations, and holds a word for each value.
-#[derive(Debug, Drop)]
+#[derive(Drop)]
 pub struct OrderedValues<'a> {
     operations: &'a [PackedOperation],
     // The place and the gap of each.
@@ -34,7 +34,7 @@ impl<'a> Model for OrderedValues<'a> {
 }
 
 /// What ordering the accepted values of a matching finds.
-#[derive(Debug, Drop)]
+#[derive(Drop)]
 pub enum OrderFound<'a> {
     /// The values in their chosen order. No two are dequeued against the order of their enqueues.
     InOrder(OrderedValues<'a>),

@@ -16,7 +16,7 @@ pub(crate) struct Timed {
 }
 
 /// The same in one word, seen as the time and the place.
-#[derive(Clone, Copy, Debug)]
+#[derive(Clone, Copy)]
 pub(crate) struct PackedTimed {
     // The time in the upper bits, and the place.
     word: u64,

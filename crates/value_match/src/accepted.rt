@@ -8,7 +8,7 @@ use history_merge::{OpId, Operation, PackedOperation};
 use std::marker::Model;
 
 /// The places of a successful enqueue and of the dequeue of its value, if there is one.
-#[derive(Clone, Copy, Debug)]
+#[derive(Clone, Copy)]
 pub(crate) struct Pair {
     pub(crate) enqueue: u32,
     pub(crate) dequeue: MaybePlace,
@@ -17,7 +17,7 @@ pub(crate) struct Pair {
 /// Accepted values, seen as the list of them.
 ///
 /// It borrows the operations, and a word for each value.
-#[derive(Debug, Drop)]
+#[derive(Drop)]
 pub struct Values<'a> {
     operations: &'a [PackedOperation],
     pairs: &'a [Pair],

@@ -19,7 +19,7 @@ use std::marker::Model;
 pub const MAX_MATCHED: usize = MAX_EVENTS + MAX_INITIAL;
 
 /// Operations sorted out: the accepted values with their dequeues, the empty answers and the refused enqueues.
-#[derive(Debug, Drop)]
+#[derive(Drop)]
 pub(crate) struct SortedOut {
     pub(crate) values: Vec<Pair>,
     pub(crate) empties: Vec<OpId>,
@@ -34,7 +34,7 @@ pub(crate) struct SortedOut {
 /// the clock c + 2k. If there are no initial values both are the same.
 ///
 /// It borrows the history, and holds a word for each accepted value.
-#[derive(Debug, Drop)]
+#[derive(Drop)]
 pub struct Matching<'a> {
     history: &'a History,
     sorted: SortedOut,
@@ -139,7 +139,7 @@ impl<'a> Matching<'a> {
 }
 
 /// What matching finds: that there is a matching, or the violation that rules it out, by the history's places.
-#[derive(Debug, Drop)]
+#[derive(Drop)]
 pub enum Matched<'a> {
     /// Each dequeue is of an accepted value that was there, and no two are of one value.
     Clear(Matching<'a>),

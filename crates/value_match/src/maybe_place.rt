@@ -4,7 +4,7 @@ use history_merge::OpId;
 use std::marker::Model;
 
 /// A place, or none, in half a word; seen as an `Option` of the place.
-#[derive(Clone, Copy, Debug)]
+#[derive(Clone, Copy)]
 pub(crate) struct MaybePlace {
     /// One above the place, or 0 for none.
     above: u32,

@@ -67,11 +67,7 @@ fn bounds_of(wanted: &BTreeSet<u64>) -> Bounds
 /// The value that the operation called to enqueue, if it is wanted. Few are, and most others are out of bounds, so that they need
 /// neither a look at what was called nor a look-up.
 #[inline(always)]
-fn wanted_call(
-    wanted: &BTreeSet<u64>,
-    bounds: Bounds,
-    operation: &PackedOperation,
-) -> Option<u64>
+fn wanted_call(wanted: &BTreeSet<u64>, bounds: Bounds, operation: &PackedOperation) -> Option<u64>
     requires { AreBounds wanted.now bounds }
     ensures { MatchOption result (CallsNoneOf wanted.now operation.now) (λ v. (enqueued_value operation.now.kind ≡ Some v) × (contains nat_cmp wanted.now v ≡ true)) }
 {

@@ -8,7 +8,7 @@ use std::marker::Model;
 /// Places of operations of a history, seen as the list of them.
 ///
 /// It borrows those of the timeline.
-#[derive(Debug, Drop)]
+#[derive(Drop)]
 pub struct Places<'a> {
     initial_count: usize,
     timeline: &'a [OpId],

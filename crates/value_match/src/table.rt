@@ -15,7 +15,7 @@ use std::marker::Model;
 const MOST_STEPS: usize = 32;
 
 /// A value's enqueue return, with its place; in a table, with the place of the longest of the values up to it.
-#[derive(Clone, Copy, Debug)]
+#[derive(Clone, Copy)]
 pub struct Front {
     pub enqueue_return: u64,
     pub place: usize,
@@ -25,7 +25,7 @@ pub struct Front {
 /// longest.
 ///
 /// It borrows the values, and holds two words for each.
-#[derive(Debug, Drop)]
+#[derive(Drop)]
 pub struct LongestTable<'a> {
     values: Values<'a>,
     fronts: Vec<Front>,
