@@ -12,7 +12,6 @@ use history_text::{TextSink, write_piece};
 use messages::{Complaint, FrontKept, Given, NO_MEMORY, Reads, greeting, keeping, sentence};
 use std::alloc::{AllocError, Global};
 use std::convert::AsStr;
-use std::iter::once;
 
 /// Above how many events a run that is written to a terminal is one to be kept in a file.
 const MANY_EVENTS: usize = 2000;
@@ -149,9 +148,12 @@ pub(crate) struct Ended<'b, 'a, S> {
 
 /// The names of the queues: of the proved one, and of those on the shelf.
 fn names_on<'a>(alloc: Global, shelf: &[NamedQueue<'a>]) -> Result<Vec<&'a str>, AllocError> {
-    once("proved")
-        .chain(shelf.iter().map(|shelved| shelved.name))
-        .collect(alloc)
+    let mut names = Vec::new(alloc);
+    names.push("proved")?;
+    for shelved in shelf {
+        names.push(shelved.name)?;
+    }
+    Ok(names)
 }
 
 /// What is kept of its input, and what that was to be.

@@ -1,28 +1,17 @@
 -- Places of calls and of sources, met by walks over the operations.
-use Rattle.std.proofs.Common.{◌≡◌, ℕ, ◌+◌, ◌<◌, ◌≤◌, true, false, List, [], ◌∷◌, ◌++◌, length, get_or, Option}
-use Rattle.std.proofs.Common.{Some, None, refl, sym, ◌∙◌, set, ap, cond, Bool}
-use Rattle.std.proofs.Common.{subst, arith, get_or-set_other, get_or-set_same, length-set, length-append}
-use Rattle.std.specs.Prelude.{All, Contains, IsPermutation}
-use Rattle.std.specs.List.{list_any}
-use Rattle.std.specs.List.Sorted.{IsNonDecreasingBy}
-use Rattle.std.specs.BTreeSet.{BTreeSet, btree_set_len, contains, keys}
-use Rattle.std.specs.Ordering.{is_eq, nat_cmp}
-use Rattle.std.proofs.lemmas.Bool.{eq-eqb, false≢true}
-use Rattle.std.proofs.Math.Seq.{get_or-append_seam}
-use Rattle.std.proofs.lemmas.List.Elements.{All-push, All-pop, All-contains}
-use Rattle.std.proofs.lemmas.List.Sorted.{All-permutation, IsPermutation-sym}
-use Rattle.std.proofs.lemmas.List.{get_or_append_left}
-use Rattle.std.proofs.lemmas.Option.{slice_get_within}
-use Rattle.history_merge.specs.declared.operation.Operation.{Operation}
-use Rattle.history_merge.specs.Operations.{IsAt, enqueued_value}
-use Rattle.history_merge.specs.declared.operation.OpKind.{OpKind}
-use Rattle.history_merge.specs.declared.operation.OpKind.TheVariants.{Enq, Deq, Empty, Not}
-use Rattle.history_merge.proofs.Distinct.{place_of}
-use Rattle.history_merge.proofs.DistinctValues.{each_more}
-use Rattle.history_merge.proofs.KnownValues.{is_eq-nat_cmp}
-use Rattle.value_match.specs.declared.others.Call.{Call}
-use Rattle.value_match.specs.Inner.Others.{CallsNoneOf, IsCall, NoneOf, HoldsOthers, IsNearSource, HoldsNear}
-use Rattle.value_match.specs.Inner.Sources.{AreFound, AreFoundTo, AreTakersTo, IsCallPlace, IsSourceOf, HoldsSources, first_of}
+use Rattle.value_match.proofs.Common.{[], ◌++◌, ◌+◌, ◌∙◌, ◌∷◌, ◌≡◌, ◌≤◌, All, All-contains, All-permutation, All-pop}
+use Rattle.value_match.proofs.Common.{All-push, ap, AreFound, AreFoundTo, AreTakersTo, arith, Bool, btree_set_len}
+use Rattle.value_match.proofs.Common.{BTreeSet, Call, CallsNoneOf, cond, Contains, contains, Deq, each_more, Empty}
+use Rattle.value_match.proofs.Common.{Enq, enqueued_value, eq-eqb, false, false≢true, first_of, get_or}
+use Rattle.value_match.proofs.Common.{get_or-append_seam, get_or_append_left, HoldsNear, HoldsOthers, HoldsSources}
+use Rattle.value_match.proofs.Common.{is_eq, is_eq-nat_cmp, IsAt, IsCall, IsCallPlace, IsNearSource}
+use Rattle.value_match.proofs.Common.{IsNonDecreasingBy, IsPermutation-sym, IsSourceOf, keys, length-append, List}
+use Rattle.value_match.proofs.Common.{list_any, nat_cmp, None, NoneOf, Not, Operation, OpKind, Option, place_of, refl}
+use Rattle.value_match.proofs.Common.{slice_get_within, Some, subst, sym, true, ℕ}
+use Rattle.std.proofs.Common.{◌<◌, length}
+use Rattle.std.proofs.Common.{set}
+use Rattle.std.proofs.Common.{get_or-set_other, get_or-set_same, length-set}
+use Rattle.std.specs.Prelude.{IsPermutation}
 
 -- none of the first n operations called to enqueue the value
 abbrev pub NotCalledTo : List Operation → ℕ → ℕ → Type 0

@@ -1,12 +1,6 @@
 -- The lives of a cover.
-use Rattle.std.proofs.Common.{◌≡◌, ℕ, List, [], ◌∷◌, Option, Some, None}
-use Rattle.std.specs.Prelude.{MatchOption, ⊤}
-use Rattle.history_merge.specs.declared.operation.Operation.{Operation}
-use Rattle.history_merge.specs.declared.operation.OpKind.TheVariants.{Enq, Deq}
-use Rattle.history_merge.specs.Operations.{Did, NoneDid}
-use Rattle.value_match.specs.declared.life.Life.{Life}
-use Rattle.value_match.specs.Lives.{dequeue_of, enqueue_of}
-use Rattle.value_match.specs.Violations.{CoversFrom}
+use Rattle.value_match.proofs.Common.{[], ⊤, ◌∷◌, ◌≡◌, CoversFrom, Deq, dequeue_of, Did, Enq, enqueue_of, Life, List}
+use Rattle.value_match.proofs.Common.{MatchOption, None, NoneDid, Operation, Option, Some, ℕ}
 
 -- each of the lives is an enqueue, and a dequeue if there is one
 abbrev pub AreLives : List Life → Type 0

@@ -1,21 +1,13 @@
 -- Dequeues of values that were not there, told by the places of the calls.
-use Rattle.std.proofs.Common.{◌≡◌, ℕ, ◌+◌, ◌<◌, ◌≤◌, ◌⊎◌, ◌||◌, ◌↔◌, Bool, true, false, cond, not, List, length}
-use Rattle.std.proofs.Common.{get_or, Option, Some, None, IsTrue, refl}
-use Rattle.std.proofs.Common.{sym, ◌∙◌, ap, subst, inl, inr, arith, nat_lt}
-use Rattle.std.specs.Prelude.{Contains, IfSome}
-use Rattle.std.proofs.lemmas.Bool.{false≢true, ltb-true, ltb-false, lt-ltb, cases_Bool}
-use Rattle.std.proofs.lemmas.Option.{slice_get_within, slice_get-get_or}
-use Rattle.history_merge.specs.declared.operation.Operation.{Operation}
-use Rattle.history_merge.specs.declared.operation.OpKind.{OpKind}
-use Rattle.history_merge.specs.declared.operation.OpKind.TheVariants.{Enq, Deq, Empty, Not}
-use Rattle.history_merge.specs.Complete.{AreComplete}
-use Rattle.history_merge.specs.Operations.{IsAt, enqueued_value}
-use Rattle.history_merge.proofs.Distinct.{contains_at, place_of, one_at, same_value_call, CallsFor}
-use Rattle.history_merge.proofs.DistinctValues.{each_more}
-use Rattle.value_match.specs.Lives.{IsMaybeAt, is_refused}
-use Rattle.value_match.specs.Violations.{IsFreshViolation, IsEnqueuedTooLate, NoFreshViolation}
-use Rattle.value_match.specs.Inner.MatchOutcome.{AreChosenFresh}
-use Rattle.value_match.specs.Inner.Sources.{AreInTimeTo, first_of, HoldsSources, IsCallPlace, IsFreshFrom, IsSourceOf, NoneFresh}
+use Rattle.value_match.proofs.Common.{◌+◌, ◌||◌, ◌↔◌, ◌∙◌, ◌≡◌, ◌≤◌, ap, AreChosenFresh, AreComplete, AreInTimeTo}
+use Rattle.value_match.proofs.Common.{arith, Bool, CallsFor, cases_Bool, cond, Contains, contains_at, Deq, each_more}
+use Rattle.value_match.proofs.Common.{Empty, Enq, enqueued_value, false, false≢true, first_of, get_or, HoldsSources}
+use Rattle.value_match.proofs.Common.{IfSome, inl, inr, is_refused, IsAt, IsCallPlace, IsEnqueuedTooLate, IsFreshFrom}
+use Rattle.value_match.proofs.Common.{IsFreshViolation, IsMaybeAt, IsSourceOf, IsTrue, List, lt-ltb, ltb-false}
+use Rattle.value_match.proofs.Common.{ltb-true, nat_lt, NoFreshViolation, None, NoneFresh, Not, not, one_at}
+use Rattle.value_match.proofs.Common.{Operation, OpKind, Option, place_of, refl, same_value_call, slice_get-get_or}
+use Rattle.value_match.proofs.Common.{slice_get_within, Some, subst, sym, true, ℕ}
+use Rattle.std.proofs.Common.{◌<◌, ◌⊎◌, length}
 
 -- an operation that called to enqueue a value was accepted or refused
 pub calls_for : (kind : OpKind) (v : ℕ) → enqueued_value kind ≡ Some v → (kind ≡ Enq v) ⊎ (kind ≡ Not v)

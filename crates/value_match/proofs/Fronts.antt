@@ -1,23 +1,19 @@
 -- Values in the order of their enqueues' returns, and the longest of each front.
-use Rattle.std.proofs.Common.{◌≡◌, ℕ, ◌+◌, ◌<◌, ◌≤◌, ◌⊎◌, true, false, List, [], ◌∷◌}
-use Rattle.std.proofs.Common.{◌++◌, length, get_or, take, Option, Some, None, refl, sym, ◌∙◌}
-use Rattle.std.proofs.Common.{ap, subst, inl, inr, arith, below_more, rules}
-use Rattle.std.specs.Prelude.{All, Contains, MatchOption, IfSome}
-use Rattle.std.specs.List.Sorted.{IsNonDecreasingBy, IsPermutation, IsPartitionPoint}
+use Rattle.value_match.proofs.Common.{[], ◌++◌, ◌+◌, ◌∙◌, ◌∷◌, ◌≡◌, ◌≤◌, All, All-from_get_or, All-get_or, All-nil}
+use Rattle.value_match.proofs.Common.{All-permutation, All-push, Any, ap, AreEntriesOf, arith, below_more, Contains}
+use Rattle.value_match.proofs.Common.{Contains-permutation, Empty, enqueue_return, EntersBefore, false, FindsLongest}
+use Rattle.value_match.proofs.Common.{Front, get_or, get_or-map, get_or-take, get_or_default, HasFronts, IfSome, inl}
+use Rattle.value_match.proofs.Common.{inr, IsEntryOf, IsFrontAt, IsLongerOf, IsLongestOf, IsNonDecreasingBy}
+use Rattle.value_match.proofs.Common.{IsPartitionPoint, IsPermutation-map, IsPermutation-refl, IsPermutation-sym}
+use Rattle.value_match.proofs.Common.{IsPermutation-trans, IsTableOf, le-ltb, length-map, length-take-le, List}
+use Rattle.value_match.proofs.Common.{lt-ltb, ltb, ltb-false, ltb-true, map-append, MatchedValue, MatchOption, None}
+use Rattle.value_match.proofs.Common.{NonePasses, Option, refl, rules, Some, StaysAtLeast, subst, sym, take, take_all}
+use Rattle.value_match.proofs.Common.{take_more, true, values_at, ℕ}
+use Rattle.std.proofs.Common.{◌<◌, ◌⊎◌}
+use Rattle.std.proofs.Common.{length}
+use Rattle.std.specs.List.Sorted.{IsPermutation}
 use Rattle.std.proofs.Math.ListN.{set}
-use Rattle.std.proofs.lemmas.Bool.{ltb-true, ltb-false, lt-ltb, le-ltb}
-use Rattle.std.proofs.lemmas.List.{get_or-map, get_or-take, get_or-set_other, get_or-set_same, get_or_default, length-map, length-set, length-take-le}
-use Rattle.std.proofs.lemmas.List.{map-append, take_all, take_more}
-use Rattle.std.proofs.lemmas.List.Elements.{All-nil, All-push, All-get_or, All-from_get_or}
-use Rattle.std.proofs.lemmas.List.Sorted.{All-permutation, Contains-permutation, IsPermutation-map, IsPermutation-refl, IsPermutation-sym, IsPermutation-trans}
-use lib.Dec.{ltb}
-use Rattle.history_merge.specs.declared.operation.OpKind.TheVariants.{Empty}
-use Rattle.value_match.specs.declared.life.MatchedValue.{MatchedValue}
-use Rattle.value_match.specs.declared.table.Front.{Front}
-use Rattle.value_match.specs.Lives.{enqueue_return}
-use Rattle.value_match.specs.Choice.{StaysAtLeast}
-use Rattle.value_match.specs.Longest.{EntersBefore, IsLongerOf, IsLongestOf, NonePasses, FindsLongest}
-use Rattle.value_match.specs.Fronts.{IsEntryOf, values_at, AreEntriesOf, Any, IsFrontAt, HasFronts, IsTableOf}
+use Rattle.std.proofs.lemmas.List.{get_or-set_other, get_or-set_same, length-set}
 use Rattle.value_match.proofs.Longest.{longest_changes}
 
 -- where there is no value, and no front

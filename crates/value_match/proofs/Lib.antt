@@ -7,6 +7,7 @@
 -- CoverLives: what a cover's lives are.
 -- SortedOut: all operations sorted out into values, empty answers and refused enqueues.
 -- Longest, Fronts: of the values whose enqueues returned before a ticket the one that stays longest.
+mod Common
 pub mod Lists
 pub mod Lives
 pub mod Longest

@@ -1,10 +1,10 @@
 -- What a list contains, and what is made of lists.
-use Rattle.std.proofs.Common.{◌≡◌, ℕ, zero, suc, ◌+◌, ◌<◌, ◌⊎◌, Bool, true, false, cond, List, [], ◌∷◌, ◌++◌, length, get_or, take, drop, Option}
-use Rattle.std.proofs.Common.{Some, None, refl, sym, ◌∙◌, ap, subst, inl, inr, arith}
-use Rattle.std.specs.Prelude.{Contains, filter, filter_map, map, IsPermutation}
-use Rattle.std.specs.List.{cons_option, AllZip}
-use Rattle.std.proofs.lemmas.List.{take_more, take_all, drop_all, append-nil}
-use Rattle.history_merge.proofs.Distinct.{contains_cons, not_in_none}
+use Rattle.value_match.proofs.Common.{[], ◌++◌, ◌+◌, ◌∙◌, ◌∷◌, ◌≡◌, AllZip, ap, append-nil, arith, Bool, cond}
+use Rattle.value_match.proofs.Common.{cons_option, Contains, contains_cons, drop, drop_all, false, filter, filter_map}
+use Rattle.value_match.proofs.Common.{get_or, inl, inr, List, None, not_in_none, Option, refl, Some, subst, suc, sym}
+use Rattle.value_match.proofs.Common.{take, take_all, take_more, true, zero, ℕ}
+use Rattle.std.proofs.Common.{◌<◌, ◌⊎◌, length}
+use Rattle.std.specs.Prelude.{map, IsPermutation}
 
 -- what a list contains, it contains behind one more element
 pub one_deeper : {X : Type 0} (x : X) (xs : List X) (y : X) → Contains xs y → Contains (x ∷ xs) y

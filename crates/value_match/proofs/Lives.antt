@@ -1,20 +1,12 @@
 -- The lives that are listed are the lives that there are, and operations tell them apart.
-use Rattle.std.proofs.Common.{◌≡◌, ◌<◌, ◌⊎◌, Bool, true, false, cond, List, [], ◌∷◌}
-use Rattle.std.proofs.Common.{Option, Some, None, refl, sym, ◌∙◌, ap, subst, inl, inr, arith, ℕ}
-use Rattle.std.specs.Prelude.{Contains, find, MatchOption}
-use Rattle.std.proofs.lemmas.Bool.{eqb-true, eq-eqb}
-use Rattle.std.proofs.lemmas.List.Elements.{All-contains}
-use Rattle.history_merge.specs.declared.operation.Operation.{Operation}
-use Rattle.history_merge.specs.declared.operation.OpKind.{OpKind}
-use Rattle.history_merge.specs.declared.operation.OpKind.TheVariants.{Enq, Deq, Empty, Not}
-use Rattle.history_merge.specs.Operations.{Did, NoneDid}
-use Rattle.history_merge.proofs.Distinct.{contains_cons, not_in_none, contains_at, found_first, same_return, same_enqueue}
-use Rattle.value_match.specs.declared.life.Life.{Life}
-use Rattle.value_match.specs.declared.life.MatchedValue.{MatchedValue}
-use Rattle.value_match.specs.declared.life.TheConstants.{NEVER}
-use Rattle.value_match.specs.Lives.{call_or_never, dequeue_call, IsLife, life_from, is_dequeue_of, dequeues_kind, lives_of, HoldsLives, HasPlaces}
-use Rattle.value_match.specs.Lives.{dequeue_of, enqueue_of}
-use Rattle.value_match.specs.Violations.{IsClear}
+use Rattle.value_match.proofs.Common.{[], ◌∙◌, ◌∷◌, ◌≡◌, All-contains, ap, arith, Bool, call_or_never, cond, Contains}
+use Rattle.value_match.proofs.Common.{contains_at, contains_cons, Deq, dequeue_call, dequeue_of, dequeues_kind, Did}
+use Rattle.value_match.proofs.Common.{Empty, Enq, enqueue_of, eq-eqb, eqb-true, false, find, found_first, HasPlaces}
+use Rattle.value_match.proofs.Common.{HoldsLives, inl, inr, is_dequeue_of, IsClear, IsLife, Life, life_from, List}
+use Rattle.value_match.proofs.Common.{lives_of, MatchedValue, MatchOption, NEVER, None, NoneDid, Not, not_in_none}
+use Rattle.value_match.proofs.Common.{Operation, OpKind, Option, refl, same_enqueue, same_return, Some, subst, sym}
+use Rattle.value_match.proofs.Common.{true, ℕ}
+use Rattle.std.proofs.Common.{◌<◌, ◌⊎◌}
 use Rattle.value_match.proofs.Lists.{kept, keeps, mapped_from, mapped_to}
 
 -- what follows if `find` gives nothing

@@ -1,12 +1,9 @@
 -- One more value in a scan for the longest of those that pass.
-use Rattle.std.proofs.Common.{◌≡◌, ℕ, ◌+◌, ◌<◌, List, [], ◌∷◌, ◌++◌, length, get_or, take, Option, None, Some, sym, subst, inl, inr, arith}
-use Rattle.std.specs.Prelude.{Contains, MatchOption}
-use Rattle.std.proofs.lemmas.List.Elements.{All-push, All-weaker, Contains-push, Contains-append_left}
-use Rattle.value_match.specs.declared.life.Life.{Life}
-use Rattle.value_match.specs.declared.life.MatchedValue.{MatchedValue}
-use Rattle.value_match.specs.Lives.{dequeue_call}
-use Rattle.value_match.specs.Choice.{StaysAtLeast}
-use Rattle.value_match.specs.Longest.{IsLongerOf, IsLongestOf, NonePasses, FindsLongest}
+use Rattle.value_match.proofs.Common.{[], ◌++◌, ◌+◌, ◌∷◌, ◌≡◌, All-push, All-weaker, arith, Contains}
+use Rattle.value_match.proofs.Common.{Contains-append_left, Contains-push, dequeue_call, FindsLongest, get_or, inl}
+use Rattle.value_match.proofs.Common.{inr, IsLongerOf, IsLongestOf, Life, List, MatchedValue, MatchOption, None}
+use Rattle.value_match.proofs.Common.{NonePasses, Option, Some, StaysAtLeast, subst, sym, take, ℕ}
+use Rattle.std.proofs.Common.{◌<◌, length}
 use Rattle.value_match.proofs.Lists.{one_more}
 
 -- what stays longer than a longer one stays longer

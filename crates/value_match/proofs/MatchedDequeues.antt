@@ -1,15 +1,10 @@
 -- The one dequeue of each accepted value.
-use Rattle.std.proofs.Common.{◌≡◌, ℕ, ◌<◌, List, length, get_or, Option, Some, None, refl, sym, ◌∙◌, ap, subst, arith}
-use Rattle.std.specs.Prelude.{MatchOption, find}
-use Rattle.std.proofs.lemmas.Option.{slice_get-get_or, slice_get_within}
-use Rattle.history_merge.specs.declared.operation.Operation.{Operation}
-use Rattle.history_merge.specs.declared.operation.OpKind.TheVariants.{Enq, Deq}
-use Rattle.history_merge.specs.Complete.{AreComplete}
-use Rattle.history_merge.specs.Operations.{Did, NoneDid, IsAt}
-use Rattle.history_merge.proofs.Distinct.{contains_at, place_of, one_at}
-use Rattle.value_match.specs.Lives.{is_dequeue_of, IsMaybeAt}
-use Rattle.value_match.specs.Violations.{IsClear, NoFreshViolation, NoRepeatViolation}
-use Rattle.value_match.specs.Inner.Sources.{HoldsSources, HoldsTakers, HoldsDequeues, IsDequeuePlace}
+use Rattle.value_match.proofs.Common.{◌∙◌, ◌≡◌, ap, AreComplete, arith, contains_at, Deq, Did, Enq, find, get_or}
+use Rattle.value_match.proofs.Common.{HoldsDequeues, HoldsSources, HoldsTakers, is_dequeue_of, IsAt, IsClear}
+use Rattle.value_match.proofs.Common.{IsDequeuePlace, IsMaybeAt, List, MatchOption, NoFreshViolation, None, NoneDid}
+use Rattle.value_match.proofs.Common.{NoRepeatViolation, one_at, Operation, Option, place_of, refl, slice_get-get_or}
+use Rattle.value_match.proofs.Common.{slice_get_within, Some, subst, sym, ℕ}
+use Rattle.std.proofs.Common.{◌<◌, length}
 use Rattle.value_match.proofs.Lives.{found_dequeue, same_found}
 use Rattle.value_match.proofs.RepeatedDequeues.{taken_from, takes_from_enqueue}
 

@@ -1,20 +1,14 @@
 -- Values that are dequeued twice, met by a walk over the operations.
-use Rattle.std.proofs.Common.{◌≡◌, ◌≢◌, ℕ, ◌+◌, ◌<◌, ◌≤◌, ◌⊎◌, List, length}
-use Rattle.std.proofs.Common.{get_or, set, Option, Some, None, refl, sym, ◌∙◌, ap, subst}
-use Rattle.std.proofs.Common.{inl, inr, arith, get_or-set_other, get_or-set_same, length-set}
-use Rattle.std.specs.Prelude.{AllPairs, MatchOption, slice_get, ⊤}
-use Rattle.std.proofs.lemmas.Bool.{cases_eq, cases_order}
-use Rattle.std.proofs.lemmas.Option.{slice_get-get_or, slice_get_within, get_or_from_slice_get}
-use Rattle.history_merge.specs.declared.operation.Operation.{Operation}
-use Rattle.history_merge.specs.declared.operation.OpKind.{OpKind}
-use Rattle.history_merge.specs.declared.operation.OpKind.TheVariants.{Enq, Deq, Empty, Not}
-use Rattle.history_merge.specs.Complete.{AreComplete}
-use Rattle.history_merge.specs.Operations.{IsAt, enqueued_value}
-use Rattle.history_merge.proofs.Distinct.{contains_at, place_of, one_at, pairs_at, calls_rise, same_return, same_value_call}
-use Rattle.value_match.specs.declared.takers.RepeatPlaces.{RepeatPlaces}
-use Rattle.value_match.specs.Violations.{NoFreshViolation, IsRepeatViolation}
-use Rattle.value_match.specs.Inner.MatchOutcome.{AreChosenRepeat}
-use Rattle.value_match.specs.Inner.Sources.{IsCallPlace, IsSourceOf, HoldsSources, HasTakersTo, HoldsTakers, TakesFrom, return_at}
+use Rattle.value_match.proofs.Common.{⊤, ◌+◌, ◌∙◌, ◌≡◌, ◌≢◌, ◌≤◌, AllPairs, ap, AreChosenRepeat, AreComplete, arith}
+use Rattle.value_match.proofs.Common.{calls_rise, cases_eq, cases_order, contains_at, Deq, Empty, Enq, enqueued_value}
+use Rattle.value_match.proofs.Common.{get_or, get_or_from_slice_get, HasTakersTo, HoldsSources, HoldsTakers, inl, inr}
+use Rattle.value_match.proofs.Common.{IsAt, IsCallPlace, IsRepeatViolation, IsSourceOf, List, MatchOption}
+use Rattle.value_match.proofs.Common.{NoFreshViolation, None, Not, one_at, Operation, OpKind, Option, pairs_at}
+use Rattle.value_match.proofs.Common.{place_of, refl, RepeatPlaces, return_at, same_return, same_value_call}
+use Rattle.value_match.proofs.Common.{slice_get, slice_get-get_or, slice_get_within, Some, subst, sym, TakesFrom, ℕ}
+use Rattle.std.proofs.Common.{◌<◌, ◌⊎◌, length}
+use Rattle.std.proofs.Common.{set}
+use Rattle.std.proofs.Common.{get_or-set_other, get_or-set_same, length-set}
 use Rattle.value_match.proofs.FreshDequeues.{calls_for}
 
 -- ---- operations and their places

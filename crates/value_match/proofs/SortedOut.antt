@@ -1,23 +1,14 @@
 -- The operations sorted out by what they did, met by a walk over them.
-use Rattle.std.proofs.Common.{◌≡◌, ℕ, ◌+◌, ◌<◌, Bool, true, false, cond, List, [], ◌∷◌, ◌++◌, length, get_or, take, Option, Some, None, refl}
-use Rattle.std.proofs.Common.{sym, ◌∙◌, ap, subst}
-use Rattle.std.specs.Prelude.{All, IfSome, find, filter, filter_map, map, slice_get}
-use Rattle.std.specs.List.{cons_option}
-use Rattle.std.proofs.lemmas.List.{take_more, append-nil, map-append, get_or-map, length-map}
-use Rattle.std.proofs.lemmas.List.Elements.{All-get_or, All-push, filter_map-append, filter-append}
-use Rattle.std.proofs.lemmas.Option.{slice_get_within, get_or_from_slice_get}
-use Rattle.history_merge.specs.declared.operation.Operation.{Operation}
-use Rattle.history_merge.specs.declared.operation.OpKind.TheVariants.{Enq, Deq, Empty, Not}
-use Rattle.history_merge.specs.Operations.{IsAt}
-use Rattle.history_merge.proofs.Distinct.{contains_at, one_at}
-use Rattle.value_match.specs.declared.life.Life.{Life}
-use Rattle.value_match.specs.declared.life.MatchedValue.{MatchedValue}
-use Rattle.value_match.specs.Lives.{IsMaybeAt, life_from, is_dequeue_of, is_empty_answer, is_refused, dequeue_of, enqueue_of}
-use Rattle.value_match.specs.Lives.{HasPlaces}
-use Rattle.value_match.specs.Accepted.{value_at, operation_at, maybe_operation_at}
-use Rattle.value_match.specs.declared.accepted.Pair.{Pair}
-use Rattle.value_match.specs.Violations.{IsClear}
-use Rattle.value_match.specs.Inner.Sources.{IsDequeuePlace}
+use Rattle.value_match.proofs.Common.{[], ◌++◌, ◌+◌, ◌∙◌, ◌∷◌, ◌≡◌, All, All-get_or, All-push, ap, append-nil, Bool}
+use Rattle.value_match.proofs.Common.{cond, cons_option, contains_at, Deq, dequeue_of, Empty, Enq, enqueue_of, false}
+use Rattle.value_match.proofs.Common.{filter, filter-append, filter_map, filter_map-append, find, get_or, get_or-map}
+use Rattle.value_match.proofs.Common.{get_or_from_slice_get, HasPlaces, IfSome, is_dequeue_of, is_empty_answer}
+use Rattle.value_match.proofs.Common.{is_refused, IsAt, IsClear, IsDequeuePlace, IsMaybeAt, length-map, Life}
+use Rattle.value_match.proofs.Common.{life_from, List, map-append, MatchedValue, maybe_operation_at, None, Not}
+use Rattle.value_match.proofs.Common.{one_at, Operation, operation_at, Option, Pair, refl, slice_get}
+use Rattle.value_match.proofs.Common.{slice_get_within, Some, subst, sym, take, take_more, true, value_at, ℕ}
+use Rattle.std.proofs.Common.{◌<◌, length}
+use Rattle.std.specs.Prelude.{map}
 use Rattle.value_match.proofs.MatchedDequeues.{found_at_place}
 
 -- what the first n operations did

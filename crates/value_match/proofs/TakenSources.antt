@@ -1,11 +1,11 @@
 -- What takes from the sources, noted while these are found.
-use Rattle.std.proofs.Common.{◌≡◌, ◌≢◌, ℕ, zero, suc, ◌<◌, ◌≤◌, ◌⊎◌, ◌+◌, List}
-use Rattle.std.proofs.Common.{[], ◌∷◌, ◌++◌, length, get_or, set, replicate, Option, Some, None}
-use Rattle.std.proofs.Common.{false, true, refl, sym, ◌∙◌, ap, arith, subst, inl, inr, get_or-set_other, get_or-set_same, length-append}
-use Rattle.std.specs.Prelude.{is_some}
-use Rattle.std.proofs.lemmas.Bool.{cases_eq, false≢true}
-use Rattle.std.proofs.lemmas.Option.{get_or_from_slice_get, slice_get_within}
-use Rattle.value_match.specs.Inner.Sources.{AreTakersTo, HasTakersTo, TakesFrom, first_of}
+use Rattle.value_match.proofs.Common.{[], ◌++◌, ◌+◌, ◌∙◌, ◌∷◌, ◌≡◌, ◌≢◌, ◌≤◌, ap, AreTakersTo, arith, cases_eq, false}
+use Rattle.value_match.proofs.Common.{false≢true, first_of, get_or, get_or_from_slice_get, HasTakersTo, inl, inr}
+use Rattle.value_match.proofs.Common.{is_some, length-append, List, None, Option, refl, replicate, slice_get_within}
+use Rattle.value_match.proofs.Common.{Some, subst, suc, sym, TakesFrom, true, zero, ℕ}
+use Rattle.std.proofs.Common.{◌<◌, ◌⊎◌}
+use Rattle.std.proofs.Common.{length, set}
+use Rattle.std.proofs.Common.{get_or-set_other, get_or-set_same}
 use Rattle.value_match.proofs.RepeatedDequeues.{source_read}
 
 -- what isn't some place is none

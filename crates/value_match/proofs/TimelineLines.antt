@@ -1,19 +1,14 @@
 -- The operations of the timeline: the enqueues of the initial values, and the operations, later.
-use Rattle.std.proofs.Common.{Bool, true, false, ◌≡◌, ℕ, zero, suc, ◌+◌, ◌*◌, ◌<◌}
-use Rattle.std.proofs.Common.{◌≤◌, ◌↔◌, List, [], ◌∷◌, ◌++◌, length, map}
-use Rattle.std.proofs.Common.{Option, Some, None, refl, sym, ◌∙◌, ap, subst, arith, inl, inr, ◌-◌, nat_lt, cond}
-use Rattle.std.specs.Prelude.{Contains, ◌⊎◌, slice_get, option_map, filter_map}
-use Rattle.std.specs.List.{cons_option}
-use Rattle.std.proofs.lemmas.Option.{slice_get_within, slice_get-map}
-use Rattle.std.proofs.lemmas.List.Elements.{Contains-append_right, Contains-append_cases}
-use Rattle.history_merge.specs.declared.operation.Operation.{Operation}
-use Rattle.history_merge.specs.declared.operation.OpKind.TheVariants.{Enq}
-use Rattle.history_merge.specs.Initial.{timeline, enqueues_from, later_by}
-use Rattle.history_merge.proofs.Distinct.{contains_at, place_of}
-use Rattle.history_merge.proofs.TimelineOperations.{length_enqueues}
+use Rattle.value_match.proofs.Common.{[], ◌*◌, ◌++◌, ◌+◌, ◌-◌, ◌↔◌, ◌∙◌, ◌∷◌, ◌≡◌, ◌≤◌, ap, arith, Bool, cases_lt}
+use Rattle.value_match.proofs.Common.{cond, cons_option, Contains, Contains-append_cases, Contains-append_right}
+use Rattle.value_match.proofs.Common.{contains_at, Enq, enqueues_from, false, filter_map, initial_enqueue, inl, inr}
+use Rattle.value_match.proofs.Common.{later_by, length_enqueues, List, lt-ltb, ltb-true, nat_lt, None, Operation}
+use Rattle.value_match.proofs.Common.{Option, option_map, place_of, refl, slice_get, slice_get-map, slice_get_within}
+use Rattle.value_match.proofs.Common.{Some, subst, suc, sym, timeline, true, zero, ℕ}
+use Rattle.std.proofs.Common.{◌<◌}
+use Rattle.std.proofs.Common.{length, map}
+use Rattle.std.specs.Prelude.{◌⊎◌}
 use Rattle.value_match.proofs.Lists.{mapped_from, mapped_to}
-use Rattle.value_match.specs.Timeline.{initial_enqueue}
-use Rattle.std.proofs.lemmas.Bool.{cases_lt, lt-ltb, ltb-true}
 
 -- the enqueue of the initial value at this place, where the first clock is another
 abbrev enqueues_from_at : ℕ → ℕ → ℕ → Operation

@@ -1,26 +1,17 @@
 -- What is found at places of a timeline, told by places of the history.
-use Rattle.std.proofs.Common.{◌≡◌, ℕ, ◌+◌, ◌-◌, ◌*◌, ◌<◌, ◌≤◌, Bool, true, false, List, [], ◌∷◌, ◌++◌, length, map, Option, Some, None}
-use Rattle.std.proofs.Common.{refl, sym, ◌∙◌, ap, ap₂, subst, arith, inl, inr, nat_lt}
-use Rattle.std.specs.Prelude.{MatchOption, filter, filter_map, if◌then◌else◌, option_map, slice_get, ⊤}
-use Rattle.std.specs.List.{cons_option}
-use Rattle.std.proofs.lemmas.List.Elements.{filter-append}
-use Rattle.std.proofs.lemmas.Bool.{le-ltb, lt-ltb, ltb-false, ltb-true}
-use Rattle.history_merge.specs.declared.operation.Operation.{Operation}
-use Rattle.history_merge.specs.declared.operation.OpKind.TheVariants.{Enq, Deq, Empty, Not}
-use Rattle.history_merge.specs.Initial.{timeline, enqueues_from, later_by}
-use Rattle.history_merge.specs.Legal.{ArePlacesOf}
-use Rattle.history_merge.specs.Operations.{Did, IsAt, NoneDid}
-use Rattle.value_match.specs.declared.fresh.FreshPlaces.{FreshPlaces}
-use Rattle.value_match.specs.declared.life.MatchedValue.{MatchedValue}
-use Rattle.value_match.specs.declared.takers.RepeatPlaces.{RepeatPlaces}
+use Rattle.value_match.proofs.Common.{[], ⊤, ◌*◌, ◌++◌, ◌+◌, ◌-◌, ◌∙◌, ◌∷◌, ◌≡◌, ◌≤◌, ap, ap₂, AreChosenFresh}
+use Rattle.value_match.proofs.Common.{AreChosenRepeat, ArePlacesOf, arith, behind, Bool, cons_option, Deq, dequeue_of}
+use Rattle.value_match.proofs.Common.{Did, Empty, Enq, enqueue_of, enqueues_from, false, filter, filter-append}
+use Rattle.value_match.proofs.Common.{filter_map, FreshPlaces, HasPlaces, HoldsPlaces, if◌then◌else◌, inl, inr}
+use Rattle.value_match.proofs.Common.{is_empty_answer, is_refused, IsAt, IsFreshViolation, IsLife, IsMaybeAt}
+use Rattle.value_match.proofs.Common.{IsMaybeOperation, IsOperation, IsSource, later_by, le-ltb, List, lt-ltb}
+use Rattle.value_match.proofs.Common.{ltb-false, ltb-true, MatchedValue, MatchOption, NamesChosenFresh}
+use Rattle.value_match.proofs.Common.{NamesChosenRepeat, NamesStep, nat_lt, None, NoneDid, Not, Operation, Option}
+use Rattle.value_match.proofs.Common.{option_map, place_behind, refl, RepeatPlaces, slice_get, Some, subst, sym}
+use Rattle.value_match.proofs.Common.{timeline, told_place, told_source, true, ℕ}
+use Rattle.std.proofs.Common.{◌<◌, length, map}
 use Rattle.value_match.specs.declared.violation.Source.TheVariants as source
 use Rattle.value_match.specs.declared.violation.Violation.TheVariants as violation
-use Rattle.value_match.specs.Timeline.{behind}
-use Rattle.value_match.specs.Lives.{HasPlaces, HoldsPlaces, IsLife, IsMaybeAt, dequeue_of, enqueue_of, is_empty_answer, is_refused}
-use Rattle.value_match.specs.Outcome.{IsMaybeOperation, IsOperation, IsSource, NamesChosenFresh, NamesChosenRepeat, NamesStep}
-use Rattle.value_match.specs.Told.{place_behind, told_place, told_source}
-use Rattle.value_match.specs.Violations.{IsFreshViolation}
-use Rattle.value_match.specs.Inner.MatchOutcome.{AreChosenFresh, AreChosenRepeat}
 use Rattle.value_match.proofs.TimelineLines.{earlier, earlier_later, earlier_none, timeline_at, timeline_earlier, one_later}
 
 -- ---- what stands at a place of the timeline

@@ -1,7 +1,4 @@
-use Rattle.std.proofs.Common.{refl, subst, arith}
-use Rattle.std.proofs.lemmas.Option.{slice_get_within}
-use Rattle.history_merge.specs.declared.operation.Operation.{Operation}
-use Rattle.history_merge.specs.declared.operation.OpKind.TheVariants.{Enq}
+use Rattle.value_match.proofs.Common.{arith, Enq, Operation, refl, slice_get_within, subst}
 use Rattle.value_match.proofs.FreshDequeues.{first_skip_at, first_more_at, first_in_range, IsFirstFresh, none_fresh, first_fresh}
 use Rattle.value_match.proofs.fresh.find_fresh.Goals as goal
 

@@ -1,6 +1,4 @@
-use Rattle.std.proofs.Common.{arith, None, sym, ◌∙◌, Some, ap, refl}
-use Rattle.std.proofs.lemmas.List.{get_or_read}
-use Rattle.std.proofs.lemmas.Option.{slice_get_read}
+use Rattle.value_match.proofs.Common.{◌∙◌, ap, arith, get_or_read, None, refl, slice_get_read, Some, sym}
 use Rattle.value_match.proofs.FreshDequeues.{fresh_at_none, fresh_at_some, source_in_range}
 use Rattle.value_match.proofs.fresh.is_fresh.Goals as goal
 

@@ -1,4 +1,4 @@
-use Rattle.std.proofs.Common.{refl, sym, ◌∙◌}
+use Rattle.value_match.proofs.Common.{◌∙◌, refl, sym}
 use Rattle.value_match.proofs.fresh.sooner.Goals as goal
 
 pub returns-in-Some-clause-some : goal.returns-in-Some-clause-some

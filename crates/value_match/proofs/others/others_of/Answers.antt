@@ -1,6 +1,4 @@
-use Rattle.std.proofs.Common.{refl, rules}
-use Rattle.std.proofs.lemmas.List.Sorted.{IsNonDecreasingBy-from_sort_by_key}
-use Rattle.std.proofs.lemmas.Option.{slice_get_read}
+use Rattle.value_match.proofs.Common.{IsNonDecreasingBy-from_sort_by_key, refl, rules, slice_get_read}
 use Rattle.value_match.proofs.CallPlaces.{others_unwanted, others_more, others_sorted}
 use Rattle.value_match.proofs.others.others_of.Goals as goal
 use Rattle.value_match.proofs.others.others_of.Goals.{in-Some+in_ok-push, in_default}

@@ -1,11 +1,6 @@
-use Rattle.std.proofs.Common.{ap, sym, ◌∙◌, rules, arith, length}
-use Rattle.std.specs.Prelude.{is_some}
-use Rattle.std.proofs.lemmas.List.{get_or_read}
-use lib.Dec.{ltb}
-use Rattle.std.proofs.lemmas.Bool.{ltb-false}
-use Rattle.std.proofs.lemmas.List.Sorted.{IsPartitionPoint-from_clause, IsPartitionedBy-ltb}
-use Rattle.value_match.specs.declared.others.Call.{Call}
-use Rattle.history_merge.proofs.RisingValues.{none_by_key}
+use Rattle.value_match.proofs.Common.{◌∙◌, ap, arith, Call, get_or_read, is_some, IsPartitionedBy-ltb}
+use Rattle.value_match.proofs.Common.{IsPartitionPoint-from_clause, ltb, ltb-false, none_by_key, rules, sym}
+use Rattle.std.proofs.Common.{length}
 use Rattle.value_match.proofs.others.place_among.Goals as goal
 
 pub returns-in_default : goal.returns-in_default

@@ -1,5 +1,4 @@
-use Rattle.std.proofs.Common.{arith}
-use Rattle.std.proofs.lemmas.List.Sorted.{length_permutation}
+use Rattle.value_match.proofs.Common.{arith, length_permutation}
 use Rattle.value_match.proofs.Lists.{moved_in_place}
 use Rattle.value_match.proofs.presorting.presort.Goals as goal
 

@@ -1,5 +1,4 @@
-use Rattle.std.proofs.Common.{arith}
-use Rattle.std.proofs.lemmas.List.Sorted.{IsPermutation-trans}
+use Rattle.value_match.proofs.Common.{arith, IsPermutation-trans}
 use Rattle.value_match.proofs.presorting.presort_one.Goals as goal
 
 pub loop-at-preserved : goal.loop-at-preserved

@@ -1,4 +1,4 @@
-use Rattle.std.proofs.lemmas.List.Sorted.{IsPermutation-trans}
+use Rattle.value_match.proofs.Common.{IsPermutation-trans}
 use Rattle.value_match.proofs.presorting.presort_slice.Goals as goal
 use Rattle.value_match.proofs.presorting.presort_slice.Goals.{else-number-via-then-number+else-not-presort_one, else-number-via-else-number}
 

@@ -1,10 +1,6 @@
-use Rattle.std.proofs.Common.{arith, ap, sym, subst, ◌∙◌, None, Some, get_or-set_other, refl}
-use Rattle.std.specs.Prelude.{is_some}
-use Rattle.std.proofs.lemmas.Bool.{false≢true}
-use Rattle.std.proofs.lemmas.List.{get_or_read}
-use Rattle.std.proofs.lemmas.Option.{slice_get-get_or, slice_get_read}
-use Rattle.history_merge.specs.declared.operation.OpKind.TheVariants.{Enq}
-use Rattle.value_match.specs.Inner.Sources.{IsSourceOf}
+use Rattle.value_match.proofs.Common.{◌∙◌, ap, arith, Enq, false≢true, get_or_read, is_some, IsSourceOf, None, refl}
+use Rattle.value_match.proofs.Common.{slice_get-get_or, slice_get_read, Some, subst, sym}
+use Rattle.std.proofs.Common.{get_or-set_other}
 use Rattle.value_match.proofs.CallPlaces.{call_within, found_all, found_first, found_here, found_more, found_nowhere, near_source, no_source, other_call}
 use Rattle.value_match.proofs.TakenSources.{none_if}
 use Rattle.value_match.proofs.sources.find_others.Goals as goal

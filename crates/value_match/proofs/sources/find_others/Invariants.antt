@@ -1,6 +1,5 @@
-use Rattle.std.proofs.Common.{◌≡◌, ◌<◌, ◌≤◌, None, get_or, ℕ}
-use Rattle.std.specs.BTreeSet.{BTreeSet}
-use Rattle.value_match.specs.Inner.Others.{HoldsOthers}
+use Rattle.value_match.proofs.Common.{◌≡◌, ◌≤◌, BTreeSet, get_or, HoldsOthers, None, ℕ}
+use Rattle.std.proofs.Common.{◌<◌}
 use Rattle.value_match.proofs.CallPlaces.{HasFound}
 use Rattle.value_match.proofs.sources.find_others.Given as goal
 

@@ -1,11 +1,7 @@
-use Rattle.std.proofs.Common.{◌≡◌, ◌<◌, ◌-◌, not, [], length}
-use Rattle.std.proofs.Common.{arith, subst, sym, true, Some, None, ◌∙◌, ap, refl}
-use Rattle.std.proofs.lemmas.List.{length-replicate, with_items_is}
-use lib.Seq.{take-nil}
-use Rattle.std.proofs.lemmas.Bool.{false≢true}
-use Rattle.std.proofs.lemmas.Option.{slice_get_read}
-use Rattle.value_match.specs.Inner.Others.{IsNearSource}
-use Rattle.value_match.specs.Inner.Sources.{AreFoundTo, AreInTimeTo, IsSourceOf, first_of}
+use Rattle.value_match.proofs.Common.{[], ◌-◌, ◌∙◌, ◌≡◌, ap, AreFoundTo, AreInTimeTo, arith, false≢true, first_of}
+use Rattle.value_match.proofs.Common.{IsNearSource, IsSourceOf, length-replicate, None, not, refl, slice_get_read}
+use Rattle.value_match.proofs.Common.{Some, subst, sym, take-nil, true, with_items_is}
+use Rattle.std.proofs.Common.{◌<◌, length}
 use Rattle.value_match.proofs.CallPlaces.{call_within, found_next, found_on, is_wanted, near_all, near_none, near_push, no_near_source, no_source, none_found_yet, wants_more}
 use Rattle.value_match.proofs.FreshDequeues.{in_time_more, late_from, no_dequeue, none_fresh_yet, in_time_at}
 use Rattle.value_match.proofs.TakenSources.{no_takers, takes_nothing, takes_unnoted}

@@ -1,8 +1,5 @@
-use Rattle.std.proofs.Common.{◌≡◌, ◌∙◌, [], ◌∷◌, ◌++◌, List, None, Option, Some, ap, false, subst, sym, true, ℕ}
-use Rattle.std.specs.Prelude.{is_some}
-use Rattle.std.proofs.lemmas.Bool.{false≢true}
-use Rattle.std.proofs.lemmas.List.{get_or_read}
-use Rattle.value_match.specs.Inner.Sources.{AreTakersTo, first_of}
+use Rattle.value_match.proofs.Common.{[], ◌++◌, ◌∙◌, ◌∷◌, ◌≡◌, ap, AreTakersTo, false, false≢true, first_of}
+use Rattle.value_match.proofs.Common.{get_or_read, is_some, List, None, Option, Some, subst, sym, true, ℕ}
 use Rattle.value_match.proofs.CallPlaces.{first_of_none}
 use Rattle.value_match.proofs.TakenSources.{kept_to, none_if, not_noted, takes_first}
 use Rattle.value_match.proofs.sources.note_taker.Goals as goal

@@ -1,7 +1,6 @@
-use Rattle.std.proofs.Common.{◌≡◌, ◌∙◌, ◌≤◌, List, None, Option, Some, ap, arith, get_or, length, unwrap_or, ℕ}
-use Rattle.std.proofs.lemmas.List.{with_items_is}
-use Rattle.value_match.specs.Inner.Sources.{AreInTimeTo, AreTakersTo, HasTakersTo, NoneFresh}
-use Rattle.history_merge.specs.declared.operation.Operation.{Operation}
+use Rattle.value_match.proofs.Common.{◌∙◌, ◌≡◌, ◌≤◌, ap, AreInTimeTo, AreTakersTo, arith, get_or, HasTakersTo, List}
+use Rattle.value_match.proofs.Common.{None, NoneFresh, Operation, Option, Some, unwrap_or, with_items_is, ℕ}
+use Rattle.std.proofs.Common.{length}
 use Rattle.value_match.proofs.CallPlaces.{none_wanted}
 use Rattle.value_match.proofs.TakenSources.{takers_kept}
 use Rattle.value_match.proofs.sources.sources_of.Goals as goal

@@ -1,9 +1,7 @@
-use Rattle.std.proofs.Common.{◌≡◌, ◌+◌, ◌<◌, ◌≤◌, true, false, sym, subst, ap, arith, length, get_or, rules}
-use lib.Dec.{ltb}
-use Rattle.std.specs.List.Sorted.{IsPartitionPoint}
-use Rattle.std.proofs.lemmas.List.{get_or_default}
-use Rattle.std.proofs.lemmas.List.Sorted.{IsPartitionPoint-from_clause, IsPartitionedBy-ltb}
-use Rattle.value_match.specs.declared.table.Front.{Front}
+use Rattle.value_match.proofs.Common.{◌+◌, ◌≡◌, ◌≤◌, ap, arith, false, Front, get_or, get_or_default}
+use Rattle.value_match.proofs.Common.{IsPartitionedBy-ltb, IsPartitionPoint, IsPartitionPoint-from_clause, ltb, rules}
+use Rattle.value_match.proofs.Common.{subst, sym, true}
+use Rattle.std.proofs.Common.{◌<◌, length}
 use Rattle.value_match.proofs.Fronts.{nowhere, point_between}
 use Rattle.value_match.proofs.table.count_before.Goals as goal
 use Rattle.value_match.proofs.table.count_before.Goals.{then-loop-before-test+else-fronts-before, else-loop-before-test}

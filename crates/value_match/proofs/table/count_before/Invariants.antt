@@ -1,4 +1,4 @@
-use Rattle.std.proofs.Common.{◌-◌, ◌≤◌}
+use Rattle.value_match.proofs.Common.{◌-◌, ◌≤◌}
 use Rattle.value_match.proofs.table.count_before.Given as goal
 
 abbrev pub invariant-loop-before : goal.invariant-loop-before

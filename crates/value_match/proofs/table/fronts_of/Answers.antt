@@ -1,4 +1,4 @@
-use Rattle.std.proofs.Common.{arith}
+use Rattle.value_match.proofs.Common.{arith}
 use Rattle.value_match.proofs.Fronts.{lists_more, all_listed}
 use Rattle.value_match.proofs.table.fronts_of.Goals as goal
 

@@ -1,5 +1,5 @@
-use Rattle.std.proofs.Common.{◌<◌, length, get_or, arith}
-use Rattle.std.proofs.lemmas.List.{get_or_default}
+use Rattle.value_match.proofs.Common.{arith, get_or, get_or_default}
+use Rattle.std.proofs.Common.{◌<◌, length}
 use Rattle.value_match.proofs.Fronts.{nowhere, none_so_far, one_more_front, all_fronts}
 use Rattle.value_match.proofs.table.name_longest.Goals as goal
 

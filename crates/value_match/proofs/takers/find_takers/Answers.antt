@@ -1,7 +1,6 @@
-use Rattle.std.proofs.Common.{◌≡◌, ◌<◌, ◌∙◌, None, Some, arith, get_or, inl, inr, length, subst, sym}
-use Rattle.std.specs.Prelude.{MatchOption}
-use Rattle.std.proofs.lemmas.List.{get_or_read}
-use Rattle.value_match.specs.Inner.Sources.{TakesFrom, return_at}
+use Rattle.value_match.proofs.Common.{◌∙◌, ◌≡◌, arith, get_or, get_or_read, inl, inr, MatchOption, None, return_at}
+use Rattle.value_match.proofs.Common.{Some, subst, sym, TakesFrom}
+use Rattle.std.proofs.Common.{◌<◌, length}
 use Rattle.value_match.proofs.RepeatedDequeues.{IsSoonest, Once, distinct_returns, found_inside, met_again, met_first}
 use Rattle.value_match.proofs.RepeatedDequeues.{met_once, met_skip, once_taken, repeat_chosen, source_inside, source_read}
 use Rattle.value_match.proofs.takers.find_takers.Goals as goal

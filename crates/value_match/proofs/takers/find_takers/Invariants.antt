@@ -1,4 +1,4 @@
-use Rattle.value_match.specs.Inner.Sources.{return_at}
+use Rattle.value_match.proofs.Common.{return_at}
 use Rattle.value_match.proofs.RepeatedDequeues.{HasMet}
 use Rattle.value_match.proofs.takers.find_takers.Given as goal
 

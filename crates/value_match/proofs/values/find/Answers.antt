@@ -1,5 +1,4 @@
-use Rattle.std.proofs.Common.{subst}
-use Rattle.value_match.specs.Inner.MatchOutcome.{AreTakers}
+use Rattle.value_match.proofs.Common.{AreTakers, subst}
 use Rattle.value_match.proofs.MatchedDequeues.{clear_from_takers, dequeues_by_enqueues}
 use Rattle.value_match.proofs.values.find.Goals as goal
 

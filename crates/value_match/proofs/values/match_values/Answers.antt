@@ -1,6 +1,4 @@
-use Rattle.std.proofs.Common.{subst}
-use Rattle.history_merge.specs.Operations.{operations_of}
-use Rattle.value_match.specs.Inner.MatchOutcome.{AreChosenFresh, AreChosenRepeat, IsMatchOutcomeOf}
+use Rattle.value_match.proofs.Common.{AreChosenFresh, AreChosenRepeat, IsMatchOutcomeOf, operations_of, subst}
 use Rattle.value_match.proofs.ToldPlaces.{fresh_told, repeat_told}
 use Rattle.value_match.proofs.values.match_values.Goals as goal
 

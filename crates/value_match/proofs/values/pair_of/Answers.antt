@@ -1,4 +1,4 @@
-use Rattle.std.proofs.Common.{refl}
+use Rattle.value_match.proofs.Common.{refl}
 use Rattle.value_match.proofs.values.pair_of.Goals as goal
 
 pub returns : goal.returns

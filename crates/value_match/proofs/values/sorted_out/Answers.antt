@@ -1,10 +1,5 @@
-use Rattle.std.proofs.Common.{arith, sym, subst, None, [], ◌∷◌, ◌∙◌, Some, ap, refl}
-use Rattle.std.proofs.lemmas.List.{get_or_read, map-append}
-use Rattle.std.proofs.lemmas.Option.{slice_get_read}
-use Rattle.value_match.specs.Accepted.{value_at}
-use Rattle.value_match.specs.Inner.Sources.{IsDequeuePlace}
-use Rattle.history_merge.specs.declared.operation.Operation.{Operation}
-use Rattle.history_merge.specs.declared.operation.OpKind.TheVariants.{Enq}
+use Rattle.value_match.proofs.Common.{[], ◌∙◌, ◌∷◌, ap, arith, Enq, get_or_read, IsDequeuePlace, map-append, None}
+use Rattle.value_match.proofs.Common.{Operation, refl, slice_get_read, Some, subst, sym, value_at}
 use Rattle.value_match.proofs.SortedOut.{pair_enqueue, pair_dequeue, sorted_enqueue, sorted_empty, sorted_refused, sorted_dequeue}
 use Rattle.value_match.proofs.values.sorted_out.Goals as goal
 use Rattle.value_match.proofs.values.sorted_out.Goals.{in-Enq+in_ok-push-in-Enq, in-Empty+in_ok-push-in-Empty, in-Not+in_ok-push-in-Not, in-Deq}

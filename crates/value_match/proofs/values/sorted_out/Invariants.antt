@@ -1,5 +1,5 @@
+use Rattle.value_match.proofs.Common.{value_at}
 use Rattle.std.specs.Prelude.{map}
-use Rattle.value_match.specs.Accepted.{value_at}
 use Rattle.value_match.proofs.SortedOut.{IsSortedOut}
 use Rattle.value_match.proofs.values.sorted_out.Given as goal
 

@@ -1,4 +1,4 @@
-use Rattle.std.proofs.Common.{arith}
+use Rattle.value_match.proofs.Common.{arith}
 use Rattle.value_match.proofs.SortedOut.{pair_within}
 use Rattle.value_match.proofs.accepted.Values.get.Goals as goal
 

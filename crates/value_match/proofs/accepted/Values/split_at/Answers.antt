@@ -1,12 +1,7 @@
-use Rattle.std.proofs.Common.{◌≡◌, ℕ, List, subst, sym, ap, ◌∙◌, drop, take}
-use Rattle.std.specs.Prelude.{All, map}
-use Rattle.std.proofs.lemmas.List.{drop-map, take-map}
-use Rattle.std.proofs.lemmas.List.Elements.{All-drop, All-take}
-use Rattle.history_merge.specs.declared.operation.Operation.{Operation}
-use Rattle.value_match.specs.declared.accepted.Pair.{Pair}
-use Rattle.value_match.specs.Accepted.{value_at}
+use Rattle.value_match.proofs.Common.{◌∙◌, ◌≡◌, All, All-drop, All-take, ap, drop, drop-map, HasPlaces, List}
+use Rattle.value_match.proofs.Common.{Operation, Pair, subst, sym, take, take-map, value_at, ℕ}
+use Rattle.std.specs.Prelude.{map}
 use Rattle.value_match.proofs.accepted.Values.split_at.Goals as goal
-use Rattle.value_match.specs.Lives.{HasPlaces}
 
 -- the values of the pairs before a place
 values_before : (operations : List Operation) (n : ℕ) (pairs before : List Pair) → before ≡ take n pairs

@@ -1,7 +1,4 @@
-use Rattle.std.proofs.Common.{subst, sym}
-use Rattle.history_merge.specs.Operations.{operations_of}
-use Rattle.value_match.specs.Lives.{HoldsPlaces, is_refused}
-use Rattle.value_match.specs.Timeline.{timeline_of}
+use Rattle.value_match.proofs.Common.{HoldsPlaces, is_refused, operations_of, subst, sym, timeline_of}
 use Rattle.value_match.proofs.ToldPlaces.{refused_told}
 use Rattle.value_match.proofs.matching.Matching.refused.Goals as goal
 

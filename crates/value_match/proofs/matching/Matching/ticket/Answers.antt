@@ -1,4 +1,4 @@
-use Rattle.std.proofs.Common.{rules}
+use Rattle.value_match.proofs.Common.{rules}
 use Rattle.value_match.proofs.matching.Matching.ticket.Goals as goal
 
 pub returns-then-clock-ticks : goal.returns-then-clock-ticks

@@ -1,7 +1,6 @@
-use Rattle.std.proofs.Common.{◌<◌, sym, subst, arith, get_or, length}
-use Rattle.std.proofs.lemmas.List.{get_or_default}
-use Rattle.value_match.specs.Longest.{EntersBefore, FindsLongest, NonePasses, IsLongestOf}
-use Rattle.value_match.specs.Fronts.{IsTableOf}
+use Rattle.value_match.proofs.Common.{arith, EntersBefore, FindsLongest, get_or, get_or_default, IsLongestOf}
+use Rattle.value_match.proofs.Common.{IsTableOf, NonePasses, subst, sym}
+use Rattle.std.proofs.Common.{◌<◌, length}
 use Rattle.value_match.proofs.Fronts.{fronts_rise, longest_found, longest_within, none_before, nowhere}
 use Rattle.value_match.proofs.table.LongestTable.longest_before_from.Goals as goal
 use Rattle.value_match.proofs.table.LongestTable.longest_before_from.Goals.{After-as_slice-fronts}

@@ -1,5 +1,4 @@
-use Rattle.std.proofs.Common.{rules}
-use Rattle.std.proofs.lemmas.List.Sorted.{IsNonDecreasingBy-from_sort_by_key, IsPermutation-trans}
+use Rattle.value_match.proofs.Common.{IsNonDecreasingBy-from_sort_by_key, IsPermutation-trans, rules}
 use Rattle.value_match.proofs.Fronts.{entries_moved}
 use Rattle.value_match.proofs.table.LongestTable.new.Goals as goal
 

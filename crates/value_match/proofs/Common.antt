@@ -1,0 +1,69 @@
+-- The names that most proofs of this crate cite, passed on from one place. Declares nothing.
+pub use Rattle.std.proofs.Common.{[], ◌*◌, ◌++◌, ◌+◌, ◌-◌, ◌||◌, ◌↔◌, ◌∙◌, ◌∷◌, ◌≡◌, ◌≢◌, ◌≤◌, ap, ap₂, arith}
+pub use Rattle.std.proofs.Common.{below_more, Bool, cond, drop, false, get_or, inl, inr, IsTrue, length-append, List}
+pub use Rattle.std.proofs.Common.{nat_lt, None, not, Option, refl, replicate, rules, Some, subst, suc, sym, take}
+pub use Rattle.std.proofs.Common.{true, unwrap_or, zero, ℕ}
+pub use Rattle.std.proofs.Math.Seq.{get_or-append_seam}
+pub use Rattle.std.proofs.lemmas.Bool.{cases_Bool, cases_eq, cases_lt, cases_order, eq-eqb, eqb-true, false≢true}
+pub use Rattle.std.proofs.lemmas.Bool.{le-ltb, lt-ltb, ltb-false, ltb-true}
+pub use Rattle.std.proofs.lemmas.List.{append-nil, drop-map, drop_all, get_or-map, get_or-take, get_or_append_left}
+pub use Rattle.std.proofs.lemmas.List.{get_or_default, get_or_read, length-map, length-replicate, length-take-le}
+pub use Rattle.std.proofs.lemmas.List.{map-append, take-map, take_all, take_more, with_items_is}
+pub use Rattle.std.proofs.lemmas.List.Elements.{All-contains, All-drop, All-from_get_or, All-get_or, All-nil, All-pop}
+pub use Rattle.std.proofs.lemmas.List.Elements.{All-push, All-take, All-weaker, Contains-append_cases}
+pub use Rattle.std.proofs.lemmas.List.Elements.{Contains-append_left, Contains-append_right, Contains-push}
+pub use Rattle.std.proofs.lemmas.List.Elements.{filter-append, filter_map-append}
+pub use Rattle.std.proofs.lemmas.List.Sorted.{All-permutation, Contains-permutation}
+pub use Rattle.std.proofs.lemmas.List.Sorted.{IsNonDecreasingBy-from_sort_by_key, IsPartitionedBy-ltb}
+pub use Rattle.std.proofs.lemmas.List.Sorted.{IsPartitionPoint-from_clause, IsPermutation-map, IsPermutation-refl}
+pub use Rattle.std.proofs.lemmas.List.Sorted.{IsPermutation-sym, IsPermutation-trans, length_permutation}
+pub use Rattle.std.proofs.lemmas.Option.{get_or_from_slice_get, slice_get-get_or, slice_get-map, slice_get_read}
+pub use Rattle.std.proofs.lemmas.Option.{slice_get_within}
+pub use Rattle.std.specs.BTreeSet.{btree_set_len, BTreeSet, contains, keys}
+pub use Rattle.std.specs.List.{AllZip, cons_option, list_any}
+pub use Rattle.std.specs.List.Sorted.{IsNonDecreasingBy, IsPartitionPoint}
+pub use Rattle.std.specs.Ordering.{is_eq, nat_cmp}
+pub use Rattle.std.specs.Prelude.{⊤, All, AllPairs, Contains, filter, filter_map, find, IfSome, if◌then◌else◌}
+pub use Rattle.std.specs.Prelude.{is_some, MatchOption, option_map, slice_get}
+pub use lib.Dec.{ltb}
+pub use lib.Seq.{take-nil}
+pub use Rattle.history_merge.proofs.Distinct.{calls_rise, CallsFor, contains_at, contains_cons, found_first}
+pub use Rattle.history_merge.proofs.Distinct.{not_in_none, one_at, pairs_at, place_of, same_enqueue, same_return}
+pub use Rattle.history_merge.proofs.Distinct.{same_value_call}
+pub use Rattle.history_merge.proofs.DistinctValues.{each_more}
+pub use Rattle.history_merge.proofs.KnownValues.{is_eq-nat_cmp}
+pub use Rattle.history_merge.proofs.RisingValues.{none_by_key}
+pub use Rattle.history_merge.proofs.TimelineOperations.{length_enqueues}
+pub use Rattle.history_merge.specs.Complete.{AreComplete}
+pub use Rattle.history_merge.specs.Initial.{enqueues_from, later_by, timeline}
+pub use Rattle.history_merge.specs.Legal.{ArePlacesOf}
+pub use Rattle.history_merge.specs.Operations.{Did, enqueued_value, IsAt, NoneDid, operations_of}
+pub use Rattle.history_merge.specs.declared.operation.OpKind.{OpKind}
+pub use Rattle.history_merge.specs.declared.operation.OpKind.TheVariants.{Deq, Empty, Enq, Not}
+pub use Rattle.history_merge.specs.declared.operation.Operation.{Operation}
+pub use Rattle.value_match.specs.Accepted.{maybe_operation_at, operation_at, value_at}
+pub use Rattle.value_match.specs.Choice.{StaysAtLeast}
+pub use Rattle.value_match.specs.Fronts.{Any, AreEntriesOf, HasFronts, IsEntryOf, IsFrontAt, IsTableOf, values_at}
+pub use Rattle.value_match.specs.Inner.MatchOutcome.{AreChosenFresh, AreChosenRepeat, AreTakers, IsMatchOutcomeOf}
+pub use Rattle.value_match.specs.Inner.Others.{CallsNoneOf, HoldsNear, HoldsOthers, IsCall, IsNearSource, NoneOf}
+pub use Rattle.value_match.specs.Inner.Sources.{AreFound, AreFoundTo, AreInTimeTo, AreTakersTo, first_of, HasTakersTo}
+pub use Rattle.value_match.specs.Inner.Sources.{HoldsDequeues, HoldsSources, HoldsTakers, IsCallPlace, IsDequeuePlace}
+pub use Rattle.value_match.specs.Inner.Sources.{IsFreshFrom, IsSourceOf, NoneFresh, return_at, TakesFrom}
+pub use Rattle.value_match.specs.Lives.{call_or_never, dequeue_call, dequeue_of, dequeues_kind, enqueue_of}
+pub use Rattle.value_match.specs.Lives.{enqueue_return, HasPlaces, HoldsLives, HoldsPlaces, is_dequeue_of}
+pub use Rattle.value_match.specs.Lives.{is_empty_answer, is_refused, IsLife, IsMaybeAt, life_from, lives_of}
+pub use Rattle.value_match.specs.Longest.{EntersBefore, FindsLongest, IsLongerOf, IsLongestOf, NonePasses}
+pub use Rattle.value_match.specs.Outcome.{IsMaybeOperation, IsOperation, IsSource, NamesChosenFresh}
+pub use Rattle.value_match.specs.Outcome.{NamesChosenRepeat, NamesStep}
+pub use Rattle.value_match.specs.Timeline.{behind, initial_enqueue, timeline_of}
+pub use Rattle.value_match.specs.Told.{place_behind, told_place, told_source}
+pub use Rattle.value_match.specs.Violations.{CoversFrom, IsClear, IsEnqueuedTooLate, IsFreshViolation}
+pub use Rattle.value_match.specs.Violations.{IsRepeatViolation, NoFreshViolation, NoRepeatViolation}
+pub use Rattle.value_match.specs.declared.accepted.Pair.{Pair}
+pub use Rattle.value_match.specs.declared.fresh.FreshPlaces.{FreshPlaces}
+pub use Rattle.value_match.specs.declared.life.Life.{Life}
+pub use Rattle.value_match.specs.declared.life.MatchedValue.{MatchedValue}
+pub use Rattle.value_match.specs.declared.life.TheConstants.{NEVER}
+pub use Rattle.value_match.specs.declared.others.Call.{Call}
+pub use Rattle.value_match.specs.declared.table.Front.{Front}
+pub use Rattle.value_match.specs.declared.takers.RepeatPlaces.{RepeatPlaces}
