@@ -1,21 +1,13 @@
 -- The first event with a property, and what contradicts what when an event is added.
-use Rattle.std.proofs.Common.{◌≡◌, ◌++◌, ◌∷◌, [], ℕ, suc, ◌<◌, ◌≤◌, List, length, Some, refl, sym, ◌∙◌, ap, subst}
-use Rattle.std.proofs.Common.{arith, length-append, append_assoc, Bool, true, false, take, Option, None}
-use Rattle.std.specs.Prelude.{IsTrue, slice_get, IfSome}
-use Rattle.std.proofs.lemmas.Bool.{false≢true}
-use Rattle.std.proofs.lemmas.Option.{slice_get_within}
-use Rattle.event_records.specs.declared.event.Event.{Event}
-use Rattle.event_records.specs.declared.limits.TheConstants.{MAX_EVENTS}
-use Rattle.history_merge.specs.declared.clash.Sought.{Sought}
-use Rattle.history_merge.specs.Inner.Clashes.{IsFirstSought, IsSought}
+use Rattle.history_merge.proofs.Common.{[], ◌++◌, ◌∙◌, ◌∷◌, ◌≡◌, ap, AreFirstWith, arith, Bool, Clash, Event}
+use Rattle.history_merge.proofs.Common.{false≢true, IfSome, IsClash, IsFirstSought, IsSought, IsTrue, length}
+use Rattle.history_merge.proofs.Common.{MAX_EVENTS, None, Option, pending_call, Placed, refl, slice_get}
+use Rattle.history_merge.proofs.Common.{slice_get_within, Some, Sought, Stands, subst, suc, sym, take, take-append-le}
+use Rattle.history_merge.proofs.Common.{take-append_seam}
+use Rattle.std.proofs.Common.{ℕ, ◌<◌, ◌≤◌, List}
+use Rattle.std.proofs.Common.{length-append, append_assoc, true, false}
 use Rattle.history_merge.proofs.MetFaults.{slice_get-append_left, slice_get-append_seam}
-use Rattle.std.proofs.Math.Seq.{take-append_seam}
-use Rattle.std.proofs.lemmas.List.{take-append-le}
-use Rattle.history_merge.specs.declared.clash.Clash.{Clash}
 use Rattle.history_merge.specs.declared.clash.Clash.TheVariants as clash
-use Rattle.history_merge.specs.declared.clash.Placed.{Placed}
-use Rattle.history_merge.specs.Clashes.{AreFirstWith, IsClash, Stands}
-use Rattle.history_merge.specs.Faults.{pending_call}
 use Rattle.history_merge.proofs.DistinctValues.{each_more}
 
 -- ---- looking for an event, one after another

@@ -1,26 +1,16 @@
 -- Different operations of a complete history have different tickets, and enqueue different values.
-use Rattle.std.proofs.Common.{◌≡◌, ◌≢◌, ℕ, zero, suc, ◌<◌, ◌≤◌, ◌⊎◌, Bool, true, false, List, [], ◌∷◌, length, get_or}
-use Rattle.std.proofs.Common.{map, Option, Some, None, refl, sym, ◌∙◌, ap, subst, inl, inr, arith, nat_eq, drop, ◌+◌}
-use Rattle.std.proofs.Common.{◌-◌}
-use Rattle.std.specs.Prelude.{AllPairs, Contains, find, slice_get, option_map}
-use Rattle.std.specs.List.{cons_option, position_or_len}
-use Rattle.std.proofs.lemmas.Bool.{eqb-true, eq-eqb, cases_order, false≢true, lt-ltb}
-use Rattle.std.proofs.lemmas.List.Elements.{Contains-get_or, All-contains}
-use Rattle.std.proofs.lemmas.Option.{slice_get_within, get_or_from_slice_get, slice_get_read, slice_get-map}
-use Rattle.event_records.specs.declared.event.Event.{Event}
-use Rattle.event_records.specs.declared.event.What.{What}
-use Rattle.event_records.specs.Turns.{TicketsRise, is_call}
-use Rattle.history_merge.specs.declared.operation.Operation.{Operation}
-use Rattle.history_merge.specs.declared.operation.OpKind.{OpKind}
-use Rattle.history_merge.specs.declared.operation.OpKind.TheVariants.{Enq, Not}
-use Rattle.history_merge.specs.Operations.{Did, operations_of, operation_of, kind_of}
-use Rattle.history_merge.specs.Complete.{IsCompleteUpTo, AreComplete}
-use Rattle.event_records.specs.declared.limits.TheConstants.{MAX_CLOCK}
+use Rattle.history_merge.proofs.Common.{[], ◌+◌, ◌-◌, ◌∙◌, ◌∷◌, ◌≡◌, ◌≢◌, ◌⊎◌, All-contains, AllPairs, AllPairs-cons}
+use Rattle.history_merge.proofs.Common.{ap, AreComplete, arith, Bool, cases_order, cons_option, Contains}
+use Rattle.history_merge.proofs.Common.{Contains-get_or, Did, drop, Enq, eq-eqb, eqb-true, Event, false≢true, find}
+use Rattle.history_merge.proofs.Common.{find_at, get_or_from_slice_get, inl, inr, is_call, IsCompleteUpTo, kind_of}
+use Rattle.history_merge.proofs.Common.{length, lt-ltb, MAX_CLOCK, nat_eq, None, Not, Operation, operation_of}
+use Rattle.history_merge.proofs.Common.{operations_of, OpKind, Option, option_map, position-Some, position_or_len}
+use Rattle.history_merge.proofs.Common.{refl, slice_get, slice_get-map, slice_get_read, slice_get_within, Some, subst}
+use Rattle.history_merge.proofs.Common.{suc, sym, TicketsRise, What, zero}
+use Rattle.std.proofs.Common.{ℕ, ◌<◌, ◌≤◌, true, false, List, get_or}
+use Rattle.std.proofs.Common.{map}
 use Rattle.history_merge.proofs.Completeness.{IsMadeOf, made_of, called_once}
 use Rattle.history_merge.proofs.Places.{calls_of_kind, same_place}
-use Rattle.std.proofs.lemmas.List.Folds.{find_at}
-use Rattle.std.proofs.lemmas.List.Kept.{AllPairs-cons}
-use Rattle.std.proofs.lemmas.List.Quantifiers.{position-Some}
 
 -- what a list contains is its first element, or the rest contains it
 pub contains_cons : {X : Type 0} (x : X) (xs : List X) (y : X) → Contains (x ∷ xs) y → (x ≡ y) ⊎ Contains xs y

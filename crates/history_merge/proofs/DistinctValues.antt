@@ -1,24 +1,17 @@
 -- Values that no two calls share, and initial values.
-use Rattle.std.proofs.Common.{◌≡◌, ◌≢◌, ℕ, ◌<◌, true, false, List, [], ◌∷◌, ◌++◌, length, take, Some, refl, sym, ◌∙◌}
-use Rattle.std.proofs.Common.{subst, inr, arith, nat_eq, length-append, suc, ◌+◌, ◌||◌, drop, Option, None, ap, inl}
-use Rattle.std.specs.Prelude.{slice_get}
-use Rattle.std.proofs.lemmas.Bool.{eq-eqb, eqb-true, false≢true, cases_lt, false_from_ne_true}
-use Rattle.std.proofs.lemmas.List.{get_or_append_left, get_or_default, get_or-take, length-take, take_all, append-nil}
+use Rattle.history_merge.proofs.Common.{[], ◌++◌, ◌+◌, ◌||◌, ◌∙◌, ◌∷◌, ◌≡◌, ◌≢◌, all_pairs_push, Any-from_list_any}
+use Rattle.history_merge.proofs.Common.{ap, append-nil, AreDistinct, arith, called_value, called_values}
+use Rattle.history_merge.proofs.Common.{calls_initial, cases_lt, cons_option, drop, eq-eqb, eqb-true, Event}
+use Rattle.history_merge.proofs.Common.{false_from_ne_true, false≢true, filter_map-append, get_or-append_seam}
+use Rattle.history_merge.proofs.Common.{get_or-take, get_or_append_left, get_or_default, get_or_from_slice_get}
+use Rattle.history_merge.proofs.Common.{HasRefusedInitial, InitialTwice, inl, inr, is_initial, IsCompleteFrom}
+use Rattle.history_merge.proofs.Common.{IsFirstTwice, length, length-take, list_any, list_any-append, list_any_at}
+use Rattle.history_merge.proofs.Common.{nat_eq, None, Option, option_map_or, or_comm, refl, repeats_value, slice_get}
+use Rattle.history_merge.proofs.Common.{slice_get_within, Some, split_at, subst, suc, sym, take, was_called}
+use Rattle.std.proofs.Common.{ℕ, ◌<◌, true, false, List}
+use Rattle.std.proofs.Common.{length-append}
+use Rattle.std.proofs.lemmas.List.{take_all}
 use Rattle.std.proofs.lemmas.List.{append_assoc}
-use Rattle.std.proofs.lemmas.List.Folds.{Any-from_list_any, list_any_at, list_any-append}
-use Rattle.std.proofs.lemmas.List.Quantifiers.{all_pairs_push}
-use Rattle.std.proofs.lemmas.Option.{slice_get_within, get_or_from_slice_get}
-use Rattle.event_records.specs.declared.event.Event.{Event}
-use Rattle.history_merge.specs.declared.fault.HistoryFault.TheVariants.{InitialTwice}
-use Rattle.history_merge.specs.Complete.{AreDistinct, called_values, called_value}
-use Rattle.history_merge.specs.Faults.{IsFirstTwice, is_initial, calls_initial, was_called, repeats_value}
-use Rattle.history_merge.specs.Gathering.{HasRefusedInitial}
-use Rattle.history_merge.specs.Initial.{IsCompleteFrom}
-use Rattle.std.specs.Option.{option_map_or}
-use Rattle.std.specs.List.{cons_option, list_any}
-use Rattle.std.proofs.Math.Bool.{or_comm}
-use Rattle.std.proofs.Math.Seq.{get_or-append_seam, split_at}
-use Rattle.std.proofs.lemmas.List.Elements.{filter_map-append}
 use Rattle.history_merge.proofs.Distinct.{one_at}
 
 -- ---- initial values: distinct so far, or the first that stands twice

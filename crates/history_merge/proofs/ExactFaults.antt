@@ -1,34 +1,21 @@
 -- A list of events is a complete history if and only if it has no fault.
-use Rattle.std.proofs.Common.{ℕ, ◌↔◌, List, ◌≡◌, ◌<◌, ◌≤◌, ◌||◌, false, take, Option, Some, None, refl, sym, subst}
-use Rattle.std.proofs.Common.{arith, zero, suc, ◌+◌, [], ◌∷◌, ◌++◌, length, get_or, drop, ◌∙◌, inl, inr, length-append}
-use Rattle.std.proofs.lemmas.Option.{MatchOption-at_none, slice_get-get_or, slice_get_within}
-use Rattle.std.proofs.lemmas.Bool.Decides.{nat_tests, eqb_tells}
-use Rattle.event_records.specs.declared.event.Event.{Event}
-use Rattle.history_merge.specs.declared.fault.HistoryFault.{HistoryFault}
-use Rattle.history_merge.specs.declared.fault.HistoryFault.TheVariants.{TicketOrder, BadThread, CallWhilePending}
-use Rattle.history_merge.specs.declared.fault.HistoryFault.TheVariants.{ReturnWithoutCall, WrongReturn, DuplicateValue}
-use Rattle.history_merge.specs.declared.fault.HistoryFault.TheVariants.{Pending, Memory, InitialTwice}
-use Rattle.history_merge.specs.Faults.{IsFirstFault, IsFirstFaultAt, fault_at}
-use Rattle.history_merge.specs.Faults.{calls_initial, repeats_value, pending_call, NoFaultBefore}
-use Rattle.std.specs.Prelude.{MatchOption, ⊤, All, Contains}
-use Rattle.std.specs.List.{last_or}
-use Rattle.std.proofs.lemmas.Bool.{cases_lt}
-use Rattle.event_records.specs.declared.limits.TheConstants.{MAX_TICKET, MAX_THREAD}
-use Rattle.event_records.specs.Turns.{TakesTurns, TicketsRise}
-use Rattle.history_merge.specs.Inner.Forming.{FitsTurn}
+use Rattle.history_merge.proofs.Common.{[], ⊤, ◌++◌, ◌+◌, ◌||◌, ◌↔◌, ◌∙◌, ◌∷◌, ◌≡◌, All, All-contains, All-nil}
+use Rattle.history_merge.proofs.Common.{All-push, all_pairs_push, append-nil, AreDistinct, arith, BadThread}
+use Rattle.history_merge.proofs.Common.{called_values, CallEnq, calls_initial, CallWhilePending, cases_lt, Contains}
+use Rattle.history_merge.proofs.Common.{Contains-append_right, drop, DuplicateValue, eqb_tells, Event, fault_at}
+use Rattle.history_merge.proofs.Common.{FitsTurn, get_or-append-add, get_or-append_seam, get_or_append_left}
+use Rattle.history_merge.proofs.Common.{HistoryFault, InitialTwice, inl, inr, IsCompleteFrom, IsCompleteHistory}
+use Rattle.history_merge.proofs.Common.{IsFirstFault, IsFirstFaultAt, IsRunOf, last_or, length, MatchOption}
+use Rattle.history_merge.proofs.Common.{MatchOption-at_none, MAX_THREAD, MAX_TICKET, Memory, nat_tests, NoFaultBefore}
+use Rattle.history_merge.proofs.Common.{None, NothingPending, operations_so_far, Option, Pending, pending_call}
+use Rattle.history_merge.proofs.Common.{projection, refl, repeats_value, ReturnWithoutCall, slice_get-get_or}
+use Rattle.history_merge.proofs.Common.{slice_get_within, Some, subst, suc, sym, take, take-suc, TakesTurns}
+use Rattle.history_merge.proofs.Common.{TicketOrder, TicketsRise, WrongReturn, zero}
+use Rattle.std.proofs.Common.{ℕ, List, ◌<◌, ◌≤◌, false}
+use Rattle.std.proofs.Common.{get_or, length-append}
 use Rattle.history_merge.proofs.Turns.{projection-at, projection-push_own, projection-push_other, TurnsSoFar}
 use Rattle.history_merge.proofs.Turns.{finished, turns_push, fits_in_turns, nothing_after_turns}
-use Rattle.std.proofs.Math.Seq.{get_or-append_seam, take-suc}
-use Rattle.std.proofs.lemmas.List.{append-nil, get_or-append-add, get_or_append_left, take_all}
-use Rattle.std.proofs.lemmas.List.Elements.{All-nil, All-push, All-contains, Contains-append_right}
-use Rattle.std.proofs.lemmas.List.Quantifiers.{all_pairs_push}
-use Rattle.event_records.specs.declared.event.What.TheVariants.{CallEnq}
-use Rattle.event_records.specs.Projection.{projection}
-use Rattle.history_merge.specs.Complete.{AreDistinct, IsCompleteHistory, called_values}
-use Rattle.history_merge.specs.Initial.{IsCompleteFrom}
-use Rattle.history_merge.specs.Forming.{operations_so_far}
-use Rattle.history_merge.specs.Inner.Faults.{NothingPending}
-use Rattle.history_merge.specs.Inner.History.{IsRunOf}
+use Rattle.std.proofs.lemmas.List.{take_all}
 use Rattle.history_merge.proofs.DistinctValues.{cut_at, distinct_push, new_from_distinct, initial_distinct}
 use Rattle.history_merge.proofs.DistinctValues.{twice_not_distinct}
 use Rattle.history_merge.proofs.TheirEvents.{run_of}

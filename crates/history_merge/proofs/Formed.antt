@@ -1,41 +1,23 @@
 -- The operations of the events so far, and what a history builder keeps of them, after one more event and at the end.
-use Rattle.std.proofs.Common.{◌≡◌, ℕ, suc, ◌||◌, ◌≢◌, true, false, cond, List, [], ◌∷◌, ◌++◌, length, set}
-use Rattle.std.proofs.Common.{Option, Some, None, refl, sym, ◌∙◌, ap, subst, inl, inr, nat_eq, arith, ◌+◌, ◌<◌, ◌≤◌}
-use Rattle.std.proofs.Common.{not, get_or, append_assoc, length-set, get_or-set_same, get_or-set_other}
-use Rattle.std.specs.Prelude.{slice_get, option_map, is_none, is_some}
-use Rattle.std.specs.Option.{option_map_or}
-use Rattle.std.proofs.lemmas.Bool.Decides.{eqb_tells, nat_tests}
-use Rattle.std.proofs.lemmas.Bool.{false≢true, le-ltb, cases_Bool}
-use Rattle.std.proofs.lemmas.List.Folds.{find-append}
-use Rattle.event_records.specs.declared.event.Event.{Event}
-use Rattle.event_records.specs.declared.event.What.{What}
-use Rattle.event_records.specs.declared.event.What.TheVariants.{RetEnq}
-use Rattle.event_records.specs.Turns.{is_call, answers, TakesTurns}
-use Rattle.history_merge.specs.Complete.{called_value, IsCompleteHistory}
-use Rattle.history_merge.specs.Faults.{was_called, answers_pending, breaks_ticket_order, calls_initial, fault_at}
-use Rattle.history_merge.specs.Faults.{pending_call, repeats_value}
-use Rattle.history_merge.specs.Operations.{operations_of, operation_of, kind_of}
-use Rattle.history_merge.specs.Forming.{begun, answered, operation_so_far, operations_so_far, waiting}
-use Rattle.history_merge.specs.Inner.Forming.{is_called_in, IsFormedOf}
-use Rattle.history_merge.specs.Inner.History.{next_of, IsKept, IsRunOf}
-use Rattle.std.specs.Bool.{then_some}
-use Rattle.std.proofs.lemmas.List.{append-nil}
-use Rattle.std.proofs.lemmas.List.Elements.{All-push}
-use Rattle.std.proofs.lemmas.Option.{slice_get_within, get_or_from_slice_get}
-use Rattle.event_records.specs.declared.limits.TheConstants.{MAX_EVENTS, MAX_THREAD}
-use Rattle.event_records.specs.Projection.{projection}
-use Rattle.history_merge.specs.declared.fault.HistoryFault.TheVariants.{CallWhilePending, DuplicateValue}
-use Rattle.history_merge.specs.declared.fault.HistoryFault.TheVariants.{ReturnWithoutCall, WrongReturn}
-use Rattle.history_merge.specs.declared.operation.OpKind.{OpKind}
-use Rattle.history_merge.specs.declared.operation.Operation.{Operation}
-use Rattle.history_merge.specs.declared.forming.Forming.{Forming}
-use Rattle.history_merge.specs.Events.{call_event, called_by, events_of}
-use Rattle.history_merge.specs.Initial.{IsCompleteFrom}
-use Rattle.history_merge.specs.Gathering.{HasFormed}
+use Rattle.history_merge.proofs.Common.{[], ◌++◌, ◌+◌, ◌||◌, ◌∙◌, ◌∷◌, ◌≡◌, ◌≢◌, All-push, answered, answers}
+use Rattle.history_merge.proofs.Common.{answers_pending, ap, append-nil, arith, begun, breaks_ticket_order}
+use Rattle.history_merge.proofs.Common.{call_event, called_by, called_value, calls_initial, CallWhilePending}
+use Rattle.history_merge.proofs.Common.{cases_Bool, cond, DuplicateValue, eqb_tells, Event, events_of, false≢true}
+use Rattle.history_merge.proofs.Common.{fault_at, find-append, Forming, get_or-set_other, get_or-set_same}
+use Rattle.history_merge.proofs.Common.{get_or_from_slice_get, HasFormed, inl, inr, is_call, is_called_in, is_none}
+use Rattle.history_merge.proofs.Common.{is_some, IsCompleteFrom, IsCompleteHistory, IsFormedOf, IsKept, IsRunOf}
+use Rattle.history_merge.proofs.Common.{kind_of, le-ltb, length, length-set, MAX_EVENTS, MAX_THREAD, nat_eq}
+use Rattle.history_merge.proofs.Common.{nat_tests, next_of, None, not, Operation, operation_of, operation_so_far}
+use Rattle.history_merge.proofs.Common.{operations_of, operations_so_far, OpKind, Option, option_map, option_map_or}
+use Rattle.history_merge.proofs.Common.{pending_call, projection, refl, repeats_value, RetEnq, ReturnWithoutCall, set}
+use Rattle.history_merge.proofs.Common.{slice_get, slice_get_within, Some, some_pair_parts, subst, suc, sym}
+use Rattle.history_merge.proofs.Common.{TakesTurns, then_some, waiting, was_called, What, WrongReturn}
+use Rattle.std.proofs.Common.{ℕ, true, false, List}
+use Rattle.std.proofs.Common.{◌<◌, ◌≤◌}
+use Rattle.std.proofs.Common.{get_or, append_assoc}
 use Rattle.history_merge.proofs.TheirEvents.{run_of, told_of_run, call_so_far, next_is_first}
 use Rattle.history_merge.proofs.Turns.{last_or-push, pending_call-push_own, pending_call-push_other, answer_is_return}
 use Rattle.history_merge.proofs.Turns.{projection-at}
-use Rattle.std.proofs.lemmas.Option.{some_pair_parts}
 
 -- ---- how one more event changes the operations of the events so far
 

@@ -1,31 +1,18 @@
 -- Which values were noted, after one more.
-use Rattle.std.proofs.Common.{◌≡◌, ℕ, zero, suc, ◌+◌, ◌||◌, Bool, true, false, not, cond, List, [], ◌∷◌, ◌++◌, length}
-use Rattle.std.proofs.Common.{get_or, take, inl, inr, refl, sym, ◌∙◌, ap, subst, arith, nat_eq, append_assoc}
+use Rattle.history_merge.proofs.Common.{[], ◌++◌, ◌+◌, ◌||◌, ◌∙◌, ◌∷◌, ◌≡◌, ap, AreCalledIn, arith, Bool}
+use Rattle.history_merge.proofs.Common.{called_value, called_values, CalledValues, calls_initial, cond, cons_option}
+use Rattle.history_merge.proofs.Common.{contains, Contents, enqueue_at, enqueued_value, enqueues_from, eqb-true}
+use Rattle.history_merge.proofs.Common.{Event, filter_map-append, inl, inr, is_among, is_called_in, is_eq, is_initial}
+use Rattle.history_merge.proofs.Common.{Knows, later_by, length, list_any-append, LOOSE, name_in, nat_cmp, nat_eq}
+use Rattle.history_merge.proofs.Common.{nat_tests, not, Operation, operations_so_far, option_map_or, or_cases}
+use Rattle.history_merge.proofs.Common.{or_comm, refl, repeats_value, subst, suc, sym, take, take-append-le, timeline}
+use Rattle.history_merge.proofs.Common.{was_called, zero}
+use Rattle.std.proofs.Common.{ℕ, true, false, List}
+use Rattle.std.proofs.Common.{get_or, append_assoc}
 use Rattle.std.specs.Prelude.{map, ◌*◌, ◌<◌}
-use Rattle.std.specs.List.{cons_option}
-use Rattle.std.specs.Option.{option_map_or}
-use Rattle.std.specs.Ordering.{nat_cmp, is_eq}
-use Rattle.std.specs.BTreeSet.{contains}
-use Rattle.std.proofs.lemmas.Bool.{eqb-true, or_cases}
-use Rattle.std.proofs.lemmas.Bool.Decides.{nat_tests}
-use Rattle.std.proofs.lemmas.List.{take-append-le}
-use Rattle.std.proofs.lemmas.List.Elements.{filter_map-append}
-use Rattle.std.proofs.lemmas.List.Folds.{list_any-append}
-use Rattle.event_records.specs.declared.event.Event.{Event}
-use Rattle.history_merge.specs.declared.called.CalledValues.{CalledValues}
-use Rattle.history_merge.specs.declared.called.TheConstants.{LOOSE}
-use Rattle.history_merge.specs.declared.operation.Operation.{Operation}
-use Rattle.history_merge.specs.Complete.{called_value, called_values}
-use Rattle.history_merge.specs.Faults.{calls_initial, is_initial, repeats_value, was_called}
-use Rattle.history_merge.specs.Forming.{operations_so_far}
-use Rattle.history_merge.specs.Gathering.{Knows, is_among, name_in}
-use Rattle.history_merge.specs.Initial.{Contents, enqueue_at, enqueues_from, later_by, timeline}
-use Rattle.history_merge.specs.Inner.Forming.{AreCalledIn, is_called_in}
-use Rattle.history_merge.specs.Operations.{enqueued_value}
 use Rattle.history_merge.proofs.DistinctValues.{known_is}
 use Rattle.history_merge.proofs.Formed.{called_in_operations}
 use Rattle.history_merge.proofs.TimelineOperations.{length_enqueues}
-use Rattle.std.proofs.Math.Bool.{or_comm}
 
 -- the comparison of numbers finds equal ones
 pub is_eq-nat_cmp : (v q : ℕ) → is_eq (nat_cmp v q) ≡ nat_eq v q

@@ -1,21 +1,11 @@
 -- Operations and events that all come so much later.
-use Rattle.std.proofs.Common.{◌≡◌, ℕ, List, [], ◌∷◌, refl, sym, ◌∙◌, ap, subst, arith, nat_eq, ◌<◌, zero, suc}
-use Rattle.std.specs.Prelude.{All, AllPairs, find, get_or, map, option_map}
-use Rattle.std.specs.List.{cons_option}
-use Rattle.std.proofs.lemmas.List.Elements.{All-map}
-use Rattle.std.proofs.lemmas.List.Folds.{map_fixed}
-use Rattle.std.proofs.lemmas.List.Sorted.{All-permutation, IsPermutation-map}
-use Rattle.event_records.specs.declared.event.Event.{Event}
-use Rattle.event_records.specs.Projection.{projection}
-use Rattle.event_records.specs.Turns.{TakesTurns, TicketsRise}
-use Rattle.history_merge.specs.declared.operation.Operation.{Operation}
-use Rattle.history_merge.specs.Complete.{called_value, called_values}
-use Rattle.history_merge.specs.Initial.{event_later_by, later_by}
-use Rattle.history_merge.specs.Inner.Timeline.{earlier_by}
-use Rattle.history_merge.specs.Legal.{IsLegalOrder}
-use Rattle.history_merge.specs.Operations.{Precedes, operations_of}
-use Rattle.history_merge.specs.Queue.{IsAccepted}
-use Rattle.std.proofs.lemmas.List.Kept.{AllPairs-cons}
+use Rattle.history_merge.proofs.Common.{[], ◌∙◌, ◌∷◌, ◌≡◌, All, All-map, All-permutation, AllPairs, AllPairs-cons, ap}
+use Rattle.history_merge.proofs.Common.{arith, called_value, called_values, cons_option, earlier_by, Event}
+use Rattle.history_merge.proofs.Common.{event_later_by, find, IsAccepted, IsLegalOrder, IsPermutation-map, later_by}
+use Rattle.history_merge.proofs.Common.{map_fixed, nat_eq, Operation, operations_of, option_map, Precedes, projection}
+use Rattle.history_merge.proofs.Common.{refl, subst, suc, sym, TakesTurns, TicketsRise, zero}
+use Rattle.std.proofs.Common.{ℕ, List, ◌<◌}
+use Rattle.std.specs.Prelude.{get_or, map}
 
 -- ---- operations
 

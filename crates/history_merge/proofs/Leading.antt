@@ -1,22 +1,14 @@
 -- Enqueues that precede all other operations stand first in each linearization.
-use Rattle.std.proofs.Common.{◌≡◌, ℕ, zero, suc, ◌≤◌, ◌⊎◌, List, [], ◌∷◌, refl, sym, ◌∙◌, ap, inl, inr, arith, ◌++◌}
-use Rattle.std.proofs.Common.{subst}
-use Rattle.std.specs.Prelude.{Contains, IsPermutation, sum_by, All, map, ⊤}
-use Rattle.std.specs.List.{remove}
-use Rattle.std.proofs.lemmas.Bool.{cases_eq}
-use Rattle.std.proofs.lemmas.List.Sorted.{IsPermutation-cons, IsPermutation-refl, IsPermutation-remove}
-use Rattle.std.proofs.lemmas.List.Sorted.{IsPermutation-sym, IsPermutation-trans, sum_by-IsPermutation, All-permutation}
-use Rattle.std.proofs.lemmas.List.Sorted.{Contains-permutation}
-use Rattle.std.proofs.lemmas.List.Sums.{sum_by-cons}
-use Rattle.history_merge.specs.declared.operation.Operation.{Operation}
-use Rattle.history_merge.specs.declared.operation.OpKind.{OpKind}
-use Rattle.history_merge.specs.declared.operation.OpKind.TheVariants.{Enq, Deq, Empty, Not}
-use Rattle.std.proofs.lemmas.List.{append-nil, append_assoc}
-use Rattle.std.proofs.lemmas.List.Elements.{All-contains}
-use Rattle.std.proofs.lemmas.List.Kept.{AllPairs-cons}
-use Rattle.history_merge.specs.Legal.{IsLegalOrder}
-use Rattle.history_merge.specs.Operations.{Precedes}
-use Rattle.history_merge.specs.Queue.{IsAccepted}
+use Rattle.history_merge.proofs.Common.{[], ⊤, ◌++◌, ◌∙◌, ◌∷◌, ◌≡◌, ◌⊎◌, All, All-contains, All-permutation}
+use Rattle.history_merge.proofs.Common.{AllPairs-cons, ap, append-nil, arith, cases_eq, Contains}
+use Rattle.history_merge.proofs.Common.{Contains-permutation, Deq, Empty, Enq, inl, inr, IsAccepted, IsLegalOrder}
+use Rattle.history_merge.proofs.Common.{IsPermutation, IsPermutation-cons, IsPermutation-refl, IsPermutation-remove}
+use Rattle.history_merge.proofs.Common.{IsPermutation-sym, IsPermutation-trans, Not, Operation, OpKind, Precedes}
+use Rattle.history_merge.proofs.Common.{refl, remove, subst, suc, sum_by, sum_by-cons, sum_by-IsPermutation, sym}
+use Rattle.history_merge.proofs.Common.{zero}
+use Rattle.std.proofs.Common.{ℕ, ◌≤◌, List}
+use Rattle.std.specs.Prelude.{map}
+use Rattle.std.proofs.lemmas.List.{append_assoc}
 use Rattle.history_merge.proofs.Distinct.{contains_cons, not_in_none}
 
 -- ---- operations in another order, without one that stands first in both

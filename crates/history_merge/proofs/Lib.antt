@@ -11,6 +11,7 @@
 -- Later, Timelines, TimelineOperations: a history whose initial values are enqueued before all else is complete, and has the
 -- same linearizations.
 -- Runs, Places: what a run of the sequential specification enqueued and dequeued, and where.
+mod Common
 pub mod TheirEvents
 pub mod KnownValues
 pub mod MetFaults

@@ -1,25 +1,16 @@
 -- The faults of events to which more are added.
-use Rattle.std.proofs.Common.{◌≡◌, ◌++◌, ◌∷◌, ◌⊎◌, [], ℕ, ◌<◌, ◌≤◌, List, length, take, Option, Some, None, refl, sym}
-use Rattle.std.proofs.Common.{◌∙◌, subst, inl, inr, arith, length-append}
-use Rattle.std.specs.Prelude.{slice_get, Err, IfErr, IfOk, IfSome, MatchOption, MatchResult, Ok, Result, is_some, true, false}
-use Rattle.std.specs.Result.{IsErrAnd, result_err}
-use Rattle.std.proofs.Math.Seq.{take-append_seam}
-use Rattle.std.proofs.lemmas.List.{append-nil, take-append-le}
-use Rattle.std.proofs.lemmas.Option.{slice_get_within, gets, MatchOption-at_none, MatchOption-at_some}
-use Rattle.event_records.specs.declared.event.Event.{Event}
-use Rattle.event_records.specs.declared.limits.TheConstants.{MAX_EVENTS, MAX_INITIAL}
-use Rattle.history_merge.specs.declared.called.CalledValues.{CalledValues}
-use Rattle.history_merge.specs.declared.fault.HistoryFault.{HistoryFault}
-use Rattle.history_merge.specs.declared.fault.HistoryFault.TheVariants.{Memory}
-use Rattle.history_merge.specs.declared.forming.Forming.{Forming}
-use Rattle.history_merge.specs.declared.gathering.Gathering.{Gathering}
-use Rattle.history_merge.specs.Clashes.{IsClash}
-use Rattle.history_merge.specs.Complete.{AreDistinct}
-use Rattle.history_merge.specs.Faults.{fault_at, NoFaultBefore, IsFirstFault}
-use Rattle.history_merge.specs.Gathering.{HasFormed, HasGathered, HasMetFault, HasRefusedInitial, IsForming, Knows}
-use Rattle.history_merge.specs.Inner.History.{IsRunOf}
+use Rattle.history_merge.proofs.Common.{[], ◌++◌, ◌∙◌, ◌∷◌, ◌≡◌, ◌⊎◌, append-nil, AreDistinct, arith, CalledValues}
+use Rattle.history_merge.proofs.Common.{common_steps, Event, fault_at, Forming, Gathering, gets, HasFormed}
+use Rattle.history_merge.proofs.Common.{HasGathered, HasMetFault, HasRefusedInitial, HistoryFault, IfErr, IfOk}
+use Rattle.history_merge.proofs.Common.{IfSome, inl, inr, is_some, IsClash, IsErrAnd, IsFirstFault, IsForming}
+use Rattle.history_merge.proofs.Common.{IsRunOf, Knows, length, MatchOption, MatchOption-at_none, MatchOption-at_some}
+use Rattle.history_merge.proofs.Common.{MatchResult, MAX_EVENTS, MAX_INITIAL, Memory, NoFaultBefore, None, Option}
+use Rattle.history_merge.proofs.Common.{refl, result_err, slice_get, slice_get_within, Some, subst, sym, take}
+use Rattle.history_merge.proofs.Common.{take-append-le, take-append_seam}
+use Rattle.std.proofs.Common.{ℕ, ◌<◌, ◌≤◌, List}
+use Rattle.std.proofs.Common.{length-append}
+use Rattle.std.specs.Prelude.{Err, Ok, Result, true, false}
 use Rattle.history_merge.proofs.ExactFaults.{run_without_fault, first_fault_at}
-use Rattle.std.proofs.lemmas.Grind.{common_steps}
 use Rattle.history_merge.proofs.DistinctValues.{each_more}
 
 pub slice_get-append_left : (xs ys : List Event) (i : ℕ) → i < length xs → slice_get (xs ++ ys) i ≡ slice_get xs i

@@ -1,11 +1,9 @@
 -- Initial values and events have one first fault.
-use Rattle.std.proofs.Common.{◌≡◌, ◌≢◌, ℕ, ◌<◌, List, length, take, Some, refl, sym, ◌∙◌, ap, subst, inl, inr, arith}
-use Rattle.std.proofs.lemmas.Bool.{cases_order}
-use Rattle.std.proofs.lemmas.Option.{slice_get_within, none-some}
-use Rattle.event_records.specs.declared.event.Event.{Event}
-use Rattle.history_merge.specs.declared.fault.HistoryFault.{HistoryFault}
-use Rattle.history_merge.specs.declared.fault.HistoryFault.TheVariants.{Pending, Memory, InitialTwice}
-use Rattle.history_merge.specs.Faults.{IsFirstFault, IsFirstFaultAt, IsFirstTwice, IsLeastPending, NoFaultBefore, fault_at}
+use Rattle.history_merge.proofs.Common.{◌∙◌, ◌≡◌, ◌≢◌, ap, arith, cases_order, Event, fault_at, HistoryFault}
+use Rattle.history_merge.proofs.Common.{InitialTwice, inl, inr, IsFirstFault, IsFirstFaultAt, IsFirstTwice}
+use Rattle.history_merge.proofs.Common.{IsLeastPending, length, Memory, NoFaultBefore, none-some, Pending, refl}
+use Rattle.history_merge.proofs.Common.{slice_get_within, Some, subst, sym, take}
+use Rattle.std.proofs.Common.{ℕ, ◌<◌, List}
 use Rattle.history_merge.proofs.Distinct.{one_at}
 use Rattle.history_merge.proofs.ExactFaults.{by_kind}
 use Rattle.history_merge.proofs.DistinctValues.{twice_before, twice_not_distinct}

@@ -1,8 +1,7 @@
 -- Things whose keys rise: which isn't among them.
-use Rattle.std.proofs.Common.{◌≡◌, ℕ, ◌<◌, ◌≤◌, ◌⊎◌, true, false, List, length, get_or, inl, inr, arith}
-use Rattle.std.specs.List.Sorted.{IsNonDecreasingBy, IsPartitionPoint}
-use lib.Dec.{ltb}
-use Rattle.std.proofs.lemmas.Bool.{ltb-false, ltb-true}
+use Rattle.history_merge.proofs.Common.{◌≡◌, ◌⊎◌, arith, inl, inr, IsNonDecreasingBy, IsPartitionPoint, length, ltb}
+use Rattle.history_merge.proofs.Common.{ltb-false, ltb-true}
+use Rattle.std.proofs.Common.{ℕ, ◌<◌, ◌≤◌, true, false, List, get_or}
 
 -- where the keys from place i on are this one or above it, and those before are below it, and that at i isn't this one, none is
 pub none_by_key : {X : Type 0} (key : X → ℕ) (xs : List X) (v i : ℕ) → IsNonDecreasingBy key xs

@@ -1,23 +1,19 @@
 -- The operations of events determine them: each call, with its return by ticket among the events of the later operations.
-use Rattle.std.proofs.Common.{◌≡◌, ◌≢◌, ℕ, zero, suc, ◌+◌, ◌<◌, ◌≤◌, Bool, true, false, not, List, [], ◌∷◌}
-use Rattle.std.proofs.Common.{◌++◌, length, get_or, set, drop, Option, Some, None}
-use Rattle.std.proofs.Common.{refl, sym, ◌∙◌, ap, subst, inl, inr, cond, arith, append_assoc, length-set, get_or-set_same, get_or-set_other}
-use Rattle.std.proofs.Common.{nat_eq, take, replicate, leb-true}
-use Rattle.std.specs.Prelude.{All, IfSome, count_by, option_and_then, slice_get}
-use Rattle.std.specs.Bool.{then_some}
-use Rattle.std.proofs.lemmas.Bool.Decides.{eqb_tells, nat_tests}
-use Rattle.std.proofs.lemmas.Bool.{cases_lt, false≢true, lt-ltb, cases_Bool, cases_eq, eqb-true}
-use Rattle.std.proofs.lemmas.List.Sums.{sum_by-cons}
-use Rattle.std.proofs.lemmas.List.{get_or-take, length-replicate, length-take-le, set-get_or, get_or_past}
-use Rattle.std.proofs.lemmas.List.Elements.{All-head, All-tail, All-contains}
-use Rattle.event_records.specs.declared.event.Event.{Event}
-use Rattle.event_records.specs.declared.limits.TheConstants.{MAX_THREAD}
-use Rattle.event_records.specs.Projection.{projection}
-use Rattle.event_records.specs.Turns.{is_call, TakesTurns, TicketsRise}
-use Rattle.history_merge.specs.declared.operation.Operation.{Operation}
-use Rattle.history_merge.specs.Events.{call_event, events_of, maybe_return, put_by_ticket, put_each, put_maybe, return_event}
-use Rattle.history_merge.specs.Forming.{operation_so_far, operations_so_far}
-use Rattle.history_merge.specs.Inner.History.{AreInTurn, AreLeft, FollowsInTurn, IsFirstDue, IsRunOf, comes_by_ticket, due_in, next_of}
+use Rattle.history_merge.proofs.Common.{[], ◌++◌, ◌+◌, ◌∙◌, ◌∷◌, ◌≡◌, ◌≢◌, All, All-contains, All-head, All-tail, ap}
+use Rattle.history_merge.proofs.Common.{AreInTurn, AreLeft, arith, Bool, call_event, cases_Bool, cases_eq, cases_lt}
+use Rattle.history_merge.proofs.Common.{comes_by_ticket, cond, count_by, drop, due_in, eqb-true, eqb_tells, Event}
+use Rattle.history_merge.proofs.Common.{events_of, false≢true, FollowsInTurn, get_or-set_other, get_or-set_same}
+use Rattle.history_merge.proofs.Common.{get_or-take, get_or_past, IfSome, inl, inr, is_call, IsFirstDue, IsRunOf}
+use Rattle.history_merge.proofs.Common.{leb-true, length, length-replicate, length-set, lt-ltb, MAX_THREAD}
+use Rattle.history_merge.proofs.Common.{maybe_return, nat_eq, nat_tests, next_of, None, not, Operation}
+use Rattle.history_merge.proofs.Common.{operation_so_far, operations_so_far, Option, option_and_then, projection}
+use Rattle.history_merge.proofs.Common.{put_by_ticket, put_each, put_maybe, refl, replicate, return_event, set}
+use Rattle.history_merge.proofs.Common.{set-get_or, slice_get, Some, subst, suc, sum_by-cons, sym, take, TakesTurns}
+use Rattle.history_merge.proofs.Common.{then_some, TicketsRise, zero}
+use Rattle.std.proofs.Common.{ℕ, ◌<◌, ◌≤◌, true, false, List}
+use Rattle.std.proofs.Common.{get_or}
+use Rattle.std.proofs.Common.{append_assoc}
+use Rattle.std.proofs.lemmas.List.{length-take-le}
 use Rattle.history_merge.proofs.Turns.{answered_is_call, projection-at}
 use Rattle.history_merge.proofs.Distinct.{contains_at, found_first, one_by_key, rises_later}
 use Rattle.history_merge.proofs.DistinctValues.{cut_at}

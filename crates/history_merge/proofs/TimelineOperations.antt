@@ -1,19 +1,14 @@
 -- How many operations a timeline has, which they are by their tickets, and one more of them.
-use Rattle.std.proofs.Common.{true, ◌≡◌, ℕ, suc, ◌+◌, ◌-◌, ◌*◌, ◌<◌, ◌≤◌, List, [], ◌∷◌, ◌++◌, length, drop, get_or, map, set, take}
-use Rattle.std.proofs.Common.{refl, sym, ◌∙◌, ap, subst, arith, append_assoc, length-take-le, Option, Some, None, Result, Ok, Err, ◌⊎◌, inl, inr}
-use Rattle.std.specs.Bool.{◌==◌}
-use Rattle.std.specs.Prelude.{All, OnErr, OnOk, option_map, slice_get}
-use Rattle.std.proofs.lemmas.Bool.Decides.{nat_tests}
-use Rattle.std.proofs.Math.Seq.{drop-append_seam}
-use Rattle.std.proofs.lemmas.List.{get_or-drop, get_or-map, length-append, length-map, map-append, map-set, set-append_right, take_more}
-use Rattle.std.proofs.lemmas.List.{nil_from_length}
-use Rattle.std.proofs.lemmas.List.Elements.{All-map}
-use Rattle.std.proofs.lemmas.Option.{slice_get-map}
-use Rattle.event_records.specs.declared.limits.TheConstants.{MAX_INITIAL}
-use Rattle.history_merge.specs.declared.operation.OpKind.{OpKind}
-use Rattle.history_merge.specs.declared.operation.Operation.{Operation}
-use Rattle.history_merge.specs.Initial.{enqueue_at, timeline, enqueues_from, later_by}
-use Rattle.history_merge.specs.Inner.Timeline.{IsTimeline, earlier_by, operations_on}
+use Rattle.history_merge.proofs.Common.{[], ◌++◌, ◌+◌, ◌-◌, ◌==◌, ◌∙◌, ◌∷◌, ◌≡◌, ◌⊎◌, All, All-map, ap, arith, drop}
+use Rattle.history_merge.proofs.Common.{drop-append_seam, earlier_by, enqueue_at, enqueues_from, get_or-drop}
+use Rattle.history_merge.proofs.Common.{get_or-map, inl, inr, IsTimeline, later_by, length, length-map, map-append}
+use Rattle.history_merge.proofs.Common.{map-set, MAX_INITIAL, nat_tests, nil_from_length, None, OnErr, OnOk}
+use Rattle.history_merge.proofs.Common.{Operation, operations_on, OpKind, Option, option_map, refl, set}
+use Rattle.history_merge.proofs.Common.{set-append_right, slice_get, slice_get-map, Some, subst, suc, sym, take}
+use Rattle.history_merge.proofs.Common.{take_more, timeline}
+use Rattle.std.proofs.Common.{true, ℕ, ◌*◌, ◌<◌, ◌≤◌, List, get_or, map}
+use Rattle.std.proofs.Common.{append_assoc, length-take-le, Result, Ok, Err}
+use Rattle.std.proofs.lemmas.List.{length-append}
 use Rattle.history_merge.proofs.Later.{all_back}
 
 -- a list without elements

@@ -1,25 +1,16 @@
 -- The timeline: what a queue holds first is enqueued before all else.
-use Rattle.std.proofs.Common.{◌≡◌, ℕ, ◌+◌, ◌*◌, ◌<◌, ◌≤◌, ◌↔◌, List, [], ◌∷◌, ◌++◌, length, refl, sym, ◌∙◌, ap, subst}
-use Rattle.std.proofs.Common.{arith, nat_eq, inl, inr}
-use Rattle.std.specs.Prelude.{All, map}
-use Rattle.std.proofs.lemmas.List.{append_cancel_left}
-use Rattle.std.proofs.lemmas.List.Elements.{All-cons, All-map}
-use Rattle.std.proofs.lemmas.List.Kept.{AllPairs-cons}
-use Rattle.event_records.specs.declared.event.Event.{Event}
-use Rattle.event_records.specs.declared.event.What.TheVariants.{CallEnq, RetEnq}
-use Rattle.event_records.specs.declared.limits.TheConstants.{MAX_CLOCK, MAX_INITIAL, MAX_THREAD}
-use Rattle.event_records.specs.Projection.{projection}
-use Rattle.event_records.specs.Turns.{TakesTurns, TicketsRise}
-use Rattle.history_merge.specs.declared.operation.Operation.{Operation}
-use Rattle.history_merge.specs.declared.operation.OpKind.TheVariants.{Enq}
-use Rattle.history_merge.specs.Complete.{AreComplete, AreDistinct, IsCompleteUpTo, called_values}
-use Rattle.history_merge.specs.Initial.{IsCompleteFrom, event_later_by, timeline, timeline_events, enqueue_events_from, enqueues_from, later_by}
-use Rattle.history_merge.specs.Legal.{IsLegalOrder, IsLinearizable}
-use Rattle.history_merge.specs.Operations.{operations_of}
+use Rattle.history_merge.proofs.Common.{[], ◌++◌, ◌+◌, ◌↔◌, ◌∙◌, ◌∷◌, ◌≡◌, All, All-cons, All-map, AllPairs-cons, ap}
+use Rattle.history_merge.proofs.Common.{append_cancel_left, AreComplete, AreDistinct, arith, called_values, CallEnq}
+use Rattle.history_merge.proofs.Common.{cases_Bool, Enq, enqueue_events_from, enqueues_from, Event, event_later_by}
+use Rattle.history_merge.proofs.Common.{inl, inr, IsCompleteFrom, IsCompleteUpTo, IsLegalOrder, IsLinearizable}
+use Rattle.history_merge.proofs.Common.{later_by, length, MAX_CLOCK, MAX_INITIAL, MAX_THREAD, nat_eq, Operation}
+use Rattle.history_merge.proofs.Common.{operations_of, projection, refl, RetEnq, subst, sym, TakesTurns, TicketsRise}
+use Rattle.history_merge.proofs.Common.{timeline, timeline_events}
+use Rattle.std.proofs.Common.{ℕ, ◌*◌, ◌<◌, ◌≤◌, List}
+use Rattle.std.specs.Prelude.{map}
 use Rattle.history_merge.proofs.Later.{later_injective, legal_earlier, legal_later}
 use Rattle.history_merge.proofs.Later.{operations_later, projection_later, rise_later, turns_later, values_later}
 use Rattle.history_merge.proofs.Leading.{Enqueue, LeadAll, enqueues_begin, enqueues_put}
-use Rattle.std.proofs.lemmas.Bool.{cases_Bool}
 
 -- ---- legal orders
 

@@ -1,22 +1,12 @@
 -- What a walk over the events keeps of each thread, and calls and returns of one thread, event by event.
-use Rattle.std.proofs.Common.{◌≡◌, ℕ, ◌+◌, ◌≤◌, ◌<◌, false, List, [], ◌∷◌, ◌++◌, Option, Some, None, refl, ◌∙◌, ap, inl}
-use Rattle.std.proofs.Common.{inr, arith, nat_eq, true, sym, subst, append_assoc}
-use Rattle.std.specs.Prelude.{All, option_and_then, MatchOption}
-use Rattle.std.specs.Bool.{then_some}
-use Rattle.std.specs.List.{last_or}
-use Rattle.std.proofs.lemmas.Bool.Decides.{nat_tests}
-use Rattle.std.proofs.lemmas.Bool.{eq-eqb, cases_lt}
-use Rattle.std.proofs.lemmas.List.{append-nil}
-use Rattle.std.proofs.lemmas.List.Elements.{filter-append, All-head, All-tail}
-use Rattle.event_records.specs.declared.event.Event.{Event}
-use Rattle.event_records.specs.declared.limits.TheConstants.{MAX_THREAD}
-use Rattle.event_records.specs.Turns.{is_call, TakesTurns, answers}
-use Rattle.event_records.specs.Projection.{projection}
-use Rattle.history_merge.specs.Faults.{IsLeastPending, pending_call}
-use Rattle.history_merge.specs.Inner.Faults.{NothingPending}
-use Rattle.event_records.specs.declared.event.What.{What}
-use Rattle.event_records.specs.declared.event.What.TheVariants.{CallEnq, RetEnq, RetEmpty}
-use Rattle.history_merge.specs.Inner.Forming.{FitsTurn}
+use Rattle.history_merge.proofs.Common.{[], ◌++◌, ◌+◌, ◌∙◌, ◌∷◌, ◌≡◌, All, All-head, All-tail, answers, ap}
+use Rattle.history_merge.proofs.Common.{append-nil, arith, CallEnq, cases_lt, eq-eqb, Event, filter-append, FitsTurn}
+use Rattle.history_merge.proofs.Common.{inl, inr, is_call, IsLeastPending, last_or, MatchOption, MAX_THREAD, nat_eq}
+use Rattle.history_merge.proofs.Common.{nat_tests, None, NothingPending, Option, option_and_then, pending_call}
+use Rattle.history_merge.proofs.Common.{projection, refl, RetEmpty, RetEnq, Some, subst, sym, TakesTurns, then_some}
+use Rattle.history_merge.proofs.Common.{What}
+use Rattle.std.proofs.Common.{ℕ, ◌≤◌, ◌<◌, false, List}
+use Rattle.std.proofs.Common.{true, append_assoc}
 
 -- ---- the pending calls, and how one more event changes them
 

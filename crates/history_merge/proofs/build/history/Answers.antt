@@ -1,6 +1,4 @@
-use Rattle.std.proofs.Common.{subst}
-use Rattle.std.proofs.lemmas.Result.{MatchResult-weaker}
-use Rattle.history_merge.specs.Faults.{IsFirstFault}
+use Rattle.history_merge.proofs.Common.{IsFirstFault, MatchResult-weaker, subst}
 use Rattle.history_merge.proofs.build.history.Goals as goal
 
 pub returns-clause-outcome : goal.returns-clause-outcome

@@ -1,6 +1,5 @@
-use Rattle.std.proofs.Common.{arith, subst}
+use Rattle.history_merge.proofs.Common.{arith, HasGathered, subst}
 use Rattle.std.proofs.lemmas.List.{take_all}
-use Rattle.history_merge.specs.Gathering.{HasGathered}
 use Rattle.history_merge.proofs.build.history_from.Goals as goal
 
 pub returns-clause-outcome : goal.returns-clause-outcome

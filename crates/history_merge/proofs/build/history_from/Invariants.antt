@@ -1,5 +1,4 @@
-use Rattle.std.proofs.Common.{take}
-use Rattle.history_merge.specs.Gathering.{HasGathered}
+use Rattle.history_merge.proofs.Common.{HasGathered, take}
 use Rattle.history_merge.proofs.build.history_from.Given as goal
 
 abbrev pub invariant-loop-event : goal.invariant-loop-event

@@ -1,9 +1,5 @@
-use Rattle.std.proofs.Common.{◌≡◌, ◌||◌, ℕ, nat_eq, take}
-use Rattle.std.specs.Prelude.{◌&&◌}
-use Rattle.std.specs.Ordering.{nat_cmp}
-use Rattle.std.specs.BTreeSet.{contains}
-use Rattle.history_merge.specs.Gathering.{name_in}
-use Rattle.history_merge.specs.Inner.Forming.{is_called_in}
+use Rattle.history_merge.proofs.Common.{◌&&◌, ◌||◌, ◌≡◌, contains, is_called_in, name_in, nat_cmp, nat_eq, take}
+use Rattle.std.proofs.Common.{ℕ}
 use Rattle.history_merge.proofs.called.add_named.Given as goal
 
 abbrev pub invariant-loop-operation : goal.invariant-loop-operation

@@ -1,5 +1,4 @@
-use Rattle.std.proofs.Common.{[], ◌∷◌, ◌∙◌, ap, sym, Some}
-use Rattle.event_records.specs.declared.event.Event.{Event}
+use Rattle.history_merge.proofs.Common.{[], ◌∙◌, ◌∷◌, ap, Event, Some, sym}
 use Rattle.history_merge.proofs.Clashes.{first_with-append, pending-push, stands-append, stands-push}
 use Rattle.history_merge.proofs.clash.clash_of.Goals as goal
 

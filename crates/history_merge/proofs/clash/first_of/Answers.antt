@@ -1,4 +1,4 @@
-use Rattle.std.proofs.Common.{arith}
+use Rattle.history_merge.proofs.Common.{arith}
 use Rattle.history_merge.proofs.Clashes.{not_met, searched_first, searched_more, searched_nothing}
 use Rattle.history_merge.proofs.clash.first_of.Goals as goal
 

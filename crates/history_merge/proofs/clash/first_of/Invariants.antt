@@ -1,5 +1,5 @@
-use Rattle.std.proofs.Common.{◌≤◌, length}
-use Rattle.event_records.specs.declared.limits.TheConstants.{MAX_EVENTS}
+use Rattle.history_merge.proofs.Common.{length, MAX_EVENTS}
+use Rattle.std.proofs.Common.{◌≤◌}
 use Rattle.history_merge.proofs.Clashes.{Searched}
 use Rattle.history_merge.proofs.clash.first_of.Given as goal
 

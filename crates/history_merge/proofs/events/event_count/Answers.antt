@@ -1,5 +1,4 @@
-use Rattle.std.proofs.Common.{ap, arith}
-use Rattle.std.specs.Prelude.{count_by}
+use Rattle.history_merge.proofs.Common.{ap, arith, count_by}
 use Rattle.history_merge.proofs.TheirEvents.{has_returned, length-events_of}
 use Rattle.history_merge.proofs.events.event_count.Goals as goal
 

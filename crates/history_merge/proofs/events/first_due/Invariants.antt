@@ -1,4 +1,4 @@
-use Rattle.history_merge.specs.Inner.History.{IsFirstDue}
+use Rattle.history_merge.proofs.Common.{IsFirstDue}
 use Rattle.history_merge.proofs.events.first_due.Given as goal
 
 abbrev pub invariant-loop-event : goal.invariant-loop-event

@@ -1,5 +1,4 @@
-use Rattle.std.proofs.Common.{arith}
-use Rattle.std.proofs.lemmas.List.Sorted.{length_permutation}
+use Rattle.history_merge.proofs.Common.{arith, length_permutation}
 use Rattle.history_merge.proofs.recorded.merged_from.Goals as goal
 
 pub history_from-requires-clause-few_events : goal.history_from-requires-clause-few_events

@@ -1,6 +1,4 @@
-use Rattle.std.proofs.Common.{[], ◌∷◌, ◌++◌, arith, length, inl, inr}
-use Rattle.std.proofs.lemmas.Bool.{cases_lt}
-use Rattle.event_records.specs.declared.limits.TheConstants.{MAX_EVENTS}
+use Rattle.history_merge.proofs.Common.{[], ◌++◌, ◌∷◌, arith, cases_lt, inl, inr, length, MAX_EVENTS}
 use Rattle.history_merge.proofs.builder.HistoryBuilder.add.Goals as goal
 
 pub invariant_of-self : goal.invariant_of-self

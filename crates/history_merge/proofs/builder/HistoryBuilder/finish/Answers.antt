@@ -1,6 +1,4 @@
-use Rattle.std.proofs.Common.{subst, sym}
-use Rattle.std.proofs.lemmas.Result.{MatchResult-weaker}
-use Rattle.history_merge.specs.Gathering.{HasGathered}
+use Rattle.history_merge.proofs.Common.{HasGathered, MatchResult-weaker, subst, sym}
 use Rattle.history_merge.proofs.ExactFaults.{complete_has_no_fault}
 use Rattle.history_merge.proofs.builder.HistoryBuilder.finish.Goals as goal
 

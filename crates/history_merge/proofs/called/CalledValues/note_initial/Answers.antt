@@ -1,8 +1,6 @@
-use Rattle.std.proofs.Common.{[], ◌++◌, ◌∷◌, ◌<◌, List, ℕ, ap, arith, get_or, length, length-take-le, subst, sym, take, ◌∙◌}
-use Rattle.std.proofs.lemmas.List.{take_more}
-use Rattle.std.proofs.lemmas.Option.{slice_get-get_or}
-use Rattle.history_merge.specs.Gathering.{Knows, is_among}
-use Rattle.history_merge.specs.Complete.{AreDistinct}
+use Rattle.history_merge.proofs.Common.{[], ◌++◌, ◌∙◌, ◌∷◌, ap, AreDistinct, arith, is_among, Knows, length}
+use Rattle.history_merge.proofs.Common.{slice_get-get_or, subst, sym, take, take_more}
+use Rattle.std.proofs.Common.{◌<◌, List, ℕ, get_or, length-take-le}
 use Rattle.history_merge.proofs.DistinctValues.{distinct_more, twice_at}
 use Rattle.history_merge.proofs.KnownValues.{called_in_front}
 use Rattle.history_merge.proofs.TimelineOperations.{length_timeline}

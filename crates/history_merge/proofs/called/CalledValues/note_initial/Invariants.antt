@@ -1,6 +1,4 @@
-use Rattle.std.proofs.Common.{take}
-use Rattle.history_merge.specs.Complete.{AreDistinct}
-use Rattle.history_merge.specs.Gathering.{Knows}
+use Rattle.history_merge.proofs.Common.{AreDistinct, Knows, take}
 use Rattle.history_merge.proofs.called.CalledValues.note_initial.Given as goal
 
 abbrev pub invariant-loop-place : goal.invariant-loop-place

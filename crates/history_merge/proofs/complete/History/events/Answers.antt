@@ -1,7 +1,4 @@
-use Rattle.std.proofs.Common.{◌∙◌, ap, subst, sym}
-use Rattle.history_merge.specs.Events.{events_of}
-use Rattle.history_merge.specs.Forming.{operations_so_far}
-use Rattle.history_merge.specs.Inner.History.{IsRunOf}
+use Rattle.history_merge.proofs.Common.{◌∙◌, ap, events_of, IsRunOf, operations_so_far, subst, sym}
 use Rattle.history_merge.proofs.Formed.{all_formed, run_of_complete}
 use Rattle.history_merge.proofs.TheirEvents.{told_of_run}
 use Rattle.history_merge.proofs.complete.History.events.Goals as goal

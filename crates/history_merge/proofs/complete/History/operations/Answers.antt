@@ -1,5 +1,4 @@
-use Rattle.std.proofs.Common.{ap, arith, length}
-use Rattle.history_merge.specs.Events.{events_of}
+use Rattle.history_merge.proofs.Common.{ap, arith, events_of, length}
 use Rattle.history_merge.proofs.Completeness.{few_operations}
 use Rattle.history_merge.proofs.complete.History.operations.Goals as goal
 

@@ -1,7 +1,4 @@
-use Rattle.std.proofs.Common.{ap, arith, length, subst, sym, ◌∙◌}
-use Rattle.history_merge.specs.Complete.{AreComplete}
-use Rattle.history_merge.specs.Events.{events_of}
-use Rattle.history_merge.specs.Initial.{timeline}
+use Rattle.history_merge.proofs.Common.{◌∙◌, ap, AreComplete, arith, events_of, length, subst, sym, timeline}
 use Rattle.history_merge.proofs.Completeness.{few_operations}
 use Rattle.history_merge.proofs.TimelineOperations.{length_timeline}
 use Rattle.history_merge.proofs.Timelines.{timeline_is_of_complete}

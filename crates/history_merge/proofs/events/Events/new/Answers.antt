@@ -1,5 +1,4 @@
-use Rattle.std.proofs.Common.{◌∙◌, ap, length, sym, arith}
-use Rattle.history_merge.specs.Events.{events_of}
+use Rattle.history_merge.proofs.Common.{◌∙◌, ap, arith, events_of, length, sym}
 use Rattle.history_merge.proofs.TheirEvents.{all_left, left_as_told, put_none}
 use Rattle.history_merge.proofs.events.Events.new.Goals as goal
 

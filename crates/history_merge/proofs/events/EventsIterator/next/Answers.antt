@@ -1,8 +1,6 @@
-use Rattle.std.proofs.Common.{◌≡◌, List, ◌∷◌, length, set, Some, true, sym, ◌∙◌, ap, subst, arith}
-use Rattle.std.specs.Iterator.{MakesProgress, item_count}
-use Rattle.event_records.specs.declared.event.Event.{Event}
-use Rattle.history_merge.specs.Events.{events_of, put_each}
-use Rattle.history_merge.specs.Inner.History.{AreLeft, comes_by_ticket}
+use Rattle.history_merge.proofs.Common.{◌∙◌, ◌∷◌, ◌≡◌, ap, AreLeft, arith, comes_by_ticket, Event, events_of}
+use Rattle.history_merge.proofs.Common.{item_count, length, MakesProgress, put_each, set, Some, subst, sym}
+use Rattle.std.proofs.Common.{List, true}
 use Rattle.history_merge.proofs.TheirEvents.{GivesCall, GivesReturn, IsFirstOfAll, first_of_all, gives_call, gives_nothing, gives_return}
 use Rattle.history_merge.proofs.TheirEvents.{left_after_call, left_after_return, left_as_told, stays_none, still_none, told}
 use Rattle.history_merge.proofs.events.EventsIterator.next.Goals as goal

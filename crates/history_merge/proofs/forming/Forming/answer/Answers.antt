@@ -1,7 +1,6 @@
-use Rattle.std.proofs.Common.{None, Option, Some, ◌≡◌, ◌∙◌, get_or, inr, refl, sym}
-use Rattle.std.proofs.lemmas.Option.{get_or_from_slice_get, slice_get-get_or, slice_get_within}
-use Rattle.history_merge.specs.declared.operation.OpKind.TheVariants.{Empty}
-use Rattle.history_merge.specs.declared.operation.Operation.{Operation}
+use Rattle.history_merge.proofs.Common.{◌∙◌, ◌≡◌, Empty, get_or_from_slice_get, inr, None, Operation, Option, refl}
+use Rattle.history_merge.proofs.Common.{slice_get-get_or, slice_get_within, Some, sym}
+use Rattle.std.proofs.Common.{get_or}
 use Rattle.history_merge.proofs.Formed.{formed_after_answer, inside_at, wrong_return}
 use Rattle.history_merge.proofs.forming.Forming.answer.Goals as goal
 

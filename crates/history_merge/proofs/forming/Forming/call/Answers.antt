@@ -1,5 +1,5 @@
-use Rattle.std.proofs.Common.{◌≡◌, ◌∙◌, ℕ, refl, sym, false, length, Option, Some, None}
-use Rattle.std.specs.Prelude.{is_some}
+use Rattle.history_merge.proofs.Common.{◌∙◌, ◌≡◌, is_some, length, None, Option, refl, Some, sym}
+use Rattle.std.proofs.Common.{ℕ, false}
 use Rattle.history_merge.proofs.Formed.{fault_of_call, formed_after_call, none_pending_at}
 use Rattle.history_merge.proofs.forming.Forming.call.Goals as goal
 

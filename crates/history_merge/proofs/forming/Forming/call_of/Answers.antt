@@ -1,4 +1,4 @@
-use Rattle.std.proofs.Common.{◌∙◌, sym, None, Some}
+use Rattle.history_merge.proofs.Common.{◌∙◌, None, Some, sym}
 use Rattle.history_merge.proofs.Formed.{call_at}
 use Rattle.history_merge.proofs.Turns.{pending_call-above}
 use Rattle.history_merge.proofs.forming.Forming.call_of.Goals as goal

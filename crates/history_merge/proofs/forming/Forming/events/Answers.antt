@@ -1,6 +1,4 @@
-use Rattle.std.proofs.Common.{ap, subst, sym, ◌∙◌}
-use Rattle.history_merge.specs.Events.{events_of}
-use Rattle.history_merge.specs.Inner.History.{AreOfRun}
+use Rattle.history_merge.proofs.Common.{◌∙◌, ap, AreOfRun, events_of, subst, sym}
 use Rattle.history_merge.proofs.TheirEvents.{told_of_run}
 use Rattle.history_merge.proofs.forming.Forming.events.Goals as goal
 

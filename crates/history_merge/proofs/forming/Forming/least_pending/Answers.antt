@@ -1,4 +1,4 @@
-use Rattle.std.proofs.Common.{arith, subst}
+use Rattle.history_merge.proofs.Common.{arith, subst}
 use Rattle.history_merge.proofs.Turns.{IsLeastBefore, least_pending}
 use Rattle.history_merge.proofs.forming.Forming.least_pending.Goals as goal
 

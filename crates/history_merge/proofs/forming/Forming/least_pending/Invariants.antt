@@ -1,6 +1,5 @@
+use Rattle.history_merge.proofs.Common.{Event, HasFormed}
 use Rattle.std.proofs.Common.{List}
-use Rattle.event_records.specs.declared.event.Event.{Event}
-use Rattle.history_merge.specs.Gathering.{HasFormed}
 use Rattle.history_merge.proofs.Turns.{IsLeastBefore}
 use Rattle.history_merge.proofs.forming.Forming.least_pending.Given as goal
 

@@ -1,5 +1,4 @@
-use Rattle.std.proofs.Common.{arith, refl}
-use Rattle.event_records.specs.declared.limits.TheConstants.{MAX_THREADS}
+use Rattle.history_merge.proofs.Common.{arith, MAX_THREADS, refl}
 use Rattle.history_merge.proofs.TheirEvents.{nothing_at}
 use Rattle.history_merge.proofs.forming.Forming.new.Goals as goal
 

@@ -1,6 +1,5 @@
-use Rattle.std.proofs.Common.{[], ◌∷◌, ◌++◌, ◌∙◌, arith, length-append, subst, sym}
-use Rattle.std.specs.Prelude.{MatchOption}
-use Rattle.history_merge.specs.Gathering.{HasMetFault, IsForming}
+use Rattle.history_merge.proofs.Common.{[], ◌++◌, ◌∙◌, ◌∷◌, arith, HasMetFault, IsForming, MatchOption, subst, sym}
+use Rattle.std.proofs.Common.{length-append}
 use Rattle.history_merge.proofs.Clashes.{kept-append}
 use Rattle.history_merge.proofs.MetFaults.{gathered_after_fault, none_kept, none_met, run_of_formed}
 use Rattle.history_merge.proofs.gathering.Gathering.add.Goals as goal

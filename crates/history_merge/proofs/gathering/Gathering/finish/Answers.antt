@@ -1,9 +1,5 @@
-use Rattle.std.proofs.Common.{◌∙◌, ap, subst, sym}
+use Rattle.history_merge.proofs.Common.{◌∙◌, ap, Contents, Event, HasGathered, IsCompleteFrom, IsFormedOf, subst, sym}
 use Rattle.std.specs.Prelude.{ℕ, List}
-use Rattle.event_records.specs.declared.event.Event.{Event}
-use Rattle.history_merge.specs.Initial.{IsCompleteFrom, Contents}
-use Rattle.history_merge.specs.Gathering.{HasGathered}
-use Rattle.history_merge.specs.Inner.Forming.{IsFormedOf}
 use Rattle.history_merge.proofs.ExactFaults.{complete_without_fault}
 use Rattle.history_merge.proofs.Formed.{formed_of_complete}
 use Rattle.history_merge.proofs.MetFaults.{kept_is_met, met_fault_is_first, still_forming}

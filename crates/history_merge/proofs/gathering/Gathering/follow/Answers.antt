@@ -1,8 +1,6 @@
-use Rattle.std.proofs.Common.{◌++◌, length, ◌≡◌, ◌∙◌, ◌⊎◌, arith, length-append, sym, subst, None, Some}
-use Rattle.history_merge.specs.declared.fault.HistoryFault.TheVariants.{Memory}
-use Rattle.history_merge.specs.Faults.{fault_at}
-use Rattle.history_merge.specs.Complete.{called_values}
-use Rattle.history_merge.specs.Gathering.{Knows}
+use Rattle.history_merge.proofs.Common.{◌++◌, ◌∙◌, ◌≡◌, ◌⊎◌, arith, called_values, fault_at, Knows, length, Memory}
+use Rattle.history_merge.proofs.Common.{None, Some, subst, sym}
+use Rattle.std.proofs.Common.{length-append}
 use Rattle.history_merge.proofs.KnownValues.{called_so_far, repeats_is, values_more}
 use Rattle.history_merge.proofs.MetFaults.{met_fault-push, no_fault-push, of_err}
 use Rattle.history_merge.proofs.gathering.Gathering.follow.Goals as goal

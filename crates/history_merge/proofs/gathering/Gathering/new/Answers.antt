@@ -1,8 +1,5 @@
-use Rattle.std.proofs.Common.{[], ap, arith, inl, refl, subst, sym, ◌∙◌}
-use Rattle.std.specs.Prelude.{IfSome}
-use Rattle.history_merge.specs.declared.gathering.Gathering.{Gathering}
-use Rattle.history_merge.specs.Clashes.{IsClash}
-use Rattle.history_merge.specs.Gathering.{HasGathered}
+use Rattle.history_merge.proofs.Common.{[], ◌∙◌, ap, arith, Gathering, HasGathered, IfSome, inl, IsClash, refl, subst}
+use Rattle.history_merge.proofs.Common.{sym}
 use Rattle.history_merge.proofs.MetFaults.{begun}
 use Rattle.history_merge.proofs.gathering.Gathering.new.Goals as goal
 use Rattle.history_merge.proofs.gathering.Gathering.new.Goals.{in-Err, in-Ok}

@@ -1,6 +1,5 @@
-use Rattle.std.proofs.Common.{subst}
-use Rattle.std.specs.Prelude.{◌≤◌, All}
-use Rattle.std.proofs.lemmas.List.Elements.{All-tail}
+use Rattle.history_merge.proofs.Common.{All, All-tail, subst}
+use Rattle.std.specs.Prelude.{◌≤◌}
 use Rattle.history_merge.proofs.operations.OperationsIterator.next.Goals as goal
 
 pub invariant_of-self : goal.invariant_of-self

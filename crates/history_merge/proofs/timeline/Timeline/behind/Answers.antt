@@ -1,6 +1,5 @@
-use Rattle.std.proofs.Common.{◌≡◌, ◌*◌, ap, arith, drop, length, map, ◌∙◌}
-use Rattle.history_merge.specs.Initial.{Contents, later_by}
-use Rattle.history_merge.specs.Inner.Timeline.{operations_on}
+use Rattle.history_merge.proofs.Common.{◌∙◌, ◌≡◌, ap, arith, Contents, drop, later_by, length, operations_on}
+use Rattle.std.proofs.Common.{◌*◌, map}
 use Rattle.history_merge.proofs.TimelineOperations.{behind_enqueues, length_timeline}
 use Rattle.history_merge.proofs.timeline.Timeline.behind.Goals as goal
 

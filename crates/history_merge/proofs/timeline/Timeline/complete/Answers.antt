@@ -1,8 +1,6 @@
-use Rattle.std.proofs.Common.{◌≡◌, ◌+◌, ◌*◌, ◌<◌, ap, arith, get_or, length, set, subst, sym, ◌∙◌}
-use Rattle.std.proofs.lemmas.Option.{get_or_from_slice_get}
-use Rattle.history_merge.specs.declared.operation.Operation.{Operation}
-use Rattle.history_merge.specs.Initial.{Contents, timeline}
-use Rattle.history_merge.specs.Inner.Timeline.{operations_on}
+use Rattle.history_merge.proofs.Common.{◌+◌, ◌∙◌, ◌≡◌, ap, arith, Contents, get_or_from_slice_get, length, Operation}
+use Rattle.history_merge.proofs.Common.{operations_on, set, subst, sym, timeline}
+use Rattle.std.proofs.Common.{◌*◌, ◌<◌, get_or}
 use Rattle.history_merge.proofs.TimelineOperations.{completed, is_timeline, operations_back}
 use Rattle.history_merge.proofs.timeline.Timeline.complete.Goals.{After-self-1}
 use Rattle.history_merge.proofs.timeline.Timeline.complete.Goals as goal

@@ -1,9 +1,7 @@
-use Rattle.std.proofs.Common.{◌≡◌, ◌*◌, ◌+◌, Some, ap, arith, length, sym, ◌∙◌}
-use Rattle.history_merge.specs.declared.operation.Operation.{Operation}
-use Rattle.history_merge.specs.Inner.Timeline.{earlier_by}
+use Rattle.history_merge.proofs.Common.{◌+◌, ◌∙◌, ◌≡◌, ap, arith, earlier_by, length, Operation, slice_get, Some, sym}
+use Rattle.std.proofs.Common.{◌*◌}
 use Rattle.history_merge.proofs.Later.{there_and_back}
 use Rattle.history_merge.proofs.TimelineOperations.{later_at}
-use Rattle.std.specs.Prelude.{slice_get}
 use Rattle.history_merge.proofs.timeline.Timeline.get.Goals as goal
 
 pub earlier-requires : goal.earlier-requires

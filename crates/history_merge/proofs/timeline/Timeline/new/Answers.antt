@@ -1,7 +1,6 @@
-use Rattle.std.proofs.Common.{[], ◌++◌, ◌≡◌, ◌∷◌, ◌*◌, ◌<◌, ◌≤◌, List, ap, arith, get_or, length, refl, sym, take, take_all, ℕ, ◌∙◌}
-use Rattle.std.proofs.lemmas.List.{append-nil}
-use Rattle.history_merge.specs.declared.operation.Operation.{Operation}
-use Rattle.history_merge.specs.Initial.{enqueue_at, enqueues_from, timeline}
+use Rattle.history_merge.proofs.Common.{[], ◌++◌, ◌∙◌, ◌∷◌, ◌≡◌, ap, append-nil, arith, enqueue_at, enqueues_from}
+use Rattle.history_merge.proofs.Common.{length, Operation, refl, sym, take, timeline}
+use Rattle.std.proofs.Common.{◌*◌, ◌<◌, ◌≤◌, List, get_or, take_all, ℕ}
 use Rattle.history_merge.proofs.TimelineOperations.{enqueues_more, is_timeline, operations_back}
 use Rattle.history_merge.proofs.timeline.Timeline.new.Goals.{After-loop-place}
 use Rattle.history_merge.proofs.timeline.Timeline.new.Goals as goal

@@ -1,5 +1,4 @@
-use Rattle.std.proofs.Common.{◌≡◌, take}
-use Rattle.history_merge.specs.Initial.{enqueues_from}
+use Rattle.history_merge.proofs.Common.{◌≡◌, enqueues_from, take}
 use Rattle.history_merge.proofs.timeline.Timeline.new.Given as goal
 
 abbrev pub invariant-loop-place : goal.invariant-loop-place

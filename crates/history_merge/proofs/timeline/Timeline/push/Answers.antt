@@ -1,7 +1,6 @@
-use Rattle.std.proofs.Common.{[], ◌++◌, ◌≡◌, ◌∷◌, ◌*◌, ap, inl, inr, length, subst, sym, ◌∙◌}
-use Rattle.std.proofs.lemmas.Result.{on_ok_weaker}
-use Rattle.history_merge.specs.Initial.{Contents, later_by, timeline}
-use Rattle.history_merge.specs.Inner.Timeline.{IsTimeline, operations_on}
+use Rattle.history_merge.proofs.Common.{[], ◌++◌, ◌∙◌, ◌∷◌, ◌≡◌, ap, Contents, inl, inr, IsTimeline, later_by, length}
+use Rattle.history_merge.proofs.Common.{on_ok_weaker, operations_on, subst, sym, timeline}
+use Rattle.std.proofs.Common.{◌*◌}
 use Rattle.history_merge.proofs.TimelineOperations.{is_timeline, operations_back, pushed, timeline_push}
 use Rattle.history_merge.proofs.timeline.Timeline.push.Goals.{After-push}
 use Rattle.history_merge.proofs.timeline.Timeline.push.Goals as goal
