@@ -122,7 +122,7 @@ chosen_order_exists operations gaps clear none free =
           (AllPairs-map (λ z. z.1) (λ p q. ¬ (StandsBefore q p)) sorted.0 sorted.2),
     )
 
--- a list of which each element comes before those after it is told by its elements, where no two come before each other
+-- a list of which each element comes before those after it is the only one of its elements, where no two come before each other
 one_list : {X : Type 0} (Before : X → X → Type 0) → ((x y : X) → Before x y → Before y x → ⊥) → (xs ys : List X) → AllPairs Before xs
     → AllPairs Before ys → ((x : X) → Contains xs x → Contains ys x) → ((x : X) → Contains ys x → Contains xs x) → xs ≡ ys
 one_list Before one_way [] [] rise_x rise_y into back = refl

@@ -198,7 +198,7 @@ module _ (number : Life → ℕ) (values : List MatchedValue) (entries : List Ti
       from_some_and (slice_get values timed.place) (λ m. timed.time ≡ number m.life)
       (All-contains (IsTimeOf number values) entries timed are.are_timed (contains_at entries k timed at))
 
-  -- a value that is left and has such a time has its entry at the cursor or behind it
+  -- a value that is left and has such a time has its entry at the cursor or later
   entry_of : (i : ℕ) (first : IsFirstLeft entries taken i) (y : MatchedValue) → Contains (left_of values taken) y → number y.life < NEVER
       → (k : ℕ) × (timed : Timed) × (slice_get entries k ≡ Some timed) × (i ≤ k) × (timed.time ≡ number y.life)
   entry_of i first y among past =
