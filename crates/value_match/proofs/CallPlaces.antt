@@ -1,17 +1,14 @@
 -- Places of calls and of sources, met by walks over the operations.
-use Rattle.value_match.proofs.Common.{[], ◌++◌, ◌+◌, ◌∙◌, ◌∷◌, ◌≡◌, ◌≤◌, All, All-contains, All-permutation, All-pop}
+use Rattle.value_match.proofs.Common.{[], ◌++◌, ◌+◌, ◌<◌, ◌∙◌, ◌∷◌, ◌≡◌, ◌≤◌, All, All-permutation, All-pop}
 use Rattle.value_match.proofs.Common.{All-push, ap, AreFound, AreFoundTo, AreTakersTo, arith, Bool, btree_set_len}
-use Rattle.value_match.proofs.Common.{BTreeSet, Call, CallsNoneOf, cond, Contains, contains, Deq, each_more, Empty}
-use Rattle.value_match.proofs.Common.{Enq, enqueued_value, eq-eqb, false, false≢true, first_of, get_or}
-use Rattle.value_match.proofs.Common.{get_or-append_seam, get_or_append_left, HoldsNear, HoldsOthers, HoldsSources}
-use Rattle.value_match.proofs.Common.{is_eq, is_eq-nat_cmp, IsAt, IsCall, IsCallPlace, IsNearSource}
-use Rattle.value_match.proofs.Common.{IsNonDecreasingBy, IsPermutation-sym, IsSourceOf, keys, length-append, List}
-use Rattle.value_match.proofs.Common.{list_any, nat_cmp, None, NoneOf, Not, Operation, OpKind, Option, place_of, refl}
-use Rattle.value_match.proofs.Common.{slice_get_within, Some, subst, sym, true, ℕ}
-use Rattle.std.proofs.Common.{◌<◌, length}
-use Rattle.std.proofs.Common.{set}
-use Rattle.std.proofs.Common.{get_or-set_other, get_or-set_same, length-set}
-use Rattle.std.specs.Prelude.{IsPermutation}
+use Rattle.value_match.proofs.Common.{BTreeSet, Call, CallsNoneOf, cases_Bool, cond, contains, Deq, each_more}
+use Rattle.value_match.proofs.Common.{enqueued_value, eq-eqb, false, false≢true, first_of, get_or}
+use Rattle.value_match.proofs.Common.{get_or-append_seam, get_or-set_other, get_or-set_same, get_or_append_left}
+use Rattle.value_match.proofs.Common.{HoldsNear, HoldsOthers, HoldsSources, inl, inr, is_eq, is_eq-nat_cmp, IsAt}
+use Rattle.value_match.proofs.Common.{IsCall, IsCallPlace, IsNearSource, IsNonDecreasingBy, IsPermutation}
+use Rattle.value_match.proofs.Common.{IsPermutation-sym, IsSourceOf, keys, length, length-append, length-set, List}
+use Rattle.value_match.proofs.Common.{list_any, nat_cmp, None, NoneOf, Operation, OpKind, Option, place_of, refl}
+use Rattle.value_match.proofs.Common.{set, slice_get_within, Some, subst, sym, true, ℕ}
 
 -- none of the first n operations called to enqueue the value
 abbrev pub NotCalledTo : List Operation → ℕ → ℕ → Type 0
@@ -67,10 +64,7 @@ near_wider : (wanted more : BTreeSet ℕ) (operations : List Operation) (kind : 
     → ((v : ℕ) → contains nat_cmp wanted v ≡ true → contains nat_cmp more v ≡ true)
     → IsNearSource wanted operations kind source → IsNearSource more operations kind source
 near_wider wanted more operations (Deq v) None wider near = wider v near
-near_wider wanted more operations (Deq v) (Some p) wider near = near
-near_wider wanted more operations (Enq v) source wider near = near
-near_wider wanted more operations (Not v) source wider near = near
-near_wider wanted more operations Empty source wider near = near
+near_wider wanted more operations _ _ wider near = near
 
 -- the same of the first n operations, when one value more is wanted
 pub wants_more : (wanted more : BTreeSet ℕ) (w : ℕ) (operations : List Operation) (n : ℕ) (sources : List (Option ℕ))
@@ -81,12 +75,8 @@ wants_more wanted more w operations n sources adds near = record {
   each = λ i o below at. near_wider wanted more operations o.kind (get_or sources i None) wider (near.each i o below at);
 }
   where
-    either : (here before : Bool) → before ≡ true → cond here true before ≡ true
-    either true before is = refl
-    either false before is = is
-
     wider : (v : ℕ) → contains nat_cmp wanted v ≡ true → contains nat_cmp more v ≡ true
-    wider v is = adds v ∙ either (is_eq (nat_cmp w v)) (contains nat_cmp wanted v) is
+    wider v is = adds v ∙ rw is (elim (cases_Bool (is_eq (nat_cmp w v))) [ inl here ↦ rw here refl | inr other ↦ rw other refl ])
 
 -- that value is wanted
 pub is_wanted : (wanted more : BTreeSet ℕ) (w : ℕ) → ((v : ℕ) → contains nat_cmp more v ≡ cond (is_eq (nat_cmp w v)) true (contains nat_cmp wanted v))
@@ -94,24 +84,24 @@ pub is_wanted : (wanted more : BTreeSet ℕ) (w : ℕ) → ((v : ℕ) → contai
 is_wanted wanted more w adds =
     adds w ∙ ap (λ b. cond b true (contains nat_cmp wanted w)) (is_eq-nat_cmp w w ∙ eq-eqb w w refl)
 
--- none is needed at first
-pub near_none : (wanted : BTreeSet ℕ) (operations : List Operation) → HasNear wanted operations 0 []
-near_none wanted operations = record { one_each = refl; each = λ i o below at. absurd (omega (arith, below)) }
-
 -- an operation that is no dequeue has no source
 pub no_source : (operations : List Operation) (kind : OpKind) → ((v : ℕ) → ¬ (kind ≡ Deq v)) → IsSourceOf operations kind None
 no_source operations (Deq v) other = absurd (other v refl)
-no_source operations (Enq v) other = refl
-no_source operations (Not v) other = refl
-no_source operations Empty other = refl
+no_source operations _ other = refl
 
 -- nor one near by
 pub no_near_source : (wanted : BTreeSet ℕ) (operations : List Operation) (kind : OpKind) → ((v : ℕ) → ¬ (kind ≡ Deq v))
     → IsNearSource wanted operations kind None
 no_near_source wanted operations (Deq v) other = absurd (other v refl)
-no_near_source wanted operations (Enq v) other = refl
-no_near_source wanted operations (Not v) other = refl
-no_near_source wanted operations Empty other = refl
+no_near_source wanted operations _ other = refl
+
+-- what holds of each of the first n operations and its source, holds of one more and its
+pushed : (R : Operation → Option ℕ → Type 0) (operations : List Operation) (n : ℕ) (o : Operation) (sources : List (Option ℕ)) (source : Option ℕ)
+    → length sources ≡ n → IsAt operations n o → R o source → ((i : ℕ) (x : Operation) → i < n → IsAt operations i x → R x (get_or sources i None))
+    → (i : ℕ) (x : Operation) → i < n + 1 → IsAt operations i x → R x (get_or (sources ++ source ∷ []) i None)
+pushed R operations n o sources source long here is before =
+    each_more (λ i x. R x (get_or (sources ++ source ∷ []) i None)) operations n o here (rw (← long, get_or-append_seam) is)
+    (λ i x below at. rw (get_or_append_left sources (source ∷ []) None i (omega (arith, long))) (before i x below at))
 
 -- one more
 pub near_push : (wanted : BTreeSet ℕ) (operations : List Operation) (n : ℕ) (o : Operation) (sources : List (Option ℕ)) (source : Option ℕ)
@@ -119,17 +109,8 @@ pub near_push : (wanted : BTreeSet ℕ) (operations : List Operation) (n : ℕ) 
     → HasNear wanted operations (n + 1) (sources ++ source ∷ [])
 near_push wanted operations n o sources source here is known = record {
   one_each = simp length-append (omega (arith, known.one_each));
-  each = each_more (λ i x. IsNearSource wanted operations x.kind (get_or (sources ++ source ∷ []) i None)) operations n o here last before;
+  each = pushed (λ x. IsNearSource wanted operations x.kind) operations n o sources source known.one_each here is known.each;
 }
-  where
-    last : IsNearSource wanted operations o.kind (get_or (sources ++ source ∷ []) n None)
-    last = subst (λ i. IsNearSource wanted operations o.kind (get_or (sources ++ source ∷ []) i None)) known.one_each
-        (subst (IsNearSource wanted operations o.kind) (sym (get_or-append_seam sources source [] None)) is)
-
-    before : (i : ℕ) (x : Operation) → i < n → IsAt operations i x → IsNearSource wanted operations x.kind (get_or (sources ++ source ∷ []) i None)
-    before i x below at =
-        subst (IsNearSource wanted operations x.kind) (sym (get_or_append_left sources (source ∷ []) None i (omega (arith, known.one_each))))
-        (known.each i x below at)
 
 -- the call is among the operations
 pub call_within : (operations : List Operation) (v place : ℕ) → IsCallPlace operations v (Some place) → place < length operations
@@ -151,27 +132,34 @@ pub record HasFound (wanted : BTreeSet ℕ) (operations : List Operation) (n : �
   pub found : (i : ℕ) (o : Operation) → i < n → IsAt operations i o → IsSourceOf operations o.kind (get_or sources i None)
   pub near : (i : ℕ) (o : Operation) → n ≤ i → IsAt operations i o → IsNearSource wanted operations o.kind (get_or sources i None)
 
--- at first the sources of these operations are found
-pub found_first : (wanted : BTreeSet ℕ) (operations : List Operation) (n : ℕ) (sources : List (Option ℕ)) → AreFound n operations sources
-    → HoldsNear wanted operations sources → HasFound wanted operations n sources
-found_first wanted operations n sources found near = record { one_each = near.one_each; found = found; near = λ i o after at. near.each i o at }
+-- a walk over the operations finds the sources of the values that are wanted, and keeps those of the first operations
+pub record FindsOthers (operations : List Operation) (first n : ℕ) (before sources : List (Option ℕ)) (calls : List Call) : Type 0 where
+  pub wanted : BTreeSet ℕ
+  pub found : HasFound wanted operations n sources
+  pub others : HoldsOthers wanted operations calls
+  pub kept : (i : ℕ) → i < first → get_or sources i None ≡ get_or before i None
+  pub behind : first ≤ n
 
 -- a source that was near
 pub near_source : (wanted : BTreeSet ℕ) (operations : List Operation) (kind : OpKind) (source : Option ℕ) → IsNearSource wanted operations kind source
     → ¬ (source ≡ None) → IsSourceOf operations kind source
 near_source wanted operations (Deq v) None near some = absurd (some refl)
-near_source wanted operations (Deq v) (Some p) near some = near
-near_source wanted operations (Enq v) source near some = near
-near_source wanted operations (Not v) source near some = near
-near_source wanted operations Empty source near some = near
+near_source wanted operations _ _ near some = near
 
 -- a source is as it was
-pub found_here : (wanted : BTreeSet ℕ) (operations : List Operation) (n : ℕ) (o : Operation) (sources : List (Option ℕ)) → IsAt operations n o
-    → IsSourceOf operations o.kind (get_or sources n None) → HasFound wanted operations n sources → HasFound wanted operations (n + 1) sources
-found_here wanted operations n o sources here is known = record {
-  one_each = known.one_each;
-  found = each_more (λ i x. IsSourceOf operations x.kind (get_or sources i None)) operations n o here is known.found;
-  near = λ i x after at. known.near i x (omega (arith, after)) at;
+pub found_here : (operations : List Operation) (first n : ℕ) (o : Operation) (before sources : List (Option ℕ)) (calls : List Call) → IsAt operations n o
+    → IsSourceOf operations o.kind (get_or sources n None) → FindsOthers operations first n before sources calls
+    → FindsOthers operations first (n + 1) before sources calls
+found_here operations first n o before sources calls here is known = record {
+  wanted = known.wanted;
+  found = record {
+    one_each = known.found.one_each;
+    found = each_more (λ i x. IsSourceOf operations x.kind (get_or sources i None)) operations n o here is known.found.found;
+    near = λ i x after at. known.found.near i x (omega (arith, after)) at;
+  };
+  others = known.others;
+  kept = known.kept;
+  behind = omega (arith, known.behind);
 }
 
 -- the value of a dequeue has no call, where none of those that are wanted is of it
@@ -179,24 +167,27 @@ pub found_nowhere : (wanted : BTreeSet ℕ) (operations : List Operation) (o : O
     → o.kind ≡ Deq v → source ≡ None → HoldsOthers wanted operations calls → NoneOf calls v → IsNearSource wanted operations o.kind source
     → IsSourceOf operations o.kind source
 found_nowhere wanted operations o v source calls is none others none_of near =
-    let wanted_is = subst (IsNearSource wanted operations (Deq v)) none (subst (λ kind. IsNearSource wanted operations kind source) is near) in
-    subst (λ kind. IsSourceOf operations kind source) (sym is) (subst (IsCallPlace operations v) (sym none) (others.has_all v wanted_is none_of))
+    rw (is, none) (others.has_all v (rw (is, none) at near) none_of)
 
 -- one source more is found
-pub found_more : (wanted : BTreeSet ℕ) (operations : List Operation) (n : ℕ) (o : Operation) (sources : List (Option ℕ)) (source : Option ℕ)
-    → IsAt operations n o → IsSourceOf operations o.kind source → HasFound wanted operations n sources
-    → HasFound wanted operations (n + 1) (set sources n source)
-found_more wanted operations n o sources source here is known = record {
-  one_each = length-set sources n source ∙ known.one_each;
-  found = each_more (λ i x. IsSourceOf operations x.kind (get_or (set sources n source) i None)) operations n o here
-      (subst (IsSourceOf operations o.kind) (sym (get_or-set_same sources n source None within)) is)
-      (λ i x below at. subst (IsSourceOf operations x.kind) (sym (get_or-set_other sources n i source None (omega (arith, below)))) (known.found i x below at));
-  near = λ i x after at. subst (IsNearSource wanted operations x.kind) (sym (get_or-set_other sources n i source None (omega (arith, after))))
-      (known.near i x (omega (arith, after)) at);
-}
-  where
-    within : n < length sources
-    within = let inside = slice_get_within operations n o here in omega (arith, known.one_each)
+pub found_more : (operations : List Operation) (first n : ℕ) (o : Operation) (before sources : List (Option ℕ)) (source : Option ℕ) (calls : List Call)
+    → IsAt operations n o → IsSourceOf operations o.kind source → FindsOthers operations first n before sources calls
+    → FindsOthers operations first (n + 1) before (set sources n source) calls
+found_more operations first n o before sources source calls here is known =
+    let within : n < length sources = let inside = slice_get_within operations n o here in omega (arith, known.found.one_each) in
+    record {
+      wanted = known.wanted;
+      found = record {
+        one_each = length-set sources n source ∙ known.found.one_each;
+        found = each_more (λ i x. IsSourceOf operations x.kind (get_or (set sources n source) i None)) operations n o here
+            (rw (get_or-set_same sources n source None within) is)
+            (λ i x below at. rw (get_or-set_other sources n i source None (omega (arith, below))) (known.found.found i x below at));
+        near = λ i x after at. rw (get_or-set_other sources n i source None (omega (arith, after))) (known.found.near i x (omega (arith, after)) at);
+      };
+      others = known.others;
+      kept = λ i below. get_or-set_other sources n i source None (omega (arith, known.behind, below)) ∙ known.kept i below;
+      behind = omega (arith, known.behind);
+    }
 
 -- the sources of all operations are found
 pub found_all : (wanted : BTreeSet ℕ) (operations : List Operation) (n : ℕ) (sources : List (Option ℕ)) → length operations ≤ n
@@ -205,11 +196,6 @@ found_all wanted operations n sources all known = record {
   one_each = known.one_each;
   each = λ i o at. known.found i o (let below = slice_get_within operations i o at in omega (arith, below)) at;
 }
-
--- a call among the others
-pub other_call : (wanted : BTreeSet ℕ) (operations : List Operation) (calls : List Call) (v place : ℕ) → HoldsOthers wanted operations calls
-    → Contains calls (record { value = v; place = place }) → IsCallPlace operations v (Some place)
-other_call wanted operations calls v place others among = All-contains (IsCall operations) calls (record { value = v; place = place }) others.are_calls among
 
 -- if no value is wanted, the sources near by are all
 pub none_wanted : (wanted : BTreeSet ℕ) (operations : List Operation) (sources : List (Option ℕ)) → btree_set_len wanted ≡ 0
@@ -225,16 +211,9 @@ none_wanted wanted operations sources none near = record {
 
     settled : (kind : OpKind) (source : Option ℕ) → IsNearSource wanted operations kind source → IsSourceOf operations kind source
     settled (Deq v) None is_wanted = absurd (false≢true (sym (any_of_none _ (keys wanted) none) ∙ is_wanted))
-    settled (Deq v) (Some p) is = is
-    settled (Enq v) source is = is
-    settled Empty source is = is
-    settled (Not v) source is = is
+    settled _ _ is = is
 
 -- ---- sources that are found up to an operation
-
--- none at first
-pub none_found_yet : (operations : List Operation) (sources : List (Option ℕ)) → AreFound 0 operations sources
-none_found_yet operations sources i o below at = absurd (omega (arith, below))
 
 -- those before the first that isn't found stay so
 found_before : (operations : List Operation) (n : ℕ) (sources : List (Option ℕ)) (source : Option ℕ) → n ≤ length sources → AreFound n operations sources
@@ -253,17 +232,5 @@ pub found_next : (operations : List Operation) (n : ℕ) (o : Operation) (source
     → AreFoundTo n operations sources unnoted → AreFoundTo (n + 1) operations (sources ++ source ∷ []) (first_of unnoted n again)
 found_next operations n o sources takers source None true long here is noted found = found_before operations n sources source (omega (arith, long)) found
 found_next operations n o sources takers source None false long here is noted found =
-    each_more (λ i x. IsSourceOf operations x.kind (get_or (sources ++ source ∷ []) i None)) operations n o here
-    (subst (λ i. IsSourceOf operations o.kind (get_or (sources ++ source ∷ []) i None)) long
-    (subst (IsSourceOf operations o.kind) (sym (get_or-append_seam sources source [] None)) (is refl)))
-    (found_before operations n sources source (omega (arith, long)) found)
-found_next operations n o sources takers source (Some k) true long here is noted found = found_before operations k sources source noted.0 found
-found_next operations n o sources takers source (Some k) false long here is noted found = found_before operations k sources source noted.0 found
-
--- one more that is found
-pub found_on : (operations : List Operation) (n : ℕ) (o : Operation) (sources takers : List (Option ℕ)) (source unnoted : Option ℕ)
-    → length sources ≡ n → IsAt operations n o → IsSourceOf operations o.kind source → AreTakersTo unnoted sources takers
-    → AreFoundTo n operations sources unnoted → AreFoundTo (n + 1) operations (sources ++ source ∷ []) unnoted
-found_on operations n o sources takers source unnoted long here is noted found =
-    subst (AreFoundTo (n + 1) operations (sources ++ source ∷ [])) (first_of_none unnoted n)
-    (found_next operations n o sources takers source unnoted false long here (λ _. is) noted found)
+    pushed (λ x. IsSourceOf operations x.kind) operations n o sources source long here (is refl) found
+found_next operations n o sources takers source (Some k) _ long here is noted found = found_before operations k sources source noted.0 found

@@ -1,13 +1,14 @@
 -- The lives of a cover.
-use Rattle.value_match.proofs.Common.{[], ⊤, ◌∷◌, ◌≡◌, CoversFrom, Deq, dequeue_of, Did, Enq, enqueue_of, Life, List}
-use Rattle.value_match.proofs.Common.{MatchOption, None, NoneDid, Operation, Option, Some, ℕ}
+use Rattle.value_match.proofs.Common.{[], ⊤, ◌∷◌, ◌≡◌, CoversFrom, Deq, dequeue_of, Did, Enq, enqueue_of, Life}
+use Rattle.value_match.proofs.Common.{List, MatchOption, None, NoneDid, Operation, Option, Some, ℕ}
 
 -- each of the lives is an enqueue, and a dequeue if there is one
 abbrev pub AreLives : List Life → Type 0
 AreLives [] = ⊤
 AreLives (life ∷ cover) = ((v : ℕ) × ((enqueue_of life).kind ≡ Enq v)) × MatchOption (dequeue_of life) ⊤ (λ d. (v : ℕ) × (d.kind ≡ Deq v)) × AreLives cover
 
-dequeues : (operations : List Operation) (v : ℕ) (d : Option Operation) → MatchOption d (NoneDid operations (Deq v)) (λ d. Did operations d (Deq v))
+-- the dequeue of a life, if there is one, is a dequeue
+pub dequeues : (operations : List Operation) (v : ℕ) (d : Option Operation) → MatchOption d (NoneDid operations (Deq v)) (λ d. Did operations d (Deq v))
     → MatchOption d ⊤ (λ d. (v : ℕ) × (d.kind ≡ Deq v))
 dequeues operations v None none = tt
 dequeues operations v (Some d) did = (v, did.1)

@@ -1,19 +1,15 @@
 -- Values in the order of their enqueues' returns, and the longest of each front.
-use Rattle.value_match.proofs.Common.{[], ◌++◌, ◌+◌, ◌∙◌, ◌∷◌, ◌≡◌, ◌≤◌, All, All-from_get_or, All-get_or, All-nil}
-use Rattle.value_match.proofs.Common.{All-permutation, All-push, Any, ap, AreEntriesOf, arith, below_more, Contains}
-use Rattle.value_match.proofs.Common.{Contains-permutation, Empty, enqueue_return, EntersBefore, false, FindsLongest}
-use Rattle.value_match.proofs.Common.{Front, get_or, get_or-map, get_or-take, get_or_default, HasFronts, IfSome, inl}
-use Rattle.value_match.proofs.Common.{inr, IsEntryOf, IsFrontAt, IsLongerOf, IsLongestOf, IsNonDecreasingBy}
-use Rattle.value_match.proofs.Common.{IsPartitionPoint, IsPermutation-map, IsPermutation-refl, IsPermutation-sym}
-use Rattle.value_match.proofs.Common.{IsPermutation-trans, IsTableOf, le-ltb, length-map, length-take-le, List}
-use Rattle.value_match.proofs.Common.{lt-ltb, ltb, ltb-false, ltb-true, map-append, MatchedValue, MatchOption, None}
-use Rattle.value_match.proofs.Common.{NonePasses, Option, refl, rules, Some, StaysAtLeast, subst, sym, take, take_all}
-use Rattle.value_match.proofs.Common.{take_more, true, values_at, ℕ}
-use Rattle.std.proofs.Common.{◌<◌, ◌⊎◌}
-use Rattle.std.proofs.Common.{length}
-use Rattle.std.specs.List.Sorted.{IsPermutation}
-use Rattle.std.proofs.Math.ListN.{set}
-use Rattle.std.proofs.lemmas.List.{get_or-set_other, get_or-set_same, length-set}
+use Rattle.value_match.proofs.Common.{[], ◌++◌, ◌+◌, ◌<◌, ◌∙◌, ◌∷◌, ◌≡◌, ◌≤◌, All, All-from_get_or, All-get_or}
+use Rattle.value_match.proofs.Common.{All-nil, All-permutation, All-push, Any, ap, AreEntriesOf, arith, below_more}
+use Rattle.value_match.proofs.Common.{cases_lt, Contains-permutation, Empty, enqueue_return, EntersBefore, false}
+use Rattle.value_match.proofs.Common.{FindsLongest, Front, get_or, get_or-map, get_or-set_other, get_or-set_same}
+use Rattle.value_match.proofs.Common.{get_or-take, get_or_default, HasFronts, IfSome, inl, inr, IsEntryOf}
+use Rattle.value_match.proofs.Common.{IsFrontAt, IsLongerOf, IsLongestOf, IsNonDecreasingBy, IsPartitionPoint}
+use Rattle.value_match.proofs.Common.{IsPermutation, IsPermutation-map, IsPermutation-refl, IsPermutation-sym}
+use Rattle.value_match.proofs.Common.{IsPermutation-trans, IsTableOf, le-ltb, length, length-map, length-set}
+use Rattle.value_match.proofs.Common.{length-take-le, List, lt-ltb, ltb, ltb-false, ltb-true, map-append}
+use Rattle.value_match.proofs.Common.{MatchedValue, MatchOption, None, NonePasses, Option, refl, rules, set, Some}
+use Rattle.value_match.proofs.Common.{StaysAtLeast, subst, sym, take, take_all, take_more, true, values_at, ℕ}
 use Rattle.value_match.proofs.Longest.{longest_changes}
 
 -- where there is no value, and no front
@@ -40,8 +36,7 @@ lists_more values n x entries within is known = record {
   names = All-push (IsEntryOf values) entries (entry_of x n) known.names
       (record { within = within; returns = λ d. ap (λ (v : MatchedValue). enqueue_return v.life) (is ∙ get_or_default values n x d within) });
   each_once = λ d.
-      map-append (λ (e : Front). get_or values e.place d) entries (entry_of x n ∷ [])
-      ∙ ap (λ (l : List MatchedValue). l ++ get_or values n d ∷ []) (known.each_once d) ∙ sym (take_more values n d within);
+      rw (map-append, known.each_once d, take_more values n d within) refl;
 }
 
 -- all of them
@@ -96,45 +91,32 @@ pub one_more_front : (values : List MatchedValue) (entries : List Front) (n p : 
     → p < length values → ((d : MatchedValue) → MatchOption so_far (p ≡ e.place)
     (λ q. IsLongerOf (get_or values q d) (get_or values e.place d) (get_or values p d)))
     → HasSoFar values entries (n + 1) (set fronts n (record e { place = p })) (Some p)
-one_more_front values entries n p e fronts so_far inside read known within longer = record {
-  one_each = length-set fronts n front ∙ known.one_each;
-  each = below_more (λ i. (f : Front) → IsFrontAt values entries i (get_or (set fronts n front) i f)) n before last;
-  others = λ i after f. get_or-set_other fronts n i front f (omega arith) ∙ known.others i (omega arith) f;
-  within = within;
-  longest = stays_longest;
-}
-  where
-    front : Front
-    front = record { enqueue_return = e.enqueue_return; place = p }
-
-    below : n < length entries
-    below = omega (arith, known.one_each)
-
-    is : e ≡ get_or entries n e
-    is = read ∙ known.others n (omega arith) e
-
-    stays_longest : (d : MatchedValue) → IsLongestOf Any (take (n + 1) (values_at values entries d)) (get_or values p d)
-    stays_longest d =
-        let order = values_at values entries d in
-        let x = get_or values e.place d in
-        let many = length-map entries (λ (e : Front). get_or values e.place d) in
-        let here : x ≡ get_or order n x = sym (get_or-map (λ (e : Front). get_or values e.place d) entries n e x below
-        ∙ ap (λ (e : Front). get_or values e.place d) (sym is)) in
-        longest_changes Any order n x (get_or values p d) (value_at values d so_far) (omega (arith, many)) here (known.longest d) tt
-        (longer_at values d so_far e.place p (longer d))
-
-    is_front : IsFrontAt values entries n front
-    is_front = record {
+one_more_front values entries n p e fronts so_far inside read known within longer =
+    let front : Front = record { enqueue_return = e.enqueue_return; place = p } in
+    let below : n < length entries = omega (arith, known.one_each) in
+    let is = read ∙ known.others n (omega arith) e in
+    let stays_longest = λ (d : MatchedValue).
+    let order = values_at values entries d in
+    let x = get_or values e.place d in
+    let many = length-map entries (λ (e : Front). get_or values e.place d) in
+    let here : x ≡ get_or order n x = sym (get_or-map (λ (e : Front). get_or values e.place d) entries n e x below
+    ∙ ap (λ (e : Front). get_or values e.place d) (sym is)) in
+    longest_changes Any order n x (get_or values p d) (value_at values d so_far) (omega (arith, many)) here (known.longest d) tt
+    (longer_at values d so_far e.place p (longer d)) in
+    let is_front : IsFrontAt values entries n front = record {
       returns = λ e'. ap (λ (e : Front). e.enqueue_return) (is ∙ get_or_default entries n e e' below);
       within = within;
       longest = stays_longest;
+    } in
+    record {
+      one_each = length-set fronts n front ∙ known.one_each;
+      each = below_more (λ i. (f : Front) → IsFrontAt values entries i (get_or (set fronts n front) i f)) n
+          (λ i less f. rw (get_or-set_other fronts n i front f (omega arith)) (known.each i less f))
+          (λ f. rw (get_or-set_same fronts n front f inside) is_front);
+      others = λ i after f. get_or-set_other fronts n i front f (omega arith) ∙ known.others i (omega arith) f;
+      within = within;
+      longest = stays_longest;
     }
-
-    last : (f : Front) → IsFrontAt values entries n (get_or (set fronts n front) n f)
-    last f = subst (IsFrontAt values entries n) (sym (get_or-set_same fronts n front f inside)) is_front
-
-    before : (i : ℕ) → i < n → (f : Front) → IsFrontAt values entries i (get_or (set fronts n front) i f)
-    before i less f = subst (IsFrontAt values entries i) (sym (get_or-set_other fronts n i front f (omega arith))) (known.each i less f)
 
 -- all of them
 pub all_fronts : (values : List MatchedValue) (entries fronts : List Front) (n : ℕ) (so_far : Option ℕ) → length fronts ≤ n
@@ -191,50 +173,28 @@ module _ (values : List MatchedValue) (fronts : List Front) (limit i : ℕ) (tab
   -- the last front before the limit names the value that stays longest of those before it
   pub longest_found : (last : ℕ) (front : Front) (d : MatchedValue) → last + 1 ≡ i → front ≡ get_or fronts last front
       → IsLongestOf (EntersBefore limit) values (get_or values front.place d)
-  longest_found last front d is here = record {
-    among = Contains-permutation order values value back among;
-    passes = subst (λ (v : MatchedValue). EntersBefore limit v.life) same (enters d value k less);
-    longest = All-permutation (λ other. EntersBefore limit other.life → StaysAtLeast value.life other.life) order values back
-        (All-from_get_or (λ other. EntersBefore limit other.life → StaysAtLeast value.life other.life) order d stays);
-  }
-    where
-      order : List MatchedValue
-      order = values_at values table.0 d
-
-      value : MatchedValue
-      value = get_or values front.place d
-
-      back : IsPermutation order values
-      back = IsPermutation-sym values order (table.1.are.each_once d)
-
-      is_longest : IsLongestOf Any (take i order) value
-      is_longest =
-          let front_at = (table.2.each last (omega (arith, table.2.one_each)) front).longest d in
-          subst (λ n. IsLongestOf Any (take n order) value) is (subst (λ (f : Front). IsLongestOf Any (take (last + 1) order)
-          (get_or values f.place d)) (sym here) front_at)
-
-      k : ℕ
-      k = is_longest.among.0
-
-      less : k < i
-      less = omega (arith, is_longest.among.1, length-take-le i order (omega (arith, counted d)))
-
-      same : get_or order k value ≡ value
-      same = sym (get_or-take i order k value less) ∙ is_longest.among.2
-
-      among : Contains order value
-      among = (k, omega (arith, less, counted d), same)
-
-      stays : (j : ℕ) → j < length order → EntersBefore limit (get_or order j d).life → StaysAtLeast value.life (get_or order j d).life
-      stays j inside passes =
-          let cases : (j < i) ⊎ (i ≤ j) = grind arith in
-          elim cases [
-            | inl before ↦
-                let seen : j < length (take i order) = omega (arith, length-take-le i order (omega (arith, counted d))) in
-                subst (λ (v : MatchedValue). StaysAtLeast value.life v.life) (get_or-take i order j d before)
-                (All-get_or (λ other. Any other.life → StaysAtLeast value.life other.life) (take i order) j d seen is_longest.longest tt)
-            | inr after ↦ absurd (enters_not d d j after (omega (arith, counted d)) passes)
-          ]
+  longest_found last front d is here =
+      let order = values_at values table.0 d in
+      let value = get_or values front.place d in
+      let back = IsPermutation-sym values order (table.1.are.each_once d) in
+      let many = counted d in
+      let long = length-take-le i order (omega arith) in
+      let is_longest : IsLongestOf Any (take i order) value =
+      rw (← is, here) ((table.2.each last (omega (arith, table.2.one_each)) front).longest d) in
+      let (k, low, at) = is_longest.among in
+      let less : k < i = omega arith in
+      let same = sym (get_or-take i order k value less) ∙ at in
+      record {
+        among = Contains-permutation order values value back (k, omega arith, same);
+        passes = subst (λ (v : MatchedValue). EntersBefore limit v.life) same (enters d value k less);
+        longest = All-permutation (λ other. EntersBefore limit other.life → StaysAtLeast value.life other.life) order values back
+            (All-from_get_or (λ other. EntersBefore limit other.life → StaysAtLeast value.life other.life) order d
+            (λ j inside passes. elim (cases_lt j i) [
+              | inl before ↦ rw (← get_or-take i order j d before)
+                  (All-get_or (λ other. Any other.life → StaysAtLeast value.life other.life) (take i order) j d (omega arith) is_longest.longest tt)
+              | inr after ↦ absurd (enters_not d d j after (omega arith) passes)
+            ]));
+      }
 
 -- where the front before place i returned before the limit, and the one at i, if there is one, did not, the first i did and no other
 pub point_between : (fronts : List Front) (limit i : ℕ) → IsNonDecreasingBy (λ f. f.enqueue_return) fronts → i < length fronts

@@ -1,8 +1,8 @@
 -- The way of the argument, from operations to matched values:
 -- Lists: what a list contains, and what is made of lists.
 -- CallPlaces, FreshDequeues: each dequeue's source, or the chosen dequeue of a value that was not there.
--- TakenSources, RepeatedDequeues: the one dequeue of each source, or the chosen pair of one source.
--- MatchedDequeues, Lives: the one dequeue of each accepted value; the lives that there are, each once.
+-- RepeatedDequeues: the one dequeue of each source and of each accepted value, or the chosen pair of one source.
+-- Lives: the lives that there are, each once.
 -- TimelineLines, ToldPlaces: what is found at places of a timeline, told by places of the history.
 -- CoverLives: what a cover's lives are.
 -- SortedOut: all operations sorted out into values, empty answers and refused enqueues.
@@ -13,9 +13,7 @@ pub mod Lives
 pub mod Longest
 pub mod CallPlaces
 pub mod FreshDequeues
-pub mod TakenSources
 pub mod RepeatedDequeues
-pub mod MatchedDequeues
 pub mod SortedOut
 pub mod Fronts
 pub mod TimelineLines

@@ -1,30 +1,24 @@
 -- The lives that are listed are the lives that there are, and operations tell them apart.
-use Rattle.value_match.proofs.Common.{[], ◌∙◌, ◌∷◌, ◌≡◌, All-contains, ap, arith, Bool, call_or_never, cond, Contains}
-use Rattle.value_match.proofs.Common.{contains_at, contains_cons, Deq, dequeue_call, dequeue_of, dequeues_kind, Did}
-use Rattle.value_match.proofs.Common.{Empty, Enq, enqueue_of, eq-eqb, eqb-true, false, find, found_first, HasPlaces}
-use Rattle.value_match.proofs.Common.{HoldsLives, inl, inr, is_dequeue_of, IsClear, IsLife, Life, life_from, List}
-use Rattle.value_match.proofs.Common.{lives_of, MatchedValue, MatchOption, NEVER, None, NoneDid, Not, not_in_none}
-use Rattle.value_match.proofs.Common.{Operation, OpKind, Option, refl, same_enqueue, same_return, Some, subst, sym}
-use Rattle.value_match.proofs.Common.{true, ℕ}
-use Rattle.std.proofs.Common.{◌<◌, ◌⊎◌}
+use Rattle.value_match.proofs.Common.{[], ◌<◌, ◌∙◌, ◌∷◌, ◌≡◌, All-contains, ap, arith, Bool, call_or_never}
+use Rattle.value_match.proofs.Common.{cases_Bool, cases_order, Contains, contains_at, contains_cons, Deq}
+use Rattle.value_match.proofs.Common.{dequeue_call, dequeue_of, dequeues_kind, Did, Enq, enqueue_of, eq-eqb}
+use Rattle.value_match.proofs.Common.{eqb-true, false, find, found_first, HasPlaces, HoldsLives, inl, inr}
+use Rattle.value_match.proofs.Common.{is_dequeue_of, IsClear, IsLife, Life, life_from, List, lives_of, MatchedValue}
+use Rattle.value_match.proofs.Common.{MatchOption, NEVER, None, NoneDid, not_in_none, Operation, OpKind, Option}
+use Rattle.value_match.proofs.Common.{refl, same_enqueue, same_return, Some, subst, sym, true, ℕ}
 use Rattle.value_match.proofs.Lists.{kept, keeps, mapped_from, mapped_to}
 
 -- what follows if `find` gives nothing
 none_found : {X : Type 0} (p : X → Bool) (xs : List X) (x : X) → find p xs ≡ None → Contains xs x → p x ≡ false
 none_found p [] x none among = absurd (not_in_none x among)
-none_found {X} p (z ∷ xs) x none among = pick (λ h there. none_found p xs x h there) (p z) refl none (contains_cons z xs x among)
-  where
-    pick : (find p xs ≡ None → Contains xs x → p x ≡ false) → (b : Bool) → p z ≡ b
-        → cond b (Some z) (find p xs) ≡ None → (z ≡ x) ⊎ Contains xs x → p x ≡ false
-    pick rest true is h here = cc
-    pick rest false is h (inl here) = sym (ap p here) ∙ is
-    pick rest false is h (inr there) = rest h there
+none_found p (z ∷ xs) x none among = elim (cases_Bool (p z)) [
+  | inl passes ↦ let clash : Some z ≡ None = rw passes at none in cc
+  | inr fails ↦ elim (contains_cons z xs x among) [ inl here ↦ cc | inr there ↦ none_found p xs x (rw fails at none) there ]
+]
 
 dequeues : (v : ℕ) (k : OpKind) → dequeues_kind v k ≡ true → k ≡ Deq v
 dequeues v (Deq w) is = ap (λ u. Deq u) (eqb-true w v is)
-dequeues v (Enq w) is = cc
-dequeues v Empty is = cc
-dequeues v (Not w) is = cc
+dequeues v _ is = cc
 
 passes : (v : ℕ) (o : Operation) → o.kind ≡ Deq v → is_dequeue_of v o ≡ true
 passes v o is = rw (is, eq-eqb v v refl)
@@ -47,20 +41,16 @@ life_of_contained operations life among =
     begun o in_o (Enq v) is same =
         let made : ◌≡◌ {A = Life} (record { enqueue = o; dequeue = find (is_dequeue_of v) operations }) life = cc in
         subst (IsLife operations) made (v, (in_o, is), found_dequeue operations v (find (is_dequeue_of v) operations) refl)
-    begun o in_o (Deq v) is same = cc
-    begun o in_o Empty is same = cc
-    begun o in_o (Not v) is same = cc
+    begun o in_o _ is same = cc
 
 -- dequeues of one value are one, where the value was enqueued
 pub same_dequeue : (operations : List Operation) (enq x y : Operation) (v : ℕ) → IsClear operations → Did operations enq (Enq v)
     → Did operations x (Deq v) → Did operations y (Deq v) → x ≡ y
 same_dequeue operations enq x y v clear did did_x did_y =
-    let order : (x.ret < y.ret) ⊎ ((x.ret ≡ y.ret) ⊎ (y.ret < x.ret)) = grind arith in
-    elim order [
-      | inl less ↦ absurd (clear.no_repeat enq x y (record { value = v; enqueues = did; dequeues = did_x; dequeues_again = did_y; in_order = less }))
-      | inr (inl same) ↦ same_return operations x y clear.complete did_x.0 did_y.0 same
-      | inr (inr more) ↦ absurd (clear.no_repeat enq y x (record { value = v; enqueues = did; dequeues = did_y; dequeues_again = did_x; in_order = more }))
-    ]
+    let same = same_return operations x y clear.complete did_x.0 did_y.0 in
+    let less = λ (is : x.ret < y.ret). clear.no_repeat enq x y (record { value = v; enqueues = did; dequeues = did_x; dequeues_again = did_y; in_order = is }) in
+    let more = λ (is : y.ret < x.ret). clear.no_repeat enq y x (record { value = v; enqueues = did; dequeues = did_y; dequeues_again = did_x; in_order = is }) in
+    grind (arith, cases_order x.ret y.ret)
 
 -- what is found where the value was enqueued is one answer
 pub same_found : (operations : List Operation) (enq : Operation) (v : ℕ) (a b : Option Operation) → IsClear operations → Did operations enq (Enq v)
@@ -77,17 +67,12 @@ life_is_contained operations life clear is =
     let v = is.0 in
     let dequeue = same_found operations (enqueue_of life) v (find (is_dequeue_of v) operations) (dequeue_of life) clear is.1
     (found_dequeue operations v (find (is_dequeue_of v) operations) refl) is.2 in
-    keeps (λ o. life_from operations o o.kind) operations (enqueue_of life) life is.1.0 (begins dequeue)
-  where
-    begins : find (is_dequeue_of is.0) operations ≡ dequeue_of life → life_from operations (enqueue_of life) (enqueue_of life).kind ≡ Some life
-    begins same = subst (λ k. life_from operations (enqueue_of life) k ≡ Some life) (sym is.1.1)
-        (ap (λ d. Some (record { enqueue = enqueue_of life; dequeue = d })) same)
+    keeps (λ o. life_from operations o o.kind) operations (enqueue_of life) life is.1.0 (rw (is.1.1, dequeue) refl)
 
 -- lives of one enqueue are one, and so are lives of one dequeue
 pub one_life_of_enqueue : (operations : List Operation) (x y : Life) → IsClear operations → IsLife operations x → IsLife operations y
     → enqueue_of x ≡ enqueue_of y → x ≡ y
 one_life_of_enqueue operations x y clear is_x is_y same =
-    let kinds : Enq is_x.0 ≡ Enq is_y.0 = sym is_x.1.1 ∙ ap (λ o. o.kind) same ∙ is_y.1.1 in
     let values : is_x.0 ≡ is_y.0 = cc in
     let y_dequeue = subst (λ v. MatchOption (dequeue_of y) (NoneDid operations (Deq v)) (λ d. Did operations d (Deq v))) (sym values) is_y.2 in
     let dequeues = same_found operations (enqueue_of x) is_x.0 (dequeue_of x) (dequeue_of y) clear is_x.1 is_x.2 y_dequeue in
@@ -97,13 +82,10 @@ one_life_of_enqueue operations x y clear is_x is_y same =
 pub one_life_of_dequeue : (operations : List Operation) (x y : Life) (d : Operation) → IsClear operations → IsLife operations x → IsLife operations y
     → dequeue_of x ≡ Some d → dequeue_of y ≡ Some d → x ≡ y
 one_life_of_dequeue operations x y d clear is_x is_y same_x same_y =
-    let did_x : Did operations d (Deq is_x.0) = subst (λ e. MatchOption e (NoneDid operations (Deq is_x.0)) (λ d. Did operations d (Deq is_x.0)))
-    same_x is_x.2 in
-    let did_y : Did operations d (Deq is_y.0) = subst (λ e. MatchOption e (NoneDid operations (Deq is_y.0)) (λ d. Did operations d (Deq is_y.0)))
-    same_y is_y.2 in
-    let kinds : Deq is_x.0 ≡ Deq is_y.0 = sym did_x.1 ∙ did_y.1 in
+    let did_x : Did operations d (Deq is_x.0) = rw same_x at is_x.2 in
+    let did_y : Did operations d (Deq is_y.0) = rw same_y at is_y.2 in
     let values : is_x.0 ≡ is_y.0 = cc in
-    let enq_y : Did operations (enqueue_of y) (Enq is_x.0) = subst (λ v. Did operations (enqueue_of y) (Enq v)) (sym values) is_y.1 in
+    let enq_y : Did operations (enqueue_of y) (Enq is_x.0) = rw values is_y.1 in
     one_life_of_enqueue operations x y clear is_x is_y (same_enqueue operations (enqueue_of x) (enqueue_of y) is_x.0 clear.complete is_x.1 enq_y)
 
 -- a value that is called for before the last ticket is over is dequeued

@@ -1,18 +1,13 @@
 -- One more value in a scan for the longest of those that pass.
-use Rattle.value_match.proofs.Common.{[], ◌++◌, ◌+◌, ◌∷◌, ◌≡◌, All-push, All-weaker, arith, Contains}
-use Rattle.value_match.proofs.Common.{Contains-append_left, Contains-push, dequeue_call, FindsLongest, get_or, inl}
-use Rattle.value_match.proofs.Common.{inr, IsLongerOf, IsLongestOf, Life, List, MatchedValue, MatchOption, None}
+use Rattle.value_match.proofs.Common.{[], ◌++◌, ◌+◌, ◌<◌, ◌∷◌, ◌≡◌, All-push, All-weaker, arith, Contains}
+use Rattle.value_match.proofs.Common.{Contains-append_left, Contains-push, FindsLongest, get_or, inl, inr}
+use Rattle.value_match.proofs.Common.{IsLongerOf, IsLongestOf, length, Life, List, MatchedValue, MatchOption, None}
 use Rattle.value_match.proofs.Common.{NonePasses, Option, Some, StaysAtLeast, subst, sym, take, ℕ}
-use Rattle.std.proofs.Common.{◌<◌, length}
 use Rattle.value_match.proofs.Lists.{one_more}
 
 -- what stays longer than a longer one stays longer
 pub stays_through : (x y z : Life) → StaysAtLeast x y → StaysAtLeast y z → StaysAtLeast x z
-stays_through x y z first second = (
-  omega (arith, first.0, second.0),
-  λ same. let here : dequeue_call z ≡ dequeue_call y = omega (arith, first.0, second.0) in let there : dequeue_call y ≡ dequeue_call x = omega (arith, here) in
-      let a = first.1 there in let b = second.1 here in omega arith,
-)
+stays_through x y z first second = (omega (arith, first.0, second.0), λ same. grind (arith, first, second))
 
 -- a value stays as long as itself
 pub stays_as_itself : (x : Life) → StaysAtLeast x x

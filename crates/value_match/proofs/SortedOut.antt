@@ -1,15 +1,14 @@
 -- The operations sorted out by what they did, met by a walk over them.
-use Rattle.value_match.proofs.Common.{[], ◌++◌, ◌+◌, ◌∙◌, ◌∷◌, ◌≡◌, All, All-get_or, All-push, ap, append-nil, Bool}
-use Rattle.value_match.proofs.Common.{cond, cons_option, contains_at, Deq, dequeue_of, Empty, Enq, enqueue_of, false}
-use Rattle.value_match.proofs.Common.{filter, filter-append, filter_map, filter_map-append, find, get_or, get_or-map}
-use Rattle.value_match.proofs.Common.{get_or_from_slice_get, HasPlaces, IfSome, is_dequeue_of, is_empty_answer}
-use Rattle.value_match.proofs.Common.{is_refused, IsAt, IsClear, IsDequeuePlace, IsMaybeAt, length-map, Life}
-use Rattle.value_match.proofs.Common.{life_from, List, map-append, MatchedValue, maybe_operation_at, None, Not}
-use Rattle.value_match.proofs.Common.{one_at, Operation, operation_at, Option, Pair, refl, slice_get}
-use Rattle.value_match.proofs.Common.{slice_get_within, Some, subst, sym, take, take_more, true, value_at, ℕ}
-use Rattle.std.proofs.Common.{◌<◌, length}
-use Rattle.std.specs.Prelude.{map}
-use Rattle.value_match.proofs.MatchedDequeues.{found_at_place}
+use Rattle.value_match.proofs.Common.{[], ◌++◌, ◌+◌, ◌<◌, ◌∙◌, ◌∷◌, ◌≡◌, All, All-get_or, All-push, ap, append-nil}
+use Rattle.value_match.proofs.Common.{Bool, cases_Bool, cond, cons_option, contains_at, dequeue_of, Enq, enqueue_of}
+use Rattle.value_match.proofs.Common.{filter, filter-append, filter_map, filter_map-append, find, get_or}
+use Rattle.value_match.proofs.Common.{get_or-map, get_or_from_slice_get, HasPlaces, IfSome, inl, inr, is_dequeue_of}
+use Rattle.value_match.proofs.Common.{is_empty_answer, is_refused, IsAt, IsClear, IsDequeuePlace, IsMaybeAt, length}
+use Rattle.value_match.proofs.Common.{length-map, Life, life_from, List, map, map-append, MatchedValue}
+use Rattle.value_match.proofs.Common.{maybe_operation_at, None, one_at, Operation, operation_at, Option, Pair, refl}
+use Rattle.value_match.proofs.Common.{slice_get, slice_get_within, Some, subst, sym, take, value_at, ℕ}
+use Rattle.value_match.proofs.RepeatedDequeues.{found_at_place}
+use Rattle.value_match.proofs.Lists.{one_more}
 
 -- what the first n operations did
 pub record IsSortedOut (operations : List Operation) (n : ℕ) (values : List MatchedValue) (empties refused : List ℕ) : Type 0 where
@@ -21,45 +20,25 @@ pub record IsSortedOut (operations : List Operation) (n : ℕ) (values : List Ma
 -- ---- one more operation
 
 taken_more : (operations : List Operation) (i : ℕ) (o : Operation) → IsAt operations i o → take (i + 1) operations ≡ take i operations ++ o ∷ []
-taken_more operations i o here =
-    let last : get_or operations i o ≡ o = get_or_from_slice_get operations i o o here in
-    take_more operations i o (slice_get_within operations i o here) ∙ ap (λ x. take i operations ++ x ∷ []) last
+taken_more operations i o here = one_more operations i o (slice_get_within operations i o here) (sym (get_or_from_slice_get operations i o o here))
 
 lives_more : (operations : List Operation) (i : ℕ) (o : Operation) (life : Option Life) (lives : List Life) → IsAt operations i o
     → life_from operations o o.kind ≡ life
     → lives ≡ filter_map (λ o. life_from operations o o.kind) (take i operations)
     → lives ++ cons_option life [] ≡ filter_map (λ o. life_from operations o o.kind) (take (i + 1) operations)
 lives_more operations i o life lives here is known =
-    ap (λ ls. ls ++ cons_option life []) known ∙ ap (λ l. filter_map (λ o. life_from operations o o.kind) (take i operations) ++ cons_option l []) (sym is)
-    ∙ sym (ap (filter_map (λ o. life_from operations o o.kind)) (taken_more operations i o here)
-    ∙ filter_map-append (λ o. life_from operations o o.kind) (take i operations) (o ∷ []))
-
-filter-taken : (operations : List Operation) (test : Operation → Bool) (i : ℕ) (o : Operation) (b : Bool) → IsAt operations i o → test o ≡ b
-    → filter test (take (i + 1) operations) ≡ filter test (take i operations) ++ cond b (o ∷ []) []
-filter-taken operations test i o b here is = ap (filter test) (taken_more operations i o here) ∙ filter-append test (take i operations) (o ∷ [])
-    ∙ ap (λ c. filter test (take i operations) ++ cond c (o ∷ []) []) is
-
-places_more : (operations : List Operation) (test : Operation → Bool) (i : ℕ) (o : Operation) (places : List ℕ) → IsAt operations i o → test o ≡ true
-    → map (slice_get operations) places ≡ map Some (filter test (take i operations))
-    → map (slice_get operations) (places ++ i ∷ []) ≡ map Some (filter test (take (i + 1) operations))
-places_more operations test i o places here is known =
-    map-append (slice_get operations) places (i ∷ []) ∙ ap (λ ps. ps ++ slice_get operations i ∷ []) known
-    ∙ ap (λ p. map Some (filter test (take i operations)) ++ p ∷ []) here
-    ∙ sym (ap (map Some) (filter-taken operations test i o true here is) ∙ map-append Some (filter test (take i operations)) (o ∷ []))
-
-places_same : (operations : List Operation) (test : Operation → Bool) (i : ℕ) (o : Operation) (places : List ℕ) → IsAt operations i o → test o ≡ false
-    → map (slice_get operations) places ≡ map Some (filter test (take i operations))
-    → map (slice_get operations) places ≡ map Some (filter test (take (i + 1) operations))
-places_same operations test i o places here is known = known ∙ sym
-    (ap (map Some) (filter-taken operations test i o false here is ∙ append-nil (filter test (take i operations))))
-
-lives_same : (operations : List Operation) (i : ℕ) (o : Operation) (lives : List Life) → IsAt operations i o → life_from operations o o.kind ≡ None
-    → lives ≡ filter_map (λ o. life_from operations o o.kind) (take i operations)
-    → lives ≡ filter_map (λ o. life_from operations o o.kind) (take (i + 1) operations)
-lives_same operations i o lives here is known = sym (append-nil lives) ∙ lives_more operations i o None lives here is known
+    rw (known, taken_more operations i o here, filter_map-append, is) refl
 
 module _ (operations : List Operation) (i : ℕ) (o : Operation) (values : List MatchedValue) (empties refused : List ℕ) (here : IsAt operations i o)
     (known : IsSortedOut operations i values empties refused) where
+  -- the places of those that pass a test, with this one if it passes
+  places_more : (test : Operation → Bool) (places : List ℕ) → map (slice_get operations) places ≡ map Some (filter test (take i operations))
+      → map (slice_get operations) (cond (test o) (places ++ i ∷ []) places) ≡ map Some (filter test (take (i + 1) operations))
+  places_more test places known' = rw (taken_more operations i o here, filter-append) (elim (cases_Bool (test o)) [
+    | inl is ↦ rw (is, map-append, known', here, map-append) refl
+    | inr is ↦ rw (is, append-nil) known'
+  ])
+
   -- one more, a successful enqueue, is sorted out with its dequeue
   pub sorted_enqueue : (v : ℕ) (m : MatchedValue) (place : Option ℕ) → o.kind ≡ Enq v → IsAt operations i (enqueue_of m.life)
       → IsMaybeAt operations place (dequeue_of m.life) → (m.enqueue ≡ i) × (m.dequeue ≡ place)
@@ -71,8 +50,8 @@ module _ (operations : List Operation) (i : ℕ) (o : Operation) (values : List 
       subst (λ p. IsMaybeAt operations p (dequeue_of m.life))
           (sym named.1) dequeue,
     );
-    empty_answers = places_same operations is_empty_answer i o empties here (rw is refl) known.empty_answers;
-    refused_enqueues = places_same operations is_refused i o refused here (rw is refl) known.refused_enqueues;
+    empty_answers = rw is at (places_more is_empty_answer empties known.empty_answers);
+    refused_enqueues = rw is at (places_more is_refused refused known.refused_enqueues);
   }
     where
       found : dequeue_of m.life ≡ find (is_dequeue_of v) operations
@@ -85,31 +64,14 @@ module _ (operations : List Operation) (i : ℕ) (o : Operation) (values : List 
           λ t. record { enqueue = same t; dequeue = sym found t } in
           subst (λ kind. life_from operations o kind ≡ Some m.life) (sym is) (ap (λ l. Some l) made)
 
-  -- one more, an empty answer, is sorted out
-  pub sorted_empty : o.kind ≡ Empty → IsSortedOut operations (i + 1) values (empties ++ i ∷ []) refused
-  sorted_empty is = record {
-    lives = lives_same operations i o (map (λ m. m.life) values) here (rw is refl) known.lives;
+  -- one more, no successful enqueue, is sorted out: a dequeue adds nothing, as it stands beside its enqueue
+  pub sorted_other : life_from operations o o.kind ≡ None → IsSortedOut operations (i + 1) values (cond (is_empty_answer o) (empties ++ i ∷ []) empties)
+      (cond (is_refused o) (refused ++ i ∷ []) refused)
+  sorted_other none = record {
+    lives = sym (append-nil (map (λ m. m.life) values)) ∙ lives_more operations i o None (map (λ m. m.life) values) here none known.lives;
     places = known.places;
-    empty_answers = places_more operations is_empty_answer i o empties here (rw is refl) known.empty_answers;
-    refused_enqueues = places_same operations is_refused i o refused here (rw is refl) known.refused_enqueues;
-  }
-
-  -- one more, a failed enqueue, is sorted out
-  pub sorted_refused : (v : ℕ) → o.kind ≡ Not v → IsSortedOut operations (i + 1) values empties (refused ++ i ∷ [])
-  sorted_refused v is = record {
-    lives = lives_same operations i o (map (λ m. m.life) values) here (rw is refl) known.lives;
-    places = known.places;
-    empty_answers = places_same operations is_empty_answer i o empties here (rw is refl) known.empty_answers;
-    refused_enqueues = places_more operations is_refused i o refused here (rw is refl) known.refused_enqueues;
-  }
-
-  -- one more, a dequeue, adds nothing: it stands beside its enqueue
-  pub sorted_dequeue : (v : ℕ) → o.kind ≡ Deq v → IsSortedOut operations (i + 1) values empties refused
-  sorted_dequeue v is = record {
-    lives = lives_same operations i o (map (λ m. m.life) values) here (rw is refl) known.lives;
-    places = known.places;
-    empty_answers = places_same operations is_empty_answer i o empties here (rw is refl) known.empty_answers;
-    refused_enqueues = places_same operations is_refused i o refused here (rw is refl) known.refused_enqueues;
+    empty_answers = places_more is_empty_answer empties known.empty_answers;
+    refused_enqueues = places_more is_refused refused known.refused_enqueues;
   }
 
 -- ---- pairs
@@ -142,7 +104,3 @@ pair_within operations pairs i pair all below is =
     inside : (place : Option ℕ) → IsMaybeAt operations place (maybe_operation_at operations place) → IfSome place (λ p. p < length operations)
     inside None none = tt
     inside (Some p) at = slice_get_within operations p _ at
-
--- ---- all operations
-
--- the dequeue's place is in range

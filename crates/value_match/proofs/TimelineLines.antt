@@ -1,52 +1,39 @@
 -- The operations of the timeline: the enqueues of the initial values, and the operations, later.
-use Rattle.value_match.proofs.Common.{[], ◌*◌, ◌++◌, ◌+◌, ◌-◌, ◌↔◌, ◌∙◌, ◌∷◌, ◌≡◌, ◌≤◌, ap, arith, Bool, cases_lt}
-use Rattle.value_match.proofs.Common.{cond, cons_option, Contains, Contains-append_cases, Contains-append_right}
-use Rattle.value_match.proofs.Common.{contains_at, Enq, enqueues_from, false, filter_map, initial_enqueue, inl, inr}
-use Rattle.value_match.proofs.Common.{later_by, length_enqueues, List, lt-ltb, ltb-true, nat_lt, None, Operation}
-use Rattle.value_match.proofs.Common.{Option, option_map, place_of, refl, slice_get, slice_get-map, slice_get_within}
-use Rattle.value_match.proofs.Common.{Some, subst, suc, sym, timeline, true, zero, ℕ}
-use Rattle.std.proofs.Common.{◌<◌}
-use Rattle.std.proofs.Common.{length, map}
-use Rattle.std.specs.Prelude.{◌⊎◌}
+use Rattle.value_match.proofs.Common.{[], ◌*◌, ◌++◌, ◌+◌, ◌-◌, ◌<◌, ◌↔◌, ◌∙◌, ◌∷◌, ◌≡◌, ◌≤◌, ◌⊎◌, ap, arith}
+use Rattle.value_match.proofs.Common.{cases_lt, cond, cons_option, Contains, Contains-append_cases}
+use Rattle.value_match.proofs.Common.{Contains-append_right, contains_at, enqueues_from, filter_map}
+use Rattle.value_match.proofs.Common.{initial_enqueue, inl, inr, later_by, le-ltb, length, length_enqueues, List}
+use Rattle.value_match.proofs.Common.{lt-ltb, map, nat_lt, None, Operation, Option, option_map, place_of, refl}
+use Rattle.value_match.proofs.Common.{slice_get, slice_get-map, slice_get_within, Some, subst, suc, sym, timeline}
+use Rattle.value_match.proofs.Common.{zero, ℕ}
 use Rattle.value_match.proofs.Lists.{mapped_from, mapped_to}
-
--- the enqueue of the initial value at this place, where the first clock is another
-abbrev enqueues_from_at : ℕ → ℕ → ℕ → Operation
-enqueues_from_at n j v = record { call = n + 2 * j; ret = n + 2 * j + 1; thread = 0; kind = Enq v }
 
 -- operations with the same parts are one
 pub same_operation : (a b : Operation) → a.call ≡ b.call → a.ret ≡ b.ret → a.thread ≡ b.thread → a.kind ≡ b.kind → a ≡ b
 same_operation a b call ret thread kind = λ i. record { call = call i; ret = ret i; thread = thread i; kind = kind i }
 
 -- what stands at a place of the enqueues
-at_enqueues_from : (n : ℕ) (initial : List ℕ) (j : ℕ) → slice_get (enqueues_from n initial) j ≡ option_map (enqueues_from_at n j) (slice_get initial j)
-at_enqueues_from n [] j = cc
-at_enqueues_from n (v ∷ rest) zero = ap (λ o. Some o) (same_operation _ _ (omega arith) (omega arith) refl refl)
-at_enqueues_from n (v ∷ rest) (suc j) =
-    at_enqueues_from (n + 2) rest j
-    ∙ ap (λ (f : ℕ → Operation). option_map f (slice_get rest j)) (later_place n j)
-  where
-    later_place : (n j : ℕ) → enqueues_from_at (n + 2) j ≡ enqueues_from_at n (suc j)
-    later_place n j = λ i v. same_operation (enqueues_from_at (n + 2) j v) (enqueues_from_at n (suc j) v) (omega arith) (omega arith) refl refl i
+at_enqueues_from : (n : ℕ) (initial : List ℕ) (j k : ℕ) → n + 2 * j ≡ 2 * k
+    → slice_get (enqueues_from n initial) j ≡ option_map (initial_enqueue k) (slice_get initial j)
+at_enqueues_from n [] j k at = cc
+at_enqueues_from n (v ∷ rest) zero k at = ap (λ o. Some o) (same_operation _ _ (omega arith) (omega arith) refl refl)
+at_enqueues_from n (v ∷ rest) (suc j) k at = at_enqueues_from (n + 2) rest j k (omega arith)
 
 -- the j-th operation of the enqueues enqueues the j-th initial value
 pub at_enqueue : (initial : List ℕ) (j : ℕ) → slice_get (enqueues_from 0 initial) j ≡ option_map (initial_enqueue j) (slice_get initial j)
-at_enqueue initial j = at_enqueues_from 0 initial j ∙ ap (λ (f : ℕ → Operation). option_map f (slice_get initial j)) first_clock
-  where
-    first_clock : enqueues_from_at 0 j ≡ initial_enqueue j
-    first_clock = λ i v. same_operation (enqueues_from_at 0 j v) (initial_enqueue j v) (omega arith) (omega arith) refl refl i
+at_enqueue initial j = at_enqueues_from 0 initial j j (omega arith)
+
+-- what a mapped option holds comes from what is mapped
+pub mapped_option : {A B : Type 0} (f : A → B) (o : Option A) (y : B) → option_map f o ≡ Some y → (x : A) × (o ≡ Some x) × (f x ≡ y)
+mapped_option f None y is = cc
+mapped_option f (Some x) y is = (x, refl, cc)
 
 -- the place and the value of one of the enqueues
 pub enqueue_place : (initial : List ℕ) (o : Operation) → Contains (enqueues_from 0 initial) o
     → (j : ℕ) × (v : ℕ) × (slice_get initial j ≡ Some v) × (initial_enqueue j v ≡ o)
 enqueue_place initial o among =
     let at = place_of (enqueues_from 0 initial) o among in
-    found at.0 (slice_get initial at.0) refl (sym (at_enqueue initial at.0) ∙ at.1)
-  where
-    found : (j : ℕ) (w : Option ℕ) → slice_get initial j ≡ w → option_map (initial_enqueue j) (slice_get initial j) ≡ Some o
-        → (j : ℕ) × (v : ℕ) × (slice_get initial j ≡ Some v) × (initial_enqueue j v ≡ o)
-    found j None is same = let clash : None ≡ Some o = sym (ap (option_map (initial_enqueue j)) is) ∙ same in cc
-    found j (Some v) is same = let one : Some (initial_enqueue j v) ≡ Some o = sym (ap (option_map (initial_enqueue j)) is) ∙ same in (j, v, is, cc)
+    let (v, stands, is) = mapped_option (initial_enqueue at.0) (slice_get initial at.0) o (sym (at_enqueue initial at.0) ∙ at.1) in (at.0, v, stands, is)
 
 -- and each such enqueue stands there
 pub enqueue_stands : (initial : List ℕ) (j v : ℕ) → slice_get initial j ≡ Some v → Contains (enqueues_from 0 initial) (initial_enqueue j v)
@@ -70,14 +57,11 @@ called_late initial operations o x late is = (
   λ among. back (Contains-append_cases (enqueues_from 0 initial) (map (later_by (2 * length initial)) operations) o among),
 )
   where
-    in_range : (j v : ℕ) → slice_get initial j ≡ Some v → j < length initial
-    in_range j v at = slice_get_within initial j v at
-
     back : Contains (enqueues_from 0 initial) o ⊎ Contains (map (later_by (2 * length initial)) operations) o → Contains operations x
     back (inl here) =
         let found = enqueue_place initial o here in
         let calls : 2 * found.0 ≡ o.call = ap (λ (y : Operation). y.call) found.3 in
-        let within = in_range found.0 found.1 found.2 in
+        let within = slice_get_within initial found.0 found.1 found.2 in
         absurd (omega arith)
     back (inr there) =
         let found = mapped_from (later_by (2 * length initial)) operations o there in
@@ -114,11 +98,6 @@ at_timeline initial operations p = elim (cases_lt p (length initial)) [
             ∙ slice_get-map (later_by (2 * length initial)) operations (p - length initial),
       )
 ]
-
--- what a mapped option holds comes from what is mapped
-pub mapped_option : {A B : Type 0} (f : A → B) (o : Option A) (y : B) → option_map f o ≡ Some y → (x : A) × (o ≡ Some x) × (f x ≡ y)
-mapped_option f None y is = cc
-mapped_option f (Some x) y is = (x, refl, cc)
 
 -- the operation at a place of the timeline is the enqueue of the initial value there
 pub record IsInitialEnqueueAt (initial : List ℕ) (p : ℕ) (x : Operation) : Type 0 where
@@ -158,12 +137,7 @@ earlier_none n o early = rw (lt-ltb o.call n early) refl
 
 -- an operation that is moved later and back is as it was
 pub earlier_later : (n : ℕ) (o : Operation) → earlier n (later_by n o) ≡ Some o
-earlier_later n o = pick (nat_lt (o.call + n) n) refl
-  where
-    pick : (b : Bool) → nat_lt (o.call + n) n ≡ b
-        → cond b None (Some (record { call = o.call + n - n; ret = o.ret + n - n; thread = o.thread; kind = o.kind })) ≡ Some o
-    pick true is = let less : o.call + n < n = ltb-true _ _ is in absurd (omega arith)
-    pick false is = ap (λ x. Some x) (same_operation _ o (omega arith) (omega arith) refl refl)
+earlier_later n o = rw (le-ltb (o.call + n) n (omega arith)) (ap (λ x. Some x) (same_operation _ o (omega arith) (omega arith) refl refl))
 
 enqueues_earlier : (clock n : ℕ) (values : List ℕ) (later : List Operation) → clock + 2 * length values ≤ n
     → filter_map (earlier n) (enqueues_from clock values ++ later) ≡ filter_map (earlier n) later
@@ -175,8 +149,7 @@ enqueues_earlier clock n (v ∷ values) later within =
 later_earlier : (n : ℕ) (operations : List Operation) → filter_map (earlier n) (map (later_by n) operations) ≡ operations
 later_earlier n [] = refl
 later_earlier n (o ∷ operations) =
-    ap (λ (x : Option Operation). cons_option x (filter_map (earlier n) (map (later_by n) operations))) (earlier_later n o)
-    ∙ ap (λ (r : List Operation). o ∷ r) (later_earlier n operations)
+    rw (earlier_later n o, later_earlier n operations) refl
 
 -- without the enqueues of the initial values it is what stands after these
 pub timeline_earlier : (initial : List ℕ) (listed : List Operation) → filter_map (earlier (2 * length initial)) (timeline initial listed) ≡ listed

@@ -1,17 +1,17 @@
 -- What is found at places of a timeline, told by places of the history.
-use Rattle.value_match.proofs.Common.{[], ⊤, ◌*◌, ◌++◌, ◌+◌, ◌-◌, ◌∙◌, ◌∷◌, ◌≡◌, ◌≤◌, ap, ap₂, AreChosenFresh}
-use Rattle.value_match.proofs.Common.{AreChosenRepeat, ArePlacesOf, arith, behind, Bool, cons_option, Deq, dequeue_of}
-use Rattle.value_match.proofs.Common.{Did, Empty, Enq, enqueue_of, enqueues_from, false, filter, filter-append}
-use Rattle.value_match.proofs.Common.{filter_map, FreshPlaces, HasPlaces, HoldsPlaces, if◌then◌else◌, inl, inr}
+use Rattle.value_match.proofs.Common.{[], ⊤, ◌*◌, ◌++◌, ◌+◌, ◌-◌, ◌<◌, ◌∙◌, ◌∷◌, ◌≡◌, ◌≤◌, ap, ap₂, AreChosenFresh}
+use Rattle.value_match.proofs.Common.{AreChosenRepeat, ArePlacesOf, arith, behind, Bool, cases_Bool, Deq}
+use Rattle.value_match.proofs.Common.{dequeue_of, Empty, Enq, enqueue_of, enqueues_from, false, filter}
+use Rattle.value_match.proofs.Common.{filter-append, filter_map, FreshPlaces, HasPlaces, HoldsPlaces, inl, inr}
 use Rattle.value_match.proofs.Common.{is_empty_answer, is_refused, IsAt, IsFreshViolation, IsLife, IsMaybeAt}
-use Rattle.value_match.proofs.Common.{IsMaybeOperation, IsOperation, IsSource, later_by, le-ltb, List, lt-ltb}
-use Rattle.value_match.proofs.Common.{ltb-false, ltb-true, MatchedValue, MatchOption, NamesChosenFresh}
-use Rattle.value_match.proofs.Common.{NamesChosenRepeat, NamesStep, nat_lt, None, NoneDid, Not, Operation, Option}
+use Rattle.value_match.proofs.Common.{IsMaybeOperation, IsOperation, IsSource, later_by, le-ltb, length, List}
+use Rattle.value_match.proofs.Common.{lt-ltb, ltb-false, ltb-true, map, MatchedValue, MatchOption, NamesChosenFresh}
+use Rattle.value_match.proofs.Common.{NamesChosenRepeat, NamesStep, nat_lt, None, Not, Operation, Option}
 use Rattle.value_match.proofs.Common.{option_map, place_behind, refl, RepeatPlaces, slice_get, Some, subst, sym}
-use Rattle.value_match.proofs.Common.{timeline, told_place, told_source, true, ℕ}
-use Rattle.std.proofs.Common.{◌<◌, length, map}
+use Rattle.value_match.proofs.Common.{timeline, told_place, told_source, ℕ}
 use Rattle.value_match.specs.declared.violation.Source.TheVariants as source
 use Rattle.value_match.specs.declared.violation.Violation.TheVariants as violation
+use Rattle.value_match.proofs.CoverLives.{dequeues}
 use Rattle.value_match.proofs.TimelineLines.{earlier, earlier_later, earlier_none, timeline_at, timeline_earlier, one_later}
 
 -- ---- what stands at a place of the timeline
@@ -55,35 +55,26 @@ module _ (initial : List ℕ) (operations : List Operation) where
   pub maybe_told : (p : Option ℕ) (o : Option Operation) → IsMaybeAt all p o → MatchOption o ⊤ (λ d. (v : ℕ) × (d.kind ≡ Deq v))
       → IsMaybeOperation initial operations (option_map (told_place k) p) o
   maybe_told None None at is = tt
-  maybe_told None (Some o) at is = absurd at
-  maybe_told (Some p) None at is = absurd at
   maybe_told (Some p) (Some o) at is = dequeue_told p o is.0 at is.1
+  maybe_told _ _ at is = absurd at
 
   -- the enqueue of a value
   pub source_told : (p : ℕ) (o : Operation) → IsAt all p o → IsSource initial operations (told_source k p) o
-  source_told p o at = by_count (nat_lt p k) refl
-    where
-      by_count : (within : Bool) → nat_lt p k ≡ within
-          → IsSource initial operations (if within then source.Initial p else source.Enq (told_place k p)) o
-      by_count true is = (ltb-true p k is, at)
-      by_count false is = operation_told p o at (ltb-false p k is)
+  source_told p o at = elim (cases_Bool (nat_lt p k)) [
+    | inl is ↦ rw is (ltb-true p k is, at)
+    | inr is ↦ rw is (operation_told p o at (ltb-false p k is))
+  ]
 
   -- the operations of a value
   pub value_told : (value : MatchedValue) → HasPlaces all value → IsLife all value.life
       → NamesStep initial operations (record { source = told_source k value.enqueue; dequeue = option_map (told_place k) value.dequeue }) value.life
   value_told value at is =
-      (source_told value.enqueue (enqueue_of value.life) at.0, maybe_told value.dequeue (dequeue_of value.life) at.1 (dequeues (dequeue_of value.life) is.2))
-    where
-      dequeues : (d : Option Operation) → MatchOption d (NoneDid all (Deq is.0)) (λ d. Did all d (Deq is.0)) → MatchOption d ⊤ (λ d. (v : ℕ) × (d.kind ≡ Deq v))
-      dequeues None none = tt
-      dequeues (Some d) did = (is.0, did.1)
+      (source_told value.enqueue (enqueue_of value.life) at.0, maybe_told value.dequeue (dequeue_of value.life) at.1 (dequeues all is.0 (dequeue_of value.life) is.2))
 
   -- the enqueue that the dequeue returned before, or that was refused, is none of an initial value
   pub call_told : (deq : ℕ) (d : Operation) (enq : Option ℕ) (e : Option Operation) → IsAt all deq d → IsMaybeAt all enq e → IsFreshViolation all d e
       → IsMaybeOperation initial operations (option_map (told_place k) enq) e
   call_told deq d None None at_d at_e is = tt
-  call_told deq d None (Some e) at_d at_e is = absurd at_e
-  call_told deq d (Some p) None at_d at_e is = absurd at_e
   call_told deq d (Some p) (Some e) at_d at_e is = operation_told p e at_e (stands_behind p e at_e too_late)
     where
       late : 2 * k ≤ d.ret
@@ -97,6 +88,7 @@ module _ (initial : List ℕ) (operations : List Operation) where
         | inl refused ↦ let clash : Not is.value ≡ Enq v = sym refused.1 ∙ enq in cc
         | inr accepted ↦ let after = accepted.1 in omega (arith, late)
       ]
+  call_told _ _ _ _ _ at_e _ = absurd at_e
 
   -- the chosen dequeue of a value that was not there
   pub fresh_told : (found : FreshPlaces) → AreChosenFresh all found
@@ -134,21 +126,18 @@ module _ (initial : List ℕ) (operations : List Operation) where
   places_told : (places : List ℕ) (listed : List Operation) → ArePlacesOf all places (map (later_by (2 * length initial)) listed)
       → ArePlacesOf operations (map (told_place k) places) listed
   places_told [] [] at = refl
-  places_told [] (o ∷ listed) at = absurd (cc)
-  places_told (p ∷ places) [] at = absurd (cc)
   places_told (p ∷ places) (o ∷ listed) at =
       let first : slice_get all p ≡ Some (later_by (2 * length initial) o) = cc in
       let later : map (slice_get all) places ≡ map (λ o. Some o) (map (later_by (2 * length initial)) listed) = cc in
-      ap₂ (λ (x : Option Operation) (xs : List (Option Operation)). x ∷ xs) (one_told p o first) (places_told places listed later)
-    where
-      one_told : (p : ℕ) (o : Operation) → slice_get all p ≡ Some (later_by (2 * length initial) o) → slice_get operations (p - k) ≡ Some o
-      one_told p o at' = elim (timeline_at initial operations p (later_by (2 * length initial) o) at') [
+      let here : slice_get operations (p - k) ≡ Some o = elim (timeline_at initial operations p (later_by (2 * length initial) o) first) [
         | inl early ↦
             let call : 2 * p ≡ o.call + 2 * length initial = ap (λ (x : Operation). x.call) early.is in
             let within = early.within in
             absurd (omega arith)
         | inr late ↦ late.stands ∙ ap (λ x. Some x) (one_later (2 * length initial) late.operation o late.is)
-      ]
+      ] in
+      ap₂ (λ (x : Option Operation) (xs : List (Option Operation)). x ∷ xs) here (places_told places listed later)
+  places_told _ _ at = absurd (cc)
 
   -- an operation that no enqueue is, by a test, is one of the history, later
   filter_timeline : (test : Operation → Bool) → ((o : Operation) (v : ℕ) → o.kind ≡ Enq v → test o ≡ false)
@@ -165,13 +154,10 @@ module _ (initial : List ℕ) (operations : List Operation) where
 
       later_passes : (os : List Operation) → filter test (map (later_by (2 * length initial)) os) ≡ map (later_by (2 * length initial)) (filter test os)
       later_passes [] = refl
-      later_passes (o ∷ os) = by_test (test o) refl (later_passes os)
-        where
-          by_test : (b : Bool) → test o ≡ b
-              → filter test (map (later_by (2 * length initial)) os) ≡ map (later_by (2 * length initial)) (filter test os)
-              → filter test (map (later_by (2 * length initial)) (o ∷ os)) ≡ map (later_by (2 * length initial)) (filter test (o ∷ os))
-          by_test true is rest = rw (same o, is) (ap (λ xs. later_by (2 * length initial) o ∷ xs) rest)
-          by_test false is rest = rw (same o, is) rest
+      later_passes (o ∷ os) = elim (cases_Bool (test o)) [
+        | inl is ↦ rw (same o, is) (ap (λ xs. later_by (2 * length initial) o ∷ xs) (later_passes os))
+        | inr is ↦ rw (same o, is) (later_passes os)
+      ]
 
   -- the places of the empty answers and of the refused enqueues
   pub empties_told : (places : List ℕ) → HoldsPlaces all is_empty_answer places
@@ -189,18 +175,11 @@ module _ (initial : List ℕ) (operations : List Operation) where
   places_back : (places : List ℕ) (listed : List Operation) → ArePlacesOf all places listed
       → ArePlacesOf operations (filter_map (place_behind k) places) (filter_map (earlier (2 * length initial)) listed)
   places_back [] [] at = refl
-  places_back [] (o ∷ listed) at = absurd (cc)
-  places_back (p ∷ places) [] at = absurd (cc)
   places_back (p ∷ places) (o ∷ listed) at =
       let first : slice_get all p ≡ Some o = cc in
       let later : map (slice_get all) places ≡ map (λ o. Some o) listed = cc in
-      one_more p o first (places_back places listed later)
-    where
-      one_more : (p : ℕ) (o : Operation) → slice_get all p ≡ Some o
-          → ArePlacesOf operations (filter_map (place_behind k) places) (filter_map (earlier (2 * length initial)) listed)
-          → ArePlacesOf operations (cons_option (place_behind k p) (filter_map (place_behind k) places))
-          (cons_option (earlier (2 * length initial) o) (filter_map (earlier (2 * length initial)) listed))
-      one_more p o at' rest = elim (timeline_at initial operations p o at') [
+      let rest = places_back places listed later in
+      elim (timeline_at initial operations p o first) [
         | inl early ↦
             let call : 2 * p ≡ o.call = ap (λ (x : Operation). x.call) early.is in
             let within = early.within in
@@ -209,6 +188,7 @@ module _ (initial : List ℕ) (operations : List Operation) where
             let was : earlier (2 * k) o ≡ Some late.operation = ap (earlier (2 * k)) (sym late.is) ∙ earlier_later (2 * k) late.operation in
             rw (le-ltb p k late.behind, was) (ap₂ (λ (x : Option Operation) (xs : List (Option Operation)). x ∷ xs) late.stands rest)
       ]
+  places_back _ _ at = absurd (cc)
 
   -- the order of a `YES`, after the enqueues of the initial values
   pub order_back : (places : List ℕ) (listed : List Operation) → ArePlacesOf all places (timeline initial listed)
@@ -218,11 +198,7 @@ module _ (initial : List ℕ) (operations : List Operation) where
 
 -- ---- with no initial values it is so as it stands
 
--- a place stays as it is
-pub place_with_none : (p : ℕ) → told_place 0 p ≡ p
-place_with_none p = omega arith
-
 -- an order stays as it is
 pub order_with_none : (places : List ℕ) → filter_map (place_behind 0) places ≡ places
 order_with_none [] = refl
-order_with_none (p ∷ places) = rw (le-ltb p 0 (omega arith)) (ap₂ (λ (q : ℕ) (ps : List ℕ). q ∷ ps) (place_with_none p) (order_with_none places))
+order_with_none (p ∷ places) = rw (le-ltb p 0 (omega arith)) (ap₂ (λ (q : ℕ) (ps : List ℕ). q ∷ ps) (omega arith) (order_with_none places))

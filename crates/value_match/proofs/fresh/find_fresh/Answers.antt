@@ -20,7 +20,7 @@ loop-place-preserved c = first_more_at _ _ _ nowhere _ _ _ c.loop-place-test.tru
 pub returns-in_err-deq : goal.returns-in_err-deq
 returns-in_err-deq c =
     let none = none_fresh _ _ c.loop-place-test.false
-    (subst (IsFirstFresh c.args.operations.now c.args.sources.now c.loop-place.place) c.in_err-deq.was c.loop-place.invariant) in
+    (subst (IsFirstFresh _ _ _) c.in_err-deq.was c.loop-place.invariant) in
     rw c.from_residual.ensures none
 
 pub fresh_at-requires-clause-place : goal.fresh_at-requires-clause-place

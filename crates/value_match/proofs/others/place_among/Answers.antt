@@ -1,6 +1,5 @@
 use Rattle.value_match.proofs.Common.{◌∙◌, ap, arith, Call, get_or_read, is_some, IsPartitionedBy-ltb}
-use Rattle.value_match.proofs.Common.{IsPartitionPoint-from_clause, ltb, ltb-false, none_by_key, rules, sym}
-use Rattle.std.proofs.Common.{length}
+use Rattle.value_match.proofs.Common.{IsPartitionPoint-from_clause, length, ltb, ltb-false, none_by_key, rules, sym}
 use Rattle.value_match.proofs.others.place_among.Goals as goal
 
 pub returns-in_default : goal.returns-in_default

@@ -4,6 +4,5 @@ use Rattle.value_match.proofs.presorting.presort.Goals as goal
 
 pub returns : goal.returns
 returns g c =
-    moved_in_place c.args.elements.now.items c.as_mut_slice.result.now c.presort_slice.new.elements c.args.elements.now.len
-    c.as_mut_slice.ensures.value (omega (arith, c.args.elements.now.ok.0))
-    (length_permutation _ _ c.presort_slice.ensures) c.presort_slice.ensures
+    moved_in_place _ _ _ _ c.as_mut_slice.ensures.value (omega (arith, c.args.elements.now.ok.0)) (length_permutation _ _ c.presort_slice.ensures)
+    c.presort_slice.ensures

@@ -1,4 +1,4 @@
-use Rattle.std.specs.Prelude.{IsPermutation}
+use Rattle.value_match.proofs.Common.{IsPermutation}
 use Rattle.value_match.proofs.presorting.presort_slice.Given as goal
 
 abbrev pub invariant-loop-place : goal.invariant-loop-place

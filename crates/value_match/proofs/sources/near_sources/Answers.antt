@@ -1,10 +1,9 @@
-use Rattle.value_match.proofs.Common.{[], ◌-◌, ◌∙◌, ◌≡◌, ap, AreFoundTo, AreInTimeTo, arith, false≢true, first_of}
-use Rattle.value_match.proofs.Common.{IsNearSource, IsSourceOf, length-replicate, None, not, refl, slice_get_read}
-use Rattle.value_match.proofs.Common.{Some, subst, sym, take-nil, true, with_items_is}
-use Rattle.std.proofs.Common.{◌<◌, length}
-use Rattle.value_match.proofs.CallPlaces.{call_within, found_next, found_on, is_wanted, near_all, near_none, near_push, no_near_source, no_source, none_found_yet, wants_more}
-use Rattle.value_match.proofs.FreshDequeues.{in_time_more, late_from, no_dequeue, none_fresh_yet, in_time_at}
-use Rattle.value_match.proofs.TakenSources.{no_takers, takes_nothing, takes_unnoted}
+use Rattle.value_match.proofs.Common.{[], ◌-◌, ◌<◌, ◌∙◌, ◌≡◌, ap, AreFoundTo, AreInTimeTo, arith, false, false≢true}
+use Rattle.value_match.proofs.Common.{first_of, IsNearSource, IsSourceOf, length, length-replicate, None, not, refl}
+use Rattle.value_match.proofs.Common.{slice_get_read, Some, subst, sym, take-nil, true, with_items_is}
+use Rattle.value_match.proofs.CallPlaces.{call_within, first_of_none, found_next, is_wanted, near_all, near_push, no_near_source, no_source, wants_more}
+use Rattle.value_match.proofs.FreshDequeues.{in_time_more, late_from, no_dequeue, in_time_at}
+use Rattle.value_match.proofs.RepeatedDequeues.{no_takers, takes_nothing, takes_unnoted}
 use Rattle.value_match.proofs.sources.near_sources.Goals as goal
 use Rattle.value_match.proofs.sources.near_sources.Goals.{In-Some}
 
@@ -34,10 +33,10 @@ loop-operation-init c =
       all,
       c.none.ensures,
     ) (record {
-      near = near_none _ c.args.operations.now;
+      near = record { one_each = refl; each = λ i o below at. absurd (omega (arith, below)) };
       one_each = length-replicate (length c.args.operations.now) None;
-      late = none_fresh_yet c.args.operations.now;
-      found = none_found_yet c.args.operations.now [];
+      late = λ k o below at enq violates. absurd (omega (arith, below));
+      found = λ i o below at. absurd (omega (arith, below));
       noted = no_takers (length c.args.operations.now) [];
     })
 
@@ -49,7 +48,8 @@ loop-operation-preserved-in_default c =
       near = near_push _ _ _ _ _ _ here (no_near_source _ _ _ c.in_default.not-Deq) known.near;
       one_each = known.one_each;
       late = in_time_at _ _ _ (no_dequeue _ _ _ here c.in_default.not-Deq) known.late;
-      found = found_on _ _ _ _ _ _ _ known.near.one_each here (no_source _ _ c.in_default.not-Deq) known.noted known.found;
+      found = subst (AreFoundTo _ _ _) (first_of_none c.loop-operation.unnoted c.loop-operation.operation-index)
+          (found_next _ _ _ _ _ _ _ false known.near.one_each here (λ _. no_source _ _ c.in_default.not-Deq) known.noted known.found);
       noted = takes_nothing _ _ _ known.noted;
     })
 

@@ -1,5 +1,4 @@
-use Rattle.value_match.proofs.Common.{◌≡◌, AreFoundTo, AreInTimeTo, AreTakersTo}
-use Rattle.std.proofs.Common.{length}
+use Rattle.value_match.proofs.Common.{◌≡◌, AreFoundTo, AreInTimeTo, AreTakersTo, length}
 use Rattle.value_match.proofs.CallPlaces.{HasNear}
 use Rattle.value_match.proofs.sources.near_sources.Given as goal
 

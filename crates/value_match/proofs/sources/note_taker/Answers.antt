@@ -1,7 +1,7 @@
 use Rattle.value_match.proofs.Common.{[], ◌++◌, ◌∙◌, ◌∷◌, ◌≡◌, ap, AreTakersTo, false, false≢true, first_of}
 use Rattle.value_match.proofs.Common.{get_or_read, is_some, List, None, Option, Some, subst, sym, true, ℕ}
 use Rattle.value_match.proofs.CallPlaces.{first_of_none}
-use Rattle.value_match.proofs.TakenSources.{kept_to, none_if, not_noted, takes_first}
+use Rattle.value_match.proofs.RepeatedDequeues.{kept_to, none_if, not_noted, takes_first}
 use Rattle.value_match.proofs.sources.note_taker.Goals as goal
 
 kept_if : (unnoted : Option ℕ) (sources takers : List (Option ℕ)) (source : Option ℕ) → is_some unnoted ≡ true → AreTakersTo unnoted sources takers

@@ -1,8 +1,8 @@
-use Rattle.value_match.proofs.Common.{◌∙◌, ◌≡◌, ◌≤◌, ap, AreInTimeTo, AreTakersTo, arith, get_or, HasTakersTo, List}
-use Rattle.value_match.proofs.Common.{None, NoneFresh, Operation, Option, Some, unwrap_or, with_items_is, ℕ}
-use Rattle.std.proofs.Common.{length}
+use Rattle.value_match.proofs.Common.{◌∙◌, ◌≡◌, ◌≤◌, ap, AreInTimeTo, AreTakersTo, arith, get_or, HasTakersTo}
+use Rattle.value_match.proofs.Common.{length, List, None, NoneFresh, Operation, Option, Some, unwrap_or}
+use Rattle.value_match.proofs.Common.{with_items_is, ℕ}
 use Rattle.value_match.proofs.CallPlaces.{none_wanted}
-use Rattle.value_match.proofs.TakenSources.{takers_kept}
+use Rattle.value_match.proofs.RepeatedDequeues.{takers_kept}
 use Rattle.value_match.proofs.sources.sources_of.Goals as goal
 use Rattle.value_match.proofs.sources.sources_of.Goals.{then-not-is_empty+in_ok-others, else-not-is_empty}
 

@@ -1,7 +1,6 @@
-use Rattle.value_match.proofs.Common.{◌+◌, ◌≡◌, ◌≤◌, ap, arith, false, Front, get_or, get_or_default}
-use Rattle.value_match.proofs.Common.{IsPartitionedBy-ltb, IsPartitionPoint, IsPartitionPoint-from_clause, ltb, rules}
-use Rattle.value_match.proofs.Common.{subst, sym, true}
-use Rattle.std.proofs.Common.{◌<◌, length}
+use Rattle.value_match.proofs.Common.{◌+◌, ◌<◌, ◌≡◌, ◌≤◌, ap, arith, false, Front, get_or, get_or_default}
+use Rattle.value_match.proofs.Common.{IsPartitionedBy-ltb, IsPartitionPoint, IsPartitionPoint-from_clause, length}
+use Rattle.value_match.proofs.Common.{ltb, rules, subst, sym, true}
 use Rattle.value_match.proofs.Fronts.{nowhere, point_between}
 use Rattle.value_match.proofs.table.count_before.Goals as goal
 use Rattle.value_match.proofs.table.count_before.Goals.{then-loop-before-test+else-fronts-before, else-loop-before-test}

@@ -1,12 +1,8 @@
-use Rattle.value_match.proofs.Common.{[], ◌∙◌, ◌∷◌, ap, arith, Enq, get_or_read, IsDequeuePlace, map-append, None}
-use Rattle.value_match.proofs.Common.{Operation, refl, slice_get_read, Some, subst, sym, value_at}
-use Rattle.value_match.proofs.SortedOut.{pair_enqueue, pair_dequeue, sorted_enqueue, sorted_empty, sorted_refused, sorted_dequeue}
+use Rattle.value_match.proofs.Common.{[], ◌∙◌, ◌∷◌, ap, arith, get_or_read, IsDequeuePlace, map-append, None, refl}
+use Rattle.value_match.proofs.Common.{slice_get_read, Some, subst, sym, value_at}
+use Rattle.value_match.proofs.SortedOut.{pair_enqueue, pair_dequeue, sorted_enqueue, sorted_other}
 use Rattle.value_match.proofs.values.sorted_out.Goals as goal
 use Rattle.value_match.proofs.values.sorted_out.Goals.{in-Enq+in_ok-push-in-Enq, in-Empty+in_ok-push-in-Empty, in-Not+in_ok-push-in-Not, in-Deq}
-
--- where there is no operation
-abbrev nowhere : Operation
-nowhere = record { call = 0; ret = 0; thread = 0; kind = Enq 0 }
 
 pub loop-place-preserved : goal.loop-place-preserved
 loop-place-preserved c =
@@ -30,9 +26,9 @@ loop-place-preserved c =
           (pair_enqueue c.args.operations.now _ _ w.pair_of.result made.0 here) (pair_dequeue c.args.operations.now _ _ w.pair_of.result made.1 from) made
           c.requires.clear from)
       | in-Empty+in_ok-push-in-Empty w ↦
-          rw (w.values-is, w.empties-is, w.refused-is, w.in_ok-push-in-Empty.ensures.items, w.new.ensures) (sorted_empty _ _ _ _ _ _ here known w.in-Empty.is)
+          rw (w.values-is, w.empties-is, w.refused-is, w.in_ok-push-in-Empty.ensures.items, w.new.ensures) (rw w.in-Empty.is at (sorted_other _ _ _ _ _ _ here known (rw w.in-Empty.is refl)))
       | in-Not+in_ok-push-in-Not w ↦
           rw (w.values-is, w.empties-is, w.refused-is, w.in_ok-push-in-Not.ensures.items, w.new-in-Not.ensures)
-          (sorted_refused _ _ _ _ _ _ here known _ w.in-Not.is)
-      | in-Deq w ↦ rw (w.values-is, w.empties-is, w.refused-is) (sorted_dequeue _ _ _ _ _ _ here known _ w.in-Deq.is)
+          (rw w.in-Not.is at (sorted_other _ _ _ _ _ _ here known (rw w.in-Not.is refl)))
+      | in-Deq w ↦ rw (w.values-is, w.empties-is, w.refused-is) (rw w.in-Deq.is at (sorted_other _ _ _ _ _ _ here known (rw w.in-Deq.is refl)))
     ]

@@ -1,5 +1,4 @@
-use Rattle.value_match.proofs.Common.{value_at}
-use Rattle.std.specs.Prelude.{map}
+use Rattle.value_match.proofs.Common.{map, value_at}
 use Rattle.value_match.proofs.SortedOut.{IsSortedOut}
 use Rattle.value_match.proofs.values.sorted_out.Given as goal
 
