@@ -13,7 +13,7 @@ pub use Rattle.event_records.specs.declared.limits.TheConstants.{LEAST_INITIAL_N
 pub use Rattle.event_records.specs.declared.limits.TheConstants.{MAX_STRESS_INITIAL, MAX_THREADS}
 pub use Rattle.text_lines.specs.Input.{Ahead, Ending, EndOfInput, Failure, IsOver, Takes}
 pub use Rattle.text_lines.specs.declared.fault.TextFault.{TextFault}
-pub use Rattle.text_lines.specs.declared.fault.TextFault.TheVariants.{Count, Cut, Header, Line, Number, Read, Trailing}
+pub use Rattle.text_lines.specs.declared.fault.TextFault.TheVariants.{Read, Trailing}
 pub use Rattle.text_lines.proofs.Consuming.{Takes-append}
 pub use Rattle.text_lines.proofs.MemoryOrNot.{follows, is_memory, known_fault}
 pub use Rattle.text_lines.proofs.Putting.{asked_if_err, asked_if_ok, bytes_if_err, bytes_if_ok, longer_front}
@@ -39,7 +39,7 @@ pub use Rattle.verdicts.specs.Claiming.{claim_of, operations_at}
 pub use Rattle.verdicts.specs.Claims.{IsTrueClaim}
 pub use Rattle.verdicts.specs.Decided.{IsDecided}
 pub use Rattle.verdicts.specs.Selection.{ArePartOf, KeepsViolation, StaysChosen}
-pub use Rattle.verdicts.specs.Verdicts.{IsEvidence, IsExact, IsVerdict}
+pub use Rattle.verdicts.specs.Verdicts.{IsExact}
 pub use Rattle.verdicts.specs.declared.verdict.Verdict.{Verdict}
 pub use Rattle.verdicts.specs.declared.verifying.Claimed.{Claimed}
 pub use Rattle.verdicts.proofs.ShrunkEvents.{no_longer}
@@ -58,10 +58,10 @@ pub use Rattle.commands.specs.Inputs.{IsFaultAfter, IsFaultOfClaimInput, IsFault
 pub use Rattle.commands.specs.Inputs.{IsFaultOfOneText, IsFaultOfScheduleInput, IsHistoryOf, IsScheduleOf, with_claim}
 pub use Rattle.commands.specs.Judging.{AnswersFor, AnswersOrNoMemory, Converts, Counts, Draws, DrawsAlone, DrawsClaim}
 pub use Rattle.commands.specs.Judging.{from_none, HasFewValues, in_version_2, IsDrawn, IsDrawnDecided, IsFaulty}
-pub use Rattle.commands.specs.Judging.{IsJudged, IsOfFault, IsRefuted, IsShrunk, IsSmall, IsSound, IsTooLarge}
+pub use Rattle.commands.specs.Judging.{IsJudged, IsRefuted, IsShrunk, IsSmall, IsSound, IsTooLarge}
 pub use Rattle.commands.specs.Judging.{IsVerdictClaim, Judges, JudgesHistory, said_by, Shrinks, Simulates, SimulatesIn}
 pub use Rattle.commands.specs.Judging.{Verifies}
-pub use Rattle.commands.specs.OneAnswer.{HasOneAnswer, SameOrNoMemory}
+pub use Rattle.commands.specs.OneAnswer.{SameOrNoMemory}
 pub use Rattle.commands.specs.Outcomes.{answer_of, answer_of_fault, NamesPlaces}
 pub use Rattle.commands.specs.Running.{AnswersOf, PrintsAnswer, PrintsOneOf, PrintsSaid, SaysMessage}
 pub use Rattle.commands.specs.declared.outcome.Fault.{Fault}

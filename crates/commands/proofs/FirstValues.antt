@@ -1,9 +1,9 @@
 -- The values that a queue is given before a run are names of initial values.
 use Rattle.commands.proofs.Common.{[], ◌==◌, ◌∙◌, ◌≡◌, ◌≢◌, ◌≤◌, All, AllPairs, ap, arith, Bool, false, if◌then◌else◌}
-use Rattle.commands.proofs.Common.{inl, inr, length, List, refl, subst, sym, true, ℕ, AnswersOrNoMemory, claim_of}
-use Rattle.commands.proofs.Common.{Event, HistoryView, IsCompleteFrom, IsDecided, IsMerged, IsVerdictClaim}
-use Rattle.commands.proofs.Common.{IsWithinRanges, LEAST_INITIAL_NAME, MAX_STRESS_INITIAL, One, operations_of, Reply}
-use Rattle.commands.proofs.Common.{run_fault, said_in, Settings, shown, Two, Verdict, Version}
+use Rattle.commands.proofs.Common.{inl, inr, length, List, refl, subst, sym, true, ℕ, Event, LEAST_INITIAL_NAME}
+use Rattle.commands.proofs.Common.{MAX_STRESS_INITIAL, said_in, Version, One, Two, HistoryView, IsCompleteFrom}
+use Rattle.commands.proofs.Common.{IsMerged, operations_of, claim_of, IsDecided, Verdict, IsWithinRanges, Settings}
+use Rattle.commands.proofs.Common.{Reply, run_fault, shown, AnswersOrNoMemory, IsVerdictClaim}
 use Rattle.std.specs.List.{range_with_len}
 use Rattle.std.proofs.lemmas.List.FromFn.{get_or-range_with_len, length-range_with_len}
 use Rattle.event_records.specs.declared.kind.Kind.{Kind}
@@ -80,7 +80,7 @@ judged_run count lists history verdict version merged complete same decided is_v
       complete = subst (λ initial. IsCompleteFrom initial history.events) same complete;
       claimed = claim;
       right = subst (λ h. IsVerdictClaim h claim) (same_history count history same)
-          (decided_claim history verdict decided.chosen decided.evidence decided.exact);
+          (decided_claim history verdict claim decided refl);
       is = λ i. shown (said_in (is_version i) (same_history count history same i)) claim;
     })
 

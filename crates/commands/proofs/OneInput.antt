@@ -1,15 +1,40 @@
 -- An input says one thing, or has one fault.
-use Rattle.commands.proofs.Common.{[], ◌++◌, ◌∙◌, ◌∷◌, ◌≡◌, ◌≢◌, ◌⊎◌, ap, append-nil, inl, inr, List, subst, sym, ℕ}
-use Rattle.commands.proofs.Common.{AfterHistory, Ahead, alone, Claimed, ClaimOnText, Drawable, Ending, EndOfInput}
-use Rattle.commands.proofs.Common.{Failure, HasText, HistoryText, IsClaimOf, IsDrawableOf, IsFaultAfter}
-use Rattle.commands.proofs.Common.{IsFaultOfClaimInput, IsFaultOfDrawableInput, IsFaultOfOneText, IsHistoryOf}
-use Rattle.commands.proofs.Common.{IsTextFault, IsVerdictTextFault, known_fault, line_count, NoRoomForText}
-use Rattle.commands.proofs.Common.{NoRoomForVerdict, text_of, TextFault, verdict_text, with_claim}
+use Rattle.commands.proofs.Common.{[], ◌++◌, ◌∙◌, ◌∷◌, ◌≡◌, ◌≢◌, ◌⊎◌, ap, append-nil, inl, inr, List, refl, subst}
+use Rattle.commands.proofs.Common.{sym, ℕ, Ahead, Ending, EndOfInput, Failure, TextFault, is_memory, known_fault}
+use Rattle.commands.proofs.Common.{HasVerdictText, IsVerdictTextFault, NoRoomForVerdict, HasScheduleText}
+use Rattle.commands.proofs.Common.{IsScheduleTextFault, NoRoomForSchedule, schedule_text, verdict_text, HasText}
+use Rattle.commands.proofs.Common.{HistoryText, IsTextFault, line_count, NoRoomForText, text_of, Claimed}
+use Rattle.commands.proofs.Common.{answer_of_text_fault, memory_fault, Reply, input_of, AfterHistory, alone}
+use Rattle.commands.proofs.Common.{ClaimOnText, Drawable, IsClaimOf, IsDrawableOf, IsFaultAfter, IsFaultOfClaimInput}
+use Rattle.commands.proofs.Common.{IsFaultOfDrawableInput, IsFaultOfHistoryInput, IsFaultOfOneText}
+use Rattle.commands.proofs.Common.{IsFaultOfScheduleInput, IsHistoryOf, IsScheduleOf, with_claim, AnswersFor}
+use Rattle.commands.proofs.Common.{AnswersOrNoMemory, SameOrNoMemory}
+use Rattle.text_lines.specs.Faults.{MemoryOr}
 use Rattle.text_lines.specs.declared.fault.TextFault.TheVariants as text
 use Rattle.verdicts.specs.declared.verifying.Claimed.TheVariants.{Yes, No}
 use Rattle.history_text.proofs.OneHistory as histories
+use Rattle.history_text.proofs.OneSchedule as schedules
 use Rattle.history_text.proofs.OneVerdict as verdict_texts
-use Rattle.commands.specs.Inputs.{IsWhole}
+use Rattle.commands.specs.Inputs.{IsWhole, GoesOnAfter}
+
+-- an input says one value, or it has one fault; out of memory aside, not both
+pub record SaysOneThing {A : Type 0} (IsInputOf : Ahead → A → Type 0) (IsFaultOf : Ahead → TextFault → Type 0) : Type 0 where
+  pub one_value : (input : Ahead) (x y : A) → IsInputOf input x → IsInputOf input y → x ≡ y
+  pub only_memory : (input : Ahead) (x : A) (fault : TextFault) → IsInputOf input x → fault ≢ text.Memory → IsFaultOf input fault → ⊥
+  pub one_fault : (input : Ahead) (f g : TextFault) → f ≢ text.Memory → g ≢ text.Memory → IsFaultOf input f → IsFaultOf input g → f ≡ g
+
+-- so it is where out of memory is told apart from the other faults
+memory_aside : {A : Type 0} (IsInputOf : Ahead → A → Type 0) (IsFault : Ahead → TextFault → Type 0) (Lacks : Ahead → Type 0)
+    → ((input : Ahead) (x y : A) → IsInputOf input x → IsInputOf input y → x ≡ y)
+    → ((input : Ahead) (x : A) (fault : TextFault) → IsInputOf input x → IsFault input fault → ⊥)
+    → ((input : Ahead) (f g : TextFault) → IsFault input f → IsFault input g → f ≡ g)
+    → SaysOneThing IsInputOf (λ input. MemoryOr (Lacks input) (IsFault input))
+memory_aside IsInputOf IsFault Lacks one_value no_fault one_fault = record {
+  one_value = one_value;
+  only_memory = λ input x fault is known faulty. no_fault input x fault is (known_fault (Lacks input) (IsFault input) fault known faulty);
+  one_fault = λ input f g known_f known_g is_f is_g. one_fault input f g (known_fault (Lacks input) (IsFault input) f known_f is_f)
+      (known_fault (Lacks input) (IsFault input) g known_g is_g);
+}
 
 -- ---- one text
 
@@ -21,75 +46,63 @@ module _ {A : Type 0} (Has : A → Type 0) (said : A → List ℕ) (IsFirst : En
   abbrev IsFault : Ahead → TextFault → Type 0
   IsFault input fault = IsFirst input.ending input.bytes fault ⊎ ((value : A) × Has value × IsFaultAfter (said value) input fault)
 
-  is_fault : (input : Ahead) (fault : TextFault) → fault ≢ text.Memory → IsFaultOfOneText Has said IsFirst LacksRoom input fault
-      → IsFault input fault
-  is_fault input fault known is = known_fault (LacksRoom input.bytes) (IsFault input) fault known is
+  one_value : (input : Ahead) (x y : A) → Has x × IsWhole (said x) input → Has y × IsWhole (said y) input → x ≡ y
+  one_value input x y is_x is_y = (agree x y [] [] is_x.0 is_y.0 (ap (λ bytes. bytes ++ []) (sym is_x.1.bytes ∙ is_y.1.bytes))).0
 
-  whole_again : (x : A) (input : Ahead) → IsWhole (said x) input → input.bytes ≡ said x ++ []
-  whole_again x input whole = whole.bytes ∙ sym (append-nil (said x))
+  -- a text that is all there is doesn't go on
+  no_more : (input : Ahead) (x y : A) → Has x → Has y → input.bytes ≡ said x → GoesOnAfter (said y) input → ⊥
+  no_more input x y has_x has_y whole more =
+      let parts = agree x y [] (more.byte ∷ more.more) has_x has_y (append-nil (said x) ∙ sym whole ∙ more.bytes) in
+      let none = parts.1 in cc
 
-  -- where a fault comes after a text, that stands at the front
-  stands_before : (x : A) (input : Ahead) (fault : TextFault) → IsFaultAfter (said x) input fault → (rest : List ℕ) × (input.bytes ≡ said x ++ rest)
-  stands_before x input fault (inl (same, more)) = (more.byte ∷ more.more, more.bytes)
-  stands_before x input fault (inr (same, fails)) = ([], fails.bytes ∙ sym (append-nil (said x)))
-
-  -- an input is the whole text of one value
-  pub one_value : (input : Ahead) (x y : A) → Has x × IsWhole (said x) input → Has y × IsWhole (said y) input → x ≡ y
-  one_value input x y is_x is_y = (agree x y [] [] is_x.0 is_y.0 (sym (whole_again x input is_x.1) ∙ whole_again y input is_y.1)).0
+  -- a text that stands at the front has no fault
+  no_first : (input : Ahead) (x : A) (rest : List ℕ) (fault : TextFault) → Has x → input.bytes ≡ said x ++ rest
+      → IsFirst input.ending input.bytes fault → ⊥
+  no_first input x rest fault has front first =
+      no_fault input.ending x rest fault has (subst (λ bytes. IsFirst input.ending bytes fault) front first)
 
   -- a text and nothing more has no fault
   no_fault_of_whole : (input : Ahead) (x : A) (fault : TextFault) → Has x × IsWhole (said x) input → IsFault input fault → ⊥
-  no_fault_of_whole input x fault is (inl first) = no_fault input.ending x [] fault is.0
-      (subst (λ bytes. IsFirst input.ending bytes fault) (whole_again x input is.1) first)
-  no_fault_of_whole input x fault is (inr (y, has, inl (same, more))) =
-      let parts = agree x y [] (more.byte ∷ more.more) is.0 has (sym (whole_again x input is.1) ∙ more.bytes) in
-      let none = parts.1 in cc
+  no_fault_of_whole input x fault is (inl first) = no_first input x [] fault is.0 (is.1.bytes ∙ sym (append-nil (said x))) first
+  no_fault_of_whole input x fault is (inr (y, has, inl (same, more))) = no_more input x y is.0 has is.1.bytes more
   no_fault_of_whole input x fault is (inr (y, has, inr (same, fails))) = let ending : EndOfInput ≡ Failure = sym is.1.ending ∙ fails.ending in cc
 
-  no_text_fault_after : (input : Ahead) (y : A) (f g : TextFault) → IsFirst input.ending input.bytes f → Has y → IsFaultAfter (said y) input g → ⊥
-  no_text_fault_after input y f g first has after =
-      let front = stands_before y input g after in
-      no_fault input.ending y front.0 f has (subst (λ bytes. IsFirst input.ending bytes f) front.1 first)
-
-  one_after : (input : Ahead) (x y : A) (f g : TextFault) → Has x → Has y → IsFaultAfter (said x) input f → IsFaultAfter (said y) input g → f ≡ g
-  one_after input x y f g has_x has_y (inl (is_f, more)) (inl (is_g, other)) = is_f ∙ sym is_g
-  one_after input x y f g has_x has_y (inr (is_f, fails)) (inr (is_g, other)) = is_f ∙ sym is_g
-  one_after input x y f g has_x has_y (inl (is_f, more)) (inr (is_g, fails)) =
-      let parts = agree x y (more.byte ∷ more.more) [] has_x has_y (sym more.bytes ∙ fails.bytes ∙ sym (append-nil (said y))) in
-      let none = parts.1 in cc
-  one_after input x y f g has_x has_y (inr (is_f, fails)) (inl (is_g, more)) =
-      let parts = agree x y [] (more.byte ∷ more.more) has_x has_y (append-nil (said x) ∙ sym fails.bytes ∙ more.bytes) in
-      let none = parts.1 in cc
+  no_first_before : (input : Ahead) (x : A) (f g : TextFault) → IsFirst input.ending input.bytes f → Has x → IsFaultAfter (said x) input g → ⊥
+  no_first_before input x f g first has (inl (same, more)) = no_first input x (more.byte ∷ more.more) f has more.bytes first
+  no_first_before input x f g first has (inr (same, fails)) = no_first input x [] f has (fails.bytes ∙ sym (append-nil (said x))) first
 
   one_fault_of : (input : Ahead) (f g : TextFault) → IsFault input f → IsFault input g → f ≡ g
   one_fault_of input f g (inl first) (inl other) = one_fault input.ending input.bytes f g first other
-  one_fault_of input f g (inl first) (inr (y, has, after)) = absurd (no_text_fault_after input y f g first has after)
-  one_fault_of input f g (inr (x, has, after)) (inl other) = absurd (no_text_fault_after input x g f other has after)
-  one_fault_of input f g (inr (x, has_x, after_x)) (inr (y, has_y, after_y)) = one_after input x y f g has_x has_y after_x after_y
+  one_fault_of input f g (inl first) (inr (y, has, after)) = absurd (no_first_before input y f g first has after)
+  one_fault_of input f g (inr (x, has, after)) (inl other) = absurd (no_first_before input x g f other has after)
+  one_fault_of input f g (inr (x, has_x, inl (is_f, more))) (inr (y, has_y, inl (is_g, other))) = is_f ∙ sym is_g
+  one_fault_of input f g (inr (x, has_x, inr (is_f, fails))) (inr (y, has_y, inr (is_g, other))) = is_f ∙ sym is_g
+  one_fault_of input f g (inr (x, has_x, inl (is_f, more))) (inr (y, has_y, inr (is_g, fails))) = absurd (no_more input y x has_y has_x fails.bytes more)
+  one_fault_of input f g (inr (x, has_x, inr (is_f, fails))) (inr (y, has_y, inl (is_g, more))) = absurd (no_more input x y has_x has_y fails.bytes more)
 
-  -- a text and nothing more has no fault but out of memory
-  pub only_memory : (input : Ahead) (x : A) (fault : TextFault) → Has x × IsWhole (said x) input → fault ≢ text.Memory
-      → IsFaultOfOneText Has said IsFirst LacksRoom input fault → ⊥
-  only_memory input x fault is known faulty = no_fault_of_whole input x fault is (is_fault input fault known faulty)
+  text_says_one_thing : SaysOneThing (λ input x. Has x × IsWhole (said x) input) (IsFaultOfOneText Has said IsFirst LacksRoom)
+  text_says_one_thing = memory_aside (λ input x. Has x × IsWhole (said x) input) IsFault (λ input. LacksRoom input.bytes) one_value no_fault_of_whole one_fault_of
 
-  -- an input has one fault beside out of memory
-  pub one_known_fault : (input : Ahead) (f g : TextFault) → f ≢ text.Memory → g ≢ text.Memory
-      → IsFaultOfOneText Has said IsFirst LacksRoom input f → IsFaultOfOneText Has said IsFirst LacksRoom input g → f ≡ g
-  one_known_fault input f g known_f known_g is_f is_g = one_fault_of input f g (is_fault input f known_f is_f) (is_fault input g known_g is_g)
+-- an input is one history, or has one fault
+pub one_history : SaysOneThing IsHistoryOf IsFaultOfHistoryInput
+one_history = text_says_one_thing HasText text_of (IsTextFault 0) NoRoomForText histories.texts_agree (histories.text_has_no_fault 0)
+    (histories.one_first_fault 0)
+
+-- an input is one schedule, or has one fault
+pub one_schedule : SaysOneThing IsScheduleOf IsFaultOfScheduleInput
+one_schedule = text_says_one_thing HasScheduleText schedule_text (IsScheduleTextFault 0) NoRoomForSchedule schedules.texts_agree
+    (schedules.text_has_no_fault 0) (schedules.one_first_fault 0)
 
 -- ---- a history, and a verdict on it
 
-abbrev IsClaimFault : Ahead → TextFault → Type 0
+-- the fault of a claim's input, out of memory aside
+abbrev pub IsClaimFault : Ahead → TextFault → Type 0
 IsClaimFault input fault = IsTextFault 0 input.ending input.bytes fault
     ⊎ AfterHistory (λ lines rest. IsVerdictTextFault lines input.ending rest fault) input.bytes
 
-is_claim_fault : (input : Ahead) (fault : TextFault) → fault ≢ text.Memory → IsFaultOfClaimInput input fault → IsClaimFault input fault
-is_claim_fault input fault known is =
-    known_fault (NoRoomForText input.bytes ⊎ AfterHistory (λ lines rest. NoRoomForVerdict rest) input.bytes) (IsClaimFault input) fault known is
-
 -- an input has one claim
-pub one_claim : (input : Ahead) (x y : ClaimOnText) → IsClaimOf input x → IsClaimOf input y → x ≡ y
-one_claim input x y is_x is_y =
+one_claim_of : (input : Ahead) (x y : ClaimOnText) → IsClaimOf input x → IsClaimOf input y → x ≡ y
+one_claim_of input x y is_x is_y =
     let parts = histories.texts_agree x.text y.text (verdict_text x.claimed) (verdict_text y.claimed) is_x.history is_y.history
     (sym is_x.whole.bytes ∙ is_y.whole.bytes) in
     let texts = parts.0 in
@@ -97,56 +110,34 @@ one_claim input x y is_x is_y =
     λ i. record { text = texts i; claimed = claims i }
 
 -- where a history stands at the front its text has no fault
-no_history_fault : (input : Ahead) (P : ℕ → List ℕ → Type 0) (fault : TextFault) → AfterHistory P input.bytes
+no_history_fault : (input : Ahead) (t : HistoryText) (rest : List ℕ) (fault : TextFault) → HasText t → input.bytes ≡ text_of t ++ rest
     → IsTextFault 0 input.ending input.bytes fault → ⊥
-no_history_fault input P fault after first =
-    histories.text_has_no_fault 0 input.ending after.text after.rest fault after.history
-    (subst (λ bytes. IsTextFault 0 input.ending bytes fault) after.front first)
-
--- the verdict's text of a whole claim has no fault
-no_verdict_fault : (input : Ahead) (x : ClaimOnText) (fault : TextFault) → IsClaimOf input x
-    → AfterHistory (λ lines rest. IsVerdictTextFault lines input.ending rest fault) input.bytes → ⊥
-no_verdict_fault input x fault is after =
-    let parts = histories.texts_agree x.text after.text (verdict_text x.claimed) after.rest is.history after.history (sym is.whole.bytes ∙ after.front) in
-    let ended = subst (λ ending. IsVerdictTextFault (line_count after.text) ending after.rest fault) is.whole.ending after.after in
-    verdict_texts.text_has_no_fault (line_count after.text) x.claimed fault is.verdict
-    (subst (λ rest. IsVerdictTextFault (line_count after.text) EndOfInput rest fault) (sym parts.1) ended)
+no_history_fault input t rest fault has front first =
+    histories.text_has_no_fault 0 input.ending t rest fault has (subst (λ bytes. IsTextFault 0 input.ending bytes fault) front first)
 
 no_fault_of_claim : (input : Ahead) (x : ClaimOnText) (fault : TextFault) → IsClaimOf input x → IsClaimFault input fault → ⊥
-no_fault_of_claim input x fault is (inl first) =
-    let front : input.bytes ≡ text_of x.text ++ verdict_text x.claimed = is.whole.bytes in
-    histories.text_has_no_fault 0 input.ending x.text (verdict_text x.claimed) fault is.history
-    (subst (λ bytes. IsTextFault 0 input.ending bytes fault) front first)
-no_fault_of_claim input x fault is (inr after) = no_verdict_fault input x fault is after
+no_fault_of_claim input x fault is (inl first) = no_history_fault input x.text (verdict_text x.claimed) fault is.history is.whole.bytes first
+no_fault_of_claim input x fault is (inr after) =
+    let parts = histories.texts_agree x.text after.text (verdict_text x.claimed) after.rest is.history after.history (sym is.whole.bytes ∙ after.front) in
+    verdict_texts.text_has_no_fault (line_count after.text) x.claimed fault is.verdict
+    (rw (is.whole.ending, ← parts.1) at after.after)
 
 one_fault_of_claim : (input : Ahead) (f g : TextFault) → IsClaimFault input f → IsClaimFault input g → f ≡ g
 one_fault_of_claim input f g (inl first) (inl other) = histories.one_first_fault 0 input.ending input.bytes f g first other
-one_fault_of_claim input f g (inl first) (inr after) = absurd
-    (no_history_fault input (λ lines rest. IsVerdictTextFault lines input.ending rest g) f after first)
-one_fault_of_claim input f g (inr after) (inl other) = absurd
-    (no_history_fault input (λ lines rest. IsVerdictTextFault lines input.ending rest f) g after other)
+one_fault_of_claim input f g (inl first) (inr after) = absurd (no_history_fault input after.text after.rest f after.history after.front first)
+one_fault_of_claim input f g (inr after) (inl other) = absurd (no_history_fault input after.text after.rest g after.history after.front other)
 one_fault_of_claim input f g (inr a) (inr b) =
     let parts = histories.texts_agree a.text b.text a.rest b.rest a.history b.history (sym a.front ∙ b.front) in
-    let lines = ap line_count parts.0 in
     let moved = subst (λ rest. IsVerdictTextFault (line_count a.text) input.ending rest f) parts.1 a.after in
-    verdict_texts.one_first_fault (line_count b.text) input.ending b.rest f g (subst (λ n. IsVerdictTextFault n input.ending b.rest f) lines moved) b.after
+    verdict_texts.one_first_fault (line_count b.text) input.ending b.rest f g
+    (subst (λ t. IsVerdictTextFault (line_count t) input.ending b.rest f) parts.0 moved) b.after
 
--- an input with a claim has no fault but out of memory
-pub only_memory_of_claim : (input : Ahead) (x : ClaimOnText) (fault : TextFault) → IsClaimOf input x → fault ≢ text.Memory
-    → IsFaultOfClaimInput input fault → ⊥
-only_memory_of_claim input x fault is known faulty = no_fault_of_claim input x fault is (is_claim_fault input fault known faulty)
-
--- an input without a claim has one fault, but for out of memory
-pub one_known_fault_of_claim : (input : Ahead) (f g : TextFault) → f ≢ text.Memory → g ≢ text.Memory → IsFaultOfClaimInput input f
-    → IsFaultOfClaimInput input g → f ≡ g
-one_known_fault_of_claim input f g known_f known_g is_f is_g =
-    one_fault_of_claim input f g (is_claim_fault input f known_f is_f) (is_claim_fault input g known_g is_g)
+-- an input is one claim, or has one fault
+pub one_claim : SaysOneThing IsClaimOf IsFaultOfClaimInput
+one_claim = memory_aside IsClaimOf IsClaimFault (λ input. NoRoomForText input.bytes ⊎ AfterHistory (λ lines rest. NoRoomForVerdict rest) input.bytes)
+    one_claim_of no_fault_of_claim one_fault_of_claim
 
 -- ---- a history, and a verdict on it where anything follows
-
--- an input has one history
-pub one_history : (input : Ahead) (x y : HistoryText) → IsHistoryOf input x → IsHistoryOf input y → x ≡ y
-one_history = one_value HasText text_of (IsTextFault 0) NoRoomForText histories.texts_agree (histories.text_has_no_fault 0) (histories.one_first_fault 0)
 
 -- a verdict has some text
 no_empty_verdict : (claimed : Claimed) → [] ≡ verdict_text claimed → ⊥
@@ -160,20 +151,67 @@ alone_without_claim input text claim is_text is_claim =
     (append-nil (text_of text) ∙ sym is_text.1.bytes ∙ is_claim.whole.bytes) in
     no_empty_verdict claim.claimed parts.1
 
--- an input has one history with a claim, or one alone
-pub one_drawable : (input : Ahead) (x y : Drawable) → IsDrawableOf input x → IsDrawableOf input y → x ≡ y
-one_drawable input (alone x) (alone y) is_x is_y = ap (λ t. alone t) (one_history input x y is_x is_y)
-one_drawable input (alone x) (with_claim y) is_x is_y = absurd (alone_without_claim input x y is_x is_y)
-one_drawable input (with_claim x) (alone y) is_x is_y = absurd (alone_without_claim input y x is_y is_x)
-one_drawable input (with_claim x) (with_claim y) is_x is_y = ap (λ c. with_claim c) (one_claim input x y is_x is_y)
+one_drawable_of : (input : Ahead) (x y : Drawable) → IsDrawableOf input x → IsDrawableOf input y → x ≡ y
+one_drawable_of input (alone x) (alone y) is_x is_y = ap (λ t. alone t) (one_history.one_value input x y is_x is_y)
+one_drawable_of input (alone x) (with_claim y) is_x is_y = absurd (alone_without_claim input x y is_x is_y)
+one_drawable_of input (with_claim x) (alone y) is_x is_y = absurd (alone_without_claim input y x is_y is_x)
+one_drawable_of input (with_claim x) (with_claim y) is_x is_y = ap (λ c. with_claim c) (one_claim_of input x y is_x is_y)
 
--- such an input has no fault but out of memory
-pub only_memory_of_drawable : (input : Ahead) (x : Drawable) (fault : TextFault) → IsDrawableOf input x → fault ≢ text.Memory
+only_memory_of_drawable : (input : Ahead) (x : Drawable) (fault : TextFault) → IsDrawableOf input x → fault ≢ text.Memory
     → IsFaultOfDrawableInput input fault → ⊥
 only_memory_of_drawable input (alone x) fault is known faulty = known (faulty.1 x is)
-only_memory_of_drawable input (with_claim x) fault is known faulty = only_memory_of_claim input x fault is known faulty.0
+only_memory_of_drawable input (with_claim x) fault is known faulty = one_claim.only_memory input x fault is known faulty.0
 
--- another input has one fault, but for out of memory
-pub one_known_fault_of_drawable : (input : Ahead) (f g : TextFault) → f ≢ text.Memory → g ≢ text.Memory → IsFaultOfDrawableInput input f
-    → IsFaultOfDrawableInput input g → f ≡ g
-one_known_fault_of_drawable input f g known_f known_g is_f is_g = one_known_fault_of_claim input f g known_f known_g is_f.0 is_g.0
+-- an input is one history with a claim, or one alone, or has one fault
+pub one_drawable : SaysOneThing IsDrawableOf IsFaultOfDrawableInput
+one_drawable = record {
+  one_value = one_drawable_of;
+  only_memory = only_memory_of_drawable;
+  one_fault = λ input f g known_f known_g is_f is_g. one_claim.one_fault input f g known_f known_g is_f.0 is_g.0;
+}
+
+-- ---- what is answered of an input
+
+-- two answers are the same where one of a kind is, and memory ran out in neither run
+pub same_or_no_memory : (P Q : Type 0) (a b : Reply) → (P → Q → a ≡ b) → P ⊎ (a ≡ memory_fault) → Q ⊎ (b ≡ memory_fault) → SameOrNoMemory a b
+same_or_no_memory P Q a b same (inl p) (inl q) = inl (same p q)
+same_or_no_memory P Q a b same (inr none) q = inr (inl none)
+same_or_no_memory P Q a b same (inl p) (inr none) = inr (inr none)
+
+module _ {A : Type 0} {IsInputOf : Ahead → A → Type 0} {IsFaultOf : Ahead → TextFault → Type 0} (says : SaysOneThing IsInputOf IsFaultOf)
+    (OfValue : A → Reply → Type 0) where
+  -- what is answered of an input is answered of the value that it says
+  pub answered_of : (input : Ahead) (x : A) (a : Reply) → IsInputOf input x → AnswersFor IsInputOf IsFaultOf OfValue input a → AnswersOrNoMemory OfValue x a
+  answered_of input x a is (inl read) = subst (λ v. AnswersOrNoMemory OfValue v a) (says.one_value input read.value x read.input_of is) read.answered
+  answered_of input x a is (inr faulty) = elim (is_memory faulty.fault) [
+    | inl memory ↦ inr (faulty.is ∙ ap answer_of_text_fault memory)
+    | inr known ↦ absurd (says.only_memory input x faulty.fault is known faulty.first)
+  ]
+
+  -- an input has one answer where a value has
+  pub one_answer : ((input : Ahead) (x : A) (a b : Reply) → IsInputOf input x → OfValue x a → OfValue x b → a ≡ b) → (input : Ahead) (a b : Reply)
+      → AnswersFor IsInputOf IsFaultOf OfValue input a → AnswersFor IsInputOf IsFaultOf OfValue input b → SameOrNoMemory a b
+  one_answer one input a b (inl x) y = same_or_no_memory (OfValue x.value a) (OfValue x.value b) a b (one input x.value a b x.input_of) x.answered
+      (answered_of input x.value b x.input_of y)
+  one_answer one input a b (inr x) (inl y) = same_or_no_memory (OfValue y.value a) (OfValue y.value b) a b (one input y.value a b y.input_of)
+      (answered_of input y.value a y.input_of (inr x)) y.answered
+  one_answer one input a b (inr x) (inr y) = elim (is_memory x.fault) [
+    | inl memory ↦ inr (inl (x.is ∙ ap answer_of_text_fault memory))
+    | inr known_x ↦ elim (is_memory y.fault) [
+      | inl memory ↦ inr (inr (y.is ∙ ap answer_of_text_fault memory))
+      | inr known_y ↦ inl (x.is ∙ ap answer_of_text_fault (says.one_fault input x.fault y.fault known_x known_y x.first y.first) ∙ sym y.is)
+    ]
+  ]
+
+-- a claim on a text
+abbrev pub claim_on : HistoryText → Claimed → ClaimOnText
+claim_on text claimed = record { text = text; claimed = claimed }
+
+-- the text of a history and of a claim is a claim on that text
+pub claim_after : (bytes : List ℕ) (text : HistoryText) (claimed : Claimed) → HasVerdictText claimed → IsHistoryOf (input_of bytes) text
+    → IsClaimOf (input_of (bytes ++ verdict_text claimed)) (claim_on text claimed)
+claim_after bytes text claimed has read = record {
+  history = read.0;
+  verdict = has;
+  whole = record { bytes = ap (λ front. front ++ verdict_text claimed) read.1.bytes; ending = refl };
+}

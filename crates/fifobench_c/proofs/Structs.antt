@@ -1,11 +1,11 @@
 -- Structs that are events, one more at a time.
-use Rattle.fifobench_c.proofs.Common.{[], ◌++◌, ◌+◌, ◌<◌, ◌∙◌, ◌∷◌, ◌≡◌, add-one, ap, arith, drop, get_or, length, List}
-use Rattle.fifobench_c.proofs.Common.{map, None, Option, refl, slice_get, Some, subst, suc, sym, take, take-suc, zero}
-use Rattle.fifobench_c.proofs.Common.{ℕ, AreEvents, Event, event_of, IsFirstUnknown}
+use Rattle.fifobench_c.proofs.Common.{[], ◌++◌, ◌+◌, ◌<◌, ◌∙◌, ◌∷◌, ◌≡◌, add-one, ap, arith, drop, get_or, length}
+use Rattle.fifobench_c.proofs.Common.{List, map, None, Option, refl, slice_get, Some, subst, suc, sym, take, take-suc}
+use Rattle.fifobench_c.proofs.Common.{zero, ℕ, Event, AreEvents, event_of, IsFirstUnknown}
 use Rattle.std.proofs.Math.Seq.{take-length}
 use Rattle.std.proofs.lemmas.List.{map-append, length-map}
 use Rattle.fifobench_c.specs.declared.recorded.RecordedEvent.{RecordedEvent}
-use Rattle.std.proofs.lemmas.Option.{same_Some, slice_get_within}
+use Rattle.std.proofs.lemmas.Option.{slice_get_within}
 
 -- as many events as structs
 pub as_many : (structs : List RecordedEvent) (events : List Event) → AreEvents structs events → length events ≡ length structs
@@ -29,11 +29,7 @@ pub unknown_is_behind : (structs : List RecordedEvent) (n : ℕ) (events : List 
 unknown_is_behind [] n events place here are before at unknown = cc
 unknown_is_behind (s ∷ ss) zero events place here are before at unknown = omega (arith, before)
 unknown_is_behind (s ∷ ss) (suc n) [] place here are before at unknown = cc
-unknown_is_behind (s ∷ ss) (suc n) (e ∷ es) zero here are before at unknown =
-    let same = same_Some s here at in
-    let first = ap (λ l. get_or l 0 None) are in
-    let event : None ≡ Some e = sym unknown ∙ ap event_of (sym same) ∙ first in
-    cc
+unknown_is_behind (s ∷ ss) (suc n) (e ∷ es) zero here are before at unknown = cc
 unknown_is_behind (s ∷ ss) (suc n) (e ∷ es) (suc place) here are before at unknown =
     unknown_is_behind ss n es place here (ap (drop 1) are) (omega (arith, before)) at unknown
 
@@ -49,12 +45,8 @@ one_list structs xs ys are_x are_y = same_events xs ys (sym are_x ∙ are_y)
   where
     same_events : (xs ys : List Event) → map (λ (e : Event). Some e) xs ≡ map (λ (e : Event). Some e) ys → xs ≡ ys
     same_events [] [] same = refl
-    same_events [] (y ∷ ys) same = absurd (cc)
-    same_events (x ∷ xs) [] same = absurd (cc)
-    same_events (x ∷ xs) (y ∷ ys) same =
-        let head = same_Some x y (ap (λ l. get_or l 0 (Some x)) same) in
-        let tail = same_events xs ys (ap (drop 1) same) in
-        ap (λ z. z ∷ xs) head ∙ ap (λ l. y ∷ l) tail
+    same_events (x ∷ xs) (y ∷ ys) same = let tail : xs ≡ ys = same_events xs ys (cc) in cc
+    same_events xs ys same = cc
 
 -- one struct is the first whose kind isn't known
 pub one_first : (structs : List RecordedEvent) (i j : ℕ) → IsFirstUnknown structs i → IsFirstUnknown structs j → i ≡ j

@@ -1,16 +1,80 @@
--- The most at once: a sweep over the tickets at which things come, and how many are gone by then.
-use Rattle.std.proofs.Common.{◌≡◌, ℕ, ◌+◌, ◌-◌, ◌<◌, ◌≤◌, ◌⊎◌, max, List, [], ◌∷◌, length, get_or, map}
-use Rattle.std.proofs.Common.{cond, not, refl, sym, ◌∙◌, ap, inl, inr, arith, nat_lt}
-use Rattle.std.specs.Prelude.{All, ◌&&◌}
+-- The most at once: how many tickets lie below a gap, a sweep over the tickets at which things come, and how many are gone by then.
+use Rattle.std.proofs.Common.{◌≡◌, ℕ, zero, suc, ◌+◌, ◌<◌, ◌≤◌, List, [], ◌∷◌, length, get_or, cond, refl, ◌∙◌, ap}
+use Rattle.std.proofs.Common.{inl, inr, arith, nat_lt, ◌-◌, max, map, not, sym, ◌++◌, take, Bool, true, false}
 use Rattle.std.specs.List.Sorted.{IsNonDecreasing, IsPermutation}
-use Rattle.std.proofs.lemmas.Bool.{cases_lt}
+use Rattle.std.proofs.lemmas.Bool.{cases_lt, lt-ltb, le-ltb}
 use Rattle.std.proofs.lemmas.Bool.Decides.{nat_tests}
-use Rattle.std.proofs.lemmas.List.Elements.{All-head, All-tail}
-use Rattle.std.proofs.lemmas.List.Sums.{sum_by-cons}
-use Rattle.history_merge.specs.declared.operation.Operation.{Operation}
-use Rattle.history_stats.specs.AtOnce.{IsMost, is_pending_at, pending_at}
+use Rattle.std.proofs.lemmas.List.Sums.{sum_by-cons, sum_by-le-sum_by, count_by-le-length, sum_by-append, sum_by_more}
+use Rattle.std.proofs.lemmas.List.Sorted.{sum_by-IsPermutation}
 use Rattle.history_stats.specs.Inner.AtOnce.{count_before}
-use Rattle.history_stats.proofs.Counted.{at_least, below_at, count_few, count_none, count_permuted, count_rises}
+use Rattle.std.specs.Prelude.{All, ◌&&◌, count_by}
+use Rattle.std.proofs.lemmas.List.Elements.{All-head, All-tail}
+use Rattle.history_merge.specs.declared.operation.Operation.{Operation}
+use Rattle.history_stats.specs.AtOnce.{IsMost, is_pending_at, pending_at, is_taken_before, stay_count}
+use Rattle.history_stats.specs.AtOnce.{values_put_before}
+
+-- ---- tickets in order
+
+-- one ticket more, and whether it lies below
+pub count_cons : (gap x : ℕ) (xs : List ℕ) → count_before gap (x ∷ xs) ≡ cond (nat_lt x gap) 1 0 + count_before gap xs
+count_cons gap x xs = sum_by-cons (λ t. cond (nat_lt t gap) 1 0) x xs
+
+-- a ticket more that lies below is one more, and another one none
+pub count_below_more : (gap x : ℕ) (xs : List ℕ) → x < gap → count_before gap (x ∷ xs) ≡ 1 + count_before gap xs
+count_below_more gap x xs below = count_cons gap x xs ∙ ap (λ b. cond b 1 0 + count_before gap xs) (lt-ltb x gap below)
+
+pub count_above : (gap x : ℕ) (xs : List ℕ) → gap ≤ x → count_before gap (x ∷ xs) ≡ count_before gap xs
+count_above gap x xs above =
+    let e : count_before gap (x ∷ xs) ≡ 0 + count_before gap xs = count_cons gap x xs ∙ ap (λ b. cond b 1 0 + count_before gap xs) (le-ltb x gap above) in
+    omega (arith, e)
+
+-- what comes after the first lies in order
+pub rest_in_order : (x : ℕ) (xs : List ℕ) → IsNonDecreasing (x ∷ xs) → IsNonDecreasing xs
+rest_in_order x xs up = λ i j d le below. up (suc i) (suc j) d (omega arith) (omega arith)
+
+-- if the first doesn't lie below, none does
+pub none_below : (gap x : ℕ) (xs : List ℕ) → IsNonDecreasing (x ∷ xs) → gap ≤ x → count_before gap (x ∷ xs) ≡ 0
+none_below gap x [] up above = count_above gap x [] above
+none_below gap x (y ∷ ys) up above =
+    let first : x ≤ y = up zero (suc zero) 0 (omega arith) (omega arith) in
+    count_above gap x (y ∷ ys) above ∙ none_below gap y ys (rest_in_order x (y ∷ ys) up) (omega arith)
+
+-- if the ticket at a place lies below, so do those before it
+pub at_least : (gap : ℕ) (xs : List ℕ) (i : ℕ) → IsNonDecreasing xs → i < length xs → get_or xs i 0 < gap → i + 1 ≤ count_before gap xs
+at_least gap [] i up within below = absurd (omega arith)
+at_least gap (x ∷ xs) zero up within below = omega (arith, count_below_more gap x xs below)
+at_least gap (x ∷ xs) (suc i) up within below =
+    let first : x ≤ get_or xs i 0 = up zero (suc i) 0 (omega arith) (omega arith) in
+    let more = at_least gap xs i (rest_in_order x xs up) (omega arith) below in
+    omega (arith, count_below_more gap x xs (omega arith), more)
+
+-- of the tickets that are counted as lying below a gap each lies below it
+pub below_at : (gap : ℕ) (xs : List ℕ) (i : ℕ) → IsNonDecreasing xs → i < count_before gap xs → get_or xs i 0 < gap
+below_at gap [] i up few = absurd (omega arith)
+below_at gap (x ∷ xs) zero up few = elim (cases_lt x gap) [
+  | inl below ↦ below
+  | inr above ↦ absurd (omega (arith, few, none_below gap x xs up above))
+]
+below_at gap (x ∷ xs) (suc i) up few = elim (cases_lt x gap) [
+  | inl below ↦ below_at gap xs i (rest_in_order x xs up) (omega (arith, few, count_below_more gap x xs below))
+  | inr above ↦ absurd (omega (arith, few, none_below gap x xs up above))
+]
+
+-- below a later gap lie no fewer
+pub count_rises : (gap later : ℕ) (xs : List ℕ) → gap ≤ later → count_before gap xs ≤ count_before later xs
+count_rises gap later xs le =
+    sum_by-le-sum_by (λ t. cond (nat_lt t gap) 1 0) (λ t. cond (nat_lt t later) 1 0) xs (λ t. grind (arith, nat_tests))
+
+-- no more than there are
+pub count_few : (gap : ℕ) (xs : List ℕ) → count_before gap xs ≤ length xs
+count_few gap xs = count_by-le-length (λ t. nat_lt t gap) xs
+
+-- before all tickets lies none
+pub count_none : (xs : List ℕ) → count_before 0 xs ≡ 0
+count_none [] = refl
+count_none (x ∷ xs) = count_above 0 x xs (omega arith) ∙ count_none xs
+
+-- ---- the sweep
 
 -- how many are there at a gap
 abbrev pub there_at : ℕ → List ℕ → List ℕ → ℕ → ℕ
@@ -36,32 +100,24 @@ most_so_far first arrivals departures = record {
 pub one_comes : (first : ℕ) (arrivals departures : List ℕ) (place most gone new_gone : ℕ) → IsNonDecreasing arrivals → place < length arrivals
     → IsMostSoFar first arrivals departures place most gone → new_gone ≡ count_before (get_or arrivals place 0 + 1) departures
     → IsMostSoFar first arrivals departures (place + 1) (max most (first + place + 1 - new_gone)) new_gone
-one_comes first arrivals departures place most gone new_gone up within so_far is = pick (cases_lt most (first + place + 1 - new_gone))
+one_comes first arrivals departures place most gone new_gone up within so_far is = elim (cases_lt most (first + place + 1 - new_gone)) [
+  | inl more ↦ record { gap = get_or arrivals place 0 + 1; reached = omega (arith, here); bound = bound; few_gone = few_gone }
+  | inr less ↦ record { gap = so_far.gap; reached = omega (arith, so_far.reached, less); bound = bound; few_gone = few_gone }
+]
   where
     here : first + place + 1 - new_gone ≤ there_at first arrivals departures (get_or arrivals place 0 + 1)
     here = let came = at_least (get_or arrivals place 0 + 1) arrivals place up within (omega arith) in omega (arith, came, is)
 
     bound : (gap : ℕ) → count_before gap arrivals ≤ place + 1 → there_at first arrivals departures gap ≤ max most (first + place + 1 - new_gone)
-    bound gap few = bound_by (cases_lt place (count_before gap arrivals))
-      where
-        bound_by : (place < count_before gap arrivals) ⊎ (count_before gap arrivals ≤ place)
-            → there_at first arrivals departures gap ≤ max most (first + place + 1 - new_gone)
-        bound_by (inr fewer) = let before = so_far.bound gap fewer in omega (arith, before)
-        bound_by (inl last) =
-            let low = below_at gap arrivals place up last in
-            let went = count_rises (get_or arrivals place 0 + 1) gap departures (omega arith) in
-            omega (arith, went, is, few)
+    bound gap few = elim (cases_lt place (count_before gap arrivals)) [
+      | inr fewer ↦ omega (arith, so_far.bound gap fewer)
+      | inl last ↦ omega (arith, below_at gap arrivals place up last, count_rises (get_or arrivals place 0 + 1) gap departures, is, few)
+    ]
 
     few_gone : (k : ℕ) → place + 1 ≤ k → k < length arrivals → new_gone ≤ count_before (get_or arrivals k 0 + 1) departures
     few_gone k from below =
         let later = up place k 0 (omega arith) below in
-        let went = count_rises (get_or arrivals place 0 + 1) (get_or arrivals k 0 + 1) departures (omega arith) in
-        omega (arith, went, is)
-
-    pick : (most < first + place + 1 - new_gone) ⊎ (first + place + 1 - new_gone ≤ most)
-        → IsMostSoFar first arrivals departures (place + 1) (max most (first + place + 1 - new_gone)) new_gone
-    pick (inl more) = record { gap = get_or arrivals place 0 + 1; reached = omega (arith, here); bound = bound; few_gone = few_gone }
-    pick (inr less) = record { gap = so_far.gap; reached = let r = so_far.reached in omega (arith, r); bound = bound; few_gone = few_gone }
+        omega (arith, count_rises (get_or arrivals place 0 + 1) (get_or arrivals k 0 + 1) departures (omega arith), is)
 
 -- when all came, it is the most
 pub most_of_all : (first : ℕ) (arrivals departures : List ℕ) (place most gone : ℕ) → length arrivals ≤ place → IsMostSoFar first arrivals departures place most gone
@@ -91,10 +147,9 @@ one_most f a b x y =
 pub most_permuted : (first most : ℕ) (arrivals arrivals' departures departures' : List ℕ) → IsPermutation arrivals arrivals' → IsPermutation departures departures'
     → IsMost (there_at first arrivals' departures') most → IsMost (there_at first arrivals departures) most
 most_permuted first most arrivals arrivals' departures departures' came went is =
-    same_most (there_at first arrivals' departures') (there_at first arrivals departures) most same is
-  where
-    same : (gap : ℕ) → there_at first arrivals' departures' gap ≡ there_at first arrivals departures gap
-    same gap = λ i. first + count_permuted gap arrivals arrivals' came i - count_permuted gap departures departures' went i
+    same_most (there_at first arrivals' departures') (there_at first arrivals departures) most
+    (λ gap i. first + sum_by-IsPermutation (λ t. cond (nat_lt t gap) 1 0) arrivals arrivals' came i
+    - sum_by-IsPermutation (λ t. cond (nat_lt t gap) 1 0) departures departures' went i) is
 
 -- ---- pending operations
 
@@ -119,10 +174,40 @@ pub most_pending_is : (operations : List Operation) (calls returns : List ℕ) (
     → calls ≡ map (λ o. o.call) operations → returns ≡ map (λ o. o.ret) operations → IsMost (there_at 0 calls returns) most
     → IsMost (pending_at operations) most
 most_pending_is operations calls returns most forward are_calls are_returns is =
-    same_most (there_at 0 calls returns) (pending_at operations) most same is
+    same_most (there_at 0 calls returns) (pending_at operations) most
+    (λ gap. omega (arith, ap (count_before gap) are_calls, ap (count_before gap) are_returns, pending_is gap operations forward)) is
+
+-- ---- values that come and go
+
+-- a value stays or goes
+one_goes : (b : Bool) → cond (not b) 1 0 + cond b 1 0 ≡ 1
+one_goes true = refl
+one_goes false = refl
+
+-- one initial value more
+pub value_more : (departures : ℕ → Bool) (values : List ℕ) (i gone new_gone base : ℕ) (d : ℕ) → i < length values
+    → count_by (λ v. not (departures v)) (take i values) + gone ≡ i + base → new_gone ≡ gone + cond (departures (get_or values i d)) 1 0
+    → count_by (λ v. not (departures v)) (take (i + 1) values) + new_gone ≡ i + 1 + base
+value_more departures values i gone new_gone base d within so_far is =
+    omega (arith, so_far, is, sum_by_more (λ v. cond (not (departures v)) 1 0) values i d within, one_goes (departures (get_or values i d)))
+
+-- the most that stayed is the most that is there of what comes and goes
+pub most_queued_is : (initial : List ℕ) (operations : List Operation) (goes_before : ℕ → ℕ → Bool) (arrivals first_goes departures : List ℕ) (most : ℕ)
+    → ((gap v : ℕ) → goes_before gap v ≡ is_taken_before gap operations v)
+    → ((gap : ℕ) → count_by (λ v. not (goes_before gap v)) initial + count_before gap first_goes ≡ length initial + count_before gap [])
+    → ((gap : ℕ) → count_by (λ v. not (goes_before gap v)) (values_put_before gap operations) + count_before gap departures + count_before gap []
+    ≡ count_before gap arrivals + count_before gap first_goes)
+    → IsMost (there_at (length initial) arrivals departures) most
+    → IsMost (λ gap. stay_count gap operations (initial ++ values_put_before gap operations)) most
+most_queued_is initial operations goes_before arrivals first_goes departures most same firsts puts is =
+    same_most (there_at (length initial) arrivals departures) (λ gap. stay_count gap operations (initial ++ values_put_before gap operations)) most there is
   where
-    same : (gap : ℕ) → there_at 0 calls returns gap ≡ pending_at operations gap
-    same gap =
-        let came = ap (count_before gap) are_calls in
-        let went = ap (count_before gap) are_returns in
-        omega (arith, came, went, pending_is gap operations forward)
+    alike : (gap : ℕ) (values : List ℕ) → count_by (λ v. not (goes_before gap v)) values ≡ stay_count gap operations values
+    alike gap values = λ i. count_by (λ v. not (same gap v i)) values
+
+    there : (gap : ℕ) → there_at (length initial) arrivals departures gap ≡ stay_count gap operations (initial ++ values_put_before gap operations)
+    there gap =
+        let both = sum_by-append (λ v. cond (not (is_taken_before gap operations v)) 1 0) initial (values_put_before gap operations) in
+        let one = firsts gap in
+        let two = puts gap in
+        omega (arith, both, one, two, alike gap initial, alike gap (values_put_before gap operations))

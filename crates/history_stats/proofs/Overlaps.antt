@@ -1,6 +1,7 @@
 -- What an operation overlaps: of the operations before it and of those after it.
-use Rattle.std.proofs.Common.{◌≡◌, ℕ, zero, suc, ◌+◌, ◌<◌, max, List, [], ◌∷◌, ◌++◌, length, cond}
-use Rattle.std.proofs.Common.{Bool, true, false, refl, sym, ◌∙◌, ap, subst, arith, append_assoc, length-append}
+use Rattle.std.proofs.Common.{◌≡◌, ℕ, zero, suc, ◌+◌, ◌<◌, max, List, [], ◌∷◌, ◌++◌, length, get_or, cond}
+use Rattle.std.proofs.Common.{Bool, false, refl, sym, ◌∙◌, ap, subst, arith, append_assoc, length-append}
+use Rattle.std.proofs.Math.ListN.{get_or-append}
 use Rattle.std.proofs.Math.Seq.{get_or-append_seam}
 use Rattle.std.specs.Prelude.{All, AllPairs, count_by, nat_le, nat_lt, ◌&&◌, ◌||◌}
 use Rattle.std.specs.List.{list_any}
@@ -42,28 +43,19 @@ overlaps_later x o behind forward = grind (arith, nat_tests)
 not_itself : (x : Operation) → overlap x x ≡ false
 not_itself x = grind (arith, nat_tests)
 
+-- tests that agree on all of a list find alike
+any_alike : {X : Type 0} (p q : X → Bool) (xs : List X) → All (λ x. p x ≡ q x) xs → list_any p xs ≡ list_any q xs
+any_alike p q [] same = refl
+any_alike p q (x ∷ xs) same =
+    let here = All-head (λ z. p z ≡ q z) x xs same in
+    let more = any_alike p q xs (All-tail (λ z. p z ≡ q z) x xs same) in λ i. here i || more i
+
 -- if calls rise, an operation overlaps one of those before it if one of them returns at its call or later
 any_earlier : (earlier later : List Operation) (x : Operation) → AllPairs (λ a b. a.call < b.call) (earlier ++ x ∷ later) → x.call < x.ret
     → list_any (overlap x) earlier ≡ list_any (λ o. nat_le x.call o.ret) earlier
-any_earlier [] later x rise forward = refl
-any_earlier (e ∷ earlier) later x rise forward =
-    let long = length-append earlier (x ∷ later) in
-    let before = subst (λ (o : Operation). e.call < o.call) (get_or-append_seam (e ∷ earlier) x later x)
-    (rise zero (suc (length earlier)) x (omega arith) (omega arith)) in
-    let here = overlaps_earlier x e before forward in
-    let more = any_earlier earlier later x (pairs_right (λ (a b : Operation). a.call < b.call) (e ∷ []) (earlier ++ x ∷ later) rise) forward in
-    λ i. here i || more i
-
--- and one of those after it if one of them is called by its return
-any_later : (x : Operation) (later : List Operation) → All (λ o. x.call < o.call) later → All (λ o. o.call < o.ret) later
-    → list_any (overlap x) later ≡ list_any (λ o. nat_le o.call x.ret) later
-any_later x [] behind forward = refl
-any_later x (o ∷ later) behind forward =
-    let here = overlaps_later x o (All-head (λ (o : Operation). x.call < o.call) o later behind)
-    (All-head (λ (o : Operation). o.call < o.ret) o later forward) in
-    let more = any_later x later (All-tail (λ (o : Operation). x.call < o.call) o later behind)
-    (All-tail (λ (o : Operation). o.call < o.ret) o later forward) in
-    λ i. here i || more i
+any_earlier earlier later x rise forward = any_alike (overlap x) (λ (o : Operation). nat_le x.call o.ret) earlier (λ k d below.
+    let rises = rise k (length earlier) d below (omega (arith, length-append earlier (x ∷ later))) in
+    overlaps_earlier x (get_or earlier k d) (rw (get_or-append earlier (x ∷ later) d k below, get_or-append_seam earlier x later d) at rises) forward)
 
 -- ---- one of some operations
 
@@ -74,15 +66,10 @@ first_decides ticket x [] behind = grind (arith, nat_tests)
 first_decides ticket x (y ∷ rest) behind =
     let here = All-head (λ (o : Operation). x.call < o.call) y rest behind in
     let more = first_decides ticket x rest (All-tail (λ (o : Operation). x.call < o.call) y rest behind) in
-    one (nat_le x.call ticket) (nat_le y.call ticket) (list_any (λ o. nat_le o.call ticket) rest) more (less x.call y.call ticket here)
+    one x.call y.call ticket (list_any (λ (o : Operation). nat_le o.call ticket) rest) here more
   where
-    less : (a b t : ℕ) → a < b → nat_le b t ≡ true → nat_le a t ≡ true
-    less a b t lt le = grind (arith, nat_tests)
-
-    one : (a b c : Bool) → (a || c) ≡ a → (b ≡ true → a ≡ true) → (a || (b || c)) ≡ a
-    one true b c e h = refl
-    one false true c e h = let wrong = h refl in cc
-    one false false c e h = e
+    one : (a b t : ℕ) (c : Bool) → a < b → (nat_le a t || c) ≡ nat_le a t → (nat_le a t || (nat_le b t || c)) ≡ nat_le a t
+    one a b t c lt e = grind (arith, nat_tests)
 
 -- the first of some operations, if there is one, decides whether one is called by a ticket
 pub called_by_first : (ticket : ℕ) (operations rest : List Operation) (x : Operation) → operations ≡ x ∷ rest
@@ -101,7 +88,9 @@ overlap_told earlier later x is_earlier is_later rise forward tells_earlier tell
     let rises = pairs_right (λ (a b : Operation). a.call < b.call) earlier (x ∷ later) rise in
     let goes = all_right (λ (o : Operation). o.call < o.ret) earlier (x ∷ later) forward in
     let one = tells_earlier ∙ sym (any_earlier earlier later x rise (All-head (λ (o : Operation). o.call < o.ret) x later goes)) in
-    let other = tells_later ∙ sym (any_later x later (behind_first x later rises) (All-tail (λ (o : Operation). o.call < o.ret) x later goes)) in
+    let other = tells_later ∙ sym (any_alike (overlap x) (λ (o : Operation). nat_le o.call x.ret) later
+    (λ k d below. overlaps_later x (get_or later k d) (behind_first x later rises k d below)
+    (All-tail (λ (o : Operation). o.call < o.ret) x later goes k d below))) in
     (λ i. one i || (sym (not_itself x) i || other i)) ∙ sym (list_any-append (overlap x) earlier (x ∷ later))
 
 -- ---- one after another

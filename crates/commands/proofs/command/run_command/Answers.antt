@@ -1,5 +1,5 @@
-use Rattle.commands.proofs.Common.{◌∙◌, arith, inr, refl, same_Some, sym, memory_fault}
-use Rattle.commands.proofs.Runs.{memory_has_3, memory_is_said, memory_ran_out, or_no_memory, reads_out_of_memory, reads_printed}
+use Rattle.commands.proofs.Common.{◌∙◌, arith, sym, same_Some}
+use Rattle.commands.proofs.Runs.{memory_has_3, memory_printed, memory_ran_out, or_no_memory, reads_out_of_memory, reads_printed}
 use Rattle.commands.proofs.command.run_command.Goals as goal
 
 pub returns-in-Err-clause-reads : goal.returns-in-Err-clause-reads
@@ -7,24 +7,17 @@ returns-in-Err-clause-reads g c = λ request none asked. reads_out_of_memory _ r
     c.explain-status.ensures.printed
 
 pub returns-in-Err-clause-stresses : goal.returns-in-Err-clause-stresses
-returns-in-Err-clause-stresses g c = λ settings none asked. record {
-  answer = memory_fault;
-  right = inr refl;
-  printed = memory_is_said _ _ _ _ _ (memory_ran_out c.in-Err.error _ _ _ _ _ none c.in-Err.ensures.err c.explain-status.ensures.printed);
-}
+returns-in-Err-clause-stresses g c = λ settings none asked.
+    memory_printed _ _ c.in-Err.error _ _ _ _ _ none c.in-Err.ensures.err c.explain-status.ensures.printed
 
 pub returns-in-Ok-clause-reads : goal.returns-in-Ok-clause-reads
 returns-in-Ok-clause-reads g c = λ request none asked.
-    let printed = rw c.in-Ok.ensures.quiet at c.run_order.ensures.reads in
-    reads_printed _ _ c.in-Ok.ensures.task _ _ _ _ _ request _ asked printed
+    reads_printed _ _ request _ _ _ _ _ _ c.in-Ok.ensures.task asked (rw c.in-Ok.ensures.quiet at c.run_order.ensures.reads)
 
 pub returns-in-Ok-clause-stresses : goal.returns-in-Ok-clause-stresses
 returns-in-Ok-clause-stresses g c = λ settings none asked.
     let printed = c.run_order.ensures.stresses settings (same_Some _ _ (sym c.in-Ok.ensures.task ∙ asked)) in
     or_no_memory _ _ _ _ _ _ (rw c.in-Ok.ensures.quiet at printed)
-
-pub returns-in-Ok-clause-said : goal.returns-in-Ok-clause-said
-returns-in-Ok-clause-said g c = λ none input output fresh failed. c.run_order.ensures.said input output fresh failed
 
 pub returns-in-Err-clause-said : goal.returns-in-Err-clause-said
 returns-in-Err-clause-said g c = λ none input output fresh failed.

@@ -1,10 +1,10 @@
 use Rattle.commands.proofs.Common.{◌∙◌, ap, subst, answer_of, SaysMessage}
-use Rattle.commands.proofs.Runs.{printed_of}
+use Rattle.std.proofs.lemmas.Option.{IfSome_then}
 use Rattle.commands.proofs.command.run_order.Goals as goal
 
 pub returns-clause-reads : goal.returns-clause-reads
-returns-clause-reads g c = printed_of _ (answer_of c.outcome_of-outcome.result) _ _ _ _ _ c.end_order-status.ensures.printed _
-    (rw c.new-kept.ensures at c.outcome_of-outcome.ensures.reads)
+returns-clause-reads g c = IfSome_then (g.S.TextSource.ahead c.args.reader) (rw c.new-kept.ensures at c.outcome_of-outcome.ensures.reads)
+    (λ a found. record { answer = answer_of c.outcome_of-outcome.result; right = found; printed = c.end_order-status.ensures.printed })
 
 pub returns-clause-stresses : goal.returns-clause-stresses
 returns-clause-stresses g c = λ settings asked. record {

@@ -1,13 +1,12 @@
-use Rattle.commands.proofs.Common.{err_from_is_err_and, inl, inr, refl, Converts, IsFaultOfHistoryInput, IsFaulty}
-use Rattle.commands.proofs.Common.{IsHistoryOf, said_by}
-use Rattle.commands.proofs.Findings.{answers_more, of_value}
+use Rattle.commands.proofs.Common.{inl, inr, refl, err_from_is_err_and, IsFaultOfHistoryInput, IsHistoryOf, Converts}
+use Rattle.commands.specs.Judging.{IsConverted}
+use Rattle.commands.proofs.Findings.{faults_answered, of_value}
 use Rattle.commands.proofs.convert.convert.Goals as goal
 
 pub returns-in_err-_version-clause-found : goal.returns-in_err-_version-clause-found
 returns-in_err-_version-clause-found g c =
     let p = err_from_is_err_and c.from_residual.result c.from_residual.ensures.1 in
-    rw (p.1, p.2) (answers_more IsHistoryOf IsFaultOfHistoryInput (λ text. IsFaulty (said_by text)) Converts (g.S.TextSource.ahead c.args.reader) _
-    (λ text faulty. inl faulty) c.in_err-_version.ensures.fault)
+    rw (p.1, p.2) (faults_answered IsConverted (g.S.TextSource.ahead c.args.reader) _ c.in_err-_version.ensures.fault)
 
 pub returns-clause-found : goal.returns-clause-found
 returns-clause-found g c = of_value IsHistoryOf IsFaultOfHistoryInput Converts (g.S.TextSource.ahead c.args.reader) _ _ c.in_ok-_version.ensures.history

@@ -1,7 +1,6 @@
 use Rattle.commands.proofs.Common.{err_from_is_err_and, subst, answer_of, AnswersOrNoMemory, drawable, Draws}
 use Rattle.commands.proofs.Common.{IsDrawableOf, IsFaultOfDrawableInput}
-use Rattle.commands.proofs.Findings.{of_value}
-use Rattle.commands.proofs.Drawn.{faulty_history}
+use Rattle.commands.proofs.Findings.{of_value, faulty_history}
 use Rattle.commands.proofs.draw.draw.Goals as goal
 
 pub returns-in_err-_version-clause-found : goal.returns-in_err-_version-clause-found

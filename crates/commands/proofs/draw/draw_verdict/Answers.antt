@@ -1,10 +1,10 @@
-use Rattle.commands.proofs.Common.{err_from_is_err_and, said_in}
-use Rattle.commands.proofs.Drawn.{decided_is_true, drawn_decided, undrawn_alone}
+use Rattle.commands.proofs.Common.{arith, err_from_is_err_and, said_in}
+use Rattle.commands.proofs.Findings.{decided_is_true, drawn_decided, undrawn_alone}
 use Rattle.commands.proofs.draw.draw_verdict.Goals as goal
 
 pub draw_evidence-requires-clause-evidence : goal.draw_evidence-requires-clause-evidence
 draw_evidence-requires-clause-evidence c =
-    decided_is_true c.args.history.now c.in_ok-claimed.claimed c.requires.complete c.requires.few_values c.in_ok-claimed.ensures
+    decided_is_true c.args.history.now c.in_ok-claimed.claimed c.requires.complete (omega (arith, c.requires.few_values)) c.in_ok-claimed.ensures
 
 pub returns-in_err-drawn-clause-found : goal.returns-in_err-drawn-clause-found
 returns-in_err-drawn-clause-found c = λ version.

@@ -1,4 +1,5 @@
-use Rattle.commands.proofs.ShrunkTexts.{shrunk_is_valid, shrunk_is_checked}
+use Rattle.commands.proofs.OneAnswer.{shrunk_is_checked}
+use Rattle.commands.proofs.Validity.{shrunk_is_valid}
 use Rattle.commands.proofs.evidence.what_is_shrunk_is_valid.Goals as goal
 
 pub returns : goal.returns

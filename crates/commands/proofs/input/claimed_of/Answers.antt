@@ -1,7 +1,5 @@
 use Rattle.commands.proofs.Common.{arith}
-use Rattle.commands.proofs.Exits.{carried}
-use Rattle.commands.proofs.InputFaults.{history_fault, verdict_fault}
-use Rattle.commands.proofs.Found.{claim_found}
+use Rattle.commands.proofs.Found.{carried, history_fault, verdict_fault, claim_found}
 use Rattle.commands.proofs.input.claimed_of.Goals as goal
 
 pub returns-in_err-gathered-clause-fault : goal.returns-in_err-gathered-clause-fault

@@ -1,7 +1,5 @@
 use Rattle.commands.proofs.Common.{arith, text_of}
-use Rattle.commands.proofs.Exits.{carried}
-use Rattle.commands.proofs.InputFaults.{drawable_history_fault, drawable_verdict_fault}
-use Rattle.commands.proofs.Found.{claim_found, history_found, read_fault_after, taken_through}
+use Rattle.commands.proofs.Found.{carried, drawable_history_fault, drawable_verdict_fault, claim_found, history_found, read_fault_after, taken_through}
 use Rattle.commands.proofs.input.drawable_of.Goals as goal
 
 pub returns-in_err-claimed-clause-fault : goal.returns-in_err-claimed-clause-fault

@@ -1,5 +1,4 @@
-use Rattle.commands.proofs.Exits.{carried}
-use Rattle.commands.proofs.InputFaults.{one_history_fault, history_end_fault}
+use Rattle.commands.proofs.Found.{carried, one_history_fault, history_end_fault}
 use Rattle.commands.proofs.input.gathered_of.Goals as goal
 
 pub returns-in_err-gathered-clause-fault : goal.returns-in_err-gathered-clause-fault

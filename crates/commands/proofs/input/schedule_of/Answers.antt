@@ -1,6 +1,5 @@
 use Rattle.commands.proofs.Common.{HasScheduleText, IsScheduleTextFault, NoRoomForSchedule, schedule_text}
-use Rattle.commands.proofs.Exits.{carried}
-use Rattle.commands.proofs.InputFaults.{text_fault}
+use Rattle.commands.proofs.Found.{carried, text_fault}
 use Rattle.commands.proofs.input.schedule_of.Goals as goal
 
 pub returns-in_err-schedule-clause-fault : goal.returns-in_err-schedule-clause-fault

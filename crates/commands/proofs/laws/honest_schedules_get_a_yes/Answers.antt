@@ -1,4 +1,4 @@
-use Rattle.commands.proofs.Honest.{honest_gets_a_yes}
+use Rattle.commands.proofs.Played.{honest_gets_a_yes}
 use Rattle.commands.proofs.laws.honest_schedules_get_a_yes.Goals as goal
 
 pub returns : goal.returns

@@ -1,5 +1,5 @@
-use Rattle.commands.proofs.Common.{inl, refl, claim_of, operations_of}
-use Rattle.commands.proofs.Findings.{decided_claim, part_of_none}
+use Rattle.commands.proofs.Common.{◌∙◌, ap, filter, inl, refl, operations_of, claim_of}
+use Rattle.commands.proofs.Findings.{decided_claim}
 use Rattle.commands.proofs.shrink.shrink_violation.Goals as goal
 
 pub returns-clause-found : goal.returns-clause-found
@@ -20,12 +20,12 @@ returns-clause-found c =
       minimal = c.in_ok-small.ensures.minimal;
       shortest = c.in_ok-small.ensures.shortest;
       claimed = claim_of small.initial (operations_of small.events) verdict;
-      right = decided_claim small verdict c.in_ok-verdict.ensures.chosen c.in_ok-verdict.ensures.evidence c.in_ok-verdict.ensures.exact;
+      right = decided_claim small verdict _ c.in_ok-verdict.ensures refl;
       is = refl;
     })
 
 pub returns-clause-places : goal.returns-clause-places
 returns-clause-places c = (
   c.in_ok-verdict.ensures.places,
-  λ one. part_of_none c.args.history.now.initial c.in_ok-small.small.initial c.in_ok-small.ensures.initial (c.requires.version one),
+  λ one. c.in_ok-small.ensures.initial.1 ∙ ap (filter c.in_ok-small.ensures.initial.0) (c.requires.version one),
 )

@@ -1,13 +1,12 @@
-use Rattle.commands.proofs.Common.{err_from_is_err_and, inl, answer_of, Counts, IsFaultOfHistoryInput, IsFaulty}
-use Rattle.commands.proofs.Common.{IsHistoryOf, said_by}
-use Rattle.commands.proofs.Findings.{answers_more, of_value}
+use Rattle.commands.proofs.Common.{err_from_is_err_and, IsFaultOfHistoryInput, IsHistoryOf, Counts, answer_of}
+use Rattle.commands.specs.Judging.{IsCounted}
+use Rattle.commands.proofs.Findings.{faults_answered, of_value}
 use Rattle.commands.proofs.stats.stats.Goals as goal
 
 pub returns-in_err-_version-clause-found : goal.returns-in_err-_version-clause-found
 returns-in_err-_version-clause-found g c =
     let p = err_from_is_err_and c.from_residual.result c.from_residual.ensures.1 in
-    rw (p.1, p.2) (answers_more IsHistoryOf IsFaultOfHistoryInput (λ text. IsFaulty (said_by text)) Counts (g.S.TextSource.ahead c.args.reader) _
-    (λ text faulty. inl faulty) c.in_err-_version.ensures.fault)
+    rw (p.1, p.2) (faults_answered IsCounted (g.S.TextSource.ahead c.args.reader) _ c.in_err-_version.ensures.fault)
 
 pub returns-clause-found : goal.returns-clause-found
 returns-clause-found g c = of_value IsHistoryOf IsFaultOfHistoryInput Counts (g.S.TextSource.ahead c.args.reader) _ (answer_of c.count.result)

@@ -1,12 +1,12 @@
-use Rattle.commands.proofs.Common.{◌≡◌, err_from_is_err_and, subst, AnswersOrNoMemory, claim_of, judged, JudgesHistory}
-use Rattle.commands.proofs.Common.{One, operations_of}
-use Rattle.commands.proofs.Findings.{fault_or, judged_text}
+use Rattle.commands.proofs.Common.{◌≡◌, subst, err_from_is_err_and, One, operations_of, claim_of, judged}
+use Rattle.commands.proofs.Common.{AnswersOrNoMemory, JudgesHistory}
+use Rattle.commands.proofs.Findings.{fault_found, faulty_or, judged_text}
 use Rattle.commands.proofs.texts.judge_gathered.Goals as goal
 
 pub returns-in_err-history-clause-found : goal.returns-in_err-history-clause-found
 returns-in_err-history-clause-found c = λ history is.
     let p = err_from_is_err_and c.from_residual.result c.from_residual.ensures.1 in
-    rw (p.1, p.2) (fault_or history _ (c.in_err-history.ensures.outcome history.initial history.events is))
+    rw (p.1, p.2) (faulty_or history _ (fault_found history _ (c.in_err-history.ensures.outcome history.initial history.events is)))
 
 pub returns-clause-found : goal.returns-clause-found
 returns-clause-found c = λ history is.

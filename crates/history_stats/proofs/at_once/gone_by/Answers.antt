@@ -1,7 +1,7 @@
 use Rattle.std.proofs.Common.{◌+◌, arith, inl, inr}
 use Rattle.std.proofs.lemmas.Bool.{cases_lt}
 use Rattle.history_stats.specs.Inner.AtOnce.{count_before}
-use Rattle.history_stats.proofs.Counted.{at_least, below_at, count_few}
+use Rattle.history_stats.proofs.AtOnce.{at_least, below_at, count_few}
 use Rattle.history_stats.proofs.at_once.gone_by.Goals as goal
 
 pub loop-gone-preserved : goal.loop-gone-preserved

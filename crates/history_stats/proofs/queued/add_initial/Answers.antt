@@ -1,7 +1,7 @@
 use Rattle.std.proofs.Common.{ap, arith, count_by, not}
 use Rattle.std.proofs.lemmas.List.{take_all}
 use Rattle.history_stats.specs.Inner.AtOnce.{count_before, is_kept_before}
-use Rattle.history_stats.proofs.Staying.{value_more}
+use Rattle.history_stats.proofs.AtOnce.{value_more}
 use Rattle.history_stats.proofs.queued.add_initial.Goals as goal
 
 pub loop-value-preserved : goal.loop-value-preserved

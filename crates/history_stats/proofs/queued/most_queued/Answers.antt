@@ -1,5 +1,5 @@
 use Rattle.history_stats.specs.Inner.AtOnce.{is_kept_before}
-use Rattle.history_stats.proofs.Staying.{most_queued_is}
+use Rattle.history_stats.proofs.AtOnce.{most_queued_is}
 use Rattle.history_stats.proofs.queued.most_queued.Goals as goal
 
 pub returns : goal.returns

@@ -1,24 +1,21 @@
-use Rattle.std.proofs.Common.{arith, ◌<◌, ◌++◌, ◌∙◌, List, ap, length, subst, sym, ℕ}
-use Rattle.std.specs.Prelude.{All, AllPairs}
+use Rattle.std.proofs.Common.{arith, ◌++◌, ◌∙◌, List, ap, length, subst}
 use Rattle.history_merge.proofs.Completeness.{calls_before_returns}
 use Rattle.history_merge.proofs.Distinct.{calls_rise}
 use Rattle.history_merge.specs.declared.operation.Operation.{Operation}
-use Rattle.history_merge.specs.Operations.{operations_of}
-use Rattle.history_stats.specs.AtOnce.{IsMost, pending_at, stay_count, values_put_before}
+use Rattle.history_stats.specs.AtOnce.{IsMost, stay_count, values_put_before}
 use Rattle.history_stats.specs.Counts.{change_count, is_dequeued, is_empty, is_enqueued, is_refused, kind_count, overlapping_count, tenths_of_percent, thread_count}
 use Rattle.history_stats.proofs.statistics.statistics_of.Goals as goal
 
 pub most_pending-requires-clause-forward : goal.most_pending-requires-clause-forward
-most_pending-requires-clause-forward c = subst (All (λ (o : Operation). o.call < o.ret)) (sym c.operations-operations.ensures.operations)
+most_pending-requires-clause-forward c = rw c.operations-operations.ensures.operations
     (calls_before_returns c.args.history.now.events c.in_ok-events.ensures.complete.tickets_rise)
 
 pub overlapping_count-overlapping-requires-clause-calls_rise : goal.overlapping_count-overlapping-requires-clause-calls_rise
-overlapping_count-overlapping-requires-clause-calls_rise c =
-    subst (AllPairs (λ (x y : Operation). x.call < y.call)) (sym c.operations-operations.ensures.operations)
+overlapping_count-overlapping-requires-clause-calls_rise c = rw c.operations-operations.ensures.operations
     (calls_rise c.args.history.now.events c.in_ok-events.ensures.complete.tickets_rise)
 
 pub overlapping_count-overlapping-requires-clause-forward : goal.overlapping_count-overlapping-requires-clause-forward
-overlapping_count-overlapping-requires-clause-forward c = subst (All (λ (o : Operation). o.call < o.ret)) (sym c.operations-operations.ensures.operations)
+overlapping_count-overlapping-requires-clause-forward c = rw c.operations-operations.ensures.operations
     (calls_before_returns c.args.history.now.events c.in_ok-events.ensures.complete.tickets_rise)
 
 pub returns : goal.returns
@@ -40,7 +37,6 @@ returns c =
       thread_changes = c.change_count.ensures ∙ ap change_count (c.as_slice-2.ensures.value ∙ c.in_ok-events.ensures.listed);
       overlapping = overlapping;
       overlapping_tenths = c.tenths_of_percent.ensures ∙ (λ i. tenths_of_percent (overlapping i) ((c.len-3.ensures.exact ∙ ap length operations) i));
-      most_pending = subst (λ (os : List Operation). IsMost (pending_at os) c.in_ok-most_pending.most_pending) operations c.in_ok-most_pending.ensures;
-      most_queued = subst (λ (values : List ℕ). IsMost (λ gap. stay_count gap (operations_of c.args.history.now.events)
-          (values ++ values_put_before gap (operations_of c.args.history.now.events))) c.in_ok-most_queued.most_queued) initial queued;
+      most_pending = rw (← operations) c.in_ok-most_pending.ensures;
+      most_queued = rw (← initial) queued;
     }
