@@ -3,10 +3,10 @@ use Rattle.drawing.proofs.Common.{[], ◌<◌, ◌∙◌, ◌∷◌, ◌≡◌, 
 use Rattle.drawing.proofs.Common.{false, find, inl, inr, List, nat_tests, refl, slice_get, Some, subst, sym, true, ℕ}
 use Rattle.drawing.proofs.Common.{AreComplete, contains_at, contains_cons, drawn_operations, Event, found_first}
 use Rattle.drawing.proofs.Common.{is_under_way, IsCompleteHistory, IsTraced, not_in_none, one_at, Operation}
-use Rattle.drawing.proofs.Common.{operations_are_complete, operations_of, pairs_at, return_differs_from_call, same_call}
+use Rattle.drawing.proofs.Common.{operations_are_complete, operations_of, return_differs_from_call, same_call}
 use Rattle.drawing.proofs.Common.{traced}
 use Rattle.drawing.specs.Laws.{BarsAreOfOperations, NoOtherBars}
-use Rattle.drawing.proofs.Nearness.{among_operations}
+use Rattle.drawing.proofs.Nearness.{among_operations, no_earlier_ticket}
 
 -- ---- what is found
 
@@ -18,19 +18,17 @@ found p (y ∷ ys) x among passes = cond_both (p y) (Some y) (find p ys) (λ f. 
   | inr there ↦ found p ys x there passes
 ])
 
--- what the test of a bar means
-under_way_tells : (thread ticket : ℕ) (o : Operation) → is_under_way thread ticket o ≡ true → (o.thread ≡ thread) × (o.call ≤ ticket) × (ticket ≤ o.ret)
-under_way_tells thread ticket o passes = (grind (arith, nat_tests), grind (arith, nat_tests), grind (arith, nat_tests))
-
-under_way_if : (thread ticket : ℕ) (o : Operation) → o.thread ≡ thread → o.call ≤ ticket → ticket ≤ o.ret → is_under_way thread ticket o ≡ true
-under_way_if thread ticket o own called returns = grind (arith, nat_tests)
-
 -- what stands in a lane is the bar of an operation of its thread
 pub no_other_bars : NoOtherBars
 no_other_bars operations thread ticket o is =
     let first = found_first (is_under_way thread ticket) operations o is in
-    let tells = under_way_tells thread ticket o first.passes in
-    record { among = contains_at operations first.place o first.at; own = tells.0; called = tells.1; returns = tells.2 }
+    let passes = first.passes in
+    record {
+      among = contains_at operations first.place o first.at;
+      own = grind (arith, nat_tests);
+      called = grind (arith, nat_tests);
+      returns = grind (arith, nat_tests);
+    }
 
 -- ---- one operation at a time
 
@@ -47,17 +45,9 @@ module _ (events : List Event) (complete : IsCompleteHistory events) where
         let same : ty.call.thread ≡ tx.call.thread = sym ty.made.same_thread ∙ sym threads ∙ tx.made.same_thread in
         let clash : true ≡ false = sym (eq-eqb ty.call.thread tx.call.thread same) ∙ apart in
         cc
-    | inr above ↦ elim (cases_lt tx.returned_at ty.called_at) [
-      | inl before ↦
-          let less = pairs_at (λ e r. e.ticket < r.ticket) events tx.returned_at ty.called_at tx.answer ty.call complete.tickets_rise before
-          tx.at_return ty.at_call in
-          let order : x.ret < y.call = omega (arith, tx.made.returned, ty.made.called) in
-          omega arith
-      | inr not_before ↦
-          let here : tx.returned_at ≡ ty.called_at = omega arith in
-          let one = one_at events ty.called_at tx.answer ty.call (subst (λ i. slice_get events i ≡ Some tx.answer) here tx.at_return) ty.at_call in
-          return_differs_from_call (operations_of events) x y all in_x in_y (tx.made.returned ∙ ap (λ e. e.ticket) one ∙ sym ty.made.called)
-    ]
+    | inr above ↦
+        let no_later = no_earlier_ticket events complete.tickets_rise _ _ tx.answer ty.call tx.at_return ty.at_call above in
+        return_differs_from_call (operations_of events) x y all in_x in_y (omega (arith, tx.made.returned, ty.made.called))
   ]
 
   -- one operation of a thread at most is under way at a ticket
@@ -81,7 +71,7 @@ module _ (events : List Event) (complete : IsCompleteHistory events) where
 pub bars_are_of_operations : BarsAreOfOperations
 bars_are_of_operations history claimed around o ticket complete among called returns =
     let drawn = drawn_operations history claimed around in
-    let some = found (is_under_way o.thread ticket) drawn o among (under_way_if o.thread ticket o refl called returns) in
+    let some = found (is_under_way o.thread ticket) drawn o among (grind (arith, nat_tests)) in
     let bar = no_other_bars drawn o.thread ticket some.0 some.1 in
     let same = one_bar history.events complete some.0 o ticket (among_operations history claimed around some.0 bar.among)
     (among_operations history claimed around o among) bar.own bar.called bar.returns called returns in

@@ -19,9 +19,8 @@ from_rises g (o ∷ rest) = let more = from_rises (max g o.call) rest in omega a
 -- it rises with more operations
 longer : (g : ℕ) (operations : List Operation) (m n : ℕ) → m ≤ n → greatest_from g (take m operations) ≤ greatest_from g (take n operations)
 longer g operations zero n le = from_rises g (take n operations)
-longer g [] (suc m) zero le = absurd (omega arith)
+longer g operations (suc m) zero le = absurd (omega arith)
 longer g [] (suc m) (suc n) le = omega arith
-longer g (o ∷ rest) (suc m) zero le = absurd (omega arith)
 longer g (o ∷ rest) (suc m) (suc n) le = longer (max g o.call) rest m n (omega arith)
 
 -- effects rise in the order of a `YES`

@@ -1,15 +1,15 @@
 -- Which operations are drawn: those that overlap one of a `NO`, and with no distance no others.
-use Rattle.drawing.proofs.Common.{[], ◌&&◌, ◌-◌, ◌<◌, ◌||◌, ◌∙◌, ◌∷◌, ◌≡◌, ◌≤◌, ap, arith, Bool, cases_lt}
+use Rattle.drawing.proofs.Common.{[], ◌-◌, ◌<◌, ◌||◌, ◌∙◌, ◌∷◌, ◌≡◌, ◌≤◌, ap, arith, Bool, cases_lt}
 use Rattle.drawing.proofs.Common.{cond, Contains, Contains-append_left, Contains-append_right, count_by, false}
 use Rattle.drawing.proofs.Common.{flat_map, get_or, inl, inr, IsPartitionedBy-ltb, length, List, list_any}
-use Rattle.drawing.proofs.Common.{map, nat_le, nat_lt, nat_tests, None, Option, refl, slice_get-get_or, Some, subst}
+use Rattle.drawing.proofs.Common.{map, nat_lt, nat_tests, None, Option, refl, slice_get, slice_get-get_or, Some, subst}
 use Rattle.drawing.proofs.Common.{suc, sum_by-cons, sym, true, zero, ℕ, call_before_return, Claimed, ClaimLine}
 use Rattle.drawing.proofs.Common.{contains_at, contains_cons, drawn_operations, Event, events_before, HistoryView}
-use Rattle.drawing.proofs.Common.{is_near_any, No, not_in_none, one_deeper, Op, Operation, operation_in}
+use Rattle.drawing.proofs.Common.{is_near_any, No, not_in_none, one_at, one_deeper, Op, Operation, operation_in}
 use Rattle.drawing.proofs.Common.{operations_are_complete, operations_in, operations_of, pairs_at, passed_filter}
 use Rattle.drawing.proofs.Common.{passes_filter, stand_near, standing_of, traced, Yes}
 use Rattle.std.proofs.lemmas.List.Folds.{Any-from_list_any, list_any-from_Any}
-use Rattle.std.specs.List.Sorted.{IsPartitionedBy, IsNonDecreasingBy}
+use Rattle.std.specs.List.Sorted.{IsPartitionedBy}
 use Rattle.event_records.specs.Turns.{TicketsRise}
 use Rattle.verdicts.specs.declared.verifying.ClaimLine.TheVariants.{Initial}
 use Rattle.drawing.specs.Laws.{OverlappingAreDrawn, NoOthersAreDrawn, LinesAreDrawn}
@@ -43,27 +43,27 @@ pub counted_up_to : {X : Type 0} (p : X → Bool) (xs : List X) (i : ℕ) → i 
     → ((k : ℕ) (d : X) → i ≤ k → k < length xs → p (get_or xs k d) ≡ false) → i ≡ count_by p xs
 counted_up_to p [] i within passes fails = omega arith
 counted_up_to p (x ∷ xs) zero within passes fails =
-    let here : cond {A = ℕ} (p x) 1 0 ≡ 0 = ap (λ (b : Bool). cond {A = ℕ} b 1 0) (fails 0 x (omega arith) (omega arith)) in
     let later = counted_up_to p xs 0 (omega arith) (λ k d less. absurd (omega arith)) (λ k d from to. fails (suc k) d (omega arith) (omega arith)) in
-    omega (arith, sum_by-cons (λ y. cond {A = ℕ} (p y) 1 0) x xs)
+    omega (arith, sum_by-cons (λ y. cond {A = ℕ} (p y) 1 0) x xs, later, ap (λ (b : Bool). cond {A = ℕ} b 1 0) (fails 0 x (omega arith) (omega arith)))
 counted_up_to p (x ∷ xs) (suc i) within passes fails =
-    let here : cond {A = ℕ} (p x) 1 0 ≡ 1 = ap (λ (b : Bool). cond {A = ℕ} b 1 0) (passes 0 x (omega arith)) in
     let later = counted_up_to p xs i (omega arith) (λ k d less. passes (suc k) d (omega arith)) (λ k d from to. fails (suc k) d (omega arith) (omega arith)) in
-    omega (arith, sum_by-cons (λ y. cond {A = ℕ} (p y) 1 0) x xs)
+    omega (arith, sum_by-cons (λ y. cond {A = ℕ} (p y) 1 0) x xs, later, ap (λ (b : Bool). cond {A = ℕ} b 1 0) (passes 0 x (omega arith)))
+
+-- no ticket is below that of an earlier event
+pub no_earlier_ticket : (events : List Event) → TicketsRise events → (i j : ℕ) (e r : Event) → slice_get events i ≡ Some e → slice_get events j ≡ Some r
+    → i ≤ j → e.ticket ≤ r.ticket
+no_earlier_ticket events rise i j e r at_i at_j le = elim (cases_lt i j) [
+  | inl less ↦ let below = pairs_at (λ e r. e.ticket < r.ticket) events i j e r rise less at_i at_j in omega arith
+  | inr no_less ↦
+      let same : i ≡ j = omega arith in
+      let one = ap (λ (x : Event). x.ticket) (one_at events j e r (subst (λ k. slice_get events k ≡ Some e) same at_i) at_j) in
+      omega arith
+]
 
 -- tickets rise, so those below one come first
 pub parted_by_ticket : (events : List Event) (ticket : ℕ) → TicketsRise events → IsPartitionedBy (λ e. nat_lt e.ticket ticket) events
-parted_by_ticket events ticket rise = IsPartitionedBy-ltb (λ (e : Event). e.ticket) events ticket non_decreasing
-  where
-    non_decreasing : IsNonDecreasingBy (λ (e : Event). e.ticket) events
-    non_decreasing i j d le within = elim (cases_lt i j) [
-      | inl less ↦
-          let below = pairs_at (λ e r. e.ticket < r.ticket) events i j (get_or events i d) (get_or events j d) rise less
-          (slice_get-get_or events i d (omega arith)) (slice_get-get_or events j d within) in
-          omega arith
-      | inr no_less ↦ let same : i ≡ j = omega arith in let e : (get_or events i d).ticket ≡ (get_or events j d).ticket =
-          ap (λ k. (get_or events k d).ticket) same in omega arith
-    ]
+parted_by_ticket events ticket rise = IsPartitionedBy-ltb (λ (e : Event). e.ticket) events ticket (λ i j d le within.
+    no_earlier_ticket events rise i j _ _ (slice_get-get_or events i d (omega arith)) (slice_get-get_or events j d within) le)
 
 -- ---- lines
 
@@ -90,11 +90,7 @@ among_operations history (No kind lines) (Some n) o among =
 
 -- no fewer events come before a later ticket
 before_rises : (events : List Event) (s t : ℕ) → s ≤ t → events_before events s ≤ events_before events t
-before_rises events s t no_later =
-    fewer (λ e. nat_lt e.ticket s) (λ e. nat_lt e.ticket t) (λ e before. still e.ticket before) events
-  where
-    still : (ticket : ℕ) → nat_lt ticket s ≡ true → nat_lt ticket t ≡ true
-    still ticket before = grind (arith, nat_tests)
+before_rises events s t no_later = fewer (λ e. nat_lt e.ticket s) (λ e. nat_lt e.ticket t) (λ e before. grind (arith, nat_tests)) events
 
 -- more come before a ticket after a return
 before_grows : (events : List Event) (o : Operation) (t : ℕ) → Contains (operations_of events) o → o.ret < t
@@ -102,24 +98,9 @@ before_grows : (events : List Event) (o : Operation) (t : ℕ) → Contains (ope
 before_grows events o t among less =
     let tr = traced events o among in
     let at : o.ret ≡ tr.answer.ticket = tr.made.returned in
-    let more = one_fewer (λ e. nat_lt e.ticket o.ret) (λ e. nat_lt e.ticket t) (λ e before. still e.ticket before) events tr.answer
-    (contains_at events tr.returned_at tr.answer tr.at_return) (not_itself tr.answer.ticket o.ret at) (before tr.answer.ticket o.ret at less) in
+    let more = one_fewer (λ e. nat_lt e.ticket o.ret) (λ e. nat_lt e.ticket t) (λ e before. grind (arith, nat_tests)) events tr.answer
+    (contains_at events tr.returned_at tr.answer tr.at_return) (grind (arith, nat_tests)) (grind (arith, nat_tests)) in
     omega arith
-  where
-    still : (ticket : ℕ) → nat_lt ticket o.ret ≡ true → nat_lt ticket t ≡ true
-    still ticket earlier = grind (arith, nat_tests)
-
-    not_itself : (ticket ret : ℕ) → ret ≡ ticket → nat_lt ticket ret ≡ false
-    not_itself ticket ret is = grind (arith, nat_tests)
-
-    before : (ticket ret : ℕ) → ret ≡ ticket → ret < t → nat_lt ticket t ≡ true
-    before ticket ret is earlier = grind (arith, nat_tests)
-
-near_if : (n a b c d : ℕ) → a ≤ b → c ≤ d → (nat_le (a - n) b && nat_le (c - n) d) ≡ true
-near_if n a b c d first second = grind (arith, nat_tests)
-
-near_tells : (a b c d : ℕ) → (nat_le (a - 0) b && nat_le (c - 0) d) ≡ true → (a ≤ b) × (c ≤ d)
-near_tells a b c d near = (grind (arith, nat_tests), grind (arith, nat_tests))
 
 pub overlapping_are_drawn : OverlappingAreDrawn
 overlapping_are_drawn history kind lines None x y in_x listed apart apart' = in_x
@@ -130,7 +111,7 @@ overlapping_are_drawn history kind lines (Some n) x y in_x listed apart apart' =
     passes_filter (is_near_any events n (operations_in lines)) (operations_of events) x
     (any_mapped (stand_near n (standing_of events x)) (standing_of events) (operations_in lines)
     ∙ any_of (λ o. stand_near n (standing_of events x) (standing_of events o)) (operations_in lines) y (in_operations lines y listed)
-    (near_if n (events_before events y.call) (events_before events x.ret) (events_before events x.call) (events_before events y.ret) first second)) in_x
+    (grind (arith, nat_tests, first, second))) in_x
 
 pub no_others_are_drawn : NoOthersAreDrawn
 no_others_are_drawn history kind lines x all_among drawn =
@@ -140,7 +121,8 @@ no_others_are_drawn history kind lines x all_among drawn =
     let some = some_passes (λ o. stand_near 0 (standing_of events x) (standing_of events o)) (operations_in lines) (sym mapped ∙ passed.1) in
     let y = some.0 in
     let listed = from_operations lines y some.1 in
-    let tells = near_tells (events_before events y.call) (events_before events x.ret) (events_before events x.call) (events_before events y.ret) some.2 in (
+    let first : events_before events y.call ≤ events_before events x.ret = grind (arith, nat_tests, some.2) in
+    let second : events_before events x.call ≤ events_before events y.ret = grind (arith, nat_tests, some.2) in (
       y,
       listed,
       λ less. let grows = before_grows events x y.call passed.0 less in absurd (omega arith),

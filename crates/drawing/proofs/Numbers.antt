@@ -1,18 +1,29 @@
--- The numbers of a claim.
+-- The numbers of a claim, and its lines of evidence, which are operations and initial values of the history.
 use Rattle.drawing.proofs.Common.{[], ◌+◌, ◌∙◌, ◌∷◌, ◌≡◌, ap, Bool, cond, Contains, eq-eqb, eqb-true, get_or, List}
 use Rattle.drawing.proofs.Common.{lt-ltb, map, nat_eq, None, not, Option, option_map, position, position_or_len, refl}
 use Rattle.drawing.proofs.Common.{slice_get, slice_get-get_or, slice_get_within, Some, subst, sym, true, ℕ, ClaimLine}
 use Rattle.drawing.proofs.Common.{contains_at, Op, Operation, operations_are_complete, operations_of, Row, same_call}
-use Rattle.drawing.proofs.Common.{stands_in}
+use Rattle.drawing.proofs.Common.{stands_in, ◌&&◌, ◌*◌, arith, cond_some, ◌++◌, flat_map, inl, inr, length}
+use Rattle.drawing.proofs.Common.{MatchOption, nat_le, option_to_list, contains_cons, timeline, later_by, not_in_none}
+use Rattle.drawing.proofs.Common.{one_deeper}
 use Rattle.std.proofs.lemmas.List.Folds.{find_at}
 use Rattle.std.proofs.lemmas.List.Quantifiers.{position-Some}
 use Rattle.std.proofs.lemmas.List.{length-map}
 use Rattle.verdicts.specs.declared.verifying.ClaimLine.TheVariants.{Initial}
 use Rattle.value_match.specs.Timeline.{initial_enqueue}
-use Rattle.verdicts.specs.Claims.{initial_enqueue_of}
-use Rattle.drawing.specs.declared.scene.Row.TheVariants as row
+use Rattle.verdicts.specs.Claims.{initial_enqueue_of, on_timeline, stands_for}
 use Rattle.drawing.specs.Laws.{NumbersAreOfLines, LinesHaveNumbers, InitialNumbersAreOfLines, InitialLinesHaveNumbers}
+use Rattle.drawing.specs.Laws.{LinesAreOfHistory}
 use Rattle.drawing.proofs.Bars.{found}
+use Rattle.std.proofs.lemmas.List.Elements.{All-contains, All-from_recursion}
+use Rattle.std.specs.List.{AllByRecursion}
+use Rattle.event_records.specs.declared.limits.TheConstants.{MAX_TICKET}
+use Rattle.value_match.specs.declared.life.Life.{Life}
+use Rattle.value_match.specs.Lives.{IsLife, dequeue_of, operations_of_life}
+use Rattle.value_match.specs.Violations.{FullViolation, fresh, repeat, order, witness, CoversFrom, IsViolationOf}
+use Rattle.value_match.specs.Violations.{lines_of}
+use Rattle.value_match.proofs.TimelineLines.{called_late}
+use Rattle.drawing.specs.declared.scene.Row.TheVariants as row
 
 -- the first place at which an element passes, where it is within the list
 place_if : {X : Type 0} (d : X) (xs : List X) (p : X → Bool) (i : ℕ) → position p xs ≡ Some i → (x : X) × (slice_get xs i ≡ Some x) × (p x ≡ true)
@@ -55,18 +66,18 @@ initial_lines_have_numbers lines j v among = place_of_one lines (stands_in (row.
 
 -- ---- the order of a `YES`
 
-order_place : (order : List Operation) (r : Row) → position_or_len (stands_in r) (map Op order) ≡ position_or_len (λ o. stands_in r (Op o)) order
+order_place : (operations : List Operation) (r : Row) → position_or_len (stands_in r) (map Op operations) ≡ position_or_len (λ o. stands_in r (Op o)) operations
 order_place [] r = refl
-order_place (x ∷ order) r = ap (λ (n : ℕ). cond (not (stands_in r (Op x))) (1 + n) 0) (order_place order r)
+order_place (x ∷ operations) r = ap (λ (n : ℕ). cond (not (stands_in r (Op x))) (1 + n) 0) (order_place operations r)
 
 -- the place of an operation among the lines of an order is that in the order
-pub place_in_order : (order : List Operation) (r : Row) → position (stands_in r) (map Op order) ≡ position (λ o. stands_in r (Op o)) order
-place_in_order order r = rw (order_place order r, length-map order Op) refl
+pub place_in_order : (operations : List Operation) (r : Row) → position (stands_in r) (map Op operations) ≡ position (λ o. stands_in r (Op o)) operations
+place_in_order operations r = rw (order_place operations r, length-map operations Op) refl
 
 -- ---- evidence
 
 -- what stands for an enqueue before all else is an initial value
-pub value_among : (initial : List ℕ) (v : ℕ) (x : Operation) → initial_enqueue_of initial v ≡ Some x → Contains initial v
+value_among : (initial : List ℕ) (v : ℕ) (x : Operation) → initial_enqueue_of initial v ≡ Some x → Contains initial v
 value_among initial v x stands = go (position (λ w. nat_eq w v) initial) refl stands
   where
     go : (place : Option ℕ) → position (λ w. nat_eq w v) initial ≡ place → option_map (λ j. initial_enqueue j v) place ≡ Some x → Contains initial v
@@ -74,3 +85,82 @@ value_among initial v x stands = go (position (λ w. nat_eq w v) initial) refl s
     go (Some j) is e =
         let h = place_if 0 initial (λ w. nat_eq w v) j is in
         subst (λ (w : ℕ). Contains initial w) (eqb-true h.0 v h.2) (contains_at initial j h.0 h.1)
+
+-- ---- the operations of a violation
+
+module _ (operations : List Operation) where
+  abbrev AllAmong : List Operation → Type 0
+  AllAmong list = AllByRecursion (Contains operations) list
+
+  joined : (xs ys : List Operation) → AllAmong xs → AllAmong ys → AllAmong (xs ++ ys)
+  joined [] ys first later = later
+  joined (x ∷ xs) ys first later = (first.0, joined xs ys first.1 later)
+
+  -- what may stand in a list is among the operations if its case says so
+  if_some : (o : Option Operation) (A : Type 0) (P : Operation → Type 0) → ((d : Operation) → P d → Contains operations d) → MatchOption o A P
+      → AllAmong (option_to_list o)
+  if_some None A P each is = tt
+  if_some (Some d) A P each is = (each d is, tt)
+
+  life_lines : (life : Life) → IsLife operations life → AllAmong (operations_of_life life)
+  life_lines life is = (is.1.0, if_some (dequeue_of life) _ _ (λ d did. did.0) is.2)
+
+  cover_lines : (empty before : Operation) (cover : List Life) → CoversFrom operations empty before cover → AllAmong (flat_map operations_of_life cover)
+  cover_lines empty before [] covers = absurd covers
+  cover_lines empty before (life ∷ []) covers = joined (operations_of_life life) [] (life_lines life covers.0) tt
+  cover_lines empty before (life ∷ next ∷ rest) covers =
+      joined (operations_of_life life) (flat_map operations_of_life (next ∷ rest)) (life_lines life covers.0)
+      (go (dequeue_of life) (λ d. cover_lines empty d (next ∷ rest)) covers.2)
+    where
+      go : {P : Operation → Type 0} {Q : Type 0} (o : Option Operation) → ((d : Operation) → P d → Q) → MatchOption o ⊥ P → Q
+      go None later m = absurd m
+      go (Some d) later m = later d m
+
+  -- the lines of a violation are operations
+  full_lines : (full : FullViolation) → IsViolationOf operations full → AllAmong (lines_of full)
+  full_lines (fresh deq None) is = (is.dequeues.0, tt)
+  full_lines (fresh deq (Some enq)) is =
+      let enqueued : Contains operations enq = elim is.enqueues [ inl refused ↦ refused.0 | inr late ↦ late.0.0 ] in
+      (is.dequeues.0, (enqueued, tt))
+  full_lines (repeat enq first second) is = (is.enqueues.0, (is.dequeues.0, (is.dequeues_again.0, tt)))
+  full_lines (order enq_a enq_b deq_b deq_a) is =
+      (is.enqueues_a.0, (is.enqueues_b.0, (is.dequeues_b.0, if_some deq_a _ _ (λ d did. did.0.0) is.dequeued_later)))
+  full_lines (witness empty cover) is = (is.answers_empty.0, cover_lines empty empty cover is.covers)
+
+-- ---- what lines of evidence stand for
+
+-- a line of evidence stands for one of its operations
+stands : (initial : List ℕ) (lines : List ClaimLine) (shown : List Operation) (l : ClaimLine) → map (stands_for initial) lines ≡ map (λ o. Some o) shown
+    → Contains lines l → (x : Operation) × Contains shown x × (stands_for initial l ≡ Some x)
+stands initial [] shown l same among = absurd (not_in_none l among)
+stands initial (m ∷ lines) [] l same among = absurd (cc)
+stands initial (m ∷ lines) (x ∷ shown) l same among = elim (contains_cons m lines l among) [
+  | inl here ↦ let first : stands_for initial m ≡ Some x = cc in
+      (x, contains_at (x ∷ shown) 0 x refl, ap (stands_for initial) (sym here) ∙ first)
+  | inr there ↦
+      let later : map (stands_for initial) lines ≡ map (λ o. Some o) shown = cc in
+      let found = stands initial lines shown l later there in
+      (found.0, one_deeper x shown found.0 found.1, found.2)
+]
+
+-- an operation that stands for another is that, earlier
+stands_later : (n : ℕ) (o x : Operation) → on_timeline n o ≡ Some x → later_by (2 * n) o ≡ x
+stands_later n o x is = (cond_some (nat_le o.call MAX_TICKET && nat_le o.ret MAX_TICKET) (later_by (2 * n) o) x is).1
+
+-- the lines of evidence are of the history
+pub lines_are_of_history : LinesAreOfHistory
+lines_are_of_history initial operations kind lines claim = (listed, held)
+  where
+    listed : (o : Operation) → Contains lines (Op o) → Contains operations o
+    listed o among =
+        let s = stands initial lines claim.0 (Op o) claim.1 among in
+        let later = stands_later (length initial) o s.0 s.2 in
+        let shown = subst (λ os. Contains os s.0) (sym claim.2.2) s.1 in
+        let all = timeline initial operations in
+        let each = All-from_recursion (Contains all) (lines_of claim.2.0) (full_lines all claim.2.0 claim.2.3) in
+        let there = All-contains (Contains all) (lines_of claim.2.0) s.0 each shown in
+        let called : o.call + 2 * length initial ≡ s.0.call = ap (λ (y : Operation). y.call) later in
+        (called_late initial operations s.0 o (omega arith) later).1 there
+
+    held : (v : ℕ) → Contains lines (Initial v) → Contains initial v
+    held v among = let s = stands initial lines claim.0 (Initial v) claim.1 among in value_among initial v s.0 s.2

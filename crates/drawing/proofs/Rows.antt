@@ -1,13 +1,16 @@
 -- Rows stand in the order of time.
-use Rattle.drawing.proofs.Common.{[], ◌&&◌, ◌++◌, ◌+◌, ◌<◌, ◌==◌, ◌||◌, ◌∙◌, ◌∷◌, ◌≡◌, ◌≤◌, ◌⊎◌, ap, arith, Bool}
+use Rattle.drawing.proofs.Common.{[], ◌++◌, ◌+◌, ◌==◌, ◌||◌, ◌∙◌, ◌∷◌, ◌≡◌, ◌≤◌, ◌⊎◌, ap, arith, Bool}
 use Rattle.drawing.proofs.Common.{cases_lt, cond_both, Contains, Contains-append_left, Contains-append_right}
 use Rattle.drawing.proofs.Common.{Contains-permutation, enumerate_from, eq-eqb, eqb-true, false, flat_map, inl, inr}
-use Rattle.drawing.proofs.Common.{IsPermutation-sym, length, List, nat_eq, nat_lt, nat_tests, refl, slice_get, Some}
-use Rattle.drawing.proofs.Common.{subst, suc, sum_by, sum_by-append, sum_by-cons, sym, true, zero, zero-add, ℕ, Claimed}
+use Rattle.drawing.proofs.Common.{IsPermutation-sym, length, List, nat_eq, nat_tests, refl, slice_get, slice_get_within, Some}
+use Rattle.drawing.proofs.Common.{subst, sum_by, sum_by-append, sum_by-cons, sym, true, zero-add, ℕ, Claimed}
 use Rattle.drawing.proofs.Common.{contains_at, contains_cons, effect_if, effect_row_if, effect_rows, Event, event_rows}
 use Rattle.drawing.proofs.Common.{has_row, HistoryView, initial_row, initial_rows, left_out_rows, not_in_none}
-use Rattle.drawing.proofs.Common.{Operation, operations_of, point, Row, row_number, row_time, row_turn, rows_after}
+use Rattle.drawing.proofs.Common.{Operation, operations_of, point, Row, row_number, rows_after}
 use Rattle.drawing.proofs.Common.{rows_of, stands_above, traced, Yes}
+use Rattle.std.proofs.Common.{ap₂}
+use Rattle.std.proofs.lemmas.List.FromFn.{get_or-enumerate_from, length-enumerate_from}
+use Rattle.std.proofs.lemmas.Option.{get_or_from_slice_get}
 use Rattle.drawing.specs.Claim.{order_of}
 use Rattle.drawing.specs.declared.scene.Row.TheVariants.{Head, Initial, Ticket, LeftOut, Effect}
 use Rattle.drawing.specs.Laws.{RowsRise, InitialValuesHaveRows, OperationsHaveRows, EffectsHaveRows, InitialRowsAreFirst, RowsTellPrecedence}
@@ -18,53 +21,25 @@ use Rattle.drawing.proofs.Effects.{effects_are_in_bars, effects_rise, point_is_a
 
 -- ---- numbers rise
 
--- a time, and the turn in it, before others
-abbrev is_before : ℕ → ℕ → ℕ → ℕ → Bool
-is_before s m t n = nat_lt s t || (nat_eq s t && nat_lt m n)
-
-carried : (a x s m t n : ℕ) → is_before s m t n ≡ true → is_before a x s m ≡ true → is_before a x t n ≡ true
-carried a x s m t n before above = grind (arith, nat_tests)
-
-not_itself : (s m : ℕ) → is_before s m s m ≡ false
-not_itself s m = grind (arith, nat_tests)
-
-earlier : (s m t n : ℕ) → s < t → is_before s m t n ≡ true
-earlier s m t n less = grind (arith, nat_tests)
-
-in_turn : (s m t n : ℕ) → s ≤ t → m < n → is_before s m t n ≡ true
-in_turn s m t n no_later less = grind (arith, nat_tests)
-
 pub rows_rise : RowsRise
 unfolding row_number
 rows_rise rows other r among above =
-    let more = one_fewer (λ a. stands_above a other) (λ a. stands_above a r)
-    (λ a higher. carried (row_time a) (row_turn a) (row_time other) (row_turn other) (row_time r) (row_turn r) above higher) rows other among
-    (not_itself (row_time other) (row_turn other)) above in
+    let more = one_fewer (λ a. stands_above a other) (λ a. stands_above a r) (λ a higher. grind (arith, nat_tests)) rows other among
+    (grind (arith, nat_tests)) above in
     omega arith
 
 -- rows of earlier tickets don't stand lower
 no_lower : (rows : List Row) (s t : ℕ) → s ≤ t → row_number rows (Ticket s) ≤ row_number rows (Ticket t)
 unfolding row_number
-no_lower rows s t no_later =
-    fewer (λ a. stands_above a (Ticket s)) (λ a. stands_above a (Ticket t)) (λ a higher. later_still (row_time a) (row_turn a) higher) rows
-  where
-    later_still : (a x : ℕ) → is_before a x (s + 1) 0 ≡ true → is_before a x (t + 1) 0 ≡ true
-    later_still a x higher = grind (arith, nat_tests)
+no_lower rows s t no_later = fewer (λ a. stands_above a (Ticket s)) (λ a. stands_above a (Ticket t)) (λ a higher. grind (arith, nat_tests)) rows
 
 -- ---- rows of their own
 
-enumerated_at : {X : Type 0} (a : ℕ) (xs : List X) (i : ℕ) (x : X) → slice_get xs i ≡ Some x → slice_get (enumerate_from a xs) i ≡ Some (a + i, x)
-enumerated_at a [] i x at = absurd (cc)
-enumerated_at a (y ∷ ys) zero x at = let e : a ≡ a + 0 = omega arith in ap (λ n. Some (n, y)) e ∙ ap (λ z. Some (a + 0, z)) (the_same at)
-  where
-    the_same : Some y ≡ Some x → y ≡ x
-    the_same is = cc
-enumerated_at a (y ∷ ys) (suc i) x at =
-    let e : a + 1 + i ≡ a + suc i = omega arith in
-    enumerated_at (a + 1) ys i x at ∙ ap (λ n. Some (n, x)) e
-
 in_enumerated : {X : Type 0} (xs : List X) (i : ℕ) (x : X) → slice_get xs i ≡ Some x → Contains (enumerate_from 0 xs) (i, x)
-in_enumerated xs i x at = contains_at (enumerate_from 0 xs) i (i, x) (enumerated_at 0 xs i x at ∙ ap (λ n. Some (n, x)) (zero-add i))
+in_enumerated xs i x at =
+    let within = slice_get_within xs i x at in
+    let here = get_or-enumerate_from 0 xs i (i, x) within in
+    (i, omega (arith, length-enumerate_from 0 xs), here ∙ ap₂ (λ n y. (n, y)) (zero-add i) (get_or_from_slice_get xs i x x at))
 
 pub initial_values_have_rows : InitialValuesHaveRows
 unfolding rows_of
@@ -105,11 +80,7 @@ with_event history claimed drawn e r among own here =
 
 -- the event of an operation that is drawn has its own row
 has_own : (drawn : List Operation) (o : Operation) (ticket : ℕ) → Contains drawn o → (o.call ≡ ticket) ⊎ (o.ret ≡ ticket) → has_row drawn ticket ≡ true
-has_own drawn o ticket among at = any_of (λ o. nat_eq o.call ticket || nat_eq o.ret ticket) drawn o among (passes o.call o.ret at)
-  where
-    passes : (call ret : ℕ) → (call ≡ ticket) ⊎ (ret ≡ ticket) → (nat_eq call ticket || nat_eq ret ticket) ≡ true
-    passes call ret (inl called) = grind (arith, nat_tests)
-    passes call ret (inr returned) = grind (arith, nat_tests)
+has_own drawn o ticket among at = any_of (λ o. nat_eq o.call ticket || nat_eq o.ret ticket) drawn o among (grind (arith, nat_tests, at))
 
 pub operations_have_rows : OperationsHaveRows
 operations_have_rows history claimed drawn o among drawn_too =
@@ -195,14 +166,14 @@ effects_have_rows history order i o complete legal at =
 pub initial_rows_are_first : InitialRowsAreFirst
 initial_rows_are_first history claimed drawn j later v w ticket at less =
     let among = initial_values_have_rows history claimed drawn j v at in (
-      rows_rise _ (Initial j v) (Initial later w) among (in_turn 0 (j + 1) 0 (later + 1) (omega arith) (omega arith)),
-      rows_rise _ (Initial j v) (Ticket ticket) among (earlier 0 (j + 1) (ticket + 1) 0 (omega arith)),
+      rows_rise _ (Initial j v) (Initial later w) among (grind (arith, nat_tests)),
+      rows_rise _ (Initial j v) (Ticket ticket) among (grind (arith, nat_tests)),
     )
 
 pub rows_tell_precedence : RowsTellPrecedence
 rows_tell_precedence history claimed drawn x y in_x drawn_too = (
   λ less. rows_rise _ (Ticket x.ret) (Ticket y.call) (operations_have_rows history claimed drawn x in_x drawn_too).1
-      (earlier (x.ret + 1) 0 (y.call + 1) 0 (omega arith)),
+      (grind (arith, nat_tests)),
   λ above. elim (cases_lt x.ret y.call) [
     | inl less ↦ less
     | inr not_less ↦ let low = no_lower (rows_of history claimed drawn) y.call x.ret (omega arith) in absurd (omega arith)
@@ -216,12 +187,12 @@ effect_rows_are_in_bars history order i o complete legal at =
     (contains_at order i o at) in (
       rows_rise _ (Ticket o.call) (Effect o (i + 1) (point order i))
           (operations_have_rows history (Yes order) (operations_of history.events) o among among).0
-          (in_turn (o.call + 1) 0 (point order i + 1) (i + 1) (let c = window.0 in omega arith) (omega arith)),
+          (grind (arith, nat_tests, window.0)),
       rows_rise _ (Effect o (i + 1) (point order i)) (Ticket o.ret) (effects_have_rows history order i o complete legal at)
-          (earlier (point order i + 1) (i + 1) (o.ret + 1) 0 (let c = window.1 in omega arith)),
+          (grind (arith, nat_tests, window.1)),
     )
 
 pub effect_rows_rise : EffectRowsRise
 effect_rows_rise history order i j o p complete legal at less =
     rows_rise _ (Effect o (i + 1) (point order i)) (Effect p (j + 1) (point order j)) (effects_have_rows history order i o complete legal at)
-    (in_turn (point order i + 1) (i + 1) (point order j + 1) (j + 1) (let rises = effects_rise order i j (omega arith) in omega arith) (omega arith))
+    (let rises = effects_rise order i j (omega arith) in grind (arith, nat_tests))

@@ -1,18 +1,14 @@
 -- A picture is a well-formed document.
-use Rattle.svg_picture.proofs.Common.{[], ◌&&◌, ◌∷◌, ◌≡◌, ap₂, Bool, cond, false, List, refl, rules, true, ℕ, Content}
-use Rattle.svg_picture.proofs.Common.{Defs, Desc, Element, Group, inside, is_plain, Line, Nothing, page_content}
-use Rattle.svg_picture.proofs.Common.{page_of, Pattern, plain_byte, plain_words, Rect, Style, Svg, svg_picture, Tag}
-use Rattle.svg_picture.proofs.Common.{tag_attributes, tag_name, Text, text_of, Then, Title, Words}
+use Rattle.svg_picture.proofs.Common.{[], ◌&&◌, ◌∷◌, ◌≡◌, ap₂, List, refl, rules, true, ℕ, Content, Element, inside}
+use Rattle.svg_picture.proofs.Common.{is_plain, Nothing, page_content, page_of, plain_byte, plain_words, Svg}
+use Rattle.svg_picture.proofs.Common.{svg_picture, Tag, tag_attributes, tag_name, text_of, Then, Title, Words}
+use Rattle.std.proofs.lemmas.Bool.{cond_both}
 use Rattle.svg_picture.specs.Laws.{are_plain, IsTag, IsMarkup, PicturesAreWellFormed, nothing, plain, closed, both}
 
 -- ---- plain words
 
 byte_plain : (b : ℕ) → is_plain (plain_byte b) ≡ true
-byte_plain b = go (is_plain b) refl
-  where
-    go : (p : Bool) → is_plain b ≡ p → is_plain (cond p b 63) ≡ true
-    go true is = is
-    go false is = refl
+byte_plain b = cond_both (is_plain b) b 63 (λ c. is_plain c ≡ true) (λ is. is) (λ is. refl)
 
 -- words in plain bytes are plain
 made_plain : (bytes : List ℕ) → are_plain (plain_words bytes) ≡ true
@@ -23,16 +19,8 @@ made_plain (b ∷ bytes) = ap₂ ◌&&◌ (byte_plain b) (made_plain bytes)
 
 -- each tag is one
 tag_is : (tag : Tag) → IsTag (tag_name tag) (tag_attributes tag)
-tag_is (Svg w h box) = record { named = refl; distinct = refl; each = search (rules, made_plain) }
 tag_is Title = record { named = refl; distinct = refl; each = search (rules, made_plain) }
-tag_is Desc = record { named = refl; distinct = refl; each = search (rules, made_plain) }
-tag_is Style = record { named = refl; distinct = refl; each = search (rules, made_plain) }
-tag_is Defs = record { named = refl; distinct = refl; each = search (rules, made_plain) }
-tag_is (Pattern id y w h) = record { named = refl; distinct = refl; each = search (rules, made_plain) }
-tag_is (Group class) = record { named = refl; distinct = refl; each = search (rules, made_plain) }
-tag_is (Text x y w class) = record { named = refl; distinct = refl; each = search (rules, made_plain) }
-tag_is (Rect x y w h round class) = record { named = refl; distinct = refl; each = search (rules, made_plain) }
-tag_is (Line x1 y1 x2 y2 class) = record { named = refl; distinct = refl; each = search (rules, made_plain) }
+tag_is tag = record { named = refl; distinct = refl; each = search (rules, made_plain) }
 
 -- ---- documents
 

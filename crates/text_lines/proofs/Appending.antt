@@ -1,17 +1,12 @@
 -- Bytes that are written in turn.
-use Rattle.std.proofs.Common.{◌≡◌, ℕ, ◌+◌, ◌-◌, ◌<◌, Bool, get_or, ◌∷◌, ◌||◌, ◌&&◌, not, List, [], ◌++◌, length, take, drop, Option}
-use Rattle.std.proofs.Common.{append-nil, append_assoc, sym, ◌∙◌, ap, subst, arith, length-drop, inl, inr, Ok, Err}
-use Rattle.std.specs.Prelude.{◌==◌, OnOk}
-use Rattle.std.specs.declared.result.Result.{Result}
-use Rattle.std.specs.Io.KnownBytes.{Appends, Keeps}
-use Rattle.std.specs.List.{flat_map}
+use Rattle.text_lines.proofs.Common.{take_rest, ◌≡◌, ℕ, ◌+◌, ◌-◌, ◌<◌, Bool, get_or, ◌∷◌, ◌||◌, ◌&&◌, not, List, []}
+use Rattle.text_lines.proofs.Common.{◌++◌, length, take, drop, Option, append-nil, append_assoc, sym, ◌∙◌, ap, subst}
+use Rattle.text_lines.proofs.Common.{inl, inr, Ok, Err, ◌==◌, OnOk, Result, Appends, Keeps, flat_map, Appends-trans}
+use Rattle.text_lines.proofs.Common.{take-add, or-false, take-append-drop, eqb_tells, AppendsFront, append_known}
 use Rattle.std.proofs.lemmas.Grind.{flat_map-append}
-use Rattle.std.proofs.KnownBytes.{Appends-trans, Appends-kept}
-use Rattle.std.proofs.Math.Seq.{take-add}
-use Rattle.std.proofs.Math.Bool.{or-false}
-use Rattle.std.proofs.lemmas.List.{take-append-drop, take_all, take_more}
-use Rattle.std.proofs.lemmas.Bool.Decides.{eqb_tells}
-use Rattle.text_lines.specs.Writing.{AppendsFront, Puts}
+use Rattle.std.proofs.KnownBytes.{Appends-kept, Keeps-trans, append_known-moved}
+use Rattle.std.proofs.lemmas.List.{take_more}
+use Rattle.text_lines.specs.Writing.{Puts}
 
 -- what holds anyway holds if a call succeeded
 pub on_ok : {T E : Type 0} (r : Result T E) (P : Type 0) → P → OnOk r P
@@ -38,8 +33,7 @@ stops_at_failure piece done a b c before same = stops piece done a c (Appends-ke
 pub goes_on : (piece : List ℕ) (done n : ℕ) (a b c : Option (List ℕ)) → Appends a b (take done piece)
     → Appends b c (take n (take (length piece - done) (drop done piece))) → Appends a c (take (done + n) piece)
 goes_on piece done n a b c before now =
-    let rest : take (length piece - done) (drop done piece) ≡ drop done piece = take_all _ _ (omega (arith, length-drop done piece)) in
-    subst (Appends a c) (ap (λ (r : List ℕ). take done piece ++ take n r) rest ∙ sym (take-add done n piece)) (Appends-trans a b c _ _ before now)
+    subst (Appends a c) (ap (λ (r : List ℕ). take done piece ++ take n r) (take_rest piece done) ∙ sym (take-add done n piece)) (Appends-trans a b c _ _ before now)
 
 -- a write that took some bytes refuses nothing
 pub no_refusal : (before after first : Bool) (n : ℕ) (piece : List ℕ) → after ≡ (before || ((n == 0) && not (length piece == 0))) → (n ≡ 0 → ⊥)
@@ -61,6 +55,15 @@ front_first a b xs ys h = record {
   written = h.written;
 }
 
+-- a text is appended, and then a prefix of the next
+pub front_after : (a b c : Option (List ℕ)) (xs ys : List ℕ) → Appends a b xs → AppendsFront b c ys → AppendsFront a c (xs ++ ys)
+front_after a b c xs ys h k = record {
+  front = xs ++ k.front;
+  rest = k.rest;
+  whole = ap (λ (r : List ℕ). xs ++ r) k.whole ∙ sym (append_assoc xs k.front k.rest);
+  written = Appends-trans a b c xs k.front h k.written;
+}
+
 -- two texts are put in turn
 pub Puts-append : (a b c : Option (List ℕ)) (kept mid rest xs ys : List ℕ) → Puts a b kept mid xs → Puts b c mid rest ys → Puts a c kept rest (xs ++ ys)
 Puts-append a b c kept mid rest xs ys h k = record {
@@ -73,13 +76,9 @@ Puts-append a b c kept mid rest xs ys h k = record {
 -- the first text is put, and then a prefix of what is held back and the second goes out
 pub front_next : (a b c : Option (List ℕ)) (kept mid xs ys : List ℕ) → Puts a b kept mid xs → AppendsFront b c (mid ++ ys)
     → AppendsFront a c (kept ++ (xs ++ ys))
-front_next a b c kept mid xs ys h k = record {
-  front = h.out ++ k.front;
-  rest = k.rest;
-  whole = sym (append_assoc kept xs ys) ∙ ap (λ (r : List ℕ). r ++ ys) h.whole ∙ append_assoc h.out mid ys ∙ ap (λ (r : List ℕ). h.out ++ r) k.whole
-      ∙ sym (append_assoc h.out k.front k.rest);
-  written = Appends-trans a b c h.out k.front h.written k.written;
-}
+front_next a b c kept mid xs ys h k =
+    let whole = sym (append_assoc h.out mid ys) ∙ ap (λ (r : List ℕ). r ++ ys) (sym h.whole) ∙ append_assoc kept xs ys in
+    subst (AppendsFront a c) whole (front_after a b c h.out (mid ++ ys) h.written k)
 
 -- ---- a text for each of a list
 
@@ -109,9 +108,16 @@ puts_all a b c kept text h k = subst (Appends a c) (sym h.whole) (Appends-trans 
 
 -- a prefix of what is held back goes out
 pub puts_front : (a b c : Option (List ℕ)) (kept text : List ℕ) → Puts a b [] kept text → AppendsFront b c kept → AppendsFront a c text
-puts_front a b c kept text h k = record {
-  front = h.out ++ k.front;
-  rest = k.rest;
-  whole = h.whole ∙ ap (λ (r : List ℕ). h.out ++ r) k.whole ∙ sym (append_assoc h.out k.front k.rest);
-  written = Appends-trans a b c h.out k.front h.written k.written;
-}
+puts_front a b c kept text h k = subst (AppendsFront a c) (sym h.whole) (front_after a b c h.out kept h.written k)
+
+-- ---- bytes that a sink keeps back, and passes on in turn
+
+module _ (first a b : Option (List ℕ)) (all kept : List ℕ) (at : ℕ) (known : Keeps (append_known first all) (append_known a (drop at kept))) where
+  -- the inner sink took some of them
+  pub some_passed_on : (n : ℕ) → (drop n (drop at kept) ≡ drop (at + n) kept) → Appends a b (take n (take (length kept - at) (drop at kept)))
+      → Keeps (append_known first all) (append_known b (drop (at + n) kept))
+  some_passed_on n later now =
+      let front : Appends a b (take n (drop at kept)) = subst (λ (t : List ℕ). Appends a b (take n t)) (take_rest kept at) now in
+      let whole : drop at kept ≡ take n (drop at kept) ++ drop (at + n) kept =
+      sym (take-append-drop n (drop at kept)) ∙ ap (λ (t : List ℕ). take n (drop at kept) ++ t) later in
+      Keeps-trans _ _ _ known (append_known-moved a b (take n (drop at kept)) (drop (at + n) kept) (drop at kept) front whole)

@@ -1,15 +1,9 @@
 -- What a sink was asked, one call after another.
-use Rattle.std.proofs.Common.{◌≡◌, ℕ, zero, suc, ◌&&◌, not, Bool, List, length, refl, sym, subst, inl, inr}
-use Rattle.std.specs.Prelude.{◌==◌, if◌then◌else◌}
-use Rattle.std.proofs.lemmas.Bool.Decides.{eqb_tells}
-use Rattle.text_lines.specs.Writing.{Asked, Took, Refused, TakesTimes, IsWritten, IsRefused}
+use Rattle.text_lines.proofs.Common.{◌≡◌, ℕ, zero, suc, ◌&&◌, not, Bool, List, length, refl, sym, subst, inl, inr}
+use Rattle.text_lines.proofs.Common.{◌==◌, if◌then◌else◌, eqb_tells, Asked, IsWritten, IsRefused}
+use Rattle.text_lines.specs.Writing.{Took, Refused, TakesTimes}
 
 module _ {S : Type 0} (transition : S → Asked → S → Type 0) where
-  -- one more call
-  takes_one_more : (n : ℕ) (a b c : S) → TakesTimes transition n a b → transition b Took c → TakesTimes transition (suc n) a c
-  takes_one_more zero a b c same last = (c, subst (λ (s : S). transition s Took c) (sym same) last, refl)
-  takes_one_more (suc n) a b c before last = (before.0, before.1, takes_one_more n before.0 b c before.2 last)
-
   takes_then : (m n : ℕ) (a b c : S) → TakesTimes transition m a b → TakesTimes transition n b c → (k : ℕ) × TakesTimes transition k a c
   takes_then zero n a b c same after = (n, subst (λ (s : S). TakesTimes transition n s c) (sym same) after)
   takes_then (suc m) n a b c before after =
@@ -24,15 +18,15 @@ module _ {S : Type 0} (transition : S → Asked → S → Type 0) where
         | inr h ↦ subst (λ (t : Bool). transition a (if t && not (length piece == 0) then Refused else Took) b) h.0 asked
       ]
 
-  -- bytes were taken once more
-  pub written_more : (a b c : S) → IsWritten transition a b → transition b Took c → IsWritten transition a c
-  written_more a b c before last = record { calls = suc before.calls; taken = takes_one_more before.calls a b c before.taken last }
-
   -- two bodies that only write, one after the other
   pub written_then : (a b c : S) → IsWritten transition a b → IsWritten transition b c → IsWritten transition a c
   written_then a b c before after =
       let both = takes_then before.calls after.calls a b c before.taken after.taken in
       record { calls = both.0; taken = both.1 }
+
+  -- bytes were taken once more
+  pub written_more : (a b c : S) → IsWritten transition a b → transition b Took c → IsWritten transition a c
+  written_more a b c before last = written_then a b c before (record { calls = 1; taken = (c, last, refl) })
 
   -- a call is refused after bytes were taken
   pub refused_last : (a b c : S) → IsWritten transition a b → transition b Refused c → IsRefused transition a c

@@ -1,5 +1,7 @@
 -- Bytes that are taken in turn.
-use Rattle.std.proofs.Common.{◌≡◌, ℕ, List, ◌++◌, Option, Some, None, append_assoc, append-nil, sym, ◌∙◌, ap, IfSome, subst}
+use Rattle.text_lines.proofs.Common.{◌≡◌, ℕ, List, ◌++◌, Option, Some, None, append_assoc, append-nil, sym, ◌∙◌, ap}
+use Rattle.text_lines.proofs.Common.{subst}
+use Rattle.std.proofs.Common.{IfSome}
 use Rattle.text_lines.specs.Input.{Ahead, Ending, Takes, IsOver}
 
 -- bytes that are taken in two steps are taken

@@ -1,16 +1,12 @@
 -- Digits that are read eight at a time.
-use Rattle.std.proofs.Common.{◌≡◌, ℕ, ◌+◌, ◌-◌, ◌*◌, ◌/◌, ◌%◌, ◌^◌, ◌<◌, ◌≤◌, List}
-use Rattle.std.proofs.Common.{[], ◌∷◌, ◌++◌, length, map, take, drop, get_or, bit_and, bit_or, bit_xor, eqb}
-use Rattle.std.proofs.Common.{arith, ap, sym, ◌∙◌, refl, inl, inr, length-drop, add-zero}
-use Rattle.std.specs.Char.{is_ascii_digit}
-use Rattle.std.specs.Int.{w64, from_le_bytes, trailing_zeros}
-use Rattle.std.specs.Prelude.{decimal}
-use Rattle.std.specs.Str.Parse.{digits_value}
-use Rattle.std.proofs.Math.Seq.{take-add}
-use Rattle.std.proofs.lemmas.Bool.{cases_lt}
-use Rattle.std.proofs.lemmas.List.{length-take-le, take_all, take_rest, drop-drop, get_or-drop}
-use Rattle.std.proofs.lemmas.List.Folds.{list_all-append}
-use Rattle.std.proofs.lemmas.List.Sums.{prefix_len-le-length}
+use Rattle.text_lines.proofs.Common.{◌≡◌, ℕ, ◌+◌, ◌-◌, ◌*◌, ◌/◌, ◌^◌, ◌<◌, ◌≤◌, List, [], ◌∷◌, ◌++◌, length, map}
+use Rattle.text_lines.proofs.Common.{take, drop, get_or, arith, ap, sym, ◌∙◌, refl, inl, inr, length-drop}
+use Rattle.text_lines.proofs.Common.{is_ascii_digit, w64, from_le_bytes, decimal, digits_value, take-add, cases_lt}
+use Rattle.text_lines.proofs.Common.{length-take-le, take_all, take_rest, drop-drop, list_all-append}
+use Rattle.text_lines.proofs.Common.{prefix_len-le-length, IsDigitsSoFar}
+use Rattle.std.proofs.Common.{◌%◌, bit_and, bit_or, bit_xor, eqb, add-zero}
+use Rattle.std.specs.Int.{trailing_zeros}
+use Rattle.std.proofs.lemmas.List.{get_or-drop}
 use Rattle.core.specs.Dec2flt.Digits.{IsEightBytes, IsEightDigits, less_zero}
 use Rattle.core.specs.Float.Numeral.{digits_len}
 use Rattle.core.specs.Int.Digits.{AllBelowBase, number_from_digits}
@@ -19,7 +15,6 @@ use Rattle.core.proofs.dec2flt.Eight.{all_digits, eight_is, first_other, lanes_a
 use Rattle.core.proofs.slice.Flagged.{flags_from_ten}
 use lib.Dec.{eqb→eq}
 use lib.Lanes.{number_l}
-use Rattle.text_lines.specs.Inner.Digits.{IsDigitsSoFar}
 use Rattle.text_lines.proofs.Scanning.{number_stands}
 
 -- ---- eight bytes as a word

@@ -1,14 +1,10 @@
 -- The fields of a line, one after another.
-use Rattle.std.proofs.Common.{◌≡◌, ℕ, ◌+◌, ◌-◌, ◌<◌, List, [], ◌∷◌, ◌++◌, length}
-use Rattle.std.proofs.Common.{get_or, take, drop, arith, ap, sym, ◌∙◌, refl, add-one, drop-cons}
-use Rattle.std.proofs.Common.{false, length-drop, suc, Bool, true, cond, inl, inr}
+use Rattle.text_lines.proofs.Common.{take_rest, ◌≡◌, ℕ, ◌+◌, ◌-◌, ◌<◌, List, [], ◌∷◌, ◌++◌, length, get_or, take, drop, arith}
+use Rattle.text_lines.proofs.Common.{ap, sym, ◌∙◌, refl, false, suc, Bool, true, cond, inl, inr}
+use Rattle.text_lines.proofs.Common.{take-append-drop, get_or-take, length-take-le, All-from_get_or}
+use Rattle.text_lines.proofs.Common.{slice_split_at, slice_split_none, eqb_tells, nat_tests, ◌==◌, fields_of}
+use Rattle.std.proofs.Common.{add-one, drop-cons}
 use Rattle.std.specs.List.{onto_first, slice_split}
-use Rattle.std.proofs.lemmas.List.{take-append-drop, get_or-take, take_all, length-take-le}
-use Rattle.std.proofs.lemmas.List.Elements.{All-from_get_or}
-use Rattle.std.proofs.lemmas.List.Splits.{slice_split_at, slice_split_none}
-use Rattle.std.proofs.lemmas.Bool.Decides.{eqb_tells, nat_tests}
-use Rattle.std.specs.Prelude.{◌==◌}
-use Rattle.text_lines.specs.Lines.{fields_of}
 
 abbrev is_space : ℕ → Bool
 is_space b = b == 32
@@ -21,9 +17,6 @@ module _ (separator : ℕ) where
   -- another byte is no separator
   other_byte : (b : ℕ) → (b ≡ separator → ⊥) → (b == separator) ≡ false
   other_byte b other = elim (eqb_tells b separator) [ inl h ↦ absurd (other h.1) | inr h ↦ h.0 ]
-
-  same_byte : (separator == separator) ≡ true
-  same_byte = grind (arith, nat_tests)
 
   -- if no separator stands there is one part
   pub is_one_part : (bytes : List ℕ) → ((k : ℕ) → k < length bytes → get_or bytes k 0 ≡ separator → ⊥) → parts bytes ≡ bytes ∷ []
@@ -40,9 +33,8 @@ module _ (separator : ℕ) where
       (λ k h. let below : k < i = omega (arith, front_length) in rw (get_or-take i bytes k 0 below) (other_byte (get_or bytes k 0) (none k below))) in
       let cut : drop i bytes ≡ separator ∷ drop (i + 1) bytes = rw (add-one, drop-cons bytes i 0) (ap (λ (b : ℕ). b ∷ drop (suc i) bytes) here) in
       let whole : front ++ separator ∷ drop (i + 1) bytes ≡ bytes = rw (← cut) (take-append-drop i bytes) in
-      let split = slice_split_at (λ b. b == separator) front separator (drop (i + 1) bytes) clean same_byte in
-      let rest : take (length bytes - (i + 1)) (drop (i + 1) bytes) ≡ drop (i + 1) bytes = take_all _ _ (omega (arith, length-drop (i + 1) bytes)) in
-      sym (ap parts whole) ∙ split ∙ ap (λ (r : List ℕ). front ∷ parts r) (sym rest)
+      let split = slice_split_at (λ b. b == separator) front separator (drop (i + 1) bytes) clean (grind (arith, nat_tests)) in
+      sym (ap parts whole) ∙ split ∙ ap (λ (r : List ℕ). front ∷ parts r) (sym (take_rest bytes (i + 1)))
 
 -- a line has a first field
 pub has_field : (bytes : List ℕ) → (field : List ℕ) × (others : List (List ℕ)) × (fields_of bytes ≡ field ∷ others)

@@ -1,13 +1,13 @@
 -- The front of bytes of which the beginning is known.
-use Rattle.std.proofs.Common.{◌≡◌, ℕ, suc, ◌+◌, ◌<◌, List, [], ◌∷◌, ◌++◌, length, take, drop, true, false, not, ◌&&◌, cond, nat_lt, nat_le, arith, ap}
-use Rattle.std.proofs.Common.{ap₂, sym, ◌∙◌, refl, zero-add, length-append, append-nil, append_assoc}
+use Rattle.text_lines.proofs.Common.{◌≡◌, ℕ, suc, ◌+◌, ◌<◌, List, [], ◌∷◌, ◌++◌, length, take, drop, true, false, not}
+use Rattle.text_lines.proofs.Common.{◌&&◌, cond, nat_lt, nat_le, arith, ap, ap₂, sym, ◌∙◌, refl, length-append}
+use Rattle.text_lines.proofs.Common.{append-nil, append_assoc, take-append_seam, list_all-append, nat_tests}
+use Rattle.text_lines.proofs.Common.{is_line_feed, has_no_line_feed, IsPartOfLine}
+use Rattle.std.proofs.Common.{zero-add}
 use Rattle.std.proofs.Math.Bool.{and-false}
 use Rattle.std.specs.List.{position_or_len}
-use Rattle.std.proofs.Math.Seq.{take-append_seam, drop-append-add}
-use Rattle.std.proofs.lemmas.List.Folds.{list_all-append}
-use Rattle.std.proofs.lemmas.Bool.Decides.{nat_tests}
-use Rattle.text_lines.specs.Lines.{Whole, TooLong, Unfinished, Nothing, line, front_of, is_line_feed, longest_line}
-use Rattle.text_lines.specs.Inner.Lines.{has_no_line_feed, IsPartOfLine}
+use Rattle.std.proofs.Math.Seq.{drop-append-add}
+use Rattle.text_lines.specs.Lines.{Whole, TooLong, Unfinished, Nothing, line, front_of, longest_line}
 
 -- the first line feed stands after the bytes that have none
 place_after : (xs ys : List ℕ) → has_no_line_feed xs ≡ true → position_or_len is_line_feed (xs ++ ys) ≡ length xs + position_or_len is_line_feed ys
@@ -26,17 +26,15 @@ front_by : (bytes : List ℕ) (p : ℕ) → position_or_len is_line_feed bytes �
 front_by bytes p e = ap (λ (q : ℕ). cond (nat_lt q (length bytes) && nat_le q longest_line) (Whole (take q bytes) (drop (q + 1) bytes))
     (cond (nat_lt longest_line (length bytes)) TooLong (cond (nat_lt 0 (length bytes)) Unfinished Nothing))) e
 
-front_whole : (bytes rest : List ℕ) → IsPartOfLine bytes → front_of (bytes ++ 10 ∷ rest) ≡ Whole bytes rest
-front_whole bytes rest part =
-    let all = bytes ++ 10 ∷ rest in
-    let place : position_or_len is_line_feed all ≡ length bytes = omega (arith, place_after bytes (10 ∷ rest) part.one) in
-    let within : nat_lt (length bytes) (length all) ≡ true = grind (arith, nat_tests, length-append bytes (10 ∷ rest)) in
-    let short : nat_le (length bytes) longest_line ≡ true = grind (arith, nat_tests, part.short) in
-    front_by all (length bytes) place ∙ rw (within, short) (ap₂ Whole (take-append_seam bytes (10 ∷ rest)) (drop-append-add bytes (10 ∷ rest) 1))
-
 -- a whole line and what comes after it
 pub whole : (bytes more : List ℕ) → IsPartOfLine bytes → front_of (line bytes ++ more) ≡ Whole bytes more
-whole bytes more part = ap front_of (append_assoc bytes (10 ∷ []) more) ∙ front_whole bytes more part
+whole bytes more part =
+    let all = bytes ++ 10 ∷ more in
+    let place : position_or_len is_line_feed all ≡ length bytes = omega (arith, place_after bytes (10 ∷ more) part.one) in
+    let within : nat_lt (length bytes) (length all) ≡ true = grind (arith, nat_tests, length-append bytes (10 ∷ more)) in
+    let short : nat_le (length bytes) longest_line ≡ true = grind (arith, nat_tests, part.short) in
+    ap front_of (append_assoc bytes (10 ∷ []) more) ∙ front_by all (length bytes) place
+    ∙ rw (within, short) (ap₂ Whole (take-append_seam bytes (10 ∷ more)) (drop-append-add bytes (10 ∷ more) 1))
 
 -- some bytes of a line, and no more, are less than a line
 pub front_unfinished : (bytes : List ℕ) → IsPartOfLine bytes → 0 < length bytes → front_of bytes ≡ Unfinished

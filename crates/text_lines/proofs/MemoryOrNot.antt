@@ -1,6 +1,6 @@
 -- Out of memory, and the other faults of texts.
-use Rattle.std.proofs.Common.{◌≡◌, ◌≢◌, ◌⊎◌, refl, inl, inr}
-use Rattle.text_lines.specs.declared.fault.TextFault.{TextFault}
+use Rattle.text_lines.proofs.Common.{◌≡◌, ◌⊎◌, refl, inl, inr, TextFault}
+use Rattle.std.proofs.Common.{◌≢◌}
 use Rattle.text_lines.specs.declared.fault.TextFault.TheVariants.{Memory}
 use Rattle.text_lines.specs.Faults.{MemoryOr}
 

@@ -1,18 +1,12 @@
 -- Numbers and words, read as they are spelled.
-use Rattle.std.proofs.Common.{◌≡◌, ℕ, ◌^◌, ◌<◌, ◌≤◌, List, length, Bool, true, false, ◌&&◌, cond, nat_lt, nat_le, arith, rules, ap, sym, subst}
-use Rattle.std.proofs.Common.{◌∙◌, refl, inl, inr, ◌⊎◌, Ok, Err}
-use Rattle.std.specs.Prelude.{◌==◌, decimal}
-use Rattle.std.specs.declared.result.Result.{Result}
-use Rattle.std.specs.Char.{is_ascii_digit}
-use Rattle.std.specs.List.{list_all}
-use Rattle.std.specs.Str.{bytes_eq}
-use Rattle.std.specs.Str.Parse.{digits_value}
-use Rattle.std.proofs.lemmas.Bool.Decides.{nat_tests}
+use Rattle.text_lines.proofs.Common.{◌≡◌, ℕ, ◌^◌, ◌<◌, ◌≤◌, List, length, Bool, true, false, ◌&&◌, cond, nat_lt}
+use Rattle.text_lines.proofs.Common.{nat_le, arith, rules, ap, sym, subst, ◌∙◌, refl, inl, inr, ◌⊎◌, Ok, Err, ◌==◌}
+use Rattle.text_lines.proofs.Common.{decimal, Result, is_ascii_digit, list_all, bytes_eq, digits_value, nat_tests}
+use Rattle.text_lines.proofs.Common.{numerals_by_value, TextFault, ◌>>=◌, is_number, number_in, number_between}
+use Rattle.text_lines.proofs.Common.{end_in}
 use Rattle.std.proofs.lemmas.Slice.Eq.{bytes_eq-Decides}
-use Rattle.std.proofs.lemmas.Str.Parse.{IsDigitsTest, numerals_by_value}
+use Rattle.std.proofs.lemmas.Str.Parse.{IsDigitsTest}
 use Rattle.std.proofs.lemmas.Fmt.{decimal-digits_value}
-use Rattle.text_lines.specs.declared.fault.TextFault.{TextFault}
-use Rattle.text_lines.specs.Lines.{◌>>=◌, is_number, number_in, number_between, end_in}
 
 -- which branch a test took
 pub chosen : {X : Type 0} (b : Bool) (x y z : X) → cond b x y ≡ z → ((b ≡ true) × (x ≡ z)) ⊎ ((b ≡ false) × (y ≡ z))
@@ -32,14 +26,6 @@ bind_ok (Err d) f y e = absurd (cc)
 -- texts that are found equal are equal
 pub text_is : (xs ys : List ℕ) → bytes_eq xs ys ≡ true → xs ≡ ys
 text_is xs ys e = (bytes_eq-Decides xs ys).0 e
-
--- what holds on both sides of a test
-pub by_test : {X : Type 0} (P : X → Type 0) (b : Bool) (x y : X) → (b ≡ true → P x) → (b ≡ false → P y) → P (cond b x y)
-by_test P b x y held failed =
-    elim b as (λ v. (v ≡ true → P x) → (v ≡ false → P y) → P (cond v x y)) [
-      | true ↦ λ h k. h refl
-      | false ↦ λ h k. k refl
-    ] held failed
 
 -- ---- numbers
 

@@ -1,22 +1,13 @@
 -- Texts that are written to a sink, one after another.
-use Rattle.std.proofs.Common.{◌≡◌, ℕ, ◌+◌, ◌<◌, Bool, true, false, ◌||◌, List, [], ◌++◌}
-use Rattle.std.proofs.Common.{length, take, drop, get_or, Option, refl, sym, ◌∙◌, ap, subst}
-use Rattle.std.proofs.Common.{append_assoc, Ok, Err}
-use Rattle.std.specs.Prelude.{OnErr, OnOk, is_err}
+use Rattle.text_lines.proofs.Common.{or-true, ◌≡◌, ℕ, ◌+◌, ◌<◌, Bool, ◌||◌, List, [], ◌++◌, length, take, drop}
+use Rattle.text_lines.proofs.Common.{get_or, Option, sym, ◌∙◌, ap, subst, append_assoc, Ok, Err, OnOk, Result}
+use Rattle.text_lines.proofs.Common.{Appends, flat_map, Appends-trans, or-false, Asked, AppendsFront, TakesAll}
+use Rattle.text_lines.proofs.Common.{IsWritten, IsRefused}
+use Rattle.std.specs.Prelude.{OnErr, is_err}
 use Rattle.std.specs.Result.{IsErrAnd}
-use Rattle.std.specs.declared.result.Result.{Result}
-use Rattle.std.specs.Io.KnownBytes.{Appends}
-use Rattle.std.specs.List.{flat_map}
-use Rattle.std.proofs.KnownBytes.{Appends-trans}
-use Rattle.std.proofs.Math.Bool.{or-false}
-use Rattle.text_lines.specs.Writing.{Asked, AppendsFront, PutsText, TakesAll, TakesFront, TakesSome, Writes, IsWritten, IsRefused}
-use Rattle.text_lines.proofs.Appending.{Puts-append, Puts-last, flat_map-more, flat_map-parts, front_first, front_next, puts_all, puts_front}
+use Rattle.text_lines.specs.Writing.{PutsText, TakesFront, TakesSome, Writes}
+use Rattle.text_lines.proofs.Appending.{Puts-append, Puts-last, flat_map-more, flat_map-parts, front_after, front_first, front_next, puts_all, puts_front}
 use Rattle.text_lines.proofs.Asking.{refused_then, written_then}
-
--- true, whatever came before
-pub or_true : (b : Bool) → (b || true) ≡ true
-or_true false = refl
-or_true true = refl
 
 module _ {S : Type 0} (contents : S → Option (List ℕ)) (has_refused : S → Bool) (transition : S → Asked → S → Type 0) where
   abbrev All : List ℕ → S → S → Type 0
@@ -53,12 +44,7 @@ module _ {S : Type 0} (contents : S → Option (List ℕ)) (has_refused : S → 
   -- a text, and a prefix of the next
   pub front_then : (xs ys : List ℕ) (a b c : S) → All xs a b → Front ys b c → Front (xs ++ ys) a c
   front_then xs ys a b c h k = record {
-    bytes = record {
-      front = xs ++ k.bytes.front;
-      rest = k.bytes.rest;
-      whole = ap (λ (r : List ℕ). xs ++ r) k.bytes.whole ∙ sym (append_assoc xs k.bytes.front k.bytes.rest);
-      written = Appends-trans (contents a) (contents b) (contents c) xs k.bytes.front h.bytes k.bytes.written;
-    };
+    bytes = front_after (contents a) (contents b) (contents c) xs ys h.bytes k.bytes;
     asked = refused_then transition a b c h.asked k.asked;
     refused = k.refused;
   }
@@ -199,4 +185,4 @@ module _ {S : Type 0} (contents : S → Option (List ℕ)) (has_refused : S → 
   pub refused_if_err : {T E : Type 0} (r : Result T E) (text : List ℕ) (a b : S) → Writes contents has_refused transition text a b r
       → has_refused b ≡ (has_refused a || is_err r)
   refused_if_err (Ok x) text a b h = h.refused ∙ sym (or-false (has_refused a))
-  refused_if_err (Err e) text a b h = h.refused ∙ sym (or_true (has_refused a))
+  refused_if_err (Err e) text a b h = h.refused ∙ sym (or-true (has_refused a))

@@ -1,26 +1,23 @@
 -- Lines by tables of their forms: what is written is read back, and what is read was written so.
-use Rattle.std.proofs.Common.{◌≡◌, ℕ, zero, suc, ◌+◌, ◌<◌, ◌≤◌, ◌^◌, List, [], ◌∷◌, ◌++◌, length, map, drop, get_or}
-use Rattle.std.proofs.Common.{Bool, true, false, ◌&&◌, cond}
-use Rattle.std.proofs.Common.{arith, ap, ap₂, sym, subst, ◌∙◌, refl, inl, inr, append-nil, Option, Some, None, Ok}
-use Rattle.std.proofs.Common.{nat_le, nat_lt, nat_eq, length-append}
-use Rattle.std.specs.declared.result.Result.{Result}
+use Rattle.text_lines.proofs.Common.{◌≡◌, ℕ, zero, suc, ◌+◌, ◌<◌, ◌≤◌, ◌^◌, List, [], ◌∷◌, ◌++◌, length, map, drop}
+use Rattle.text_lines.proofs.Common.{get_or, Bool, true, false, ◌&&◌, cond, arith, ap, ap₂, sym, subst, ◌∙◌, refl}
+use Rattle.text_lines.proofs.Common.{inl, inr, append-nil, Option, Some, None, Ok, nat_le, nat_lt, nat_eq}
+use Rattle.text_lines.proofs.Common.{length-append, Result, not, nat_tests, TextFault, form_of, row_of, fields_left}
+use Rattle.text_lines.proofs.Common.{fits, numbers_in, parse_line, number_between, ◌>>=◌, decimal, if◌then◌else◌}
+use Rattle.text_lines.proofs.Common.{AllByRecursion, list_all, bytes_eq, decimal_nonempty, length-decimal-le, spaced}
+use Rattle.text_lines.proofs.Common.{begins_as_end}
+use Rattle.std.proofs.Math.Bool.{not-not}
+use Rattle.std.proofs.lemmas.List.{drop_all}
 use Rattle.std.specs.Option.{is_some}
-use Rattle.std.specs.Prelude.{not}
 use Rattle.std.specs.Borrow.{Bor}
-use Rattle.std.proofs.lemmas.Bool.Decides.{nat_tests}
 use Rattle.std.proofs.lemmas.Grind.{common_steps}
-use Rattle.text_lines.specs.declared.fault.TextFault.{TextFault}
 use Rattle.text_lines.specs.declared.forms.Field.{Field}
-use Rattle.text_lines.specs.Forms.{FieldForm, Table, Word, Number, form_of, row_of, fields_left, fits, numbers_in, parse_line, spelled, AreOfForm}
+use Rattle.text_lines.specs.Forms.{FieldForm, Table, Word, Number, spelled, AreOfForm}
 use Rattle.text_lines.specs.Forms.{has_short_forms}
-use Rattle.text_lines.specs.Lines.{number_between, ◌>>=◌}
 use Rattle.text_lines.proofs.Fields.{has_field}
-use Rattle.std.specs.Prelude.{decimal, if◌then◌else◌}
-use Rattle.std.specs.List.{AllByRecursion, list_all, starts_with}
-use Rattle.std.specs.Str.{bytes_eq}
-use Rattle.std.proofs.lemmas.Fmt.{decimal_nonempty, length-decimal-le}
-use Rattle.text_lines.specs.Lines.{spaced, end_word, begins_as_end}
-use Rattle.text_lines.proofs.Numbers.{both, by_test, chosen, bind_ok, text_is, between_ok}
+use Rattle.std.specs.List.{starts_with}
+use Rattle.text_lines.specs.Lines.{end_word}
+use Rattle.text_lines.proofs.Numbers.{both, chosen, bind_ok, text_is, between_ok}
 use Rattle.text_lines.proofs.WrittenLines.{is_inner, IsField, number_is_field, all_digits, between_read, IsLineOf, line_of_fields, digits_begin_other}
 
 -- numbers that come after these
@@ -35,12 +32,6 @@ cut [] i within = absurd (omega (arith, within))
 cut (f ∷ fs) zero within = (form_of f, map form_of fs, refl)
 cut (f ∷ fs) (suc i) within = cut fs i (omega (arith, within))
 
-past : (forms : List Field) (i : ℕ) → length forms ≤ i → map form_of (drop i forms) ≡ []
-past [] zero over = refl
-past [] (suc i) over = refl
-past (f ∷ fs) zero over = absurd (omega (arith, over))
-past (f ∷ fs) (suc i) over = past fs i (omega (arith, over))
-
 -- there are fewer fields than forms
 pub fields_are_few : (forms : List Field) (i : ℕ) (left : Option (Bor (List ℕ))) → i < length forms → left ≡ None
     → fits (map form_of (drop i forms)) (fields_left left) ≡ false
@@ -50,14 +41,10 @@ none_left : (left : Option (Bor (List ℕ))) → fits [] (fields_left left) ≡ 
 none_left None = refl
 none_left (Some bytes) = let here = has_field bytes.now in rw here.2 refl
 
-not_not : (a b : Bool) → a ≡ not b → not a ≡ b
-not_not a true is = ap not is
-not_not a false is = ap not is
-
 -- after the last form no field is left
 pub fields_are_over : (forms : List Field) (i : ℕ) (left : Option (Bor (List ℕ))) (none : Bool) → length forms ≤ i → is_some left ≡ not none
     → fits (map form_of (drop i forms)) (fields_left left) ≡ none
-fields_are_over forms i left none over is = rw (past forms i over) (none_left left ∙ not_not (is_some left) none is)
+fields_are_over forms i left none over is = rw (drop_all i forms over) (none_left left ∙ ap not is ∙ not-not none)
 
 no_numbers : (n : ℕ) (forms : List FieldForm) → numbers_in n forms [] ≡ Ok []
 no_numbers n [] = refl
@@ -72,7 +59,7 @@ numbers_are_over n numbers forms i left = rw (no_numbers n (map form_of (drop i 
 -- after the last form the numbers read are all
 pub numbers_are_all : (n : ℕ) (numbers : List ℕ) (forms : List Field) (i : ℕ) (fields : List (List ℕ)) → length forms ≤ i
     → after_numbers numbers (numbers_in n (map form_of (drop i forms)) fields) ≡ Ok numbers
-numbers_are_all n numbers forms i fields over = rw (past forms i over, append-nil) refl
+numbers_are_all n numbers forms i fields over = rw (drop_all i forms over, append-nil) refl
 
 module _ {T : Type 0} where
   -- each form of a table is short
@@ -195,11 +182,11 @@ record HasFirst (form : FieldForm) (forms : List FieldForm) (numbers : List ℕ)
 number_is_short : (v greatest : ℕ) → v ≤ greatest → greatest < 2 ^ 64
     → length (decimal v) ≤ (if nat_lt greatest 100 then 2 else (if nat_lt greatest (10 ^ 12) then 12 else 20))
 number_is_short v greatest within bits =
-    by_test (λ (most : ℕ). length (decimal v) ≤ most) (nat_lt greatest 100) _ _
-    (λ few. let small : greatest < 100 = grind (arith, nat_tests, few) in length-decimal-le 2 v (omega arith) (omega (arith, small)) (omega arith))
-    (λ _. by_test (λ (most : ℕ). length (decimal v) ≤ most) (nat_lt greatest (10 ^ 12)) _ _
-    (λ few. let small : greatest < 10 ^ 12 = grind (arith, nat_tests, few) in length-decimal-le 12 v (omega arith) (omega (arith, small)) (omega arith))
-    (λ _. length-decimal-le 20 v (omega arith) (omega (arith)) (omega arith)))
+    let small : v < 2 ^ 64 = omega arith in
+    let two : v < 100 → length (decimal v) ≤ 2 = λ few. length-decimal-le 2 v (omega arith) few small in
+    let twelve : v < 10 ^ 12 → length (decimal v) ≤ 12 = λ few. length-decimal-le 12 v (omega arith) few small in
+    let most = length-decimal-le 20 v (omega arith) (omega arith) small in
+    grind (arith, nat_tests)
 
 first : (form : FieldForm) (forms : List FieldForm) (numbers : List ℕ) → is_field_form form ≡ true → AreOfForm (form ∷ forms) numbers
     → HasFirst form forms numbers

@@ -1,20 +1,14 @@
 -- What is written of fields, numbers and lines is read back, whatever comes after it.
-use Rattle.std.proofs.Common.{◌≡◌, ℕ, zero, suc, ◌^◌, ◌<◌, ◌≤◌, List, [], ◌∷◌, ◌++◌, length, Bool, true, false, ◌||◌}
-use Rattle.std.proofs.Common.{not, nat_lt, nat_le, nat_eq}
-use Rattle.std.proofs.Common.{arith, ap, ◌∙◌, refl, Ok}
-use Rattle.std.specs.Prelude.{◌==◌, decimal}
-use Rattle.std.specs.Char.{is_ascii_digit}
-use Rattle.std.specs.List.{All, AllByRecursion, list_all}
-use Rattle.std.specs.Str.Parse.{digits_value}
-use Rattle.std.proofs.Common.{get_or}
-use Rattle.std.proofs.lemmas.Bool.Decides.{nat_tests}
-use Rattle.std.proofs.lemmas.List.Elements.{All-cons}
-use Rattle.std.proofs.lemmas.List.Folds.{list_all-append}
-use Rattle.std.proofs.lemmas.List.Splits.{slice_split_at, slice_split_none}
-use Rattle.std.proofs.lemmas.Str.Parse.{numerals_by_value}
-use Rattle.std.proofs.lemmas.Fmt.{decimal_digit, digits_decimal, digits_value-decimal, decimal_nonempty, first_decimal}
-use Rattle.text_lines.specs.Lines.{spaced, is_number, number_in, number_between, fields_of, begins_as_end, end_in, is_line_feed}
-use Rattle.text_lines.specs.Inner.Lines.{has_no_line_feed, IsPartOfLine}
+use Rattle.text_lines.proofs.Common.{or-true, ◌≡◌, ℕ, zero, suc, ◌^◌, ◌<◌, ◌≤◌, List, [], ◌∷◌, ◌++◌, length, Bool, true, false}
+use Rattle.text_lines.proofs.Common.{not, nat_lt, nat_le, nat_eq, arith, ap, ◌∙◌, refl, Ok, ◌==◌, decimal}
+use Rattle.text_lines.proofs.Common.{is_ascii_digit, AllByRecursion, list_all, digits_value, get_or, nat_tests}
+use Rattle.text_lines.proofs.Common.{list_all-append, slice_split_at, slice_split_none, numerals_by_value}
+use Rattle.text_lines.proofs.Common.{decimal_digit, decimal_nonempty, spaced, is_number, number_in, number_between}
+use Rattle.text_lines.proofs.Common.{fields_of, begins_as_end, end_in, is_line_feed, has_no_line_feed, IsPartOfLine}
+use Rattle.std.specs.List.{All}
+use Rattle.std.proofs.lemmas.List.Elements.{All-weaker}
+use Rattle.std.proofs.lemmas.List.Sums.{AllPass-from_list_all, list_all-from_AllPass}
+use Rattle.std.proofs.lemmas.Fmt.{digits_decimal, digits_value-decimal, first_decimal}
 use Rattle.text_lines.proofs.Numbers.{digits_test, both}
 
 -- ---- fields
@@ -30,11 +24,14 @@ is_space b = b == 32
 abbrev pub IsField : List ℕ → Type 0
 IsField bytes = list_all is_inner bytes ≡ true
 
+-- what holds of bytes by one test holds by a weaker one
+each_passes : (p q : ℕ → Bool) → ((b : ℕ) → p b ≡ true → q b ≡ true) → (bytes : List ℕ) → list_all p bytes ≡ true → list_all q bytes ≡ true
+each_passes p q weaker bytes all =
+    list_all-from_AllPass q bytes (All-weaker (λ b. p b ≡ true) (λ b. q b ≡ true) weaker bytes (AllPass-from_list_all p bytes all))
+
 no_space : (bytes : List ℕ) → IsField bytes → All (λ b. is_space b ≡ false) bytes
-no_space [] one = λ k d h. absurd (omega (arith, h))
-no_space (b ∷ bytes) one =
-    let p = both (is_inner b) _ one in
-    All-cons (λ x. is_space x ≡ false) b bytes (grind (arith, nat_tests, p.0)) (no_space bytes p.1)
+no_space bytes one =
+    All-weaker (λ b. is_inner b ≡ true) (λ b. is_space b ≡ false) (λ b inner. grind (arith, nat_tests)) bytes (AllPass-from_list_all is_inner bytes one)
 
 fields_of_spaced : (f : List ℕ) (fs : List (List ℕ)) → IsField f → AllByRecursion IsField fs → fields_of (spaced (f ∷ fs)) ≡ f ∷ fs
 fields_of_spaced f [] one all = slice_split_none is_space f (no_space f one)
@@ -43,11 +40,7 @@ fields_of_spaced f (g ∷ gs) one all =
 
 -- a field has no line feed
 pub field_is_clean : (bytes : List ℕ) → IsField bytes → has_no_line_feed bytes ≡ true
-field_is_clean [] one = refl
-field_is_clean (b ∷ bytes) one =
-    let p = both (is_inner b) _ one in
-    let other : is_line_feed b ≡ false = grind (arith, nat_tests, p.0) in
-    rw (other, field_is_clean bytes p.1) refl
+field_is_clean bytes one = each_passes is_inner (λ b. not (is_line_feed b)) (λ b inner. grind (arith, nat_tests)) bytes one
 
 fields_are_clean : (f : List ℕ) (fs : List (List ℕ)) → IsField f → AllByRecursion IsField fs → has_no_line_feed (spaced (f ∷ fs)) ≡ true
 fields_are_clean f [] one all = field_is_clean f one
@@ -60,20 +53,9 @@ fields_are_clean f (g ∷ gs) one all =
 pub all_digits : (v : ℕ) → v < 2 ^ 64 → list_all is_ascii_digit (decimal v) ≡ true
 all_digits v small = digits_decimal (numerals_by_value _ digits_test) v small
 
-digits_are_field : (ds : List ℕ) → list_all is_ascii_digit ds ≡ true → IsField ds
-digits_are_field [] all = refl
-digits_are_field (d ∷ ds) all =
-    let p = both (is_ascii_digit d) _ all in
-    let inner : is_inner d ≡ true = grind (arith, nat_tests, p.0) in
-    rw (inner, digits_are_field ds p.1) refl
-
 -- the digits of a number are a field
 pub number_is_field : (v : ℕ) → v < 2 ^ 64 → IsField (decimal v)
-number_is_field v small = digits_are_field (decimal v) (all_digits v small)
-
-or_true : (a : Bool) → (a || true) ≡ true
-or_true true = refl
-or_true false = refl
+number_is_field v small = each_passes is_ascii_digit is_inner (λ b digit. grind (arith, nat_tests)) (decimal v) (all_digits v small)
 
 is_number_decimal : (v : ℕ) → v < 2 ^ 64 → is_number (decimal v) ≡ true
 is_number_decimal zero small = rw (decimal_digit 0 (omega arith)) refl
@@ -81,7 +63,7 @@ is_number_decimal (suc v) small =
     let some : nat_lt 0 (length (decimal (suc v))) ≡ true = grind (arith, nat_tests, decimal_nonempty (suc v) small) in
     let first = first_decimal (suc v) (omega arith) small in
     let lead : (get_or (decimal (suc v)) 0 0 == 48) ≡ false = grind (arith, nat_tests, first) in
-    rw (some, all_digits (suc v) small, lead, or_true) refl
+    rw (some, all_digits (suc v) small, lead, or-true) refl
 
 value_decimal : (v : ℕ) → v < 2 ^ 64 → digits_value 10 (decimal v) ≡ v
 value_decimal v small = digits_value-decimal (numerals_by_value _ digits_test) v small

@@ -1,4 +1,4 @@
-use Rattle.std.proofs.Common.{refl}
+use Rattle.text_lines.proofs.Common.{refl}
 use Rattle.core.proofs.dec2flt.Eight.{bytes_of}
 use Rattle.core.specs.Dec2flt.Digits.{IsEightBytes}
 use Rattle.text_lines.proofs.Digits.{digits_front_are}

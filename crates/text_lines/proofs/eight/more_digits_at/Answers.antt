@@ -1,4 +1,4 @@
-use Rattle.std.proofs.Common.{◌≡◌, ℕ, ◌+◌, ◌*◌, ◌^◌, arith, ap}
+use Rattle.text_lines.proofs.Common.{◌≡◌, ℕ, ◌+◌, ◌*◌, ◌^◌, arith, ap}
 use Rattle.text_lines.proofs.EightDigits.{more_digits}
 use Rattle.text_lines.proofs.eight.more_digits_at.Goals as goal
 

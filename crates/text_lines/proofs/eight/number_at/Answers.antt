@@ -1,4 +1,4 @@
-use Rattle.std.proofs.Common.{arith}
+use Rattle.text_lines.proofs.Common.{arith}
 use Rattle.text_lines.proofs.EightDigits.{number_stands_at}
 use Rattle.text_lines.proofs.eight.number_at.Goals as goal
 

@@ -1,4 +1,4 @@
-use Rattle.std.proofs.Common.{rules}
+use Rattle.text_lines.proofs.Common.{rules}
 use Rattle.text_lines.proofs.Fields.{is_one_part, cut_at_first}
 use Rattle.text_lines.proofs.field.split_field.Goals as goal
 

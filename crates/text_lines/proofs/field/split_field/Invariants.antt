@@ -1,4 +1,4 @@
-use Rattle.std.proofs.Common.{◌≡◌, ℕ, ◌<◌, get_or}
+use Rattle.text_lines.proofs.Common.{◌≡◌, ℕ, ◌<◌, get_or}
 use Rattle.text_lines.proofs.field.split_field.Given as goal
 
 abbrev pub invariant-loop-i : goal.invariant-loop-i

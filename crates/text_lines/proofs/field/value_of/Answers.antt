@@ -1,4 +1,4 @@
-use Rattle.std.proofs.Common.{arith}
+use Rattle.text_lines.proofs.Common.{arith}
 use Rattle.text_lines.proofs.Digits.{digits_go_on, digits_are_beyond}
 use Rattle.text_lines.proofs.field.value_of.Goals as goal
 

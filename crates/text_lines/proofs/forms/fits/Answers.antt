@@ -1,4 +1,4 @@
-use Rattle.std.proofs.Common.{◌∙◌, sym}
+use Rattle.text_lines.proofs.Common.{◌∙◌, sym}
 use Rattle.text_lines.proofs.Tables.{fields_are_few, fields_are_over}
 use Rattle.text_lines.proofs.forms.fits.Goals as goal
 

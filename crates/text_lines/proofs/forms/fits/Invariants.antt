@@ -1,6 +1,4 @@
-use Rattle.std.proofs.Common.{◌≡◌, map, drop}
-use Rattle.text_lines.specs.Forms.{form_of, fields_left, fits}
-use Rattle.text_lines.specs.Lines.{fields_of}
+use Rattle.text_lines.proofs.Common.{◌≡◌, map, drop, form_of, fields_left, fits, fields_of}
 use Rattle.text_lines.proofs.forms.fits.Given as goal
 
 abbrev pub invariant-loop-form : goal.invariant-loop-form

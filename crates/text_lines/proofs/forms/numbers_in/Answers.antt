@@ -1,4 +1,4 @@
-use Rattle.std.proofs.Common.{◌∙◌, sym}
+use Rattle.text_lines.proofs.Common.{◌∙◌, sym}
 use Rattle.text_lines.proofs.Tables.{numbers_are_over, numbers_are_all}
 use Rattle.text_lines.proofs.forms.numbers_in.Goals.{else-loop-form-test, then-loop-form-test+in_default}
 use Rattle.text_lines.proofs.forms.numbers_in.Goals as goal

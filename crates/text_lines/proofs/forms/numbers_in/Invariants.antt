@@ -1,6 +1,4 @@
-use Rattle.std.proofs.Common.{◌≡◌, ◌≤◌, length, map, drop}
-use Rattle.text_lines.specs.Forms.{form_of, fields_left, numbers_in}
-use Rattle.text_lines.specs.Lines.{fields_of}
+use Rattle.text_lines.proofs.Common.{◌≡◌, ◌≤◌, length, map, drop, form_of, fields_left, numbers_in, fields_of}
 use Rattle.text_lines.proofs.Tables.{after_numbers}
 use Rattle.text_lines.proofs.forms.numbers_in.Given as goal
 

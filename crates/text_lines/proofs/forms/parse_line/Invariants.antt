@@ -1,6 +1,4 @@
-use Rattle.std.proofs.Common.{◌≡◌, map, drop}
-use Rattle.text_lines.specs.Forms.{row_of, parse_line}
-use Rattle.text_lines.specs.Lines.{fields_of}
+use Rattle.text_lines.proofs.Common.{◌≡◌, map, drop, row_of, parse_line, fields_of}
 use Rattle.text_lines.proofs.forms.parse_line.Given as goal
 
 abbrev pub invariant-loop-row : goal.invariant-loop-row

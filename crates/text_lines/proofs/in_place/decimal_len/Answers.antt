@@ -1,4 +1,4 @@
-use Rattle.text_lines.proofs.Lengths.{between_powers, of_zero}
+use Rattle.text_lines.proofs.Digits.{between_powers, of_zero}
 use Rattle.text_lines.proofs.in_place.decimal_len.Goals as goal
 
 pub returns-in-Some : goal.returns-in-Some

@@ -1,4 +1,4 @@
-use Rattle.std.proofs.Common.{◌≡◌, take, true, false}
+use Rattle.text_lines.proofs.Common.{◌≡◌, take, true, false}
 use Rattle.text_lines.proofs.scan.is_same.Given as goal
 
 abbrev pub invariant-loop-i : goal.invariant-loop-i

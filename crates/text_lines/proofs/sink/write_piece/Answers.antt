@@ -1,14 +1,14 @@
-use Rattle.std.proofs.Common.{◌∙◌, arith, rules}
+use Rattle.text_lines.proofs.Common.{or-true, ◌∙◌, arith, rules}
 use Rattle.text_lines.proofs.Appending.{stops_at_zero, stops_at_failure, goes_on, no_refusal}
 use Rattle.text_lines.proofs.Asking.{refused_last, took, written_more}
-use Rattle.text_lines.proofs.Putting.{or_true, refused_text}
+use Rattle.text_lines.proofs.Putting.{refused_text}
 use Rattle.text_lines.proofs.sink.write_piece.Goals as goal
 
 pub returns-in_err-count : goal.returns-in_err-count
 returns-in_err-count g c = refused_text _ _ _ _ c.from_residual.result c.args.piece.now _ _ c.from_residual.ensures.1 (record {
   bytes = stops_at_failure c.args.piece.now c.loop-done.done _ _ _ c.loop-done.invariant.written.bytes c.in_err-count.ensures.bytes;
   asked = refused_last g.W.TextSink.transition _ _ _ c.loop-done.invariant.written.asked c.in_err-count.ensures.asked;
-  refused = c.in_err-count.ensures.refused ∙ or_true _;
+  refused = c.in_err-count.ensures.refused ∙ or-true _;
 })
 
 pub returns-in-0 : goal.returns-in-0

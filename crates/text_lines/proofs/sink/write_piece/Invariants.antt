@@ -1,5 +1,4 @@
-use Rattle.std.proofs.Common.{◌-◌, ◌≤◌, length, take}
-use Rattle.text_lines.specs.Writing.{TakesAll}
+use Rattle.text_lines.proofs.Common.{◌-◌, ◌≤◌, length, take, TakesAll}
 use Rattle.text_lines.proofs.sink.write_piece.Given as goal
 
 abbrev pub invariant-loop-done : goal.invariant-loop-done

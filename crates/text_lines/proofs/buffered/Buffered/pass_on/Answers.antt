@@ -1,8 +1,7 @@
-use Rattle.std.proofs.Common.{ℕ, arith, rules, length-take, length-drop}
-use Rattle.std.proofs.lemmas.List.{drop-drop}
-use Rattle.text_lines.proofs.Appending.{no_refusal}
+use Rattle.text_lines.proofs.Common.{ℕ, arith, rules, length-drop, drop-drop}
+use Rattle.std.proofs.Common.{length-take}
+use Rattle.text_lines.proofs.Appending.{no_refusal, some_passed_on}
 use Rattle.text_lines.proofs.Asking.{took, written_more}
-use Rattle.text_lines.proofs.Holding.{some_passed_on}
 use Rattle.text_lines.proofs.buffered.Buffered.pass_on.Goals as goal
 
 pub loop-self-preserved : goal.loop-self-preserved

@@ -1,6 +1,4 @@
-use Rattle.std.proofs.Common.{◌≡◌, ◌-◌, ◌≤◌, length, drop}
-use Rattle.std.specs.Io.KnownBytes.{Keeps, append_known}
-use Rattle.text_lines.specs.Writing.{IsWritten}
+use Rattle.text_lines.proofs.Common.{◌≡◌, ◌-◌, ◌≤◌, length, drop, Keeps, append_known, IsWritten}
 use Rattle.text_lines.proofs.buffered.Buffered.pass_on.Given as goal
 
 abbrev pub invariant-loop-self : goal.invariant-loop-self

@@ -1,8 +1,6 @@
-use Rattle.std.proofs.Common.{◌≡◌, ◌∙◌, ◌++◌, take, length, ap, arith}
-use Rattle.std.specs.Prelude.{decimal}
-use Rattle.std.proofs.lemmas.Fmt.{length-decimal-le}
-use Rattle.std.proofs.lemmas.List.{length-take-le}
-use Rattle.text_lines.proofs.Lengths.{written_at}
+use Rattle.text_lines.proofs.Common.{◌≡◌, ◌∙◌, ◌++◌, take, length, ap, arith, decimal, length-decimal-le}
+use Rattle.text_lines.proofs.Common.{length-take-le}
+use Rattle.text_lines.proofs.Digits.{written_at}
 use Rattle.text_lines.proofs.in_place.InPlace.push_decimal.Goals as goal
 
 pub overflow_add-end : goal.overflow_add-end

@@ -1,6 +1,4 @@
-use Rattle.std.proofs.Common.{length, ap, arith, length-append}
-use Rattle.std.specs.Prelude.{decimal}
-use Rattle.std.proofs.lemmas.Fmt.{length-decimal-le}
+use Rattle.text_lines.proofs.Common.{length, ap, arith, length-append, decimal, length-decimal-le}
 use Rattle.text_lines.proofs.write_buffer.InPlace+BUFFER_LEN.push_number.Goals as goal
 
 pub returns-clause-short : goal.returns-clause-short
