@@ -23,7 +23,7 @@ pub record SaysOneThing {A : Type 0} (IsInputOf : Ahead → A → Type 0) (IsFau
   pub only_memory : (input : Ahead) (x : A) (fault : TextFault) → IsInputOf input x → fault ≢ text.Memory → IsFaultOf input fault → ⊥
   pub one_fault : (input : Ahead) (f g : TextFault) → f ≢ text.Memory → g ≢ text.Memory → IsFaultOf input f → IsFaultOf input g → f ≡ g
 
--- so it is where out of memory is known apart from the other faults
+-- so it is where out of memory is set apart from the other faults
 memory_aside : {A : Type 0} (IsInputOf : Ahead → A → Type 0) (IsFault : Ahead → TextFault → Type 0) (Lacks : Ahead → Type 0)
     → ((input : Ahead) (x y : A) → IsInputOf input x → IsInputOf input y → x ≡ y)
     → ((input : Ahead) (x : A) (fault : TextFault) → IsInputOf input x → IsFault input fault → ⊥)
