@@ -99,7 +99,8 @@ impl PackedOperation {
         }
     }
 
-    /// Returns the value that was called or answered, without a look at which of them; 0 if there is none.
+    /// Returns the value if the operation called to enqueue one, without a look at whether it did. Otherwise the number means
+    /// nothing.
     #[inline(always)]
     pub fn value(&self) -> u64
         ensures called { (v : ℕ) → enqueued_value self.now.kind ≡ Some v → result ≡ v }
