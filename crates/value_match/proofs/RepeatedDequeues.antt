@@ -272,7 +272,8 @@ module _ (operations : List Operation) (sources : List (Option ℕ)) (holds : Ho
       (get_or operations i d, here, rw here refl)
 
   -- two dequeues of one value return at different times
-  pub distinct_returns : AreComplete operations → (p i j : ℕ) → TakesFrom sources i p → TakesFrom sources j p → return_at operations i ≡ return_at operations j → i ≡ j
+  pub distinct_returns : AreComplete operations → (p i j : ℕ) → TakesFrom sources i p → TakesFrom sources j p
+      → return_at operations i ≡ return_at operations j → i ≡ j
   distinct_returns complete p i j from_i from_j same =
       let a = operation_at i p from_i in
       let b = operation_at j p from_j in
@@ -292,8 +293,8 @@ module _ (operations : List Operation) (sources : List (Option ℕ)) (holds : Ho
       let within = slice_get_within sources f.second (Some f.enq) met.second_from in omega (arith, holds.one_each, within)
 
   -- the soonest pair of all operations is chosen
-  pub repeat_chosen : (n : ℕ) (pair : RepeatPlaces) → AreComplete operations → NoFreshViolation operations → length sources ≤ n → IsSoonest (return_at operations) sources n pair
-      → AreChosenRepeat operations pair
+  pub repeat_chosen : (n : ℕ) (pair : RepeatPlaces) → AreComplete operations → NoFreshViolation operations → length sources ≤ n
+      → IsSoonest (return_at operations) sources n pair → AreChosenRepeat operations pair
   repeat_chosen n pair complete no_fresh all is =
       let one = operation_at pair.first pair.enq is.first_from in
       let two = operation_at pair.second pair.enq is.second_from in

@@ -26,7 +26,8 @@ loop-place-preserved c =
           (pair_enqueue c.args.operations.now _ _ w.pair_of.result made.0 here) (pair_dequeue c.args.operations.now _ _ w.pair_of.result made.1 from) made
           c.requires.clear from)
       | in-Empty+in_ok-push-in-Empty w ↦
-          rw (w.values-is, w.empties-is, w.refused-is, w.in_ok-push-in-Empty.ensures.items, w.new.ensures) (rw w.in-Empty.is at (sorted_other _ _ _ _ _ _ here known (rw w.in-Empty.is refl)))
+          rw (w.values-is, w.empties-is, w.refused-is, w.in_ok-push-in-Empty.ensures.items, w.new.ensures)
+          (rw w.in-Empty.is at (sorted_other _ _ _ _ _ _ here known (rw w.in-Empty.is refl)))
       | in-Not+in_ok-push-in-Not w ↦
           rw (w.values-is, w.empties-is, w.refused-is, w.in_ok-push-in-Not.ensures.items, w.new-in-Not.ensures)
           (rw w.in-Not.is at (sorted_other _ _ _ _ _ _ here known (rw w.in-Not.is refl)))
