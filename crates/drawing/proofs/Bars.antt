@@ -1,10 +1,9 @@
 -- The bars in the lanes are the operations.
-use Rattle.drawing.proofs.Common.{[], ◌<◌, ◌∙◌, ◌∷◌, ◌≡◌, ◌≤◌, ap, arith, Bool, cases_lt, cond_both, Contains, eq-eqb}
-use Rattle.drawing.proofs.Common.{false, find, inl, inr, List, nat_tests, refl, slice_get, Some, subst, sym, true, ℕ}
-use Rattle.drawing.proofs.Common.{AreComplete, contains_at, contains_cons, drawn_operations, Event, found_first}
-use Rattle.drawing.proofs.Common.{is_under_way, IsCompleteHistory, IsTraced, not_in_none, one_at, Operation}
-use Rattle.drawing.proofs.Common.{operations_are_complete, operations_of, return_differs_from_call, same_call}
-use Rattle.drawing.proofs.Common.{traced}
+use Rattle.drawing.proofs.Common.{[], ap, AreComplete, arith, Bool, cases_lt, cond_both, Contains, contains_at}
+use Rattle.drawing.proofs.Common.{contains_cons, drawn_operations, eq-eqb, Event, false, find, found_first, inl, inr}
+use Rattle.drawing.proofs.Common.{is_under_way, IsCompleteHistory, IsTraced, List, nat_tests, not_in_none, one_at}
+use Rattle.drawing.proofs.Common.{Operation, operations_are_complete, operations_of, refl, returns_at_no_call}
+use Rattle.drawing.proofs.Common.{same_call, slice_get, Some, subst, sym, traced, true, ℕ, ◌<◌, ◌∙◌, ◌∷◌, ◌≡◌, ◌≤◌}
 use Rattle.drawing.specs.Laws.{BarsAreOfOperations, NoOtherBars}
 use Rattle.drawing.proofs.Nearness.{among_operations, no_earlier_ticket}
 
@@ -47,7 +46,7 @@ module _ (events : List Event) (complete : IsCompleteHistory events) where
         cc
     | inr above ↦
         let no_later = no_earlier_ticket events complete.tickets_rise _ _ tx.answer ty.call tx.at_return ty.at_call above in
-        return_differs_from_call (operations_of events) x y all in_x in_y (omega (arith, tx.made.returned, ty.made.called))
+        returns_at_no_call events x y complete in_x in_y (omega (arith, tx.made.returned, ty.made.called))
   ]
 
   -- one operation of a thread at most is under way at a ticket

@@ -21,10 +21,9 @@ pub use Rattle.history_merge.specs.Complete.{AreComplete, IsCompleteHistory}
 pub use Rattle.history_merge.specs.Initial.{timeline, HistoryView, later_by}
 pub use Rattle.history_merge.specs.Operations.{Did, NoneDid, operations_of, Precedes}
 pub use Rattle.history_merge.specs.declared.operation.Operation.{Operation}
-pub use Rattle.history_merge.proofs.Completeness.{operations_are_complete}
-pub use Rattle.history_merge.proofs.Distinct.{call_before_return, contains_at, contains_cons, found_first, IsTraced}
-pub use Rattle.history_merge.proofs.Distinct.{not_in_none, one_at, pairs_at, return_differs_from_call, same_call}
-pub use Rattle.history_merge.proofs.Distinct.{traced}
+pub use Rattle.history_merge.proofs.Distinct.{contains_at, contains_cons, found_first, IsTraced, not_in_none, one_at}
+pub use Rattle.history_merge.proofs.Distinct.{operation_within, operations_are_complete, pairs_at, returns_at_no_call}
+pub use Rattle.history_merge.proofs.Distinct.{same_call, traced}
 pub use Rattle.value_match.proofs.Lists.{one_deeper, passed_filter, passes_filter}
 pub use Rattle.verdicts.specs.declared.verifying.ClaimLine.{ClaimLine}
 pub use Rattle.verdicts.specs.declared.verifying.ClaimLine.TheVariants.{Op}

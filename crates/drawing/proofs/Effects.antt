@@ -1,9 +1,8 @@
 -- The effects of a `YES`, and the numbers of a claim.
-use Rattle.drawing.proofs.Common.{[], ◌+◌, ◌<◌, ◌∷◌, ◌≡◌, ◌≤◌, ◌⊎◌, add-one, ap, arith, cases_lt, Contains}
-use Rattle.drawing.proofs.Common.{Contains-permutation, fold, inl, inr, IsPermutation-sym, List, max, refl, slice_get}
-use Rattle.drawing.proofs.Common.{Some, subst, suc, sym, take, zero, ℕ, AreComplete, call_before_return, contains_at}
-use Rattle.drawing.proofs.Common.{Event, one_at, Operation, operations_are_complete, operations_of, pairs_at, point}
-use Rattle.drawing.proofs.Common.{Precedes, return_differs_from_call, traced}
+use Rattle.drawing.proofs.Common.{[], add-one, ap, arith, cases_lt, Contains, Contains-permutation, contains_at, Event}
+use Rattle.drawing.proofs.Common.{fold, inl, inr, IsPermutation-sym, List, max, one_at, Operation, operation_within}
+use Rattle.drawing.proofs.Common.{operations_of, pairs_at, point, Precedes, refl, returns_at_no_call, slice_get, Some}
+use Rattle.drawing.proofs.Common.{subst, suc, sym, take, traced, zero, ℕ, ◌+◌, ◌<◌, ◌∷◌, ◌≡◌, ◌≤◌, ◌⊎◌}
 use Rattle.history_merge.specs.Legal.{IsLegalOrder}
 use Rattle.drawing.specs.Laws.{EffectsAreInBars, EffectsRise}
 
@@ -69,9 +68,6 @@ point_is_a_call initial events (x ∷ rest) i o legal at =
 pub effects_are_in_bars : EffectsAreInBars
 effects_are_in_bars initial events order i o complete legal at = (called, below)
   where
-    all : AreComplete (operations_of events)
-    all = operations_are_complete events complete
-
     listed : (x : Operation) (j : ℕ) → slice_get order j ≡ Some x → Contains (operations_of events) x
     listed x j here = Contains-permutation order (operations_of events) x (IsPermutation-sym (operations_of events) order legal.holds_each_once)
         (contains_at order j x here)
@@ -83,15 +79,15 @@ effects_are_in_bars initial events order i o complete legal at = (called, below)
     each j x less here = elim (cases_lt j i) [
       | inl earlier ↦
           let apart = pairs_at (λ e l. ¬ (Precedes l e)) order j i x o legal.extends_precedence earlier here at in
-          let differs = return_differs_from_call (operations_of events) o x all (listed o i at) (listed x j here) in
+          let differs = returns_at_no_call events o x complete (listed o i at) (listed x j here) in
           omega (arith, apart, differs)
       | inr above ↦
           let same : j ≡ i = omega arith in
           let one = one_at order i x o (subst (λ k. slice_get order k ≡ Some x) same here) at in
-          let rises = call_before_return (operations_of events) o all (listed o i at) in
+          let rises = (operation_within events o complete (listed o i at)).0 in
           let e : x.call ≡ o.call = ap (λ y. y.call) one in
           omega arith
     ]
 
     below : point order i < o.ret
-    below = of_greatest (λ n. n < o.ret) 0 order (i + 1) (let rises = call_before_return (operations_of events) o all (listed o i at) in omega arith) each
+    below = of_greatest (λ n. n < o.ret) 0 order (i + 1) (let rises = (operation_within events o complete (listed o i at)).0 in omega arith) each

@@ -1,13 +1,13 @@
 -- Which operations are drawn: those that overlap one of a `NO`, and with no distance no others.
-use Rattle.drawing.proofs.Common.{[], ◌-◌, ◌<◌, ◌||◌, ◌∙◌, ◌∷◌, ◌≡◌, ◌≤◌, ap, arith, Bool, cases_lt}
-use Rattle.drawing.proofs.Common.{cond, Contains, Contains-append_left, Contains-append_right, count_by, false}
-use Rattle.drawing.proofs.Common.{flat_map, get_or, inl, inr, IsPartitionedBy-ltb, length, List, list_any}
-use Rattle.drawing.proofs.Common.{map, nat_lt, nat_tests, None, Option, refl, slice_get, slice_get-get_or, Some, subst}
-use Rattle.drawing.proofs.Common.{suc, sum_by-cons, sym, true, zero, ℕ, call_before_return, Claimed, ClaimLine}
-use Rattle.drawing.proofs.Common.{contains_at, contains_cons, drawn_operations, Event, events_before, HistoryView}
-use Rattle.drawing.proofs.Common.{is_near_any, No, not_in_none, one_at, one_deeper, Op, Operation, operation_in}
-use Rattle.drawing.proofs.Common.{operations_are_complete, operations_in, operations_of, pairs_at, passed_filter}
-use Rattle.drawing.proofs.Common.{passes_filter, stand_near, standing_of, traced, Yes}
+use Rattle.drawing.proofs.Common.{[], ap, arith, Bool, cases_lt, Claimed, ClaimLine, cond, Contains}
+use Rattle.drawing.proofs.Common.{Contains-append_left, Contains-append_right, contains_at, contains_cons, count_by}
+use Rattle.drawing.proofs.Common.{drawn_operations, Event, events_before, false, flat_map, get_or, HistoryView, inl}
+use Rattle.drawing.proofs.Common.{inr, is_near_any, IsPartitionedBy-ltb, length, List, list_any, map, nat_lt}
+use Rattle.drawing.proofs.Common.{nat_tests, No, None, not_in_none, one_at, one_deeper, Op, Operation, operation_in}
+use Rattle.drawing.proofs.Common.{operation_within, operations_in, operations_of, Option, pairs_at, passed_filter}
+use Rattle.drawing.proofs.Common.{passes_filter, refl, slice_get, slice_get-get_or, Some, stand_near, standing_of}
+use Rattle.drawing.proofs.Common.{subst, suc, sum_by-cons, sym, traced, true, Yes, zero, ℕ, ◌<◌, ◌||◌, ◌∙◌, ◌∷◌, ◌≡◌}
+use Rattle.drawing.proofs.Common.{◌≤◌}
 use Rattle.std.proofs.lemmas.List.Folds.{Any-from_list_any, list_any-from_Any}
 use Rattle.std.specs.List.Sorted.{IsPartitionedBy}
 use Rattle.event_records.specs.Turns.{TicketsRise}
@@ -131,5 +131,5 @@ no_others_are_drawn history kind lines x all_among drawn =
 
 pub lines_are_drawn : LinesAreDrawn
 lines_are_drawn history kind lines around complete all_among o listed =
-    let rises = call_before_return (operations_of history.events) o (operations_are_complete history.events complete) (all_among o listed) in
+    let rises = (operation_within history.events o complete (all_among o listed)).0 in
     overlapping_are_drawn history kind lines around o o (all_among o listed) listed (λ less. absurd (omega arith)) (λ less. absurd (omega arith))

@@ -1,11 +1,11 @@
 -- The numbers of a claim, and its lines of evidence, which are operations and initial values of the history.
-use Rattle.drawing.proofs.Common.{[], ◌+◌, ◌∙◌, ◌∷◌, ◌≡◌, ap, Bool, cond, Contains, eq-eqb, eqb-true, get_or, List}
-use Rattle.drawing.proofs.Common.{lt-ltb, map, nat_eq, None, not, Option, option_map, position, position_or_len, refl}
-use Rattle.drawing.proofs.Common.{slice_get, slice_get-get_or, slice_get_within, Some, subst, sym, true, ℕ, ClaimLine}
-use Rattle.drawing.proofs.Common.{contains_at, Op, Operation, operations_are_complete, operations_of, Row, same_call}
-use Rattle.drawing.proofs.Common.{stands_in, ◌&&◌, ◌*◌, arith, cond_some, ◌++◌, flat_map, inl, inr, length}
-use Rattle.drawing.proofs.Common.{MatchOption, nat_le, option_to_list, contains_cons, timeline, later_by, not_in_none}
-use Rattle.drawing.proofs.Common.{one_deeper}
+use Rattle.drawing.proofs.Common.{[], ap, arith, Bool, ClaimLine, cond, cond_some, Contains, contains_at}
+use Rattle.drawing.proofs.Common.{contains_cons, eq-eqb, eqb-true, flat_map, get_or, inl, inr, later_by, length, List}
+use Rattle.drawing.proofs.Common.{lt-ltb, map, MatchOption, nat_eq, nat_le, None, not, not_in_none, one_deeper, Op}
+use Rattle.drawing.proofs.Common.{Operation, operations_are_complete, operations_of, Option, option_map}
+use Rattle.drawing.proofs.Common.{option_to_list, position, position_or_len, refl, Row, same_call, slice_get}
+use Rattle.drawing.proofs.Common.{slice_get-get_or, slice_get_within, Some, stands_in, subst, sym, timeline, true, ℕ}
+use Rattle.drawing.proofs.Common.{◌&&◌, ◌++◌, ◌+◌, ◌∙◌, ◌∷◌, ◌≡◌}
 use Rattle.std.proofs.lemmas.List.Folds.{find_at}
 use Rattle.std.proofs.lemmas.List.Quantifiers.{position-Some}
 use Rattle.std.proofs.lemmas.List.{length-map}
@@ -17,7 +17,7 @@ use Rattle.drawing.specs.Laws.{LinesAreOfHistory}
 use Rattle.drawing.proofs.Bars.{found}
 use Rattle.std.proofs.lemmas.List.Elements.{All-contains, All-from_recursion}
 use Rattle.std.specs.List.{AllByRecursion}
-use Rattle.event_records.specs.declared.limits.TheConstants.{MAX_TICKET}
+use Rattle.event_records.specs.declared.limits.TheConstants.{MAX_TICKET, ORIGIN}
 use Rattle.value_match.specs.declared.life.Life.{Life}
 use Rattle.value_match.specs.Lives.{IsLife, dequeue_of, operations_of_life}
 use Rattle.value_match.specs.Violations.{FullViolation, fresh, repeat, order, witness, CoversFrom, IsViolationOf}
@@ -80,7 +80,7 @@ place_in_order operations r = rw (order_place operations r, length-map operation
 value_among : (initial : List ℕ) (v : ℕ) (x : Operation) → initial_enqueue_of initial v ≡ Some x → Contains initial v
 value_among initial v x stands = go (position (λ w. nat_eq w v) initial) refl stands
   where
-    go : (place : Option ℕ) → position (λ w. nat_eq w v) initial ≡ place → option_map (λ j. initial_enqueue j v) place ≡ Some x → Contains initial v
+    go : (place : Option ℕ) → position (λ w. nat_eq w v) initial ≡ place → option_map (λ j. initial_enqueue (length initial) j v) place ≡ Some x → Contains initial v
     go None is e = cc
     go (Some j) is e =
         let h = place_if 0 initial (λ w. nat_eq w v) j is in
@@ -144,23 +144,23 @@ stands initial (m ∷ lines) (x ∷ shown) l same among = elim (contains_cons m 
 ]
 
 -- an operation that stands for another is that, earlier
-stands_later : (n : ℕ) (o x : Operation) → on_timeline n o ≡ Some x → later_by (2 * n) o ≡ x
-stands_later n o x is = (cond_some (nat_le o.call MAX_TICKET && nat_le o.ret MAX_TICKET) (later_by (2 * n) o) x is).1
+stands_later : (o x : Operation) → on_timeline o ≡ Some x → later_by ORIGIN o ≡ x
+stands_later o x is = (cond_some (nat_le o.call MAX_TICKET && nat_le o.ret MAX_TICKET) (later_by ORIGIN o) x is).1
 
 -- the lines of evidence are of the history
 pub lines_are_of_history : LinesAreOfHistory
-lines_are_of_history initial operations kind lines claim = (listed, held)
+lines_are_of_history initial operations kind lines few claim = (listed, held)
   where
     listed : (o : Operation) → Contains lines (Op o) → Contains operations o
     listed o among =
         let s = stands initial lines claim.0 (Op o) claim.1 among in
-        let later = stands_later (length initial) o s.0 s.2 in
+        let later = stands_later o s.0 s.2 in
         let shown = subst (λ os. Contains os s.0) (sym claim.2.2) s.1 in
         let all = timeline initial operations in
         let each = All-from_recursion (Contains all) (lines_of claim.2.0) (full_lines all claim.2.0 claim.2.3) in
         let there = All-contains (Contains all) (lines_of claim.2.0) s.0 each shown in
-        let called : o.call + 2 * length initial ≡ s.0.call = ap (λ (y : Operation). y.call) later in
-        (called_late initial operations s.0 o (omega arith) later).1 there
+        let called : o.call + ORIGIN ≡ s.0.call = ap (λ (y : Operation). y.call) later in
+        (called_late initial operations s.0 o few (omega arith) later).1 there
 
     held : (v : ℕ) → Contains lines (Initial v) → Contains initial v
     held v among = let s = stands initial lines claim.0 (Initial v) claim.1 among in value_among initial v s.0 s.2

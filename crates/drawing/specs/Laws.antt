@@ -1,6 +1,7 @@
 -- What holds of pictures.
 use Rattle.std.specs.Prelude.{◌≡◌, ℕ, ◌+◌, ◌^◌, ◌<◌, ◌≤◌, ◌↔◌, true, List, Option, Some, Contains, length, slice_get, sum_by}
 use Rattle.event_records.specs.declared.event.Event.{Event}
+use Rattle.event_records.specs.declared.limits.TheConstants.{MAX_INITIAL}
 use Rattle.history_merge.specs.declared.operation.Operation.{Operation}
 use Rattle.history_merge.specs.Complete.{IsCompleteHistory}
 use Rattle.history_merge.specs.Legal.{IsLegalOrder}
@@ -186,5 +187,6 @@ InitialLinesHaveNumbers = (lines : List ClaimLine) (j v : ℕ) → Contains line
 -- the lines of evidence are operations and initial values of the history, so each has its bar or its row
 abbrev pub LinesAreOfHistory : Type 0
 LinesAreOfHistory =
-    (initial : List ℕ) (operations : List Operation) (kind : ViolationKind) (lines : List ClaimLine) → IsTrueClaim initial operations (No kind lines)
+    (initial : List ℕ) (operations : List Operation) (kind : ViolationKind) (lines : List ClaimLine) → length initial ≤ MAX_INITIAL
+    → IsTrueClaim initial operations (No kind lines)
     → AreOperationsOf operations lines × ((v : ℕ) → Contains lines (Initial v) → Contains initial v)

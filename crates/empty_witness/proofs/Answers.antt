@@ -1,13 +1,13 @@
 -- The empty dequeues by their places, and one more of them in a scan.
-use Rattle.empty_witness.proofs.Common.{[], All, All-append, All-contains, All-get_or, All-nil}
-use Rattle.empty_witness.proofs.Common.{All-push, AllZip, AllZip-get_or, AreGapsAt, AreLeastFreeGaps, arith, Contains}
-use Rattle.empty_witness.proofs.Common.{Contains-get_or, Did, drop, Empty, false, filter, get_or}
-use Rattle.empty_witness.proofs.Common.{get_or_default, HoldsPlaces, inl, inr, is_empty_answer, is_empty_kind, is_none}
-use Rattle.empty_witness.proofs.Common.{IsAt, IsChosenCover, IsChosenWitness, IsCovered, IsEmptyAnswerAt}
-use Rattle.empty_witness.proofs.Common.{IsFirstCovered, IsLeastFreeGap, IsSoonerOf, length, Life, List, map}
-use Rattle.empty_witness.proofs.Common.{MatchOption, None, one_at, one_deeper, one_more, one_more_zipped}
-use Rattle.empty_witness.proofs.Common.{Operation, Option, passed_filter, passes_filter, refl, slice_get, Some, subst}
-use Rattle.empty_witness.proofs.Common.{suc, sym, take, take-append-drop, true, zero, ℕ, ◌++◌, ◌+◌, ◌<◌, ◌∷◌, ◌≡◌, ◌≤◌}
+use Rattle.empty_witness.proofs.Common.{[], All, All-append, All-contains, All-get_or, All-nil, All-push, AllZip}
+use Rattle.empty_witness.proofs.Common.{AllZip-get_or, AreGapsAt, AreLeastFreeGaps, arith, Contains, Contains-get_or}
+use Rattle.empty_witness.proofs.Common.{Did, drop, Empty, false, filter, get_or, get_or_default, HoldsPlaces, inl, inr}
+use Rattle.empty_witness.proofs.Common.{is_empty_answer, is_empty_kind, is_none, IsAt, IsChosenCover, IsChosenWitness}
+use Rattle.empty_witness.proofs.Common.{IsCovered, IsEmptyAnswerAt, IsFirstCovered, IsLeastFreeGap, IsSoonerOf, length}
+use Rattle.empty_witness.proofs.Common.{Life, List, map, MatchOption, None, one_at, one_deeper, one_more}
+use Rattle.empty_witness.proofs.Common.{one_more_zipped, Operation, Option, passed_filter, passes_filter, refl}
+use Rattle.empty_witness.proofs.Common.{slice_get, Some, subst, suc, sym, take, take-append-drop, time_of, true, zero}
+use Rattle.empty_witness.proofs.Common.{ℕ, ◌++◌, ◌+◌, ◌<◌, ◌∷◌, ◌≡◌, ◌≤◌}
 use Rattle.std.proofs.lemmas.List.{append_assoc}
 use Rattle.history_merge.specs.declared.operation.OpKind.{OpKind}
 use Rattle.history_merge.specs.Legal.{ArePlacesOf}
@@ -72,13 +72,13 @@ free_is_not_covered operations o c is covered = let life = covered c is.in_windo
 
 -- what the search for the least free gap says of the window
 pub covered_if_none : (operations : List Operation) (o : Operation) (found : Option ℕ)
-    → MatchOption found (IsCovered operations o) (λ c. IsLeastFreeGap operations o c) → is_none found ≡ true → IsCovered operations o
+    → MatchOption found (IsCovered operations o) (λ c. IsLeastFreeGap operations o (time_of c)) → is_none found ≡ true → IsCovered operations o
 covered_if_none operations o None covered none = covered
 covered_if_none operations o (Some c) is none = cc
 
 -- a gap that is found is the least free one of the window
 pub gap_if_some : (operations : List Operation) (o : Operation) (found : Option ℕ)
-    → MatchOption found (IsCovered operations o) (λ c. IsLeastFreeGap operations o c) → is_none found ≡ false → (c : ℕ) × IsLeastFreeGap operations o c
+    → MatchOption found (IsCovered operations o) (λ c. IsLeastFreeGap operations o (time_of c)) → is_none found ≡ false → (c : ℕ) × IsLeastFreeGap operations o (time_of c)
 gap_if_some operations o None covered some = cc
 gap_if_some operations o (Some c) is some = (c, is)
 
@@ -88,14 +88,14 @@ module _ (operations : List Operation) where
   ReturnsLater answer place = (o : Operation) → IsAt operations place o → IsCovered operations o → answer.operation.ret ≤ o.ret
 
   abbrev HasGap : ℕ → ℕ → Type 0
-  HasGap place c = (o : Operation) × IsAt operations place o × IsLeastFreeGap operations o c
+  HasGap place c = (o : Operation) × IsAt operations place o × IsLeastFreeGap operations o (time_of c)
 
   -- if each has a gap none is covered
   gaps_come_later : (answer : EmptyAnswer) (places gaps : List ℕ) → AreGapsAt operations places gaps → All (ReturnsLater answer) places
   gaps_come_later answer places gaps zip i d within o at covered =
       let has = AllZip-get_or HasGap places gaps i d 0 zip within in
-      absurd (free_is_not_covered operations o (get_or gaps i 0)
-      (subst (λ x. IsLeastFreeGap operations x (get_or gaps i 0)) (one_at operations (get_or places i d) has.0 o has.1 at) has.2) covered)
+      absurd (free_is_not_covered operations o (time_of (get_or gaps i 0))
+      (subst (λ x. IsLeastFreeGap operations x (time_of (get_or gaps i 0))) (one_at operations (get_or places i d) has.0 o has.1 at) has.2) covered)
 
   -- the first of some places is the first of others of which none that is covered returned sooner
   first_of : (seen places : List ℕ) (answer : EmptyAnswer) → IsFirstCovered operations seen answer → All (ReturnsLater answer) places
@@ -163,13 +163,13 @@ module _ (operations : List Operation) where
   -- the window of one more has a gap
   pub one_more_free : (seen others : List ℕ) (i place c : ℕ) (o : Operation) (first : EmptyAnswer) → i < length others → place ≡ get_or others i place
       → IsFirstCovered operations (seen ++ take i others) first → IsAt operations place o
-      → IsLeastFreeGap operations o c → IsFirstCovered operations (seen ++ take (i + 1) others) first
+      → IsLeastFreeGap operations o (time_of c) → IsFirstCovered operations (seen ++ take (i + 1) others) first
   one_more_free seen others i place c o first within is so_far at free =
       one_further seen others i place first within is (low_is_first (seen ++ take i others) (place ∷ []) (c ∷ []) first so_far ((o, at, free), tt))
 
   -- gaps of the first i windows and of the next are those of i + 1
   pub one_more_gap : (places gaps : List ℕ) (i place c : ℕ) (o : Operation) → i < length places → place ≡ get_or places i place
-      → AreGapsAt operations (take i places) gaps → IsAt operations place o → IsLeastFreeGap operations o c
+      → AreGapsAt operations (take i places) gaps → IsAt operations place o → IsLeastFreeGap operations o (time_of c)
       → AreGapsAt operations (take (i + 1) places) (gaps ++ c ∷ [])
   one_more_gap places gaps i place c o within is zip at free =
       subst (λ seen. AreGapsAt operations seen (gaps ++ c ∷ [])) (sym (one_more places i place within is))
@@ -185,11 +185,11 @@ module _ (operations : List Operation) where
 
   -- the gaps at the places of all empty dequeues are theirs
   pub gaps_are_all : (places gaps : List ℕ) → HoldsPlaces operations is_empty_answer places → AreGapsAt operations places gaps
-      → AreLeastFreeGaps operations gaps
+      → AreLeastFreeGaps operations (map time_of gaps)
   gaps_are_all places gaps named zip = gaps_listed places (filter is_empty_answer operations) gaps named zip
     where
       gaps_listed : (places : List ℕ) (listed : List Operation) (gaps : List ℕ) → ArePlacesOf operations places listed
-          → AreGapsAt operations places gaps → AllZip (λ o c. IsLeastFreeGap operations o c) listed gaps
+          → AreGapsAt operations places gaps → AllZip (λ o c. IsLeastFreeGap operations o c) listed (map time_of gaps)
       gaps_listed [] [] [] named zip = tt
       gaps_listed [] [] (c ∷ gaps) named zip = absurd zip
       gaps_listed [] (o ∷ listed) gaps named zip = cc
@@ -198,7 +198,7 @@ module _ (operations : List Operation) where
       gaps_listed (p ∷ places) (o ∷ listed) (c ∷ gaps) named zip =
           let at : IsAt operations p o = cc in
           let rest : map (slice_get operations) places ≡ map (λ o. Some o) listed = cc in
-          (subst (λ x. IsLeastFreeGap operations x c) (one_at operations p zip.0.0 o zip.0.1 at) zip.0.2, gaps_listed places listed gaps rest zip.1)
+          (subst (λ x. IsLeastFreeGap operations x (time_of c)) (one_at operations p zip.0.0 o zip.0.1 at) zip.0.2, gaps_listed places listed gaps rest zip.1)
 
   -- the first of all empty dequeues whose window is covered is the chosen one
   pub first_is_chosen : (places : List ℕ) (first : EmptyAnswer) (cover : List Life) → HoldsPlaces operations is_empty_answer places

@@ -6,7 +6,8 @@ pub use Rattle.empty_witness.specs.Inner.Spans.{IsFirstOutside, IsOfBoth, IsWith
 pub use Rattle.empty_witness.specs.Spans.{AreApart, AreSpansOf, Holds, LiesIn, stay_of}
 pub use Rattle.empty_witness.specs.declared.spans.Span.{Span}
 pub use Rattle.history_merge.proofs.Distinct.{call_before_return, contains_cons, not_in_none, one_at, place_of}
-pub use Rattle.history_merge.proofs.Distinct.{return_differs_from_call, return_in_range}
+pub use Rattle.event_records.specs.declared.limits.TheConstants.{ORIGIN}
+pub use Rattle.history_merge.proofs.Distinct.{no_enqueue, return_differs_from_call, return_in_range}
 pub use Rattle.history_merge.specs.Initial.{later_by, timeline}
 pub use Rattle.history_merge.specs.Operations.{Did, IsAt, IsInWindow, NoneDid, Precedes}
 pub use Rattle.history_merge.specs.declared.operation.OpKind.TheVariants.{Deq, Empty, Enq, Not}
@@ -29,13 +30,14 @@ pub use Rattle.std.specs.Prelude.{⊤}
 pub use Rattle.value_match.proofs.Lists.{one_deeper, one_more, one_more_zipped, passed_filter, passes_filter}
 pub use Rattle.value_match.proofs.Lives.{dequeued_if_called, life_is_contained, life_of_contained, places_of_value}
 pub use Rattle.value_match.proofs.Lives.{value_is_life, value_of_life}
+pub use Rattle.value_match.proofs.TimelineLines.{few_initial}
 pub use Rattle.value_match.proofs.ToldPlaces.{empty_told, value_told}
 pub use Rattle.value_match.specs.Choice.{IsChosenCover, IsChosenCoverFrom, IsChosenWitness, IsNextOfCover, StaysAtLeast}
 pub use Rattle.value_match.specs.Lives.{AreLeastFreeGaps, call_or_never, Covers, dequeue_call, dequeue_of, enqueue_of}
 pub use Rattle.value_match.specs.Lives.{enqueue_return, HoldsLives, HoldsPlaces, is_empty_answer, is_empty_kind}
 pub use Rattle.value_match.specs.Lives.{IsCovered, IsFreeGap, IsLeastFreeGap, IsLife, lives_of}
 pub use Rattle.value_match.specs.Longest.{EntersBefore, FindsLongest, IsLongestOf}
-pub use Rattle.value_match.specs.Timeline.{behind, clock_of_gap, timeline_of}
+pub use Rattle.value_match.specs.Timeline.{behind, time_of, timeline_of}
 pub use Rattle.value_match.specs.Violations.{CoversFrom, IsClear, IsWitnessViolation}
 pub use Rattle.value_match.specs.declared.life.Life.{Life}
 pub use Rattle.value_match.specs.declared.life.MatchedValue.{MatchedValue}

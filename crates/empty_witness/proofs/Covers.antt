@@ -1,13 +1,14 @@
 -- A covered window has its chosen cover, which is as short as any.
-use Rattle.empty_witness.proofs.Common.{[], ap, arith, call_before_return, call_or_never, cases_lt, cases_order}
-use Rattle.empty_witness.proofs.Common.{Contains, contains_cons, Covers, CoversFrom, Deq, dequeue_call, dequeue_of}
-use Rattle.empty_witness.proofs.Common.{dequeued_if_called, Did, Empty, enqueue_of, enqueue_return, inl, inr}
-use Rattle.empty_witness.proofs.Common.{IsChosenCover, IsChosenCoverFrom, IsClear, IsCovered, IsLife, IsNextOfCover}
-use Rattle.empty_witness.proofs.Common.{IsWitnessViolation, le-ltb, length, Life, life_is_contained, life_of_contained}
-use Rattle.empty_witness.proofs.Common.{List, lives_of, lt-ltb, MatchBool-at_false, MatchBool-at_true, MatchOption}
-use Rattle.empty_witness.proofs.Common.{MatchOption-at_some, None, NoneDid, not_in_none, one_deeper, Operation, Option}
-use Rattle.empty_witness.proofs.Common.{Precedes, refl, return_differs_from_call, return_in_range, rules, Some}
-use Rattle.empty_witness.proofs.Common.{StaysAtLeast, subst, suc, sym, zero, ℕ, ⊤, ◌+◌, ◌<◌, ◌∷◌, ◌≡◌, ◌≤◌, ◌⊎◌}
+use Rattle.empty_witness.proofs.Common.{[], ap, arith, behind, call_before_return, call_or_never, cases_lt}
+use Rattle.empty_witness.proofs.Common.{cases_order, Contains, contains_cons, Covers, CoversFrom, Deq, dequeue_call}
+use Rattle.empty_witness.proofs.Common.{dequeue_of, dequeued_if_called, Did, Empty, Enq, enqueue_of, enqueue_return}
+use Rattle.empty_witness.proofs.Common.{inl, inr, IsChosenCover, IsChosenCoverFrom, IsClear, IsCovered, IsLife}
+use Rattle.empty_witness.proofs.Common.{IsNextOfCover, IsWitnessViolation, le-ltb, length, Life, life_is_contained}
+use Rattle.empty_witness.proofs.Common.{life_of_contained, List, lives_of, lt-ltb, MatchBool-at_false}
+use Rattle.empty_witness.proofs.Common.{MatchBool-at_true, MatchOption, MatchOption-at_some, no_enqueue, None, NoneDid}
+use Rattle.empty_witness.proofs.Common.{not_in_none, one_deeper, Operation, Option, Precedes, refl}
+use Rattle.empty_witness.proofs.Common.{return_differs_from_call, return_in_range, rules, Some, StaysAtLeast, subst}
+use Rattle.empty_witness.proofs.Common.{suc, sym, zero, ℕ, ⊤, ◌+◌, ◌<◌, ◌∷◌, ◌≡◌, ◌≢◌, ◌≤◌, ◌⊎◌}
 use Rattle.value_match.specs.declared.life.TheConstants.{NEVER}
 use Rattle.value_match.proofs.Longest.{stays_through, stays_as_itself}
 
@@ -115,12 +116,12 @@ chosen_cover_violates operations empty cover clear did chosen =
 
 -- the chosen cover from an operation on, at most this many tickets before the empty dequeue returns
 cover_from : (left : ℕ) (operations : List Operation) (empty before : Operation) → IsClear operations → Did operations empty Empty
-    → IsCovered operations empty → Contains operations before → empty.call ≤ before.call → before.call < empty.ret
+    → IsCovered operations empty → Contains operations before → ((v : ℕ) → before.kind ≢ Enq v) → empty.call ≤ before.call → before.call < empty.ret
     → empty.ret ≤ before.call + left → (cover : List Life) × IsChosenCoverFrom operations empty before.call cover
-cover_from zero operations empty before clear did covered among above below left = absurd (omega arith)
-cover_from (suc left) operations empty before clear did covered among above below near =
+cover_from zero operations empty before clear did covered among other above below left = absurd (omega arith)
+cover_from (suc left) operations empty before clear did covered among other above below near =
     let z = covered before.call (above, below) in
-    let differs = return_differs_from_call operations (enqueue_of z.0) before clear.complete z.1.1.0 among in
+    let differs = return_differs_from_call operations (enqueue_of z.0) before clear.complete z.1.1.0 among other in
     let entered : enqueue_return z.0 < before.call = omega (arith, z.2.0) in
     let next = next_of_cover operations before.call z.0 clear z.1 entered in
     let past : before.call < dequeue_call next.0 = omega (arith, (next.1.longest z.0 z.1 entered).0, z.2.1) in
@@ -131,8 +132,9 @@ cover_from (suc left) operations empty before clear did covered among above belo
           let calls : dequeue_call next.0 ≡ found.0.call = ap call_or_never found.1 in
           let did_d = MatchOption-at_some (NoneDid operations (Deq next.1.is_life.0)) (λ d. Did operations d (Deq next.1.is_life.0)) found.0 found.1
           next.1.is_life.2 in
-          let apart = return_differs_from_call operations empty found.0 clear.complete did.0 did_d.0 in
-          let rest = cover_from left operations empty found.0 clear did covered did_d.0 (omega arith) (omega arith) (omega arith) in
+          let own = no_enqueue found.0 (Deq next.1.is_life.0) did_d.1 refl in
+          let apart = return_differs_from_call operations empty found.0 clear.complete did.0 did_d.0 own in
+          let rest = cover_from left operations empty found.0 clear did covered did_d.0 own (omega arith) (omega arith) (omega arith) in
           (next.0 ∷ rest.0, (next.1, rw (le-ltb empty.ret (dequeue_call next.0) leaves) (subst (λ c. IsChosenCoverFrom operations empty c rest.0) (sym calls) rest.1)))
     ]
 
@@ -140,8 +142,9 @@ cover_from (suc left) operations empty before clear did covered among above belo
 pub chosen_cover : (operations : List Operation) (empty : Operation) → IsClear operations → Did operations empty Empty → IsCovered operations empty
     → (cover : List Life) × IsChosenCover operations empty cover × IsWitnessViolation operations empty cover
 chosen_cover operations empty clear did covered =
-    let less = call_before_return operations empty clear.complete did.0 in
-    let cover = cover_from empty.ret operations empty empty clear did covered did.0 (omega arith) less (omega arith) in
+    let other = no_enqueue empty Empty did.1 refl in
+    let less = call_before_return operations empty clear.complete did.0 other in
+    let cover = cover_from empty.ret operations empty empty clear did covered did.0 other (omega arith) less (omega arith) in
     (cover.0, cover.1, chosen_cover_violates operations empty cover.0 clear did cover.1)
 
 -- where a cover ends, its last value stays past the empty dequeue's return

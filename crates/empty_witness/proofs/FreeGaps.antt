@@ -1,8 +1,9 @@
 -- The window of an operation has a least free gap, or is covered.
-use Rattle.empty_witness.proofs.Common.{[], arith, call_before_return, cases_lt, Contains, contains_cons, Covers, inl}
-use Rattle.empty_witness.proofs.Common.{inr, IsClear, IsCovered, IsFreeGap, IsLeastFreeGap, IsLife, Life}
+use Rattle.empty_witness.proofs.Common.{[], arith, call_before_return, cases_lt, Contains, contains_cons, Covers, Enq}
+use Rattle.empty_witness.proofs.Common.{inl, inr, IsClear, IsCovered, IsFreeGap, IsLeastFreeGap, IsLife, Life}
 use Rattle.empty_witness.proofs.Common.{life_is_contained, life_of_contained, List, lives_of, not_in_none, one_deeper}
-use Rattle.empty_witness.proofs.Common.{Operation, refl, subst, suc, sym, zero, ℕ, ◌+◌, ◌-◌, ◌<◌, ◌∷◌, ◌≡◌, ◌≤◌, ◌⊎◌}
+use Rattle.empty_witness.proofs.Common.{Operation, refl, subst, suc, sym, zero, ℕ, ◌+◌, ◌-◌, ◌<◌, ◌∷◌, ◌≡◌, ◌≢◌, ◌≤◌}
+use Rattle.empty_witness.proofs.Common.{◌⊎◌}
 
 -- some value of the list covers the gap, or none does
 covering : (lives : List Life) (c : ℕ) → ((life : Life) × Contains lives life × Covers life c) ⊎ ((life : Life) → Contains lives life → ¬ (Covers life c))
@@ -52,8 +53,8 @@ free_from (suc left) c operations o clear below above long =
     ]
 
 -- the window of an operation has a least free gap, or is covered
-pub free_gap_or_covered : (operations : List Operation) (o : Operation) → IsClear operations → Contains operations o
+pub free_gap_or_covered : (operations : List Operation) (o : Operation) → IsClear operations → Contains operations o → ((v : ℕ) → o.kind ≢ Enq v)
     → ((g : ℕ) × IsLeastFreeGap operations o g) ⊎ IsCovered operations o
-free_gap_or_covered operations o clear among =
-    let less = call_before_return operations o clear.complete among in
+free_gap_or_covered operations o clear among other =
+    let less = call_before_return operations o clear.complete among other in
     free_from (o.ret - o.call) o.call operations o clear (λ b above below. absurd (omega arith)) (omega arith) (omega arith)

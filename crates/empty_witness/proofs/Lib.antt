@@ -3,7 +3,7 @@
 -- Outside, FreeGaps: the least gap of a window outside of the spans, or none: then the window is covered.
 -- Walks, Covers: the walk along a covered window that takes the value that stays longest gives the chosen cover, the shortest.
 -- Answers: what holds of all empty dequeues, and of covered ones the first to return.
--- ToldGaps: gaps of the timeline, told by tickets of the history.
+-- EmptyTimes: empty dequeues come after the initial values.
 mod Common
 pub mod Adding
 pub mod Outside
@@ -12,4 +12,4 @@ pub mod Covers
 pub mod FreeGaps
 pub mod Walks
 pub mod Answers
-pub mod ToldGaps
+pub mod EmptyTimes

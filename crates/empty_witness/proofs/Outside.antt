@@ -2,8 +2,8 @@
 use Rattle.empty_witness.proofs.Common.{ap, AreApart, AreSpansOf, arith, cases_lt, cases_order, Contains-get_or, false}
 use Rattle.empty_witness.proofs.Common.{get_or, get_or_default, Holds, inl, inr, IsCovered, IsFirstOutside}
 use Rattle.empty_witness.proofs.Common.{IsLeastFreeGap, le-ltb, leb, leb-false, leb-true, length, List, lt-ltb, ltb}
-use Rattle.empty_witness.proofs.Common.{MatchOption, max, Operation, Option, Span, subst, sym, true, ℕ, ◌-◌, ◌<◌, ◌≡◌}
-use Rattle.empty_witness.proofs.Common.{◌≢◌, ◌≤◌}
+use Rattle.empty_witness.proofs.Common.{MatchOption, max, Operation, Option, ORIGIN, Span, subst, sym, time_of, true}
+use Rattle.empty_witness.proofs.Common.{ℕ, ◌-◌, ◌<◌, ◌≡◌, ◌≢◌, ◌≤◌}
 use Rattle.std.specs.Bool.{then_some}
 use Rattle.std.specs.List.Sorted.{IsNonDecreasingBy, IsPartitionPoint}
 
@@ -76,9 +76,12 @@ module _ (operations : List Operation) (spans : List Span) (o : Operation) (gap 
   covered_to past c window = (are.cover c).0 (is.least c window.0 (omega (arith, window.1)))
 
   -- a gap within the window is its least free one; past the window, that is covered
-  pub gap_of_window : (found : Option ℕ) → found ≡ then_some (ltb gap o.ret) gap
-      → MatchOption found (IsCovered operations o) (λ c. IsLeastFreeGap operations o c)
-  gap_of_window found same = rw same (elim (cases_lt gap o.ret) [
-    | inl below ↦ rw (lt-ltb gap o.ret below) (free_in_window below)
+  pub gap_of_window : (found : Option ℕ) → ORIGIN ≤ o.call → found ≡ then_some (ltb gap o.ret) (gap - ORIGIN)
+      → MatchOption found (IsCovered operations o) (λ c. IsLeastFreeGap operations o (time_of c))
+  gap_of_window found late same = rw same (elim (cases_lt gap o.ret) [
+    | inl below ↦
+        let from = is.no_less in
+        let back : gap ≡ time_of (gap - ORIGIN) = omega arith in
+        rw (lt-ltb gap o.ret below) (subst (IsLeastFreeGap operations o) back (free_in_window below))
     | inr past ↦ rw (le-ltb gap o.ret past) (covered_to past)
   ])

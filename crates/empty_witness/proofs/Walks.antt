@@ -2,13 +2,14 @@
 use Rattle.empty_witness.proofs.Common.{[], All, All-append, All-contains, All-weaker, arith, call_before_return}
 use Rattle.empty_witness.proofs.Common.{call_or_never, Contains, Contains-append_cases, Contains-append_right, Deq}
 use Rattle.empty_witness.proofs.Common.{dequeue_call, dequeue_of, Did, drop, Empty, enqueue_of, EntersBefore}
-use Rattle.empty_witness.proofs.Common.{FindsLongest, HoldsLives, inl, inr, IsChosenCover, IsChosenCoverFrom, IsClear}
-use Rattle.empty_witness.proofs.Common.{IsCovered, IsLife, IsLongestOf, IsNextOfCover, IsSome, le-ltb, length, Life}
-use Rattle.empty_witness.proofs.Common.{List, lt-ltb, MatchedValue, MatchOption, NamesChosenCover, None, NoneDid}
-use Rattle.empty_witness.proofs.Common.{one_more_zipped, Operation, Option, option_map, places_of_value, refl}
-use Rattle.empty_witness.proofs.Common.{return_differs_from_call, return_in_range, rules, Some, StaysAtLeast, subst}
-use Rattle.empty_witness.proofs.Common.{sym, take, take-append-drop, timeline, value_is_life, value_of_life, value_told}
-use Rattle.empty_witness.proofs.Common.{ℕ, ◌++◌, ◌<◌, ◌∷◌, ◌≡◌, ◌≢◌, ◌≤◌}
+use Rattle.empty_witness.proofs.Common.{few_initial, FindsLongest, HoldsLives, inl, inr, IsChosenCover}
+use Rattle.empty_witness.proofs.Common.{IsChosenCoverFrom, IsClear, IsCovered, IsLife, IsLongestOf, IsNextOfCover}
+use Rattle.empty_witness.proofs.Common.{IsSome, le-ltb, length, Life, List, lt-ltb, MatchedValue, MatchOption}
+use Rattle.empty_witness.proofs.Common.{NamesChosenCover, no_enqueue, None, NoneDid, one_more_zipped, Operation}
+use Rattle.empty_witness.proofs.Common.{Option, option_map, places_of_value, refl, return_differs_from_call}
+use Rattle.empty_witness.proofs.Common.{return_in_range, rules, Some, StaysAtLeast, subst, sym, take, take-append-drop}
+use Rattle.empty_witness.proofs.Common.{timeline, value_is_life, value_of_life, value_told, ℕ, ◌++◌, ◌<◌, ◌∷◌, ◌≡◌}
+use Rattle.empty_witness.proofs.Common.{◌≢◌, ◌≤◌}
 use Rattle.std.proofs.Common.{append_assoc}
 use Rattle.history_merge.specs.Complete.{AreComplete}
 use Rattle.value_match.specs.declared.violation.CoverStep.{CoverStep}
@@ -31,7 +32,7 @@ no_return_at : (operations : List Operation) (v : ℕ) (dequeue : Option Operati
     → MatchOption dequeue (NoneDid operations (Deq v)) (λ d. Did operations d (Deq v))
     → (x : Operation) → Contains operations x → x.ret ≢ call_or_never dequeue
 no_return_at operations v None complete none x among same = let range = return_in_range operations x complete among in omega arith
-no_return_at operations v (Some d) complete did x among same = return_differs_from_call operations x d complete among did.0 same
+no_return_at operations v (Some d) complete did x among same = return_differs_from_call operations x d complete among did.0 (no_enqueue d (Deq v) did.1 refl) same
 
 module _ (initial : List ℕ) (operations : List Operation) (values : List MatchedValue) (o : Operation) (clear : IsClear (timeline initial operations))
     (holds : HoldsLives (timeline initial operations) values) (is_empty : Did (timeline initial operations) o Empty)
@@ -48,9 +49,9 @@ module _ (initial : List ℕ) (operations : List Operation) (values : List Match
     lives = [];
     named = search rules;
     past_call = omega arith;
-    no_return = λ x among. return_differs_from_call all x o clear.complete among is_empty.0;
+    no_return = λ x among. return_differs_from_call all x o clear.complete among is_empty.0 (no_enqueue o Empty is_empty.1 refl);
     goes_on = λ below rest chosen. chosen;
-    ends = λ past. let less = call_before_return all o clear.complete is_empty.0 in absurd (omega arith);
+    ends = λ past. let less = call_before_return all o clear.complete is_empty.0 (no_enqueue o Empty is_empty.1 refl) in absurd (omega arith);
   }
 
   -- a value that covers the gap at the frontier was enqueued before it
@@ -138,7 +139,7 @@ module _ (initial : List ℕ) (operations : List Operation) (values : List Match
     lives = so_far.lives ++ value.life ∷ [];
     named = one_more_zipped (NamesStep initial operations) steps so_far.lives
         (record { source = told_source k value.enqueue; dequeue = option_map (told_place k) value.dequeue }) value.life
-        so_far.named (value_told initial operations value (places_of_value all values value holds is.among) is_life);
+        so_far.named (value_told initial operations (few_initial initial operations clear.complete) value (places_of_value all values value holds is.among) is_life);
     past_call = let rises = frontier_rises steps frontier value so_far below is in omega (arith, so_far.past_call);
     no_return = no_return_at all is_life.0 (dequeue_of value.life) clear.complete is_life.2;
     goes_on = λ below' rest chosen.

@@ -1,10 +1,13 @@
-ghost use Rattle.std.specs.Prelude.{List, MatchOption};
+ghost use Rattle.std.specs.Prelude.{◌≤◌, List, MatchOption};
+ghost use Rattle.event_records.specs.declared.limits.TheConstants.{ORIGIN};
 ghost use Rattle.history_merge.specs.declared.operation.Operation.{Operation};
 ghost use Rattle.value_match.specs.Lives.{IsCovered, IsLeastFreeGap};
+ghost use Rattle.value_match.specs.Timeline.{time_of};
 ghost use Rattle.empty_witness.specs.Spans.{AreApart, AreSpansOf};
 ghost use Rattle.empty_witness.specs.Inner.Spans.{IsFirstOutside};
 
 use crate::spans::Span;
+use event_records::ORIGIN;
 use history_merge::Operation;
 
 /// Returns the least gap from this one on that lies in no span.
@@ -20,13 +23,14 @@ fn first_outside(spans: &[Span], from: u64) -> u64
     }
 }
 
-/// Returns the least free gap in the window of an operation of a history, if there is one, by the spans of the
-/// history.
+/// Returns the ticket of the least free gap in the window of an operation of a history, if there is one, by the spans
+/// of the history.
 pub(crate) fn least_free_gap(spans: &[Span], answer: &Operation) -> Option<u64>
-    requires { AreApart spans.now }
+    requires apart { AreApart spans.now }
+    requires late { ORIGIN ≤ answer.now.call }
     ensures { (operations : List Operation) → AreSpansOf operations spans.now
-        → MatchOption result (IsCovered operations answer.now) (λ c. IsLeastFreeGap operations answer.now c) }
+        → MatchOption result (IsCovered operations answer.now) (λ c. IsLeastFreeGap operations answer.now (time_of c)) }
 {
     let gap = first_outside(spans, answer.call);
-    (gap < answer.ret).then_some(gap)
+    (gap < answer.ret).then_some(gap - ORIGIN)
 }

@@ -6,7 +6,6 @@ mod cover;
 mod gaps;
 mod search;
 mod spans;
-mod told_gaps;
 
 pub use answer::{GapAnswer, Gaps, WitnessAnswer};
 pub use search::{

@@ -1,4 +1,5 @@
-ghost use Rattle.std.specs.Prelude.{◌≡◌, ◌++◌, ℕ, List, All, IfOk};
+ghost use Rattle.std.specs.Prelude.{◌≡◌, ◌≤◌, ◌++◌, ℕ, List, All, IfOk};
+ghost use Rattle.event_records.specs.declared.limits.TheConstants.{ORIGIN};
 ghost use Rattle.history_merge.specs.declared.operation.OpKind.TheVariants.{Empty};
 ghost use Rattle.history_merge.specs.Operations.{Did, IsAt};
 ghost use Rattle.value_match.specs.Timeline.{timeline_of};
@@ -10,7 +11,6 @@ use crate::answer::{GapAnswer, Gaps, WitnessAnswer};
 use crate::cover::cover_of;
 use crate::gaps::least_free_gap;
 use crate::spans::{Span, spans_of};
-use crate::told_gaps::{told_gap, told_gaps};
 use history_merge::{OpId, Operation};
 use std::alloc::{AllocError, Global};
 use value_match::{Matching, told_place};
@@ -22,10 +22,10 @@ pub struct EmptyAnswer {
     pub operation: Operation,
 }
 
-/// What a search finds in the windows of some empty dequeues of a timeline, by its clocks.
+/// What a search finds in the windows of some empty dequeues of a timeline.
 #[derive(Drop)]
 pub enum WindowsAnswer {
-    /// None is covered: the least free gap of each, in their order.
+    /// None is covered: the least free gap of each, by its ticket, in their order.
     Free(Vec<u64>),
     /// Of those whose windows are covered, the one that returned first.
     Covered(EmptyAnswer),
@@ -46,7 +46,7 @@ pub fn gap_for(alloc: Global, matching: &Matching, empty: OpId) -> Result<GapAns
     let answer = answer_at(matching, OpId::new(place as u32));
     let spans = spans_of(alloc, matching)?;
     match least_free_gap(spans.as_slice(), &answer.operation) {
-        Some(gap) => Ok(GapAnswer::Free(told_gap(initial_count, gap))),
+        Some(gap) => Ok(GapAnswer::Free(gap)),
         None => Ok(GapAnswer::Covered(cover_of(alloc, matching, &answer.operation)?)),
     }
 }
@@ -81,14 +81,10 @@ pub fn witness_of(
     requires { AreAllWindows (timeline_of matching.now) windows }
     ensures { IfOk result (IsWitnessAnswer matching.now.initial matching.now.operations) }
 {
-    let initial_count = matching.initial().len();
     match windows {
-        WindowsAnswer::Free(gaps) => {
-            let told = told_gaps(alloc, initial_count, gaps)?;
-            Ok(WitnessAnswer::Gaps(Gaps::from_vec(told)))
-        }
+        WindowsAnswer::Free(gaps) => Ok(WitnessAnswer::Gaps(Gaps::from_vec(gaps))),
         WindowsAnswer::Covered(first) => Ok(WitnessAnswer::Covered {
-            empty: told_place(initial_count, first.place),
+            empty: told_place(matching.initial().len(), first.place),
             cover: cover_of(alloc, matching, &first.operation)?,
         }),
     }
@@ -100,6 +96,7 @@ fn answer_at(matching: &Matching, empty: OpId) -> EmptyAnswer
     ensures place { result.place ≡ empty }
     ensures at { IsAt (timeline_of matching.now) empty result.operation }
     ensures is_empty { Did (timeline_of matching.now) result.operation Empty }
+    ensures late { ORIGIN ≤ result.operation.call }
 {
     EmptyAnswer {
         place: empty,

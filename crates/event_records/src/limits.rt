@@ -34,8 +34,12 @@ pub const MAX_STRESS_INITIAL: u64 = 1_000;
 /// The least name of an initial value of a run: above the names of each thread's values.
 pub const LEAST_INITIAL_NAME: u64 = MAX_THREADS as u64 * NAMES_OF_A_THREAD;
 
-/// The greatest clock of an event: its ticket, and two more for each initial value of the history.
-pub const MAX_CLOCK: u64 = MAX_TICKET + 2 * MAX_INITIAL as u64;
+/// The time of ticket 0, on a scale on which initial values stand before all tickets: the j-th of k initial values is
+/// enqueued at the time `ORIGIN - k + j`, which is above 0, and what has ticket c has the time `ORIGIN + c`.
+pub const ORIGIN: u64 = MAX_INITIAL as u64 + 1;
+
+/// The greatest time: that of the greatest ticket.
+pub const MAX_TIME: u64 = MAX_TICKET + ORIGIN;
 
 /// The most lines of a claimed verdict: one for each operation or initial value.
 pub const MAX_CLAIM_LINES: u64 = MAX_OPERATIONS + MAX_INITIAL as u64;

@@ -12,12 +12,13 @@ pub use Rattle.std.proofs.lemmas.List.{append-nil, append_cancel_left, get_or-ap
 pub use Rattle.std.proofs.lemmas.List.{get_or-take, get_or_append_left, get_or_default, get_or_past, length-map}
 pub use Rattle.std.proofs.lemmas.List.{length-replicate, length-take, map-append, map-set, nil_from_length}
 pub use Rattle.std.proofs.lemmas.List.{set-append_right, set-get_or, take-append-le, take_more}
-pub use Rattle.std.proofs.lemmas.List.Elements.{All-cons, All-contains, All-head, All-map, All-nil, All-push}
+pub use Rattle.std.proofs.lemmas.List.Elements.{All-append, All-cons, All-contains, All-filter, All-head, All-map}
+pub use Rattle.std.proofs.lemmas.List.Elements.{All-nil, All-push}
 pub use Rattle.std.proofs.lemmas.List.Elements.{All-tail, Contains-append_right, Contains-get_or, filter-append}
 pub use Rattle.std.proofs.lemmas.List.Elements.{filter_map-append}
 pub use Rattle.std.proofs.lemmas.List.Folds.{Any-from_list_any, find-append, find_at, flat_map-map, list_any-append}
 pub use Rattle.std.proofs.lemmas.List.Folds.{list_any_at, map_fixed}
-pub use Rattle.std.proofs.lemmas.List.Kept.{AllPairs-cons}
+pub use Rattle.std.proofs.lemmas.List.Kept.{AllPairs-cons, AllPairs-filter}
 pub use Rattle.std.proofs.lemmas.List.Quantifiers.{all_pairs_push, position-Some}
 pub use Rattle.std.proofs.lemmas.List.Recursion.{is_sum_by}
 pub use Rattle.std.proofs.lemmas.List.Sorted.{All-permutation, answers_always, Contains-permutation}
@@ -26,7 +27,7 @@ pub use Rattle.std.proofs.lemmas.List.Sorted.{IsPermutation-remove, IsPermutatio
 pub use Rattle.std.proofs.lemmas.List.Sorted.{length_permutation, sum_by-IsPermutation}
 pub use Rattle.std.proofs.lemmas.List.Sums.{sum_by-cons}
 pub use Rattle.std.proofs.lemmas.Option.{get_or_from_slice_get, gets, MatchOption-at_none, MatchOption-at_some}
-pub use Rattle.std.proofs.lemmas.Option.{none-some, option_and_then_some, slice_get-get_or, slice_get-map}
+pub use Rattle.std.proofs.lemmas.Option.{none-some, option_and_then_some, same_Some, slice_get-get_or, slice_get-map}
 pub use Rattle.std.proofs.lemmas.Option.{slice_get_read, slice_get_within, some_pair_parts}
 pub use Rattle.std.proofs.lemmas.Result.{MatchResult-weaker, on_ok_weaker}
 pub use Rattle.std.specs.BTreeSet.{contains}
@@ -36,7 +37,8 @@ pub use Rattle.std.specs.List.{cons_option, filter_map, last_or, list_any, posit
 pub use Rattle.std.specs.List.Sorted.{IsNonDecreasingBy, IsPartitionPoint}
 pub use Rattle.std.specs.Option.{option_map_or}
 pub use Rattle.std.specs.Ordering.{is_eq, nat_cmp}
-pub use Rattle.std.specs.Prelude.{⊤, ◌&&◌, All, AllPairs, Contains, count_by, find, flat_map, IfErr, IfOk, IfSome}
+pub use Rattle.std.specs.Prelude.{⊤, ◌&&◌, All, AllPairs, Contains, count_by, filter, find, flat_map, IfErr, IfOk}
+pub use Rattle.std.specs.Prelude.{IfSome}
 pub use Rattle.std.specs.Prelude.{is_none, is_some, IsPermutation, IsTrue, MatchOption, MatchResult, OnErr, OnOk}
 pub use Rattle.std.specs.Prelude.{option_and_then, option_map, slice_get, sum_by}
 pub use Rattle.std.specs.Result.{IsErrAnd, result_err}
@@ -46,11 +48,11 @@ pub use Rattle.event_records.specs.Turns.{answers, is_call, TakesTurns, TicketsR
 pub use Rattle.event_records.specs.declared.event.Event.{Event}
 pub use Rattle.event_records.specs.declared.event.What.{What}
 pub use Rattle.event_records.specs.declared.event.What.TheVariants.{CallEnq, RetEmpty, RetEnq}
-pub use Rattle.event_records.specs.declared.limits.TheConstants.{MAX_CLOCK, MAX_EVENTS, MAX_INITIAL, MAX_THREAD}
-pub use Rattle.event_records.specs.declared.limits.TheConstants.{MAX_THREADS, MAX_TICKET}
+pub use Rattle.event_records.specs.declared.limits.TheConstants.{MAX_EVENTS, MAX_INITIAL, MAX_THREAD}
+pub use Rattle.event_records.specs.declared.limits.TheConstants.{MAX_THREADS, MAX_TICKET, MAX_TIME, ORIGIN}
 pub use Rattle.history_merge.specs.Clashes.{AreFirstWith, IsClash, Stands}
 pub use Rattle.history_merge.specs.Complete.{AreComplete, AreDistinct, called_value, called_values, IsCompleteHistory}
-pub use Rattle.history_merge.specs.Complete.{IsCompleteUpTo}
+pub use Rattle.history_merge.specs.Complete.{AreApart, IsTimed}
 pub use Rattle.history_merge.specs.Events.{call_event, called_by, events_of, maybe_return, put_by_ticket, put_each}
 pub use Rattle.history_merge.specs.Events.{put_maybe, return_event}
 pub use Rattle.history_merge.specs.Faults.{answers_pending, breaks_ticket_order, calls_initial, fault_at, is_initial}
@@ -59,8 +61,8 @@ pub use Rattle.history_merge.specs.Faults.{pending_call, repeats_value, was_call
 pub use Rattle.history_merge.specs.Forming.{answered, begun, operation_so_far, operations_so_far, waiting}
 pub use Rattle.history_merge.specs.Gathering.{HasFormed, HasGathered, HasMetFault, HasRefusedInitial, is_among}
 pub use Rattle.history_merge.specs.Gathering.{IsForming, Knows, name_in}
-pub use Rattle.history_merge.specs.Initial.{Contents, enqueue_at, enqueue_events_from, enqueues_from, event_later_by}
-pub use Rattle.history_merge.specs.Initial.{IsCompleteFrom, later_by, timeline, timeline_events}
+pub use Rattle.history_merge.specs.Initial.{Contents, enqueue_at, enqueues_from, initial_enqueues}
+pub use Rattle.history_merge.specs.Initial.{IsCompleteFrom, later_by, timeline}
 pub use Rattle.history_merge.specs.Inner.Clashes.{IsFirstSought, IsSought}
 pub use Rattle.history_merge.specs.Inner.Faults.{NothingPending}
 pub use Rattle.history_merge.specs.Inner.Forming.{AreCalledIn, FitsTurn, is_called_in, IsFormedOf}

@@ -1,16 +1,17 @@
 -- Different operations of a complete history have different tickets, and enqueue different values.
-use Rattle.history_merge.proofs.Common.{[], ◌+◌, ◌-◌, ◌∙◌, ◌∷◌, ◌≡◌, ◌≢◌, ◌⊎◌, All-contains, AllPairs, AllPairs-cons}
-use Rattle.history_merge.proofs.Common.{ap, AreComplete, arith, Bool, cases_order, cons_option, Contains}
-use Rattle.history_merge.proofs.Common.{Contains-get_or, Did, drop, Enq, eq-eqb, eqb-true, Event, false≢true, find}
-use Rattle.history_merge.proofs.Common.{find_at, get_or_from_slice_get, inl, inr, is_call, IsCompleteUpTo, kind_of}
-use Rattle.history_merge.proofs.Common.{length, lt-ltb, MAX_CLOCK, nat_eq, None, Not, Operation, operation_of}
-use Rattle.history_merge.proofs.Common.{operations_of, OpKind, Option, option_map, position-Some, position_or_len}
-use Rattle.history_merge.proofs.Common.{refl, slice_get, slice_get-map, slice_get_read, slice_get_within, Some, subst}
-use Rattle.history_merge.proofs.Common.{suc, sym, TicketsRise, What, zero}
-use Rattle.std.proofs.Common.{ℕ, ◌<◌, ◌≤◌, true, false, List, get_or}
-use Rattle.std.proofs.Common.{map}
+use Rattle.history_merge.proofs.Common.{[], All, All-contains, All-filter, AllPairs, AllPairs-cons, AllPairs-filter}
+use Rattle.history_merge.proofs.Common.{ap, AreApart, AreComplete, arith, Bool, cases_order, cons_option, Contains}
+use Rattle.history_merge.proofs.Common.{Contains-get_or, Did, drop, Enq, enqueued_value, eq-eqb, eqb-true, Event}
+use Rattle.history_merge.proofs.Common.{false≢true, filter, find, find_at, get_or_from_slice_get, inl, inr, is_call}
+use Rattle.history_merge.proofs.Common.{IsCompleteHistory, IsTimed, kind_of, length, lt-ltb, MAX_TICKET, MAX_TIME}
+use Rattle.history_merge.proofs.Common.{nat_eq, None, Not, Operation, operation_of, operations_of, OpKind, Option}
+use Rattle.history_merge.proofs.Common.{option_map, position-Some, position_or_len, refl, slice_get, slice_get-get_or}
+use Rattle.history_merge.proofs.Common.{slice_get-map, slice_get_read, slice_get_within, Some, subst, suc, sym}
+use Rattle.history_merge.proofs.Common.{TicketsRise, What, zero, ◌+◌, ◌-◌, ◌∙◌, ◌∷◌, ◌≡◌, ◌≢◌, ◌⊎◌}
+use Rattle.std.proofs.Common.{ℕ, ◌<◌, ◌≤◌, true, false, List, get_or, map}
 use Rattle.history_merge.proofs.Completeness.{IsMadeOf, made_of, called_once}
 use Rattle.history_merge.proofs.Places.{calls_of_kind, same_place}
+use Rattle.history_merge.proofs.Runs.{put_in}
 
 -- what a list contains is its first element, or the rest contains it
 pub contains_cons : {X : Type 0} (x : X) (xs : List X) (y : X) → Contains (x ∷ xs) y → (x ≡ y) ⊎ Contains xs y
@@ -177,75 +178,149 @@ calls_rise (e ∷ later) rise = join (operation_of e (find (λ r. nat_eq r.threa
         let above = pairs_at (λ x y. x.ticket < y.ticket) (e ∷ later) zero (suc t.called_at) e t.call rise (omega arith) refl t.at_call in
         omega (arith, made.2.called, t.made.called, above)) more
 
--- operations with one call ticket are one
-pub same_call : (operations : List Operation) (x y : Operation) → AreComplete operations → Contains operations x → Contains operations y
-    → x.call ≡ y.call → x ≡ y
-same_call operations x y complete in_x in_y same =
-    let rise : AllPairs (λ x y. x.call < y.call) operations = rw complete.2 (calls_rise complete.0 complete.1.tickets_rise) in
-    let at_x = place_of operations x in_x in
-    let at_y = place_of operations y in_y in
-    (one_by_key (λ o. o.call) operations at_x.0 at_y.0 x y rise at_x.1 at_y.1 same).1
-
-trace_of : (operations : List Operation) (o : Operation) (complete : AreComplete operations) → Contains operations o → IsTraced complete.0 o
-trace_of operations o complete among = traced complete.0 o (subst (λ os. Contains os o) complete.2 among)
-
--- no return has the ticket of a call
-pub return_differs_from_call : (operations : List Operation) (x y : Operation) → AreComplete operations → Contains operations x
-    → Contains operations y → x.ret ≢ y.call
-return_differs_from_call operations x y complete in_x in_y =
-    return_is_no_call complete.0 complete.1.tickets_rise x y (trace_of operations x complete in_x) (trace_of operations y complete in_y)
-
--- operations with one return ticket are one
-pub same_return : (operations : List Operation) (x y : Operation) → AreComplete operations → Contains operations x → Contains operations y
-    → x.ret ≡ y.ret → x ≡ y
-same_return operations x y complete in_x in_y same =
-    same_call operations x y complete in_x in_y
-    (same_return_same_call complete.0 complete.1.tickets_rise x y (trace_of operations x complete in_x) (trace_of operations y complete in_y) same)
-
--- calls and returns have tickets in the range of the events'
-pub operation_within : {n : ℕ} (events : List Event) (o : Operation) → IsCompleteUpTo n events → Contains (operations_of events) o
-    → (o.call ≤ n) × (o.ret ≤ n)
-operation_within {n} events o complete among =
-    let t = traced events o among in
-    let call = All-contains (λ e. e.ticket ≤ n) events t.call complete.tickets_in_range (contains_at events t.called_at t.call t.at_call) in
-    let ret = All-contains (λ e. e.ticket ≤ n) events t.answer complete.tickets_in_range (contains_at events t.returned_at t.answer t.at_return) in
-    (omega (arith, t.made.called, call), omega (arith, t.made.returned, ret))
-
--- returns have tickets in their range
-pub return_in_range : (operations : List Operation) (o : Operation) → AreComplete operations → Contains operations o → o.ret ≤ MAX_CLOCK
-return_in_range operations o complete among =
-    (operation_within complete.0 o complete.1 (subst (λ os. Contains os o) complete.2 among)).1
-
--- an operation is called before it returns
-pub call_before_return : (operations : List Operation) (o : Operation) → AreComplete operations → Contains operations o → o.call < o.ret
-call_before_return operations o complete among =
-    let t = trace_of operations o complete among in
-    let less = pairs_at (λ x y. x.ticket < y.ticket) complete.0 t.called_at t.returned_at t.call t.answer complete.1.tickets_rise t.in_order t.at_call
-    t.at_return in
-    omega (arith, t.made.called, t.made.returned)
-
 kind_at : (xs : List Operation) (i : ℕ) (o : Operation) → slice_get xs i ≡ Some o → slice_get (map (λ o. o.kind) xs) i ≡ Some o.kind
 kind_at xs i o at = slice_get-map (λ o. o.kind) xs i ∙ ap (option_map (λ o. o.kind)) at
+
+calls_for : (v : ℕ) (k : OpKind) → enqueued_value k ≡ Some v → calls_of_kind v k ≡ 1
+calls_for v k is = grind (arith, eq-eqb)
+
+-- each operation of a complete history returns after its call and at a ticket
+pub each_timed : (events : List Event) → IsCompleteHistory events → All (λ o. (o.call < o.ret) × (o.ret ≤ MAX_TICKET)) (operations_of events)
+each_timed events complete k d below =
+    let o = get_or (operations_of events) k d in
+    let t = traced events o (Contains-get_or (operations_of events) k d below) in
+    let less = pairs_at (λ x y. x.ticket < y.ticket) events t.called_at t.returned_at t.call t.answer complete.tickets_rise t.in_order t.at_call t.at_return in
+    let late = All-contains (λ e. e.ticket ≤ MAX_TICKET) events t.answer complete.tickets_in_range (contains_at events t.returned_at t.answer t.at_return) in
+    (omega (arith, t.made.called, t.made.returned, less), omega (arith, t.made.returned, late))
+
+-- so does one of them
+pub operation_within : (events : List Event) (o : Operation) → IsCompleteHistory events → Contains (operations_of events) o
+    → (o.call < o.ret) × (o.ret ≤ MAX_TICKET)
+operation_within events o complete among =
+    All-contains (λ o. (o.call < o.ret) × (o.ret ≤ MAX_TICKET)) (operations_of events) o (each_timed events complete) among
+
+-- none of them returns with the ticket of a call
+pub returns_at_no_call : (events : List Event) (x y : Operation) → IsCompleteHistory events → Contains (operations_of events) x
+    → Contains (operations_of events) y → x.ret ≢ y.call
+returns_at_no_call events x y complete in_x in_y =
+    return_is_no_call events complete.tickets_rise x y (traced events x in_x) (traced events y in_y)
+
+-- operations of a complete history come apart
+pub all_apart : (events : List Event) → IsCompleteHistory events → AllPairs AreApart (operations_of events)
+all_apart events complete i j d below within =
+    let operations = operations_of events in
+    let x = get_or operations i d in
+    let y = get_or operations j d in
+    let tx = traced events x (Contains-get_or operations i d (omega arith)) in
+    let ty = traced events y (Contains-get_or operations j d within) in
+    let first = calls_rise events complete.tickets_rise i j d below within in
+    record {
+      called_first = first;
+      returns_apart = λ same. let one = same_return_same_call events complete.tickets_rise x y tx ty same in omega (arith, first, one);
+      return_apart = return_is_no_call events complete.tickets_rise x y tx ty;
+      values_apart = λ v is_x is_y.
+          let here = same_place (map (λ o. o.kind) operations) i j v x.kind y.kind
+          (kind_at operations i x (slice_get-get_or operations i d (omega arith))) (kind_at operations j y (slice_get-get_or operations j d within))
+          (calls_for v x.kind is_x) (calls_for v y.kind is_y) (called_once events v complete) in
+          omega (arith, here, below);
+    }
+
+-- the operations of a complete history are complete
+pub operations_are_complete : (events : List Event) → IsCompleteHistory events → AreComplete (operations_of events)
+operations_are_complete events complete = record {
+  timed = λ k d below. let t = each_timed events complete k d below in
+      record { returns_late = omega arith; takes_time = λ other. t.0; above_zero = omega arith; in_range = omega arith };
+  apart = all_apart events complete;
+}
+
+-- ---- operations that are complete
+
+module _ (operations : List Operation) (x y : Operation) (complete : AreComplete operations) (in_x : Contains operations x)
+    (in_y : Contains operations y) where
+  -- two operations are one or come apart
+  one_or_apart : (x ≡ y) ⊎ (AreApart x y ⊎ AreApart y x)
+  one_or_apart =
+      let at_x = place_of operations x in_x in
+      let at_y = place_of operations y in_y in
+      elim (cases_order at_x.0 at_y.0) [
+        | inl here ↦ inl (one_at operations at_y.0 x y (subst (λ i. slice_get operations i ≡ Some x) here at_x.1) at_y.1)
+        | inr (inl below) ↦ inr (inl (pairs_at AreApart operations at_x.0 at_y.0 x y complete.apart below at_x.1 at_y.1))
+        | inr (inr above) ↦ inr (inr (pairs_at AreApart operations at_y.0 at_x.0 y x complete.apart above at_y.1 at_x.1))
+      ]
+
+  -- operations that are called at one time are one
+  pub same_call : x.call ≡ y.call → x ≡ y
+  same_call same = elim one_or_apart [
+    | inl one ↦ one
+    | inr (inl apart) ↦ absurd (omega (arith, apart.called_first))
+    | inr (inr apart) ↦ absurd (omega (arith, apart.called_first))
+  ]
+
+  -- operations that return at one time are one
+  pub same_return : x.ret ≡ y.ret → x ≡ y
+  same_return same = elim one_or_apart [
+    | inl one ↦ one
+    | inr (inl apart) ↦ absurd (apart.returns_apart same)
+    | inr (inr apart) ↦ absurd (apart.returns_apart (sym same))
+  ]
+
+  -- where one returns at the call of another, they are one
+  pub returns_at_call : x.ret ≡ y.call → x ≡ y
+  returns_at_call same = elim one_or_apart [
+    | inl one ↦ one
+    | inr (inl apart) ↦ absurd (apart.return_apart same)
+    | inr (inr apart) ↦
+        let late = (All-contains IsTimed operations x complete.timed in_x).returns_late in absurd (omega (arith, apart.called_first, late))
+  ]
+
+-- an operation is called by its return
+pub call_by_return : (operations : List Operation) (o : Operation) → AreComplete operations → Contains operations o → o.call ≤ o.ret
+call_by_return operations o complete among = (All-contains IsTimed operations o complete.timed among).returns_late
+
+-- an operation that is no successful enqueue is called before it returns
+pub call_before_return : (operations : List Operation) (o : Operation) → AreComplete operations → Contains operations o
+    → ((v : ℕ) → o.kind ≢ Enq v) → o.call < o.ret
+call_before_return operations o complete among = (All-contains IsTimed operations o complete.timed among).takes_time
+
+-- what did something else is no successful enqueue
+pub no_enqueue : (o : Operation) (k : OpKind) → o.kind ≡ k → put_in k ≡ None → (v : ℕ) → o.kind ≢ Enq v
+no_enqueue o k is none v same = let clash : None ≡ Some v = sym none ∙ ap put_in (sym is ∙ same) in cc
+
+-- nothing returns when an operation that is no successful enqueue is called
+pub return_differs_from_call : (operations : List Operation) (x y : Operation) → AreComplete operations → Contains operations x
+    → Contains operations y → ((v : ℕ) → y.kind ≢ Enq v) → x.ret ≢ y.call
+return_differs_from_call operations x y complete in_x in_y other same =
+    let one = returns_at_call operations x y complete in_x in_y same in
+    let less = call_before_return operations y complete in_y other in
+    omega (arith, ap (λ (o : Operation). o.ret) one, same, less)
+
+-- operations return within the scale of time
+pub return_in_range : (operations : List Operation) (o : Operation) → AreComplete operations → Contains operations o → o.ret ≤ MAX_TIME
+return_in_range operations o complete among = (All-contains IsTimed operations o complete.timed among).in_range
 
 -- the operation calls to enqueue this value, accepted or refused
 abbrev pub CallsFor : Operation → ℕ → Type 0
 CallsFor o v = (o.kind ≡ Enq v) ⊎ (o.kind ≡ Not v)
 
-calls_for : (v : ℕ) (o : Operation) → CallsFor o v → calls_of_kind v o.kind ≡ 1
-calls_for v o (inl e) = rw (e, eq-eqb v v refl)
-calls_for v o (inr e) = rw (e, eq-eqb v v refl)
+called_value_of : (o : Operation) (v : ℕ) → CallsFor o v → enqueued_value o.kind ≡ Some v
+called_value_of o v (inl e) = ap enqueued_value e
+called_value_of o v (inr e) = ap enqueued_value e
 
 -- calls to enqueue one value are one
 pub same_value_call : (operations : List Operation) (x y : Operation) (v : ℕ) → AreComplete operations → Contains operations x → Contains operations y
     → CallsFor x v → CallsFor y v → x ≡ y
-same_value_call operations x y v complete in_x in_y for_x for_y =
-    let at_x = place_of operations x in_x in
-    let at_y = place_of operations y in_y in
-    let here = same_place (map (λ o. o.kind) operations) at_x.0 at_y.0 v x.kind y.kind (kind_at operations at_x.0 x at_x.1) (kind_at operations at_y.0 y at_y.1)
-    (calls_for v x for_x) (calls_for v y for_y) (called_once operations v complete) in
-    one_at operations at_y.0 x y (subst (λ i. slice_get operations i ≡ Some x) here at_x.1) at_y.1
+same_value_call operations x y v complete in_x in_y for_x for_y = elim (one_or_apart operations x y complete in_x in_y) [
+  | inl one ↦ one
+  | inr (inl apart) ↦ absurd (apart.values_apart v (called_value_of x v for_x) (called_value_of y v for_y))
+  | inr (inr apart) ↦ absurd (apart.values_apart v (called_value_of y v for_y) (called_value_of x v for_x))
+]
 
 -- enqueues of one value are one
 pub same_enqueue : (operations : List Operation) (x y : Operation) (v : ℕ) → AreComplete operations → Did operations x (Enq v)
     → Did operations y (Enq v) → x ≡ y
 same_enqueue operations x y v complete did_x did_y = same_value_call operations x y v complete did_x.0 did_y.0 (inl did_x.1) (inl did_y.1)
+
+-- some of complete operations are complete
+pub some_are_complete : (test : Operation → Bool) (operations : List Operation) → AreComplete operations → AreComplete (filter test operations)
+some_are_complete test operations complete =
+    record { timed = All-filter test IsTimed operations complete.timed; apart = AllPairs-filter AreApart test operations complete.apart }

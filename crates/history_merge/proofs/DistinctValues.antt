@@ -1,17 +1,15 @@
 -- Values that no two calls share, and initial values.
-use Rattle.history_merge.proofs.Common.{[], ◌++◌, ◌+◌, ◌||◌, ◌∙◌, ◌∷◌, ◌≡◌, ◌≢◌, all_pairs_push, Any-from_list_any}
-use Rattle.history_merge.proofs.Common.{ap, append-nil, AreDistinct, arith, called_value, called_values}
-use Rattle.history_merge.proofs.Common.{calls_initial, cases_lt, cons_option, drop, eq-eqb, eqb-true, Event}
-use Rattle.history_merge.proofs.Common.{false_from_ne_true, false≢true, filter_map-append, get_or-append_seam}
-use Rattle.history_merge.proofs.Common.{get_or-take, get_or_append_left, get_or_default, get_or_from_slice_get}
-use Rattle.history_merge.proofs.Common.{HasRefusedInitial, InitialTwice, inl, inr, is_initial, IsCompleteFrom}
-use Rattle.history_merge.proofs.Common.{IsFirstTwice, length, length-take, list_any, list_any-append, list_any_at}
-use Rattle.history_merge.proofs.Common.{nat_eq, None, Option, option_map_or, or_comm, refl, repeats_value, slice_get}
-use Rattle.history_merge.proofs.Common.{slice_get_within, Some, split_at, subst, suc, sym, take, was_called}
-use Rattle.std.proofs.Common.{ℕ, ◌<◌, true, false, List}
-use Rattle.std.proofs.Common.{length-append}
-use Rattle.std.proofs.lemmas.List.{take_all}
-use Rattle.std.proofs.lemmas.List.{append_assoc}
+use Rattle.history_merge.proofs.Common.{[], all_pairs_push, Any-from_list_any, ap, append-nil, AreDistinct, arith}
+use Rattle.history_merge.proofs.Common.{called_value, called_values, calls_initial, cases_lt, cons_option, Contains}
+use Rattle.history_merge.proofs.Common.{drop, eq-eqb, eqb-true, Event, false_from_ne_true, false≢true}
+use Rattle.history_merge.proofs.Common.{filter_map-append, get_or-append_seam, get_or-take, get_or_append_left}
+use Rattle.history_merge.proofs.Common.{get_or_default, get_or_from_slice_get, HasRefusedInitial, InitialTwice, inl}
+use Rattle.history_merge.proofs.Common.{inr, is_initial, IsCompleteFrom, IsFirstTwice, length, length-take, list_any}
+use Rattle.history_merge.proofs.Common.{list_any-append, list_any_at, nat_eq, None, Option, option_map_or, or_comm}
+use Rattle.history_merge.proofs.Common.{refl, repeats_value, same_Some, slice_get, slice_get_within, Some, split_at}
+use Rattle.history_merge.proofs.Common.{subst, suc, sym, take, was_called, zero, ◌++◌, ◌+◌, ◌||◌, ◌∙◌, ◌∷◌, ◌≡◌, ◌≢◌}
+use Rattle.std.proofs.Common.{ℕ, ◌<◌, true, false, List, length-append}
+use Rattle.std.proofs.lemmas.List.{take_all, append_assoc}
 use Rattle.history_merge.proofs.Distinct.{one_at}
 
 -- ---- initial values: distinct so far, or the first that stands twice
@@ -63,6 +61,19 @@ cut_at xs i x at = split_at xs i x (slice_get_within xs i x at) ∙ ap (λ y. ta
 was_called_is : (events : List Event) (v : ℕ) → was_called events v ≡ list_any (λ w. nat_eq w v) (called_values events)
 was_called_is [] v = refl
 was_called_is (e ∷ events) v = grind (arith, was_called_is events v)
+
+deeper : (o : Option ℕ) (values : List ℕ) (w : ℕ) → Contains values w → Contains (cons_option o values) w
+deeper None values w among = among
+deeper (Some v) values w among = (suc among.0, omega (arith, among.1), among.2)
+
+-- the value that an event calls with is among those of the calls
+pub value_called : (events : List Event) (i : ℕ) (e : Event) (w : ℕ) → slice_get events i ≡ Some e → called_value e.what ≡ Some w
+    → Contains (called_values events) w
+value_called [] i e w at is = cc
+value_called (x ∷ events) zero e w at is =
+    let same : called_value x.what ≡ Some w = ap (λ (e : Event). called_value e.what) (same_Some x e at) ∙ is in
+    subst (λ o. Contains (cons_option o (called_values events)) w) (sym same) (zero, omega arith, refl)
+value_called (x ∷ events) (suc i) e w at is = deeper (called_value x.what) (called_values events) w (value_called events i e w at is)
 
 -- the same of a value that may be initial too
 pub known_is : (initial : List ℕ) (events : List Event) (v : ℕ)

@@ -1,15 +1,14 @@
 -- Which values were noted, after one more.
-use Rattle.history_merge.proofs.Common.{[], ◌++◌, ◌+◌, ◌||◌, ◌∙◌, ◌∷◌, ◌≡◌, ap, AreCalledIn, arith, Bool}
-use Rattle.history_merge.proofs.Common.{called_value, called_values, CalledValues, calls_initial, cond, cons_option}
-use Rattle.history_merge.proofs.Common.{contains, Contents, enqueue_at, enqueued_value, enqueues_from, eqb-true}
-use Rattle.history_merge.proofs.Common.{Event, filter_map-append, inl, inr, is_among, is_called_in, is_eq, is_initial}
-use Rattle.history_merge.proofs.Common.{Knows, later_by, length, list_any-append, LOOSE, name_in, nat_cmp, nat_eq}
-use Rattle.history_merge.proofs.Common.{nat_tests, not, Operation, operations_so_far, option_map_or, or_cases}
-use Rattle.history_merge.proofs.Common.{or_comm, refl, repeats_value, subst, suc, sym, take, take-append-le, timeline}
-use Rattle.history_merge.proofs.Common.{was_called, zero}
-use Rattle.std.proofs.Common.{ℕ, true, false, List}
-use Rattle.std.proofs.Common.{get_or, append_assoc}
-use Rattle.std.specs.Prelude.{map, ◌*◌, ◌<◌}
+use Rattle.history_merge.proofs.Common.{[], ap, AreCalledIn, arith, Bool, called_value, called_values, CalledValues}
+use Rattle.history_merge.proofs.Common.{calls_initial, cond, cons_option, contains, Contents, enqueue_at}
+use Rattle.history_merge.proofs.Common.{enqueued_value, enqueues_from, eqb-true, Event, filter_map-append}
+use Rattle.history_merge.proofs.Common.{initial_enqueues, inl, inr, is_among, is_called_in, is_eq, is_initial, Knows}
+use Rattle.history_merge.proofs.Common.{later_by, length, list_any-append, LOOSE, name_in, nat_cmp, nat_eq, nat_tests}
+use Rattle.history_merge.proofs.Common.{not, Operation, operations_so_far, option_map_or, or_cases, or_comm, ORIGIN}
+use Rattle.history_merge.proofs.Common.{refl, repeats_value, subst, suc, sym, take, take-append-le, timeline}
+use Rattle.history_merge.proofs.Common.{was_called, zero, ◌++◌, ◌+◌, ◌-◌, ◌||◌, ◌∙◌, ◌∷◌, ◌≡◌}
+use Rattle.std.proofs.Common.{ℕ, true, false, List, get_or, append_assoc}
+use Rattle.std.specs.Prelude.{map, ◌<◌}
 use Rattle.history_merge.proofs.DistinctValues.{known_is}
 use Rattle.history_merge.proofs.Formed.{called_in_operations}
 use Rattle.history_merge.proofs.TimelineOperations.{length_enqueues}
@@ -49,9 +48,9 @@ repeats_by_set added has was is same = grind arith
 -- ---- the values that the operations of a timeline called to enqueue
 
 -- the enqueues of the initial values
-pub called_in_enqueues : (clock : ℕ) (values : List ℕ) (v : ℕ) → is_called_in (enqueues_from clock values) v ≡ is_among values v
-called_in_enqueues clock [] v = refl
-called_in_enqueues clock (w ∷ values) v = ap (λ b. nat_eq w v || b) (called_in_enqueues (clock + 2) values v)
+pub called_in_enqueues : (time : ℕ) (values : List ℕ) (v : ℕ) → is_called_in (enqueues_from time values) v ≡ is_among values v
+called_in_enqueues time [] v = refl
+called_in_enqueues time (w ∷ values) v = ap (λ b. nat_eq w v || b) (called_in_enqueues (time + 1) values v)
 
 -- later operations called with the same values
 called_in_later : (n : ℕ) (operations : List Operation) (v : ℕ) → is_called_in (map (later_by n) operations) v ≡ is_called_in operations v
@@ -62,10 +61,10 @@ called_in_later n (o ∷ operations) v = ap (λ b. option_map_or (λ w. nat_eq w
 pub called_in_timeline : (initial : List ℕ) (events : List Event) (operations : List Operation) → operations ≡ operations_so_far events
     → AreCalledIn (timeline initial operations) (initial ++ called_values events)
 called_in_timeline initial events operations is = λ v.
-    list_any-append (λ (o : Operation). option_map_or (λ w. nat_eq w v) (enqueued_value o.kind) false) (enqueues_from 0 initial)
-    (map (later_by (2 * length initial)) operations)
-    ∙ ap (λ b. b || is_called_in (map (later_by (2 * length initial)) operations) v) (called_in_enqueues 0 initial v)
-    ∙ ap (λ b. is_initial initial v || b) (called_in_later (2 * length initial) operations v ∙ ap (λ os. is_called_in os v) is ∙ sym (called_in_operations events v))
+    list_any-append (λ (o : Operation). option_map_or (λ w. nat_eq w v) (enqueued_value o.kind) false) (initial_enqueues initial)
+    (map (later_by ORIGIN) operations)
+    ∙ ap (λ b. b || is_called_in (map (later_by ORIGIN) operations) v) (called_in_enqueues _ initial v)
+    ∙ ap (λ b. is_initial initial v || b) (called_in_later ORIGIN operations v ∙ ap (λ os. is_called_in os v) is ∙ sym (called_in_operations events v))
     ∙ or_comm (is_initial initial v) (was_called events v) ∙ known_is initial events v
 
 -- whether an event calls with a value that isn't new
@@ -81,20 +80,20 @@ values_more initial events e =
     ∙ ap (λ vs. initial ++ vs) (sym (filter_map-append (λ (x : Event). called_value x.what) events (e ∷ [])))
 
 -- the first of the enqueues
-take_enqueues : (clock n : ℕ) (values : List ℕ) → take n (enqueues_from clock values) ≡ enqueues_from clock (take n values)
-take_enqueues clock zero values = refl
-take_enqueues clock (suc n) [] = refl
-take_enqueues clock (suc n) (v ∷ values) = ap (λ os. enqueue_at clock v ∷ os) (take_enqueues (clock + 2) n values)
+take_enqueues : (time n : ℕ) (values : List ℕ) → take n (enqueues_from time values) ≡ enqueues_from time (take n values)
+take_enqueues time zero values = refl
+take_enqueues time (suc n) [] = refl
+take_enqueues time (suc n) (v ∷ values) = ap (λ os. enqueue_at time v ∷ os) (take_enqueues (time + 1) n values)
 
 -- the first operations of a timeline called with the first initial values
 pub called_in_front : (view : Contents) (all : List Operation) (n : ℕ) → all ≡ timeline view.initial view.operations → n < length view.initial
     → AreCalledIn (take n all) (take n view.initial)
 called_in_front view all n is few = λ v.
-    let later = map (later_by (2 * length view.initial)) view.operations in
-    let many = length_enqueues 0 view.initial in
+    let later = map (later_by ORIGIN) view.operations in
+    let many = length_enqueues (ORIGIN - length view.initial) view.initial in
     ap (λ os. is_called_in (take n os) v) is
-    ∙ ap (λ os. is_called_in os v) (take-append-le n (enqueues_from 0 view.initial) later (omega arith) ∙ take_enqueues 0 n view.initial)
-    ∙ called_in_enqueues 0 (take n view.initial) v
+    ∙ ap (λ os. is_called_in os v) (take-append-le n (initial_enqueues view.initial) later (omega arith) ∙ take_enqueues _ n view.initial)
+    ∙ called_in_enqueues _ (take n view.initial) v
 
 -- those of what a builder has
 pub called_so_far : (initial : List ℕ) (events : List Event) (view same : Contents) (all : List Operation) → all ≡ timeline view.initial view.operations

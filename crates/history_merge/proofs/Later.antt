@@ -1,10 +1,8 @@
 -- Operations and events that all come so much later.
-use Rattle.history_merge.proofs.Common.{[], ◌∙◌, ◌∷◌, ◌≡◌, All, All-map, All-permutation, AllPairs, AllPairs-cons, ap}
-use Rattle.history_merge.proofs.Common.{arith, called_value, called_values, cons_option, earlier_by, Event}
-use Rattle.history_merge.proofs.Common.{event_later_by, find, IsAccepted, IsLegalOrder, IsPermutation-map, later_by}
-use Rattle.history_merge.proofs.Common.{map_fixed, nat_eq, Operation, operations_of, option_map, Precedes, projection}
-use Rattle.history_merge.proofs.Common.{refl, subst, suc, sym, TakesTurns, TicketsRise, zero}
-use Rattle.std.proofs.Common.{ℕ, List, ◌<◌}
+use Rattle.history_merge.proofs.Common.{[], All, All-map, All-permutation, AllPairs, AllPairs-cons, ap, arith}
+use Rattle.history_merge.proofs.Common.{earlier_by, IsAccepted, IsLegalOrder, IsPermutation-map, later_by, map_fixed}
+use Rattle.history_merge.proofs.Common.{Operation, Precedes, refl, subst, suc, sym, zero, ◌∙◌, ◌∷◌, ◌≡◌}
+use Rattle.std.proofs.Common.{ℕ, List}
 use Rattle.std.specs.Prelude.{get_or, map}
 
 -- ---- operations
@@ -72,37 +70,3 @@ not_later operations = map_fixed (later_by 0) operations (λ k d below. same _)
   where
     same : (o : Operation) → later_by 0 o ≡ o
     same o = grind arith
-
--- ---- events
-
-find_later : (n thread : ℕ) (events : List Event) → find (λ r. nat_eq r.thread thread) (map (event_later_by n) events)
-    ≡ option_map (event_later_by n) (find (λ r. nat_eq r.thread thread) events)
-find_later n thread [] = refl
-find_later n thread (e ∷ events) = grind (arith, find_later n thread events)
-
--- the operations of later events are later
-pub operations_later : (n : ℕ) (events : List Event) → operations_of (map (event_later_by n) events) ≡ map (later_by n) (operations_of events)
-operations_later n [] = refl
-operations_later n (e ∷ later) = grind (arith, operations_later n later, find_later n e.thread later)
-
--- a thread's later events are its events, later
-pub projection_later : (n thread : ℕ) (events : List Event)
-    → projection thread (map (event_later_by n) events) ≡ map (event_later_by n) (projection thread events)
-projection_later n thread [] = refl
-projection_later n thread (e ∷ events) = grind (arith, projection_later n thread events)
-
--- and they take turns as well
-pub turns_later : (n : ℕ) (events : List Event) → TakesTurns events → TakesTurns (map (event_later_by n) events)
-turns_later n [] turns = tt
-turns_later n (call ∷ []) turns = absurd turns
-turns_later n (call ∷ answer ∷ rest) turns = (turns.0, turns_later n rest turns.1)
-
--- they call with the same values
-pub values_later : (n : ℕ) (events : List Event) → called_values (map (event_later_by n) events) ≡ called_values events
-values_later n [] = refl
-values_later n (e ∷ events) = ap (cons_option (called_value e.what)) (values_later n events)
-
--- their tickets rise as well
-pub rise_later : (n : ℕ) (events : List Event) → TicketsRise events → TicketsRise (map (event_later_by n) events)
-rise_later n events rise = pairs_map (λ x y. x.ticket < y.ticket) (event_later_by n) events
-    (λ i j d below inside. let less = rise i j d below inside in omega (arith, less))

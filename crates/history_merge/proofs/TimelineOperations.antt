@@ -1,13 +1,12 @@
 -- How many operations a timeline has, which they are by their tickets, and one more of them.
-use Rattle.history_merge.proofs.Common.{[], ◌++◌, ◌+◌, ◌-◌, ◌==◌, ◌∙◌, ◌∷◌, ◌≡◌, ◌⊎◌, All, All-map, ap, arith, drop}
-use Rattle.history_merge.proofs.Common.{drop-append_seam, earlier_by, enqueue_at, enqueues_from, get_or-drop}
-use Rattle.history_merge.proofs.Common.{get_or-map, inl, inr, IsTimeline, later_by, length, length-map, map-append}
-use Rattle.history_merge.proofs.Common.{map-set, MAX_INITIAL, nat_tests, nil_from_length, None, OnErr, OnOk}
-use Rattle.history_merge.proofs.Common.{Operation, operations_on, OpKind, Option, option_map, refl, set}
-use Rattle.history_merge.proofs.Common.{set-append_right, slice_get, slice_get-map, Some, subst, suc, sym, take}
-use Rattle.history_merge.proofs.Common.{take_more, timeline}
-use Rattle.std.proofs.Common.{true, ℕ, ◌*◌, ◌<◌, ◌≤◌, List, get_or, map}
-use Rattle.std.proofs.Common.{append_assoc, length-take-le, Result, Ok, Err}
+use Rattle.history_merge.proofs.Common.{[], All, All-map, ap, arith, drop, drop-append_seam, earlier_by, enqueue_at}
+use Rattle.history_merge.proofs.Common.{enqueues_from, get_or-drop, get_or-map, initial_enqueues, inl, inr, IsTimeline}
+use Rattle.history_merge.proofs.Common.{later_by, length, length-map, map-append, map-set, MAX_INITIAL, nat_tests}
+use Rattle.history_merge.proofs.Common.{nil_from_length, None, OnErr, OnOk, Operation, operations_on, OpKind, Option}
+use Rattle.history_merge.proofs.Common.{option_map, ORIGIN, refl, set, set-append_right, slice_get, slice_get-map}
+use Rattle.history_merge.proofs.Common.{Some, subst, suc, sym, take, take_more, timeline, ◌++◌, ◌+◌, ◌-◌, ◌==◌, ◌∙◌}
+use Rattle.history_merge.proofs.Common.{◌∷◌, ◌≡◌, ◌⊎◌}
+use Rattle.std.proofs.Common.{true, ℕ, ◌<◌, ◌≤◌, List, get_or, map, append_assoc, length-take-le, Result, Ok, Err}
 use Rattle.std.proofs.lemmas.List.{length-append}
 use Rattle.history_merge.proofs.Later.{all_back}
 
@@ -18,29 +17,29 @@ no_elements xs none = nil_from_length xs (grind (arith, nat_tests))
 -- an enqueue for each initial value
 pub length_enqueues : (n : ℕ) (initial : List ℕ) → length (enqueues_from n initial) ≡ length initial
 length_enqueues n [] = refl
-length_enqueues n (v ∷ rest) = ap suc (length_enqueues (n + 2) rest)
+length_enqueues n (v ∷ rest) = ap suc (length_enqueues (n + 1) rest)
 
 -- and all operations
 pub length_timeline : (initial : List ℕ) (operations : List Operation) → length (timeline initial operations) ≡ length initial + length operations
 length_timeline initial operations =
-    let front = length_enqueues 0 initial in
-    let both = length-append (enqueues_from 0 initial) (map (later_by (2 * length initial)) operations) in
-    let behind : length (map (later_by (2 * length initial)) operations) ≡ length operations = simp length-map in
+    let front = length_enqueues (ORIGIN - length initial) initial in
+    let both = length-append (initial_enqueues initial) (map (later_by ORIGIN) operations) in
+    let behind : length (map (later_by ORIGIN) operations) ≡ length operations = simp length-map in
     omega arith
 
 -- behind the enqueues stand the operations, later
 pub behind_enqueues : (initial : List ℕ) (all operations : List Operation) → all ≡ timeline initial operations
-    → drop (length initial) all ≡ map (later_by (2 * length initial)) operations
+    → drop (length initial) all ≡ map (later_by ORIGIN) operations
 behind_enqueues initial all operations is =
-    let many = length_enqueues 0 initial in
+    let many = length_enqueues (ORIGIN - length initial) initial in
     ap (drop (length initial)) is ∙ ap (λ n. drop n (timeline initial operations)) (sym many)
-    ∙ drop-append_seam (enqueues_from 0 initial) (map (later_by (2 * length initial)) operations)
+    ∙ drop-append_seam (initial_enqueues initial) (map (later_by ORIGIN) operations)
 
 -- which are there by their tickets
 pub operations_back : (initial : List ℕ) (all operations : List Operation) → all ≡ timeline initial operations
     → operations_on (length initial) all ≡ operations
 operations_back initial all operations is =
-    ap (map (earlier_by (2 * length initial))) (behind_enqueues initial all operations is) ∙ all_back (2 * length initial) operations
+    ap (map (earlier_by ORIGIN)) (behind_enqueues initial all operations is) ∙ all_back ORIGIN operations
 
 -- none of them comes before the first ticket
 pub all_late : (n : ℕ) (operations late : List Operation) → late ≡ map (later_by n) operations → All (λ o. (n ≤ o.call) × (n ≤ o.ret)) late
@@ -54,37 +53,36 @@ is_timeline initial all operations few is = record { few = few; is = is ∙ ap (
 
 -- ---- one more
 
-enqueues_push : (clock : ℕ) (values : List ℕ) (v : ℕ)
-    → enqueues_from clock (values ++ v ∷ []) ≡ enqueues_from clock values ++ enqueue_at (clock + 2 * length values) v ∷ []
-enqueues_push clock [] v = ap (λ n. enqueue_at n v ∷ []) (let same : clock ≡ clock + 2 * 0 = omega arith in same)
-enqueues_push clock (w ∷ values) v =
-    let same : clock + 2 + 2 * length values ≡ clock + 2 * length (w ∷ values) = omega arith in
-    let rest = enqueues_push (clock + 2) values v in
-    ap (λ os. enqueue_at clock w ∷ os) (rest ∙ ap (λ n. enqueues_from (clock + 2) values ++ enqueue_at n v ∷ []) same)
+enqueues_push : (time : ℕ) (values : List ℕ) (v : ℕ)
+    → enqueues_from time (values ++ v ∷ []) ≡ enqueues_from time values ++ enqueue_at (time + length values) v ∷ []
+enqueues_push time [] v = ap (λ n. enqueue_at n v ∷ []) (let same : time ≡ time + 0 = omega arith in same)
+enqueues_push time (w ∷ values) v =
+    let same : time + 1 + length values ≡ time + length (w ∷ values) = omega arith in
+    let rest = enqueues_push (time + 1) values v in
+    ap (λ os. enqueue_at time w ∷ os) (rest ∙ ap (λ n. enqueues_from (time + 1) values ++ enqueue_at n v ∷ []) same)
 
 -- one value more
-pub enqueues_more : (values : List ℕ) (i : ℕ) → i < length values
-    → enqueues_from 0 (take (i + 1) values) ≡ enqueues_from 0 (take i values) ++ enqueue_at (2 * i) (get_or values i 0) ∷ []
-enqueues_more values i below =
+pub enqueues_more : (time : ℕ) (values : List ℕ) (i : ℕ) → i < length values
+    → enqueues_from time (take (i + 1) values) ≡ enqueues_from time (take i values) ++ enqueue_at (time + i) (get_or values i 0) ∷ []
+enqueues_more time values i below =
     let long = length-take-le i values (omega arith) in
-    let clock : 0 + 2 * length (take i values) ≡ 2 * i = omega (arith, long) in
-    ap (enqueues_from 0) (take_more values i 0 below) ∙ enqueues_push 0 (take i values) (get_or values i 0)
-    ∙ ap (λ n. enqueues_from 0 (take i values) ++ enqueue_at n (get_or values i 0) ∷ []) clock
+    ap (enqueues_from time) (take_more values i 0 below) ∙ enqueues_push time (take i values) (get_or values i 0)
+    ∙ ap (λ n. enqueues_from time (take i values) ++ enqueue_at (time + n) (get_or values i 0) ∷ []) long
 
 -- one operation more
 pub timeline_push : (initial : List ℕ) (operations : List Operation) (o : Operation)
-    → timeline initial operations ++ later_by (2 * length initial) o ∷ [] ≡ timeline initial (operations ++ o ∷ [])
+    → timeline initial operations ++ later_by ORIGIN o ∷ [] ≡ timeline initial (operations ++ o ∷ [])
 timeline_push initial operations o =
-    append_assoc (enqueues_from 0 initial) (map (later_by (2 * length initial)) operations) (later_by (2 * length initial) o ∷ [])
-    ∙ ap (λ os. enqueues_from 0 initial ++ os) (sym (map-append (later_by (2 * length initial)) operations (o ∷ [])))
+    append_assoc (initial_enqueues initial) (map (later_by ORIGIN) operations) (later_by ORIGIN o ∷ [])
+    ∙ ap (λ os. initial_enqueues initial ++ os) (sym (map-append (later_by ORIGIN) operations (o ∷ [])))
 
 -- another operation in the place of one
 pub timeline_set : (initial : List ℕ) (operations : List Operation) (place : ℕ) (o : Operation)
-    → set (timeline initial operations) (length initial + place) (later_by (2 * length initial) o) ≡ timeline initial (set operations place o)
+    → set (timeline initial operations) (length initial + place) (later_by ORIGIN o) ≡ timeline initial (set operations place o)
 timeline_set initial operations place o =
-    let n = 2 * length initial in
-    let front = enqueues_from 0 initial in
-    set-append_right front (map (later_by n) operations) (length initial) (length initial + place) (later_by n o) (length_enqueues 0 initial) (omega arith)
+    let n = ORIGIN in
+    let front = initial_enqueues initial in
+    set-append_right front (map (later_by n) operations) (length initial) (length initial + place) (later_by n o) (length_enqueues (ORIGIN - length initial) initial) (omega arith)
     ∙ ap (λ i. front ++ set (map (later_by n) operations) i (later_by n o)) (let same : length initial + place - length initial ≡ place = omega arith in same)
     ∙ ap (λ os. front ++ os) (sym (map-set (later_by n) operations place o))
 
@@ -108,10 +106,10 @@ pushed (Err e) old new more added kept = inr kept
 -- the operation at a place, completed
 pub completed : (initial : List ℕ) (all own : List Operation) (place ret : ℕ) (kind : OpKind) (d later : Operation) → all ≡ timeline initial own
     → place < length own → later ≡ get_or all (length initial + place) d
-    → set all (length initial + place) (record later { ret = ret + 2 * length initial; kind = kind })
+    → set all (length initial + place) (record later { ret = ret + ORIGIN; kind = kind })
     ≡ timeline initial (set own place (record (get_or own place d) { ret = ret; kind = kind }))
 completed initial all own place ret kind d later is within at =
-    let n = 2 * length initial in
+    let n = ORIGIN in
     let behind = sym (get_or-drop (length initial) all place d) ∙ ap (λ os. get_or os place d) (behind_enqueues initial all own is)
     ∙ get_or-map (later_by n) own place d d within in
     ap (λ os. set os (length initial + place) (record later { ret = ret + n; kind = kind })) is

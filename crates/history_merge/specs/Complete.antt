@@ -1,13 +1,14 @@
 -- Complete histories (Herlihy and Wing 1990, section 2.1) of distinct values.
-use Rattle.std.specs.Prelude.{◌≡◌, ◌≢◌, ℕ, ◌≤◌, List, Option, Some, None, All, AllPairs, filter_map}
+use Rattle.std.specs.Prelude.{◌≡◌, ◌≢◌, ℕ, ◌<◌, ◌≤◌, List, Option, Some, None, All, AllPairs, filter_map}
 use Rattle.event_records.specs.declared.event.Event.{Event}
 use Rattle.event_records.specs.declared.event.What.{What}
 use Rattle.event_records.specs.declared.event.What.TheVariants.{CallEnq}
 use Rattle.event_records.specs.Turns.{TakesTurns, TicketsRise}
 use Rattle.event_records.specs.Projection.{projection}
-use Rattle.history_merge.specs.Operations.{operations_of}
+use Rattle.history_merge.specs.Operations.{enqueued_value}
 use Rattle.history_merge.specs.declared.operation.Operation.{Operation}
-use Rattle.event_records.specs.declared.limits.TheConstants.{MAX_CLOCK, MAX_TICKET, MAX_THREAD}
+use Rattle.history_merge.specs.declared.operation.OpKind.TheVariants.{Enq}
+use Rattle.event_records.specs.declared.limits.TheConstants.{MAX_TICKET, MAX_THREAD, MAX_TIME}
 
 -- the value that a call enqueues
 abbrev pub called_value : What → Option ℕ
@@ -22,19 +23,31 @@ called_values events = filter_map (λ e. called_value e.what) events
 abbrev pub AreDistinct : List ℕ → Type 0
 AreDistinct values = AllPairs (λ v w. v ≢ w) values
 
--- tickets rise and are at most this one, each thread calls and returns in turn and leaves no call pending, and no two calls
--- enqueue one value
-pub record IsCompleteUpTo (greatest : ℕ) (events : List Event) : Type 0 where
+-- tickets rise, each thread calls and returns in turn and leaves no call pending, and no two calls enqueue one value
+pub record IsCompleteHistory (events : List Event) : Type 0 where
   pub tickets_rise : TicketsRise events
-  pub tickets_in_range : All (λ e. e.ticket ≤ greatest) events
+  pub tickets_in_range : All (λ e. e.ticket ≤ MAX_TICKET) events
   pub threads_in_range : All (λ e. e.thread ≤ MAX_THREAD) events
   pub threads_take_turns : (thread : ℕ) → TakesTurns (projection thread events)
   pub values_are_distinct : AreDistinct (called_values events)
 
--- the events are complete, with any ticket that an event may have
-abbrev pub IsCompleteHistory : List Event → Type 0
-IsCompleteHistory events = IsCompleteUpTo MAX_TICKET events
+-- ---- operations on a scale of time, by tickets or by the times of a timeline
 
--- these are the operations of events that are complete, by ticket or by clock
-abbrev pub AreComplete : List Operation → Type 0
-AreComplete operations = (events : List Event) × IsCompleteUpTo MAX_CLOCK events × (operations ≡ operations_of events)
+-- the operation returns after its call, or a successful enqueue at its call, and within the scale
+pub record IsTimed (o : Operation) : Type 0 where
+  pub returns_late : o.call ≤ o.ret
+  pub takes_time : ((v : ℕ) → o.kind ≢ Enq v) → o.call < o.ret
+  pub above_zero : 0 < o.ret
+  pub in_range : o.ret ≤ MAX_TIME
+
+-- the first operation is called before the second, returns at no time of the second, and calls to enqueue another value
+pub record AreApart (x y : Operation) : Type 0 where
+  pub called_first : x.call < y.call
+  pub returns_apart : x.ret ≢ y.ret
+  pub return_apart : x.ret ≢ y.call
+  pub values_apart : (v : ℕ) → enqueued_value x.kind ≡ Some v → ¬ (enqueued_value y.kind ≡ Some v)
+
+-- the operations are timed, by rising call, and no two share a time or a value that they call to enqueue
+pub record AreComplete (operations : List Operation) : Type 0 where
+  pub timed : All IsTimed operations
+  pub apart : AllPairs AreApart operations

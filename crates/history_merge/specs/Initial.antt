@@ -1,7 +1,7 @@
 -- Histories of a queue that holds some values first: its initial values, front first, which no operation enqueues.
-use Rattle.std.specs.Prelude.{ℕ, ◌+◌, ◌*◌, List, [], ◌∷◌, ◌++◌, length, map}
+use Rattle.std.specs.Prelude.{ℕ, ◌+◌, ◌-◌, List, [], ◌∷◌, ◌++◌, length, map}
 use Rattle.event_records.specs.declared.event.Event.{Event}
-use Rattle.event_records.specs.declared.event.What.TheVariants.{CallEnq, RetEnq}
+use Rattle.event_records.specs.declared.limits.TheConstants.{ORIGIN}
 use Rattle.history_merge.specs.declared.operation.Operation.{Operation}
 use Rattle.history_merge.specs.declared.operation.OpKind.TheVariants.{Enq}
 use Rattle.history_merge.specs.Complete.{AreDistinct, IsCompleteHistory, called_values}
@@ -21,37 +21,25 @@ pub record Contents : Type 0 where
   pub initial : List ℕ
   pub operations : List Operation
 
--- ---- the timeline: the queue is empty first, and the initial values are enqueued before all else
+-- ---- the timeline: one scale of time, on which the initial values are enqueued before all else
 
--- an enqueue of the value that is called at this clock
+-- an enqueue of the value, called and returned at this time
 abbrev pub enqueue_at : ℕ → ℕ → Operation
-enqueue_at clock v = record { call = clock; ret = clock + 1; thread = 0; kind = Enq v }
+enqueue_at time v = record { call = time; ret = time; thread = 0; kind = Enq v }
 
--- from this clock on the values are enqueued, one after another
+-- from this time on the values are enqueued, one after another
 abbrev pub enqueues_from : ℕ → List ℕ → List Operation
-enqueues_from clock [] = []
-enqueues_from clock (v ∷ rest) = enqueue_at clock v ∷ enqueues_from (clock + 2) rest
+enqueues_from time [] = []
+enqueues_from time (v ∷ rest) = enqueue_at time v ∷ enqueues_from (time + 1) rest
 
 -- the operation, this much later
 abbrev pub later_by : ℕ → Operation → Operation
 later_by n o = record { call = o.call + n; ret = o.ret + n; thread = o.thread; kind = o.kind }
 
--- the initial values are enqueued one after another, and then come the operations
+-- the enqueues of the initial values, of which the last comes just before the time of ticket 0
+abbrev pub initial_enqueues : List ℕ → List Operation
+initial_enqueues initial = enqueues_from (ORIGIN - length initial) initial
+
+-- the initial values are enqueued one after another, and then come the operations, each at the times of its tickets
 abbrev pub timeline : List ℕ → List Operation → List Operation
-timeline initial operations = enqueues_from 0 initial ++ map (later_by (2 * length initial)) operations
-
--- ---- the events of the timeline
-
--- the calls and returns of these enqueues
-abbrev pub enqueue_events_from : ℕ → List ℕ → List Event
-enqueue_events_from clock [] = []
-enqueue_events_from clock (v ∷ rest) =
-    record { ticket = clock; thread = 0; what = CallEnq v } ∷ record { ticket = clock + 1; thread = 0; what = RetEnq } ∷ enqueue_events_from (clock + 2) rest
-
--- the event, this much later
-abbrev pub event_later_by : ℕ → Event → Event
-event_later_by n e = record { ticket = e.ticket + n; thread = e.thread; what = e.what }
-
--- the events of the timeline
-abbrev pub timeline_events : List ℕ → List Event → List Event
-timeline_events initial events = enqueue_events_from 0 initial ++ map (event_later_by (2 * length initial)) events
+timeline initial operations = initial_enqueues initial ++ map (later_by ORIGIN) operations

@@ -80,9 +80,9 @@ impl History {
         self.timeline.operations()
     }
 
-    /// Returns the operations on one scale of time: the enqueues of the initial values, one after another, two ticks
-    /// each, and then the operations, later by all these ticks. They are those of a complete history of a queue that is
-    /// empty at first.
+    /// Returns the operations on one scale of time: the enqueues of the initial values, one after another, and then the
+    /// operations at the times of their tickets. They are those of a complete history of a queue that is empty at first,
+    /// but that an initial value is enqueued within one time.
     pub fn timeline(&self) -> &[PackedOperation]
         ensures timeline { result.now ≡ timeline self.now.initial (operations_of self.now.events) }
         ensures complete { AreComplete result.now }

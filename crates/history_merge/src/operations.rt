@@ -1,41 +1,43 @@
 ghost use Rattle.std.specs.Prelude.{◌≡◌, ◌≤◌, ◌^◌, All, length, map, slice_get};
+ghost use Rattle.event_records.specs.declared.limits.TheConstants.{ORIGIN};
 ghost use Rattle.std.specs.Iterator.{YieldsFirst, item_count};
 ghost use Rattle.history_merge.specs.Inner.Timeline.{earlier_by};
 
 use crate::operation::{OpId, Operation};
 use crate::packed::PackedOperation;
+use event_records::ORIGIN;
 use std::iter::{ExactSizeIterator, FusedIterator};
 use std::marker::Model;
 
 /// An iterator over operations of a history by their tickets, in the order of their calls; seen as the list of those that
 /// are left.
 ///
-/// It borrows them from the history's timeline, on which each is later by two ticks for each initial value.
+/// It borrows them from the history's timeline, on which each is later by `ORIGIN`.
 #[derive(Debug, Drop)]
 pub struct Operations<'a> {
-    ticks: u64,
     later: &'a [PackedOperation],
 }
 
 impl<'a> Model for Operations<'a> {
     ghost use Rattle.std.specs.Prelude.{◌≤◌, All, List, map};
+    ghost use Rattle.event_records.specs.declared.limits.TheConstants.{ORIGIN};
     ghost use Rattle.history_merge.specs.declared.operation.Operation.{Operation};
     ghost use Rattle.history_merge.specs.Inner.Timeline.{earlier_by};
 
     ghost Value = { List Operation };
 
-    ghost view = { λ it. map (earlier_by it.ticks) it.later.now };
+    ghost view = { λ it. map (earlier_by ORIGIN) it.later.now };
 
-    ghost invariant = { λ it. All (λ o. (it.ticks ≤ o.call) × (it.ticks ≤ o.ret)) it.later.now };
+    ghost invariant = { λ it. All (λ o. (ORIGIN ≤ o.call) × (ORIGIN ≤ o.ret)) it.later.now };
 }
 
 impl<'a> Operations<'a> {
-    /// Makes the operations that come this much earlier.
-    pub(crate) fn new(ticks: u64, later: &'a [PackedOperation]) -> Operations<'a>
-        requires { All (λ o. (ticks ≤ o.call) × (ticks ≤ o.ret)) later.now }
-        ensures { result ≡ map (earlier_by ticks) later.now }
+    /// Makes the operations whose tickets have these times.
+    pub(crate) fn new(later: &'a [PackedOperation]) -> Operations<'a>
+        requires { All (λ o. (ORIGIN ≤ o.call) × (ORIGIN ≤ o.ret)) later.now }
+        ensures { result ≡ map (earlier_by ORIGIN) later.now }
     {
-        Operations { ticks, later }
+        Operations { later }
     }
 
     /// Returns those that are left once more.
@@ -43,7 +45,7 @@ impl<'a> Operations<'a> {
     pub fn iter(&self) -> Operations<'a>
         ensures { result ≡ self.now }
     {
-        Operations::new(self.ticks, self.later)
+        Operations::new(self.later)
     }
 
     /// How many there are; memory has no room for more than 2^62.
@@ -61,7 +63,7 @@ impl<'a> Operations<'a> {
         ensures { result ≡ slice_get self.now place }
     {
         match self.later.get(place.place()) {
-            Some(operation) => Some(earlier(operation.unpack(), self.ticks)),
+            Some(operation) => Some(earlier(operation.unpack())),
             None => None,
         }
     }
@@ -78,7 +80,7 @@ impl<'a> Iterator for Operations<'a> {
     fn next(&mut self) -> Option<Operation> {
         let (first, others) = self.later.split_first()?;
         self.later = others;
-        Some(earlier(first.unpack(), self.ticks))
+        Some(earlier(first.unpack()))
     }
 
     fn size_hint(&self) -> (usize, Option<usize>) {
@@ -94,15 +96,15 @@ impl<'a> ExactSizeIterator for Operations<'a> {
 
 impl<'a> FusedIterator for Operations<'a> {}
 
-/// The operation, this much earlier.
+/// The operation by its tickets.
 #[inline(always)]
-pub(crate) fn earlier(operation: Operation, ticks: u64) -> Operation
-    requires { (ticks ≤ operation.call) × (ticks ≤ operation.ret) }
-    ensures { result ≡ earlier_by ticks operation }
+pub(crate) fn earlier(operation: Operation) -> Operation
+    requires { (ORIGIN ≤ operation.call) × (ORIGIN ≤ operation.ret) }
+    ensures { result ≡ earlier_by ORIGIN operation }
 {
     Operation {
-        call: operation.call - ticks,
-        ret: operation.ret - ticks,
+        call: operation.call - ORIGIN,
+        ret: operation.ret - ORIGIN,
         ..operation
     }
 }

@@ -1,21 +1,20 @@
 //! The operations of a history on one scale of time.
-ghost use Rattle.std.specs.Prelude.{◌≡◌, ◌≤◌, ◌*◌, ◌+◌, ◌<◌, ◌++◌, ◌∷◌, [], IfOk, OnErr, OnOk, Some, length, map, slice_get, slice_set, vec_len};
-ghost use Rattle.event_records.specs.declared.limits.TheConstants.{MAX_INITIAL, MAX_TICKET};
-ghost use Rattle.history_merge.specs.declared.packed.TheConstants.{PACKED_LIMIT};
+ghost use Rattle.std.specs.Prelude.{◌≡◌, ◌≤◌, ◌+◌, ◌-◌, ◌<◌, ◌++◌, ◌∷◌, [], IfOk, OnErr, OnOk, Some, length, map, slice_get, slice_set, vec_len};
+ghost use Rattle.event_records.specs.declared.limits.TheConstants.{MAX_INITIAL, MAX_TICKET, ORIGIN};
 ghost use Rattle.history_merge.specs.declared.operation.Operation.{Operation};
 ghost use Rattle.history_merge.specs.Initial.{enqueue_at, later_by, timeline};
 
 use crate::operation::{OpKind, Operation};
 use crate::operations::{Operations, earlier};
 use crate::packed::PackedOperation;
-use event_records::{MAX_INITIAL, MAX_TICKET};
+use event_records::{MAX_INITIAL, MAX_TICKET, ORIGIN};
 use std::alloc::{AllocError, Global};
 use std::marker::Model;
 
 /// What a queue holds first, and operations, which come and change by their tickets.
 ///
-/// Thread 0 enqueues the initial values alone, one after another and two ticks each. Then the operations follow, later
-/// by all these ticks.
+/// The initial values are enqueued first, one after another, so that the last comes just before the time of ticket 0.
+/// Then the operations follow, each at the times of its tickets.
 #[derive(Debug, Drop)]
 pub(crate) struct Timeline {
     initial: Vec<u64>,
@@ -41,8 +40,9 @@ impl Timeline {
         ensures { IfOk result (λ t. (t.initial ≡ initial.items) × (t.operations ≡ [])) }
     {
         let mut all = Vec::with_capacity(alloc, initial.len())?;
+        let start = ORIGIN - initial.len() as u64;
         for (place, value) in initial.iter().enumerate() {
-            all.push(enqueue_of(place, *value))?;
+            all.push(enqueue_at(start + place as u64, *value))?;
         }
         Ok(Timeline { initial, all })
     }
@@ -66,7 +66,7 @@ impl Timeline {
         self.initial.as_slice()
     }
 
-    /// The enqueues of the initial values, and then the operations, later.
+    /// The enqueues of the initial values, and then the operations at the times of their tickets.
     pub(crate) fn all(&self) -> &[PackedOperation]
         ensures timeline { result.now ≡ timeline self.now.initial self.now.operations }
         ensures few { length self.now.initial ≤ MAX_INITIAL }
@@ -78,7 +78,7 @@ impl Timeline {
     pub(crate) fn operations(&self) -> Operations<'_>
         ensures { result ≡ self.now.operations }
     {
-        Operations::new(self.ticks(), self.behind())
+        Operations::new(self.behind())
     }
 
     /// How many operations there are.
@@ -89,21 +89,13 @@ impl Timeline {
         self.behind().len()
     }
 
-    /// The operations, later.
+    /// The operations, at the times of their tickets.
     #[inline(always)]
     fn behind(&self) -> &[PackedOperation]
-        ensures { result.now ≡ map (later_by (2 * length self.now.initial)) self.now.operations }
+        ensures { result.now ≡ map (later_by ORIGIN) self.now.operations }
     {
         let (_, operations) = self.all.as_slice().split_at(self.initial.len());
         operations
-    }
-
-    /// By how much the operations are later.
-    #[inline(always)]
-    fn ticks(&self) -> u64
-        ensures { result ≡ 2 * length self.now.initial }
-    {
-        2 * self.initial.len() as u64
     }
 
     /// The operation at this place.
@@ -112,7 +104,7 @@ impl Timeline {
         ensures { result ≡ slice_get self.now.operations place }
     {
         let later = operation_at(self.behind(), place)?;
-        Some(earlier(later, self.ticks()))
+        Some(earlier(later))
     }
 
     /// Gives the operation at this place its return and what it did.
@@ -124,11 +116,10 @@ impl Timeline {
         ensures operations { (o : Operation) → slice_get self.old.operations place ≡ Some o
             → self.new.operations ≡ slice_set self.old.operations place (record o { ret = ret; kind = kind }) }
     {
-        let ret = ret + self.ticks();
         let place = self.initial.len() + place;
         let pending = self.all[place].unpack();
         self.all[place] = PackedOperation::new(Operation {
-            ret,
+            ret: ret + ORIGIN,
             kind,
             ..pending
         });
@@ -143,8 +134,7 @@ impl Timeline {
         ensures added { OnOk result (self.new.operations ≡ self.old.operations ++ operation ∷ []) }
         ensures kept { OnErr result (self.new.operations ≡ self.old.operations) }
     {
-        let later = later(operation, self.ticks());
-        push(&mut self.all, later)
+        push(&mut self.all, later(operation))
     }
 }
 
@@ -172,29 +162,28 @@ fn operation_at(operations: &[PackedOperation], place: usize) -> Option<Operatio
     }
 }
 
-/// The operation, later by this many ticks.
+/// The operation at the times of its tickets.
 #[inline(always)]
-fn later(operation: Operation, ticks: u64) -> PackedOperation
-    requires call { operation.call + ticks < PACKED_LIMIT }
-    requires ret { operation.ret + ticks < PACKED_LIMIT }
-    ensures { result ≡ later_by ticks operation }
+fn later(operation: Operation) -> PackedOperation
+    requires call { operation.call ≤ MAX_TICKET }
+    requires ret { operation.ret ≤ MAX_TICKET }
+    ensures { result ≡ later_by ORIGIN operation }
 {
     PackedOperation::new(Operation {
-        call: operation.call + ticks,
-        ret: operation.ret + ticks,
+        call: operation.call + ORIGIN,
+        ret: operation.ret + ORIGIN,
         ..operation
     })
 }
 
-/// The enqueue of the initial value at this place.
-fn enqueue_of(place: usize, value: u64) -> PackedOperation
-    requires { place ≤ MAX_INITIAL }
-    ensures { result ≡ enqueue_at (2 * place) value }
+/// An enqueue of the value that is called and returns at this time.
+fn enqueue_at(time: u64, value: u64) -> PackedOperation
+    requires { time ≤ ORIGIN }
+    ensures { result ≡ enqueue_at time value }
 {
-    let call = 2 * place as u64;
     PackedOperation::new(Operation {
-        call,
-        ret: call + 1,
+        call: time,
+        ret: time,
         thread: 0,
         kind: OpKind::Enq(value),
     })

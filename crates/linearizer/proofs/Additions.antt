@@ -1,11 +1,12 @@
 -- Operations are added one by one, each at its position.
 use Rattle.linearizer.proofs.Common.{[], Adds, all_zipped_more, AllZip, AllZip-long, ap, append-nil, append_assoc}
-use Rattle.linearizer.proofs.Common.{ArePlacesOf, arith, contains_at, Empty, filter, get_or, get_or_from_slice_get}
-use Rattle.linearizer.proofs.Common.{is_empty_answer, is_empty_kind, is_refused, is_refused_kind, IsAt, IsClear}
-use Rattle.linearizer.proofs.Common.{IsLeastFreeGap, IsNoopAt, IsPositionFor, length, length-map, Life, List, map}
-use Rattle.linearizer.proofs.Common.{MAX_MATCHED, min, noop_position, Not, Operation, OpKind, passed_filter, PLACES}
-use Rattle.linearizer.proofs.Common.{refl, return_in_range, slice_get, slice_get_within, Some, subst, suc, sym, take}
-use Rattle.linearizer.proofs.Common.{take_all, Timed, true, zero, ℕ, ◌++◌, ◌+◌, ◌<◌, ◌∙◌, ◌∷◌, ◌≡◌, ◌≤◌}
+use Rattle.linearizer.proofs.Common.{ArePlacesOf, arith, contains_at, Empty, filter, get_or, get_or-map}
+use Rattle.linearizer.proofs.Common.{get_or_from_slice_get, is_empty_answer, is_empty_kind, is_refused}
+use Rattle.linearizer.proofs.Common.{is_refused_kind, IsAt, IsClear, IsLeastFreeGap, IsNoopAt, IsPositionFor, length}
+use Rattle.linearizer.proofs.Common.{length-map, Life, List, map, MAX_MATCHED, min, noop_position, Not, Operation}
+use Rattle.linearizer.proofs.Common.{OpKind, passed_filter, PLACES, refl, return_in_range, slice_get, slice_get_within}
+use Rattle.linearizer.proofs.Common.{Some, subst, suc, sym, take, take_all, time_of, Timed, true, zero, ℕ, ◌++◌, ◌+◌}
+use Rattle.linearizer.proofs.Common.{◌<◌, ◌∙◌, ◌∷◌, ◌≡◌, ◌≤◌}
 use Rattle.history_merge.specs.declared.packed.TheConstants.{PACKED_LIMIT}
 use Rattle.linearizer.proofs.Elements.{beside_first, take_next}
 
@@ -98,16 +99,19 @@ adds_refused operations k p call old new is adds calls =
 
 -- the gap beside an answer, and how many there are of both
 pub gap_beside : (operations listed : List Operation) (gaps : List ℕ) (k gap d : ℕ) (o : Operation)
-    → AllZip (λ o c. IsLeastFreeGap operations o c) listed gaps → slice_get listed k ≡ Some o → gap ≡ get_or gaps k d → IsLeastFreeGap operations o gap
+    → AllZip (λ o c. IsLeastFreeGap operations o c) listed (map time_of gaps) → slice_get listed k ≡ Some o → gap ≡ get_or gaps k d
+    → IsLeastFreeGap operations o (time_of gap)
 gap_beside operations listed gaps k gap d o free at is =
-    let found = beside_first (λ o c. IsLeastFreeGap operations o c) listed gaps k o free at in
-    subst (IsLeastFreeGap operations o) (sym (get_or_from_slice_get gaps k found.0 d found.1) ∙ sym is) found.2
+    let found = beside_first (λ o c. IsLeastFreeGap operations o c) listed (map time_of gaps) k o free at in
+    let within = slice_get_within (map time_of gaps) k found.0 found.1 in
+    subst (IsLeastFreeGap operations o) (sym (get_or_from_slice_get (map time_of gaps) k found.0 0 found.1)
+    ∙ get_or-map time_of gaps k d 0 (omega (arith, within, length-map gaps time_of)) ∙ ap time_of (sym is)) found.2
 
 -- all empty answers are added
 pub adds_all : (operations listed : List Operation) (places gaps : List ℕ) (n : ℕ) (old new : List Timed) → ArePlacesOf operations places listed
-    → AllZip (λ o c. IsLeastFreeGap operations o c) listed gaps → n ≡ min (length places) (length gaps)
+    → AllZip (λ o c. IsLeastFreeGap operations o c) listed (map time_of gaps) → n ≡ min (length places) (length gaps)
     → Adds operations (take n listed) old new → Adds operations listed old new
 adds_all operations listed places gaps n old new are free long adds =
     let places_long : length places ≡ length listed = sym (length-map places (slice_get operations)) ∙ ap length are ∙ length-map listed Some in
-    let gaps_long = AllZip-long (λ o c. IsLeastFreeGap operations o c) listed gaps free in
-    subst (λ xs. Adds operations xs old new) (take_all n listed (omega arith)) adds
+    let gaps_long = AllZip-long (λ o c. IsLeastFreeGap operations o c) listed (map time_of gaps) free in
+    subst (λ xs. Adds operations xs old new) (take_all n listed (omega (arith, length-map gaps time_of))) adds

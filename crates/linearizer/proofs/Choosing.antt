@@ -1,19 +1,19 @@
 -- The values are put in order by repeated choice, and with it the gaps of their enqueues: each lies just before the least entry of those left.
-use Rattle.linearizer.proofs.Common.{[], All, All-contains, All-nil, All-push, All-weaker, ap, append-nil, append_assoc}
-use Rattle.linearizer.proofs.Common.{AreByTime, AreCalledInTime, AreEnqueueGaps, arith, Bool, Contains}
+use Rattle.linearizer.proofs.Common.{[], All, All-contains, All-nil, All-push, All-weaker, ap, append-nil}
+use Rattle.linearizer.proofs.Common.{append_assoc, AreByTime, AreCalledInTime, AreEnqueueGaps, arith, Bool, Contains}
 use Rattle.linearizer.proofs.Common.{Contains-append_cases, Contains-append_right, Contains-permutation}
-use Rattle.linearizer.proofs.Common.{Contains-push_cases, contains_at, dequeue_call, dequeue_return, drop, EachIsChoice}
-use Rattle.linearizer.proofs.Common.{elements_at, enqueue_call, enqueue_gap, enqueue_return, entered_by, false, gaps_in}
-use Rattle.linearizer.proofs.Common.{get_or, get_or_append_left, get_or_push, HoldsLives, inl, inr, IsChoice}
-use Rattle.linearizer.proofs.Common.{IsFirstLeft, IsInOrder, IsLeastBy, IsLeft, IsOrderOfPlaces, IsPassedOver}
-use Rattle.linearizer.proofs.Common.{IsPermutation, IsPermutation-cons, IsPermutation-map, IsPermutation-pop_more}
-use Rattle.linearizer.proofs.Common.{IsPermutation-refl, IsPermutation-sym, IsPermutation-trans, IsTaken}
-use Rattle.linearizer.proofs.Common.{least_entered_by, length, length-append, length-map, length-replicate}
-use Rattle.linearizer.proofs.Common.{length_permutation, length_push, Life, List, lives_in, lives_of, map-append}
-use Rattle.linearizer.proofs.Common.{mapped_from, mapped_to, MatchedValue, NEVER, nil_from_length, not_in_none}
-use Rattle.linearizer.proofs.Common.{Operation, Overtakes, place_of, places_in, refl, replicate, set, slice_get}
-use Rattle.linearizer.proofs.Common.{slice_get_within, Some, subst, suc, sym, take, Timed, true, zero, ℕ, ◌++◌, ◌+◌}
-use Rattle.linearizer.proofs.Common.{◌-◌, ◌<◌, ◌∙◌, ◌∷◌, ◌≡◌, ◌≤◌, ◌⊎◌}
+use Rattle.linearizer.proofs.Common.{Contains-push_cases, contains_at, dequeue_call, dequeue_return, drop}
+use Rattle.linearizer.proofs.Common.{EachIsChoice, elements_at, enqueue_call, enqueue_gap, enqueue_return, entered_by}
+use Rattle.linearizer.proofs.Common.{false, gaps_in, get_or, get_or_append_left, get_or_push, HoldsLives, inl, inr}
+use Rattle.linearizer.proofs.Common.{IsChoice, IsFirstLeft, IsInOrder, IsLeastBy, IsLeft, IsOrderOfPlaces}
+use Rattle.linearizer.proofs.Common.{IsPassedOver, IsPermutation, IsPermutation-cons, IsPermutation-map}
+use Rattle.linearizer.proofs.Common.{IsPermutation-pop_more, IsPermutation-refl, IsPermutation-sym}
+use Rattle.linearizer.proofs.Common.{IsPermutation-trans, IsTaken, least_entered_by, length, length-append, length-map}
+use Rattle.linearizer.proofs.Common.{length-replicate, length_permutation, length_push, Life, List, lives_in, lives_of}
+use Rattle.linearizer.proofs.Common.{map-append, mapped_from, mapped_to, MatchedValue, NEVER, nil_from_length}
+use Rattle.linearizer.proofs.Common.{not_in_none, Operation, Overtakes, place_of, places_in, refl, replicate, set}
+use Rattle.linearizer.proofs.Common.{slice_get, slice_get_within, Some, subst, suc, sym, take, Timed, true, zero, ℕ}
+use Rattle.linearizer.proofs.Common.{◌++◌, ◌+◌, ◌-◌, ◌<◌, ◌∙◌, ◌∷◌, ◌≡◌, ◌≤◌, ◌⊎◌}
 use Rattle.std.proofs.Math.Seq.{drop-append_seam}
 use Rattle.linearizer.proofs.Elements.{at_place, from_some_and}
 use Rattle.linearizer.proofs.Windows.{at_most_least, least_of_later}
@@ -37,7 +37,7 @@ least_is remaining lives first least moved bound =
 -- the first values have these gaps, and are called in time
 abbrev pub HaveGaps : List Life → List ℕ → Type 0
 HaveGaps lives gaps = (i : ℕ) (life : Life) → i < length gaps → slice_get lives i ≡ Some life
-    → (get_or gaps i 0 ≡ enqueue_gap lives i) × (enqueue_call life ≤ enqueue_gap lives i)
+    → (get_or gaps i 0 ≡ enqueue_gap lives i) × (enqueue_call life ≤ least_entered_by (drop i lives))
 
 -- before any value
 pub no_gaps : (lives : List Life) → HaveGaps lives []
@@ -51,7 +51,7 @@ here_is (z ∷ done) x y rest (suc i) same at = here_is done x y rest i (omega a
 
 -- one value more
 pub one_gap_more : (done : List Life) (x : Life) (rest : List Life) (gaps : List ℕ) (time : ℕ) → length gaps ≡ length done
-    → least_entered_by (x ∷ rest) ≡ time → enqueue_call x < time → HaveGaps (done ++ x ∷ rest) gaps
+    → least_entered_by (x ∷ rest) ≡ time → enqueue_call x ≤ time → HaveGaps (done ++ x ∷ rest) gaps
     → HaveGaps (done ++ x ∷ rest) (gaps ++ (time - 1) ∷ [])
 one_gap_more done x rest gaps time long least called so_far i life below at = elim cases [
   | inl before ↦
@@ -59,7 +59,7 @@ one_gap_more done x rest gaps time long least called so_far i life below at = el
       (get_or_append_left gaps ((time - 1) ∷ []) 0 i before ∙ it.0, it.1)
   | inr here ↦
       let one = ap enqueue_call (here_is done x life rest i (here ∙ long) at) in
-      (get_or_push gaps (time - 1) 0 i (sym here) ∙ sym (gap i here), omega (arith, one, called, gap i here))
+      (get_or_push gaps (time - 1) 0 i (sym here) ∙ sym (ap (λ n. n - 1) (first i here)), omega (arith, one, called, first i here))
 ]
   where
     within : i < length gaps + 1
@@ -68,9 +68,9 @@ one_gap_more done x rest gaps time long least called so_far i life below at = el
     cases : (i < length gaps) ⊎ (i ≡ length gaps)
     cases = grind (arith, within)
 
-    gap : (k : ℕ) → k ≡ length gaps → enqueue_gap (done ++ x ∷ rest) k ≡ time - 1
-    gap k same = ap (λ n. least_entered_by (drop n (done ++ x ∷ rest)) - 1) (same ∙ long)
-        ∙ ap (λ lives. least_entered_by lives - 1) (drop-append_seam done (x ∷ rest)) ∙ ap (λ n. n - 1) least
+    first : (k : ℕ) → k ≡ length gaps → least_entered_by (drop k (done ++ x ∷ rest)) ≡ time
+    first k same = ap (λ n. least_entered_by (drop n (done ++ x ∷ rest))) (same ∙ long)
+        ∙ ap least_entered_by (drop-append_seam done (x ∷ rest)) ∙ least
 
 -- the gaps of all enqueues are found
 pub all_gaps : (lives : List Life) (gaps : List ℕ) → length gaps ≡ length lives → HaveGaps lives gaps → AreEnqueueGaps lives gaps × AreCalledInTime lives
@@ -101,7 +101,7 @@ none_ordered values = record {
 -- the choice among those left comes next, which is called before the first of these has entered
 pub ordered_more : (values done left left' : List MatchedValue) (x : MatchedValue) (first : Life) (time : ℕ) (gaps : List ℕ)
     → IsOrderedSoFar values done left gaps → IsPermutation left (x ∷ left') → IsChoice (lives_in left) x.life
-    → IsLeastBy entered_by (lives_in left) first → entered_by first ≤ NEVER → time ≡ entered_by first → enqueue_call x.life < time
+    → IsLeastBy entered_by (lives_in left) first → entered_by first ≤ NEVER → time ≡ entered_by first → enqueue_call x.life ≤ time
     → dequeue_call x.life ≤ dequeue_return x.life → IsOrderedSoFar values (done ++ x ∷ []) left' (gaps ++ (time - 1) ∷ [])
 ordered_more values done left left' x first time gaps so_far moved chosen least bound time_is called takes_time = record {
   settled = λ y a in_y in_a is overtakes. elim is [
@@ -195,7 +195,7 @@ flags_within number values entries taken are same k d within =
 pub swept_next : (values : List MatchedValue) (entries dequeues : List Timed) (taken : List Bool) (i j first_in first_out : ℕ) (order : List Timed)
     (place : ℕ) (entry : Timed) (next : IsNext values taken place) → IsSwept values entries dequeues taken i j (places_in order) (gaps_in order)
     → IsFirstLeft entries taken first_in → IsFirstLeft dequeues taken first_out → (least : IsLeastLeft entered_by values taken entry)
-    → entered_by least.value.life ≤ NEVER → enqueue_call next.value.life < entry.time
+    → entered_by least.value.life ≤ NEVER → enqueue_call next.value.life ≤ entry.time
     → All (λ value. dequeue_call value.life ≤ dequeue_return value.life) values
     → IsSwept values entries dequeues (set taken place true) first_in first_out (places_in (order ++ record { time = entry.time - 1; place = place } ∷ []))
     (gaps_in (order ++ record { time = entry.time - 1; place = place } ∷ []))
@@ -242,7 +242,7 @@ all_swept values entries dequeues taken i j order swept all =
 -- the choice among those left is called after one of these has entered
 pub passed_over : (values : List MatchedValue) (taken : List Bool) (done : List MatchedValue) (gaps : List ℕ) (place : ℕ) (entry : Timed)
     (next : IsNext values taken place) → IsOrderedSoFar values done (left_of values taken) gaps → (least : IsLeastLeft entered_by values taken entry)
-    → entry.time ≤ enqueue_call next.value.life → IsPassedOver values next.value
+    → entry.time < enqueue_call next.value.life → IsPassedOver values next.value
 passed_over values taken done gaps place entry next so_far least late = record {
   is_value = contains_at values place next.value next.is_at;
   remaining = lives_in (left_of values taken);

@@ -1,9 +1,11 @@
 -- The names that most proofs of this crate cite, passed on from one place. Declares nothing.
-pub use Rattle.event_records.specs.declared.limits.TheConstants.{MAX_CLOCK}
-pub use Rattle.history_merge.proofs.Distinct.{call_before_return, calls_rise, contains_at, contains_cons, not_in_none}
-pub use Rattle.history_merge.proofs.Distinct.{one_at, pairs_at, place_of, return_differs_from_call, return_in_range}
+pub use Rattle.event_records.specs.declared.limits.TheConstants.{MAX_INITIAL}
+pub use Rattle.history_merge.proofs.Distinct.{call_before_return, call_by_return, contains_at, contains_cons}
+pub use Rattle.history_merge.proofs.Distinct.{no_enqueue, not_in_none}
+pub use Rattle.history_merge.proofs.Distinct.{one_at, pairs_at, place_of, return_in_range, returns_at_call}
 pub use Rattle.history_merge.proofs.Distinct.{same_call, same_return}
-pub use Rattle.history_merge.specs.Complete.{AreComplete}
+pub use Rattle.history_merge.specs.Complete.{AreComplete, IsTimed}
+pub use Rattle.history_merge.specs.Initial.{timeline}
 pub use Rattle.history_merge.specs.Legal.{ArePlacesOf, IsLegalOrder}
 pub use Rattle.history_merge.specs.Operations.{Did, IsAt, IsInWindow, NoneDid, Precedes}
 pub use Rattle.history_merge.specs.Queue.{IsAccepted}
@@ -73,7 +75,7 @@ pub use Rattle.value_match.specs.Lives.{enqueue_call, enqueue_of, enqueue_return
 pub use Rattle.value_match.specs.Lives.{is_dequeue_of, is_empty_answer, is_empty_kind, is_refused, is_refused_kind}
 pub use Rattle.value_match.specs.Lives.{IsFreeGap, IsLeastFreeGap, IsLife, IsMaybeAt, leaves_from, life_from, lives_of}
 pub use Rattle.value_match.specs.Lives.{operations_of_life, return_or_never}
-pub use Rattle.value_match.specs.Timeline.{clock_of_gap, timeline_of}
+pub use Rattle.value_match.specs.Timeline.{time_of, timeline_of}
 pub use Rattle.value_match.specs.Told.{place_behind}
 pub use Rattle.value_match.specs.Violations.{IsClear, NoOrderViolation}
 pub use Rattle.value_match.specs.declared.life.Life.{Life}

@@ -1,11 +1,11 @@
 -- Different lives have different tickets.
-use Rattle.linearizer.proofs.Common.{AllPairs, ap, AreComplete, arith, call_or_never, calls_rise, Contains, Deq}
-use Rattle.linearizer.proofs.Common.{dequeue_call, dequeue_of, dequeue_return, Did, did_dequeue, Enq, enqueue_call}
-use Rattle.linearizer.proofs.Common.{enqueue_of, enqueue_return, entered_by, inl, inr, IsClear, IsLife, IsValueOrder}
-use Rattle.linearizer.proofs.Common.{leaves_from, Life, life_from, List, lives_of, MatchOption, NEVER, None, NoneDid}
-use Rattle.linearizer.proofs.Common.{one_life_of_dequeue, one_life_of_enqueue, Operation, OpKind, Option, refl}
-use Rattle.linearizer.proofs.Common.{return_differs_from_call, return_or_never, same_return, same_Some, slice_get, Some}
-use Rattle.linearizer.proofs.Common.{subst, sym, ℕ, ◌<◌, ◌∙◌, ◌≡◌, ◌≢◌, ◌≤◌, ◌⊎◌}
+use Rattle.linearizer.proofs.Common.{AllPairs, ap, AreComplete, arith, call_before_return, call_or_never, Contains}
+use Rattle.linearizer.proofs.Common.{Deq, dequeue_call, dequeue_of, dequeue_return, Did, did_dequeue, Enq}
+use Rattle.linearizer.proofs.Common.{enqueue_call, enqueue_of, enqueue_return, entered_by, inl, inr, IsClear}
+use Rattle.linearizer.proofs.Common.{IsLife, IsValueOrder, leaves_from, Life, life_from, List, lives_of, MatchOption}
+use Rattle.linearizer.proofs.Common.{NEVER, no_enqueue, None, NoneDid, one_life_of_dequeue, one_life_of_enqueue}
+use Rattle.linearizer.proofs.Common.{Operation, OpKind, Option, refl, return_or_never, returns_at_call, same_return}
+use Rattle.linearizer.proofs.Common.{same_Some, slice_get, Some, subst, sym, ℕ, ◌<◌, ◌∙◌, ◌≡◌, ◌≤◌, ◌⊎◌}
 use Rattle.linearizer.proofs.Times.{times_of_life}
 use Rattle.linearizer.proofs.Keys.{kept_rises, one_place}
 
@@ -104,24 +104,22 @@ one_life_of_dequeue_return operations x y clear is_x is_y same =
       ]
     ]
 
--- no value has entered at the call of an enqueue
-pub enters_at_no_call : (operations : List Operation) (x y : Life) → IsClear operations → IsLife operations x → IsLife operations y
-    → entered_by x ≢ enqueue_call y
-enters_at_no_call operations x y clear is_x is_y same =
-    let at = entered_at_return operations x clear is_x in
-    return_differs_from_call operations at.o (enqueue_of y) clear.complete at.among is_y.1.0 (at.is ∙ same)
-
 -- no dequeue returns where a value leaves, but never
 pub returns_at_no_leave : (operations : List Operation) (x y : Life) → IsClear operations → IsLife operations x → IsLife operations y
     → dequeue_return x ≡ leaves_from y → leaves_from y ≡ NEVER
-returns_at_no_leave operations x y clear is_x is_y same =
-    elim (leaves_at_call operations y clear is_y) [
-      | inr never ↦ never
-      | inl at_y ↦ elim (dequeue_returns operations x is_x) [
-        | inr never ↦ sym same ∙ never
-        | inl at_x ↦ absurd (return_differs_from_call operations at_x.o at_y.o clear.complete at_x.among at_y.among (at_x.is ∙ same ∙ sym at_y.is))
-      ]
-    ]
+returns_at_no_leave operations x y clear is_x is_y same = elim (leaves_at_call operations y clear is_y) [
+  | inr never ↦ never
+  | inl at_y ↦ go at_y (dequeue_of x) refl
+]
+  where
+    go : HasTicket (λ o. o.call) operations y (leaves_from y) → (dequeue : Option Operation) → dequeue_of x ≡ dequeue → leaves_from y ≡ NEVER
+    go at_y None none = sym same ∙ ap return_or_never none
+    go at_y (Some d) dequeues =
+        let did = did_dequeue operations x d is_x dequeues in
+        let returns : d.ret ≡ at_y.o.call = sym (ap return_or_never dequeues) ∙ same ∙ sym at_y.is in
+        let one = returns_at_call operations d at_y.o clear.complete did.0 at_y.among returns in
+        let less = call_before_return operations d clear.complete did.0 (no_enqueue d (Deq is_x.0) did.1 refl) in
+        absurd (omega (arith, ap (λ (o : Operation). o.call) one, returns, less))
 
 enqueues_itself : (operations : List Operation) (o : Operation) (k : OpKind) (life : Life) → life_from operations o k ≡ Some life → enqueue_call life ≡ o.call
 enqueues_itself operations o (Enq v) life same = sym (ap (λ l. (enqueue_of l).call) (same_Some _ life same))
@@ -130,7 +128,7 @@ enqueues_itself operations o _ life same = cc
 -- the lives are listed in the order of their enqueues' calls
 pub lives_rise : (operations : List Operation) → AreComplete operations → AllPairs (λ x y. enqueue_call x < enqueue_call y) (lives_of operations)
 lives_rise operations complete =
-    let rise : AllPairs (λ x y. x.call < y.call) operations = rw complete.2 (calls_rise complete.0 complete.1.tickets_rise) in
+    let rise : AllPairs (λ x y. x.call < y.call) operations = λ i j d below within. (complete.apart i j d below within).called_first in
     kept_rises (λ o. life_from operations o o.kind) (λ o. o.call) enqueue_call operations (λ o life same. enqueues_itself operations o o.kind life same) rise
 
 -- a life stands at one place of the order of values

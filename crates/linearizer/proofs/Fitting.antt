@@ -1,14 +1,14 @@
--- Where no enqueue is called after its gap, no two values are dequeued against the order of their enqueues; and where a value is passed
+-- Where enqueues are called in time, no two values are dequeued against the order of their enqueues; and where a value is passed
 -- over, two are.
 use Rattle.linearizer.proofs.Common.{[], All, ap, AreCalledInTime, arith, cases_lt, Contains, Contains-get_or}
 use Rattle.linearizer.proofs.Common.{dequeue_call, dequeue_return, enqueue_call, entered_by, filter_map, HoldsLives}
 use Rattle.linearizer.proofs.Common.{inl, inr, IsChoice, IsClear, IsFirstOvertaker, IsLife, IsPassedOver, IsValueOrder}
 use Rattle.linearizer.proofs.Common.{leaves_from, length, length-map, Life, life_a, life_from, life_of_contained, List}
 use Rattle.linearizer.proofs.Common.{lives_of, MatchedValue, MAX_MATCHED, None, none_overtakes, NoOrderViolation}
-use Rattle.linearizer.proofs.Common.{Operation, Option, Overtakes, place_of, PLACES, places_of_value, refl, Some, subst}
-use Rattle.linearizer.proofs.Common.{sym, value_is_life, value_of_life, violation_overtakes, ◌<◌, ◌∙◌, ◌∷◌, ◌≡◌, ◌≤◌}
+use Rattle.linearizer.proofs.Common.{Operation, Option, Overtakes, place_of, PLACES, places_of_value, refl, Some}
+use Rattle.linearizer.proofs.Common.{subst, sym, value_is_life, value_of_life, violation_overtakes, ◌<◌, ◌∙◌, ◌∷◌, ◌≡◌}
+use Rattle.linearizer.proofs.Common.{◌≤◌}
 use Rattle.linearizer.proofs.Choices.{least_at, made, turn_of}
-use Rattle.linearizer.proofs.DifferentTimes.{enters_at_no_call}
 use Rattle.linearizer.proofs.Windows.{least_of_later}
 use Rattle.linearizer.proofs.Opposites.{stands_in_order}
 use Rattle.linearizer.proofs.Times.{HasLifeTimes, times_of_life}
@@ -56,7 +56,7 @@ module _ (operations : List Operation) (values : List MatchedValue) (clear : IsC
   entered_before : entered_by a < enqueue_call b.life
   entered_before =
       let least = least_at entered_by passed.remaining a passed.entered passed.is_next.enters_first passed.is_left in
-      omega (arith, enters_at_no_call operations a b.life clear is_a is_b, passed.too_late)
+      omega (arith, least, passed.too_late)
 
   -- so b is the first that was dequeued
   dequeued_first : (dequeue_return passed.is_next.first_dequeued < leaves_from a) × (b.life ≡ passed.is_next.first_dequeued)

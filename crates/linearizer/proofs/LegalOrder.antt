@@ -2,28 +2,32 @@
 use Rattle.linearizer.proofs.Common.{[], ap, arith, call_before_return, Contains, Contains-permutation, contains_at}
 use Rattle.linearizer.proofs.Common.{Deq, dequeue_gap, dequeue_position, did_dequeue, Empty, Enq, enqueue_gap}
 use Rattle.linearizer.proofs.Common.{enqueue_of, enqueue_position, get_or, IsAccepted, IsChosenOrder, IsClear}
-use Rattle.linearizer.proofs.Common.{IsInWindow, IsLegalOrder, IsPermutation-sym, IsPositionFor, IsPositionOf}
-use Rattle.linearizer.proofs.Common.{IsValueOrder, length, Life, List, map, NoOrderViolation, Not, Operation, OpKind}
+use Rattle.linearizer.proofs.Common.{IsLegalOrder, IsPermutation-sym, IsPositionFor, IsPositionOf, IsValueOrder}
+use Rattle.linearizer.proofs.Common.{length, Life, List, map, no_enqueue, NoOrderViolation, Not, Operation, OpKind}
 use Rattle.linearizer.proofs.Common.{pairs_at, place_of, Position, Precedes, refl, slice_get, slice_get-get_or, Some}
 use Rattle.linearizer.proofs.Common.{StandsBefore, subst, sym, ℕ, ◌<◌, ◌≡◌, ◌≤◌}
 use Rattle.linearizer.proofs.EachPosition.{one_position}
 use Rattle.linearizer.proofs.Elements.{at_place, beside_first}
 use Rattle.linearizer.proofs.Opposites.{is_life_at}
-use Rattle.linearizer.proofs.Windows.{enqueue_gap_in_window, dequeue_gap_in_window}
+use Rattle.linearizer.proofs.Windows.{IsAround, dequeue_gap_in_window, enqueue_gap_in_window}
 use Rattle.linearizer.proofs.Runs.{run_is_accepted}
 use Rattle.linearizer.proofs.Positions.{HoldsValue, IsDequeued, are_gaps, one_value, dequeued_first, items_of}
 
--- a position lies in the window of its operation
+-- a position lies in the window of its operation, or just before
 in_window_for : (operations : List Operation) (lives : List Life) → IsClear operations → NoOrderViolation operations → IsValueOrder operations lives
-    → (o : Operation) → Contains operations o → (k : OpKind) → (p : Position) → IsPositionFor operations lives o k p → IsInWindow o p.gap
-in_window_for operations lives clear none order o among (Enq v) p stands =
+    → (o : Operation) → Contains operations o → (k : OpKind) → o.kind ≡ k → (p : Position) → IsPositionFor operations lives o k p → IsAround o p.gap
+in_window_for operations lives clear none order o among (Enq v) is p stands =
     let window = enqueue_gap_in_window operations lives clear none order stands.0 stands.1 stands.2 in
-    subst (λ x. IsInWindow x p.gap) stands.3 (subst (λ c. IsInWindow (enqueue_of stands.1) c) (sym (ap (λ p. p.gap) stands.4)) window)
-in_window_for operations lives clear none order o among (Deq v) p stands =
-    subst (λ c. IsInWindow o c) (sym (ap (λ p. p.gap) stands.4)) (dequeue_gap_in_window operations lives clear none order stands.0 stands.1 o stands.2 stands.3)
-in_window_for operations lives clear none order o among Empty p stands = subst (λ c. IsInWindow o c) (sym (ap (λ p. p.gap) stands.2)) stands.1.in_window
-in_window_for operations lives clear none order o among (Not v) p stands =
-    let less = call_before_return operations o clear.complete among in
+    subst (λ x. IsAround x p.gap) stands.3 (subst (λ c. IsAround (enqueue_of stands.1) c) (sym (ap (λ p. p.gap) stands.4)) window)
+in_window_for operations lives clear none order o among (Deq v) is p stands =
+    let window = dequeue_gap_in_window operations lives clear none order stands.0 stands.1 o stands.2 stands.3 in
+    let gap : p.gap ≡ dequeue_gap lives stands.0 = ap (λ p. p.gap) stands.4 in
+    (omega (arith, window.0), omega (arith, window.1))
+in_window_for operations lives clear none order o among Empty is p stands =
+    let gap : p.gap ≡ stands.0 = ap (λ p. p.gap) stands.2 in
+    (omega (arith, stands.1.in_window.0), omega (arith, stands.1.in_window.1))
+in_window_for operations lives clear none order o among (Not v) is p stands =
+    let less = call_before_return operations o clear.complete among (no_enqueue o (Not v) is refl) in
     let gaps : p.gap ≡ o.call = ap (λ p. p.gap) stands in
     (omega arith, omega arith)
 
@@ -73,8 +77,8 @@ module _ (operations order : List Operation) (clear : IsClear operations) (none 
       let p = beside_first (λ o position. IsPositionOf operations lives o position) order chosen.positions i x chosen.each_has_position at_x in
       let r = beside_first (λ o position. IsPositionOf operations lives o position) order chosen.positions j y chosen.each_has_position at_y in
       let before = pairs_at StandsBefore chosen.positions i j p.0 r.0 chosen.positions_rise below p.1 r.1 in
-      let window_x = in_window_for operations lives clear none values x (is_operation x (contains_at order i x at_x)) x.kind p.0 p.2 in
-      let window_y = in_window_for operations lives clear none values y (is_operation y (contains_at order j y at_y)) y.kind r.0 r.2 in
+      let window_x = in_window_for operations lives clear none values x (is_operation x (contains_at order i x at_x)) x.kind refl p.0 p.2 in
+      let window_y = in_window_for operations lives clear none values y (is_operation y (contains_at order j y at_y)) y.kind refl r.0 r.2 in
       let gaps : p.0.gap ≤ r.0.gap = gaps_rise_with p.0 r.0 before in
       omega (arith, window_x.0, window_y.1)
     where

@@ -1,12 +1,12 @@
 -- There is one chosen order, and one only.
 use Rattle.linearizer.proofs.Common.{[], All, All-cons, All-head, All-nil, All-permutation, All-tail, AllPairs}
-use Rattle.linearizer.proofs.Common.{AllPairs-cons, AllZip, ap, AreComplete, AreLeastFreeGaps, arith, calls_rise}
-use Rattle.linearizer.proofs.Common.{Contains, Contains-permutation, contains_at, contains_cons, get_or, inl, inr}
-use Rattle.linearizer.proofs.Common.{IsChosenOrder, IsClear, IsPermutation, IsPermutation-cons, IsPermutation-map}
+use Rattle.linearizer.proofs.Common.{AllPairs-cons, AllZip, ap, AreComplete, AreLeastFreeGaps, arith, Contains}
+use Rattle.linearizer.proofs.Common.{Contains-permutation, contains_at, contains_cons, get_or, inl, inr, IsChosenOrder}
+use Rattle.linearizer.proofs.Common.{IsClear, IsPermutation, IsPermutation-cons, IsPermutation-map}
 use Rattle.linearizer.proofs.Common.{IsPermutation-middle, IsPermutation-refl, IsPermutation-sym, IsPermutation-trans}
-use Rattle.linearizer.proofs.Common.{IsPositionOf, IsValueOrder, length, Life, List, map, NoOrderViolation, not_in_none}
-use Rattle.linearizer.proofs.Common.{one_deeper, Operation, pairs_at, Position, refl, slice_get-get_or, StandsBefore}
-use Rattle.linearizer.proofs.Common.{subst, suc, sym, zero, ℕ, ◌<◌, ◌∷◌, ◌≡◌, ◌⊎◌}
+use Rattle.linearizer.proofs.Common.{IsPositionOf, IsValueOrder, length, Life, List, map, NoOrderViolation}
+use Rattle.linearizer.proofs.Common.{not_in_none, one_deeper, Operation, pairs_at, Position, refl, slice_get-get_or}
+use Rattle.linearizer.proofs.Common.{StandsBefore, subst, suc, sym, zero, ℕ, ◌<◌, ◌∷◌, ◌≡◌, ◌⊎◌}
 use Rattle.linearizer.proofs.Elements.{AllPairs-map, beside_first, beside_second}
 use Rattle.linearizer.proofs.Keys.{one_place, AllPairs-tail}
 use Rattle.linearizer.proofs.Runs.{not_both, through}
@@ -72,7 +72,7 @@ module _ (R : Operation → Position → Type 0) where
 
 -- operations rise by their calls
 pub operations_rise : (operations : List Operation) → AreComplete operations → AllPairs (λ x y. x.call < y.call) operations
-operations_rise operations complete = rw complete.2 (calls_rise complete.0 complete.1.tickets_rise)
+operations_rise operations complete i j d below within = (complete.apart i j d below within).called_first
 
 -- operations whose positions never fall are in the chosen order
 pub sorted_is_chosen : (operations order : List Operation) (lives : List Life) (positions : List Position) → IsClear operations

@@ -6,7 +6,7 @@ use Rattle.linearizer.proofs.Common.{leaves_from, Life, List, map, max, min, NEV
 use Rattle.linearizer.proofs.Common.{return_or_never, slice_get, Some, suc, take, zero, ℕ, ◌+◌, ◌<◌, ◌∷◌, ◌≡◌, ◌≤◌}
 use Rattle.linearizer.proofs.Opposites.{is_life_at, may_stand_before}
 use Rattle.linearizer.proofs.Times.{returned_in_time, times_of_life}
-use Rattle.linearizer.proofs.DifferentTimes.{enters_at_no_call, returns_at_no_leave}
+use Rattle.linearizer.proofs.DifferentTimes.{returns_at_no_leave}
 
 -- the least of a number and others is at most it
 least_below_start : (a : ℕ) (xs : List ℕ) → fold min a xs ≤ a
@@ -80,19 +80,22 @@ gaps_rise lives i j le =
     (λ k y below at. let leaves = greatest_of_first lives j k y (omega arith) at in omega arith) in
     (omega arith, omega arith, omega arith)
 
+-- the gap comes no sooner than just before the operation's call, and before its return
+abbrev pub IsAround : Operation → ℕ → Type 0
+IsAround o c = (o.call ≤ c + 1) × (c < o.ret)
+
 module _ (operations : List Operation) (lives : List Life) (clear : IsClear operations) (none : NoOrderViolation operations)
     (order : IsValueOrder operations lives) where
-  called_before_entered : (i j : ℕ) (x y : Life) → i ≤ j → slice_get lives i ≡ Some x → slice_get lives j ≡ Some y → enqueue_call x < entered_by y
+  called_before_entered : (i j : ℕ) (x y : Life) → i ≤ j → slice_get lives i ≡ Some x → slice_get lives j ≡ Some y → enqueue_call x ≤ entered_by y
   called_before_entered i j x y le at_x at_y =
-      let may = may_stand_before operations lives i j x y clear none order le at_x at_y in
-      omega (arith, may.0, enters_at_no_call operations y x clear (is_life_at operations lives j y order at_y) (is_life_at operations lives i x order at_x))
+      let may = may_stand_before operations lives i j x y clear none order le at_x at_y in omega (arith, may.0)
 
-  -- the gap of an enqueue lies in its window
-  pub enqueue_gap_in_window : (i : ℕ) (life : Life) → slice_get lives i ≡ Some life → IsInWindow (enqueue_of life) (enqueue_gap lives i)
+  -- the gap of an enqueue lies in its window, or just before, if it returns at its call
+  pub enqueue_gap_in_window : (i : ℕ) (life : Life) → slice_get lives i ≡ Some life → IsAround (enqueue_of life) (enqueue_gap lives i)
   enqueue_gap_in_window i life at =
       let times = times_of_life operations life clear (is_life_at operations lives i life order at) in
-      let bound : enqueue_call life + 1 ≤ least_entered_by (drop i lives) = at_most_least lives i (enqueue_call life + 1) (omega arith)
-      (λ j y le at_y. let before = called_before_entered i j life y le at at_y in omega arith) in
+      let bound : enqueue_call life ≤ least_entered_by (drop i lives) = at_most_least lives i (enqueue_call life) (omega arith)
+      (λ j y le at_y. called_before_entered i j life y le at at_y) in
       let least = least_of_later lives i i life (omega arith) at in
       (omega arith, omega arith)
 

@@ -42,12 +42,12 @@ pub(crate) fn put_in_order(alloc: Global, values: &Values) -> Result<Swept, Allo
         first_out = first_left(dequeues, &taken, first_out);
         let entry = entries[first_in].unpack();
         let next = choice(values, entry, dequeued_at(dequeues, first_out, entry.place));
-        if entry.time <= values.get(next).life.enqueue_call() {
+        if entry.time < values.get(next).life.enqueue_call() {
             return Ok(Swept::PassedOver(values.get(next)));
         }
         taken[next] = true;
         order.push(PackedTimed::new(Timed {
-            time: entry.time - 1,
+            time: entry.time.saturating_sub(1),
             place: next,
         }))?;
     }

@@ -4,7 +4,7 @@ ghost use Rattle.history_merge.specs.declared.packed.TheConstants.{PACKED_LIMIT}
 ghost use Rattle.history_merge.specs.declared.operation.Operation.{Operation};
 ghost use Rattle.history_merge.specs.Operations.{IsAt};
 ghost use Rattle.value_match.specs.Lives.{AreLeastFreeGaps, is_empty_answer, is_refused};
-ghost use Rattle.value_match.specs.Timeline.{timeline_of};
+ghost use Rattle.value_match.specs.Timeline.{time_of, timeline_of};
 ghost use Rattle.value_match.specs.Violations.{IsClear};
 ghost use Rattle.value_match.specs.declared.matching.TheConstants.{MAX_MATCHED};
 ghost use Rattle.linearizer.specs.Order.{StandsBefore};
@@ -12,6 +12,7 @@ ghost use Rattle.linearizer.specs.Inner.Placement.{Adds, HoldsNoops, noop_at, po
 
 use crate::position::{Class, Placed, Position, stands_after};
 use crate::timed::{PackedTimed, Timed};
+use event_records::ORIGIN;
 use history_merge::{OpId, PackedOperation};
 use std::alloc::{AllocError, Global};
 use std::marker::Model;
@@ -83,14 +84,14 @@ impl<'a> Noops<'a> {
     }
 }
 
-/// The empty answers, at these gaps, and the refused enqueues, by rising position. Those of one gap stand in the order of their
-/// calls, which is that of their places.
+/// The empty answers, at the gaps after these tickets, and the refused enqueues, by rising position. Those of one gap
+/// stand in the order of their calls, which is that of their places.
 pub(crate) fn noops_of<'a>(
     alloc: Global,
     matching: &'a Matching,
     gaps: &[u64],
 ) -> Result<Noops<'a>, AllocError>
-    requires { AreLeastFreeGaps (timeline_of matching.now) gaps.now }
+    requires { AreLeastFreeGaps (timeline_of matching.now) (map time_of gaps.now) }
     ensures { IfOk result (λ noops. HoldsNoops (timeline_of matching.now) noops) }
 {
     let operations = matching.timeline();
@@ -111,13 +112,13 @@ fn add_empties(
 ) -> Result<(), AllocError>
     requires few { length (timeline_of matching.now) ≤ MAX_MATCHED }
     requires clear { IsClear (timeline_of matching.now) }
-    requires gaps { AreLeastFreeGaps (timeline_of matching.now) gaps.now }
+    requires gaps { AreLeastFreeGaps (timeline_of matching.now) (map time_of gaps.now) }
     ensures { OnOk result (Adds (timeline_of matching.now) (filter is_empty_answer (timeline_of matching.now)) noops.old.items noops.new.items) }
 {
     for (id, gap) in matching.timeline_empties().iter().zip(gaps) {
         noops.push(PackedTimed::new(Timed {
-            time: *gap,
             place: id.place(),
+            time: *gap + ORIGIN,
         }))?;
     }
     Ok(())
@@ -138,7 +139,7 @@ fn add_refused(noops: &mut Vec<PackedTimed>, matching: &Matching) -> Result<(), 
     Ok(())
 }
 
-/// The ticket of the call of this operation.
+/// The time of the call of this operation.
 fn call_at(operations: &[PackedOperation], id: OpId) -> u64
     requires { id < length operations.now }
     ensures call { (o : Operation) → IsAt operations.now id o → result ≡ o.call }

@@ -9,7 +9,7 @@ use Rattle.history_merge.specs.declared.operation.OpKind.TheVariants.{Deq}
 use Rattle.history_merge.specs.Operations.{Did, NoneDid, Precedes, IsAt}
 use Rattle.history_merge.specs.Complete.{AreComplete}
 use Rattle.history_merge.specs.Initial.{timeline}
-use Rattle.history_merge.proofs.Distinct.{return_in_range, call_before_return}
+use Rattle.history_merge.proofs.Distinct.{return_in_range, call_by_return}
 use Rattle.value_match.specs.declared.life.TheConstants.{NEVER}
 use Rattle.value_match.specs.Timeline.{behind}
 use Rattle.value_match.specs.Told.{told_place, told_source}
@@ -22,13 +22,14 @@ use Rattle.std.proofs.lemmas.Option.{MatchOption-at_some}
 use Rattle.value_match.specs.Lives.{HasPlaces}
 use Rattle.value_match.proofs.RepeatedDequeues.{one_place}
 use Rattle.value_match.proofs.Lives.{value_is_life, value_of_life, places_of_value}
+use Rattle.value_match.proofs.TimelineLines.{few_initial}
 use Rattle.value_match.proofs.ToldPlaces.{value_told}
 
 call_in_range : (operations : List Operation) (v : ℕ) (dequeue : Option Operation) → AreComplete operations
     → MatchOption dequeue (NoneDid operations (Deq v)) (λ d. Did operations d (Deq v)) → call_or_never dequeue ≤ NEVER
 call_in_range operations v None complete none = omega arith
 call_in_range operations v (Some d) complete did =
-    let range = return_in_range operations d complete did.0 in let order = call_before_return operations d complete did.0 in omega arith
+    let range = return_in_range operations d complete did.0 in let order = call_by_return operations d complete did.0 in omega arith
 
 -- what ends a life is a dequeue of its value
 pub did_dequeue : (operations : List Operation) (life : Life) (d : Operation) (is : IsLife operations life) → dequeue_of life ≡ Some d
@@ -180,8 +181,8 @@ module _ (initial : List ℕ) (operations : List Operation) (values : List Match
   is_chosen_pair p named =
       let is_a = value_is_life all values a holds longest.among in
       let is_b = value_is_life all values b holds first.among in
-      let at_a = value_told initial operations a (places_of_value all values a holds longest.among) is_a in
-      let at_b = value_told initial operations b (places_of_value all values b holds first.among) is_b in
+      let at_a = value_told initial operations (few_initial initial operations clear.complete) a (places_of_value all values a holds longest.among) is_a in
+      let at_b = value_told initial operations (few_initial initial operations clear.complete) b (places_of_value all values b holds first.among) is_b in
       record {
         enq_a = enqueue_of a.life;
         enq_b = enqueue_of b.life;

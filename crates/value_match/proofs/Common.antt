@@ -10,7 +10,7 @@ pub use Rattle.std.proofs.lemmas.Bool.{le-ltb, lt-ltb, ltb-false, ltb-true}
 pub use Rattle.std.proofs.lemmas.List.{append-nil, drop-map, drop_all, get_or-map, get_or-take, get_or_append_left}
 pub use Rattle.std.proofs.lemmas.List.{get_or_default, get_or_read, length-map, length-replicate, length-take-le}
 pub use Rattle.std.proofs.lemmas.List.{map-append, take-map, take_all, take_more, with_items_is}
-pub use Rattle.std.proofs.lemmas.List.Elements.{All-contains, All-drop, All-from_get_or, All-get_or, All-nil}
+pub use Rattle.std.proofs.lemmas.List.Elements.{All-contains, All-head, All-drop, All-from_get_or, All-get_or, All-nil}
 pub use Rattle.std.proofs.lemmas.List.Elements.{All-pop, All-push, All-take, All-weaker, Contains-append_cases}
 pub use Rattle.std.proofs.lemmas.List.Elements.{Contains-append_left, Contains-append_right, Contains-push}
 pub use Rattle.std.proofs.lemmas.List.Elements.{filter-append, filter_map-append}
@@ -28,15 +28,16 @@ pub use Rattle.std.specs.Prelude.{⊤, All, AllPairs, Contains, filter, filter_m
 pub use Rattle.std.specs.Prelude.{IsPermutation, MatchOption, option_map, slice_get}
 pub use lib.Dec.{ltb}
 pub use lib.Seq.{take-nil}
-pub use Rattle.history_merge.proofs.Distinct.{calls_rise, CallsFor, contains_at, contains_cons, found_first}
+pub use Rattle.history_merge.proofs.Distinct.{CallsFor, contains_at, contains_cons, found_first}
 pub use Rattle.history_merge.proofs.Distinct.{not_in_none, one_at, pairs_at, place_of, same_enqueue, same_return}
 pub use Rattle.history_merge.proofs.Distinct.{same_value_call}
 pub use Rattle.history_merge.proofs.DistinctValues.{each_more}
 pub use Rattle.history_merge.proofs.KnownValues.{is_eq-nat_cmp}
 pub use Rattle.history_merge.proofs.RisingValues.{none_by_key}
 pub use Rattle.history_merge.proofs.TimelineOperations.{length_enqueues}
-pub use Rattle.history_merge.specs.Complete.{AreComplete}
-pub use Rattle.history_merge.specs.Initial.{enqueues_from, later_by, timeline}
+pub use Rattle.history_merge.specs.Complete.{AreComplete, IsTimed}
+pub use Rattle.event_records.specs.declared.limits.TheConstants.{MAX_INITIAL, ORIGIN}
+pub use Rattle.history_merge.specs.Initial.{enqueue_at, enqueues_from, initial_enqueues, later_by, timeline}
 pub use Rattle.history_merge.specs.Legal.{ArePlacesOf}
 pub use Rattle.history_merge.specs.Operations.{Did, enqueued_value, IsAt, NoneDid, operations_of}
 pub use Rattle.history_merge.specs.declared.operation.OpKind.{OpKind}
@@ -57,7 +58,7 @@ pub use Rattle.value_match.specs.Lives.{is_empty_answer, is_refused, IsLife, IsM
 pub use Rattle.value_match.specs.Longest.{EntersBefore, FindsLongest, IsLongerOf, IsLongestOf, NonePasses}
 pub use Rattle.value_match.specs.Outcome.{IsMaybeOperation, IsOperation, IsSource, NamesChosenFresh}
 pub use Rattle.value_match.specs.Outcome.{NamesChosenRepeat, NamesStep}
-pub use Rattle.value_match.specs.Timeline.{behind, initial_enqueue, timeline_of}
+pub use Rattle.value_match.specs.Timeline.{behind, initial_enqueue, initial_time, timeline_of}
 pub use Rattle.value_match.specs.Told.{place_behind, told_place, told_source}
 pub use Rattle.value_match.specs.Violations.{CoversFrom, IsClear, IsEnqueuedTooLate, IsFreshViolation}
 pub use Rattle.value_match.specs.Violations.{NoFreshViolation}

@@ -1,15 +1,14 @@
 -- The one dequeue of each source and of each accepted value, or the chosen pair of one source, met by walks over the operations.
-use Rattle.value_match.proofs.Common.{[], ⊤, ◌++◌, ◌+◌, ◌<◌, ◌∙◌, ◌∷◌, ◌≡◌, ◌≢◌, ◌≤◌, ◌⊎◌, AllPairs, ap}
-use Rattle.value_match.proofs.Common.{AreChosenRepeat, AreComplete, AreTakersTo, arith, calls_rise, cases_eq}
+use Rattle.value_match.proofs.Common.{[], AllPairs, ap, AreChosenRepeat, AreComplete, AreTakersTo, arith, cases_eq}
 use Rattle.value_match.proofs.Common.{cases_order, contains_at, Deq, Did, Empty, Enq, enqueued_value, false}
 use Rattle.value_match.proofs.Common.{false≢true, find, first_of, get_or, get_or-set_other, get_or-set_same}
 use Rattle.value_match.proofs.Common.{get_or_from_slice_get, HasTakersTo, HoldsDequeues, HoldsSources, HoldsTakers}
 use Rattle.value_match.proofs.Common.{inl, inr, is_dequeue_of, is_some, IsAt, IsCallPlace, IsClear, IsDequeuePlace}
 use Rattle.value_match.proofs.Common.{IsMaybeAt, IsSourceOf, length, length-append, length-set, List, MatchOption}
-use Rattle.value_match.proofs.Common.{NoFreshViolation, None, NoneDid, Operation, OpKind, Option, pairs_at}
-use Rattle.value_match.proofs.Common.{place_of, refl, RepeatPlaces, replicate, return_at, same_return}
-use Rattle.value_match.proofs.Common.{same_value_call, set, slice_get, slice_get-get_or, slice_get_within, Some}
-use Rattle.value_match.proofs.Common.{subst, suc, sym, TakesFrom, true, zero, ℕ}
+use Rattle.value_match.proofs.Common.{NoFreshViolation, None, NoneDid, Operation, OpKind, Option, pairs_at, place_of}
+use Rattle.value_match.proofs.Common.{refl, RepeatPlaces, replicate, return_at, same_return, same_value_call, set}
+use Rattle.value_match.proofs.Common.{slice_get, slice_get-get_or, slice_get_within, Some, subst, suc, sym, TakesFrom}
+use Rattle.value_match.proofs.Common.{true, zero, ℕ, ⊤, ◌++◌, ◌+◌, ◌<◌, ◌∙◌, ◌∷◌, ◌≡◌, ◌≢◌, ◌≤◌, ◌⊎◌}
 use Rattle.value_match.proofs.FreshDequeues.{calls_for}
 use Rattle.value_match.proofs.Lives.{found_dequeue, same_found}
 
@@ -18,7 +17,7 @@ use Rattle.value_match.proofs.Lives.{found_dequeue, same_found}
 -- an operation of a complete history has one place
 pub one_place : (operations : List Operation) (i j : ℕ) (o : Operation) → AreComplete operations → IsAt operations i o → IsAt operations j o → i ≡ j
 one_place operations i j o complete at_i at_j =
-    let rise : AllPairs (λ x y. x.call < y.call) operations = rw complete.2 (calls_rise complete.0 complete.1.tickets_rise) in
+    let rise : AllPairs (λ x y. x.call < y.call) operations = λ i j d below within. (complete.apart i j d below within).called_first in
     let up = pairs_at (λ x y. x.call < y.call) operations i j o o rise in
     let down = pairs_at (λ x y. x.call < y.call) operations j i o o rise in
     grind (arith, cases_order i j)

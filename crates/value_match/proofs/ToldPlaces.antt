@@ -1,18 +1,19 @@
 -- What is found at places of a timeline, told by places of the history.
-use Rattle.value_match.proofs.Common.{[], ⊤, ◌*◌, ◌++◌, ◌+◌, ◌-◌, ◌<◌, ◌∙◌, ◌∷◌, ◌≡◌, ◌≤◌, ap, ap₂, AreChosenFresh}
-use Rattle.value_match.proofs.Common.{AreChosenRepeat, ArePlacesOf, arith, behind, Bool, cases_Bool, Deq}
-use Rattle.value_match.proofs.Common.{dequeue_of, Empty, Enq, enqueue_of, enqueues_from, false, filter}
-use Rattle.value_match.proofs.Common.{filter-append, filter_map, FreshPlaces, HasPlaces, HoldsPlaces, inl, inr}
-use Rattle.value_match.proofs.Common.{is_empty_answer, is_refused, IsAt, IsFreshViolation, IsLife, IsMaybeAt}
-use Rattle.value_match.proofs.Common.{IsMaybeOperation, IsOperation, IsSource, later_by, le-ltb, length, List}
-use Rattle.value_match.proofs.Common.{lt-ltb, ltb-false, ltb-true, map, MatchedValue, MatchOption, NamesChosenFresh}
-use Rattle.value_match.proofs.Common.{NamesChosenRepeat, NamesStep, nat_lt, None, Not, Operation, Option}
-use Rattle.value_match.proofs.Common.{option_map, place_behind, refl, RepeatPlaces, slice_get, Some, subst, sym}
-use Rattle.value_match.proofs.Common.{timeline, told_place, told_source, ℕ}
+use Rattle.value_match.proofs.Common.{[], ap, ap₂, AreChosenFresh, AreChosenRepeat, ArePlacesOf, arith, behind, Bool}
+use Rattle.value_match.proofs.Common.{cases_Bool, Deq, dequeue_of, Empty, Enq, enqueue_at, enqueue_of, enqueues_from}
+use Rattle.value_match.proofs.Common.{false, filter, filter-append, filter_map, FreshPlaces, HasPlaces, HoldsPlaces}
+use Rattle.value_match.proofs.Common.{initial_enqueues, initial_time, inl, inr, is_empty_answer, is_refused, IsAt}
+use Rattle.value_match.proofs.Common.{IsFreshViolation, IsLife, IsMaybeAt, IsMaybeOperation, IsOperation, IsSource}
+use Rattle.value_match.proofs.Common.{later_by, le-ltb, length, List, lt-ltb, ltb-false, ltb-true, map, MatchedValue}
+use Rattle.value_match.proofs.Common.{MatchOption, MAX_INITIAL, NamesChosenFresh, NamesChosenRepeat, NamesStep, nat_lt}
+use Rattle.value_match.proofs.Common.{None, Not, Operation, Option, option_map, ORIGIN, place_behind, refl}
+use Rattle.value_match.proofs.Common.{RepeatPlaces, slice_get, Some, subst, sym, timeline, told_place, told_source, ℕ}
+use Rattle.value_match.proofs.Common.{⊤, ◌++◌, ◌+◌, ◌-◌, ◌<◌, ◌∙◌, ◌∷◌, ◌≡◌, ◌≤◌}
+use Rattle.value_match.proofs.CoverLives.{dequeues}
+use Rattle.value_match.proofs.TimelineLines.{earlier, earlier_later, earlier_none, timeline_at, timeline_earlier}
+use Rattle.value_match.proofs.TimelineLines.{one_later}
 use Rattle.value_match.specs.declared.violation.Source.TheVariants as source
 use Rattle.value_match.specs.declared.violation.Violation.TheVariants as violation
-use Rattle.value_match.proofs.CoverLives.{dequeues}
-use Rattle.value_match.proofs.TimelineLines.{earlier, earlier_later, earlier_none, timeline_at, timeline_earlier, one_later}
 
 -- ---- what stands at a place of the timeline
 
@@ -22,7 +23,7 @@ pub fresh_dequeues : (operations : List Operation) (deq : Operation) (enq : Opti
 fresh_dequeues operations deq None is = (is.value, is.dequeues.1)
 fresh_dequeues operations deq (Some enq) is = (is.value, is.dequeues.1)
 
-module _ (initial : List ℕ) (operations : List Operation) where
+module _ (initial : List ℕ) (operations : List Operation) (few : length initial ≤ MAX_INITIAL) where
   abbrev k : ℕ
   k = length initial
 
@@ -30,10 +31,10 @@ module _ (initial : List ℕ) (operations : List Operation) where
   all = timeline initial operations
 
   -- what isn't the enqueue of an initial value stands behind these
-  pub stands_behind : (p : ℕ) (o : Operation) → IsAt all p o → ((v : ℕ) → o.kind ≡ Enq v → o.call < 2 * k → ⊥) → k ≤ p
+  pub stands_behind : (p : ℕ) (o : Operation) → IsAt all p o → ((v : ℕ) → o.kind ≡ Enq v → o.call < ORIGIN → ⊥) → k ≤ p
   stands_behind p o at other = elim (timeline_at initial operations p o at) [
     | inl early ↦
-        let call : 2 * p ≡ o.call = ap (λ (x : Operation). x.call) early.is in
+        let call : initial_time k p ≡ o.call = ap (λ (x : Operation). x.call) early.is in
         let within = early.within in
         absurd (other early.value (sym (ap (λ (x : Operation). x.kind) early.is)) (omega arith))
     | inr late ↦ late.behind
@@ -77,13 +78,13 @@ module _ (initial : List ℕ) (operations : List Operation) where
   call_told deq d None None at_d at_e is = tt
   call_told deq d (Some p) (Some e) at_d at_e is = operation_told p e at_e (stands_behind p e at_e too_late)
     where
-      late : 2 * k ≤ d.ret
+      late : ORIGIN ≤ d.ret
       late = elim (timeline_at initial operations deq d at_d) [
         | inl early ↦ let clash : Enq early.value ≡ Deq is.value = ap (λ (x : Operation). x.kind) early.is ∙ is.dequeues.1 in absurd (cc)
-        | inr later ↦ let ret : later.operation.ret + 2 * k ≡ d.ret = ap (λ (x : Operation). x.ret) later.is in omega arith
+        | inr later ↦ let ret : later.operation.ret + ORIGIN ≡ d.ret = ap (λ (x : Operation). x.ret) later.is in omega arith
       ]
 
-      too_late : (v : ℕ) → e.kind ≡ Enq v → e.call < 2 * k → ⊥
+      too_late : (v : ℕ) → e.kind ≡ Enq v → e.call < ORIGIN → ⊥
       too_late v enq early = elim is.enqueues [
         | inl refused ↦ let clash : Not is.value ≡ Enq v = sym refused.1 ∙ enq in cc
         | inr accepted ↦ let after = accepted.1 in omega (arith, late)
@@ -123,39 +124,39 @@ module _ (initial : List ℕ) (operations : List Operation) where
   -- ---- lists of places
 
   -- what stands at places of the timeline, and was called at a ticket of the history, stands at the places told
-  places_told : (places : List ℕ) (listed : List Operation) → ArePlacesOf all places (map (later_by (2 * length initial)) listed)
+  places_told : (places : List ℕ) (listed : List Operation) → ArePlacesOf all places (map (later_by ORIGIN) listed)
       → ArePlacesOf operations (map (told_place k) places) listed
   places_told [] [] at = refl
   places_told (p ∷ places) (o ∷ listed) at =
-      let first : slice_get all p ≡ Some (later_by (2 * length initial) o) = cc in
-      let later : map (slice_get all) places ≡ map (λ o. Some o) (map (later_by (2 * length initial)) listed) = cc in
-      let here : slice_get operations (p - k) ≡ Some o = elim (timeline_at initial operations p (later_by (2 * length initial) o) first) [
+      let first : slice_get all p ≡ Some (later_by ORIGIN o) = cc in
+      let later : map (slice_get all) places ≡ map (λ o. Some o) (map (later_by ORIGIN) listed) = cc in
+      let here : slice_get operations (p - k) ≡ Some o = elim (timeline_at initial operations p (later_by ORIGIN o) first) [
         | inl early ↦
-            let call : 2 * p ≡ o.call + 2 * length initial = ap (λ (x : Operation). x.call) early.is in
+            let call : initial_time k p ≡ o.call + ORIGIN = ap (λ (x : Operation). x.call) early.is in
             let within = early.within in
             absurd (omega arith)
-        | inr late ↦ late.stands ∙ ap (λ x. Some x) (one_later (2 * length initial) late.operation o late.is)
+        | inr late ↦ late.stands ∙ ap (λ x. Some x) (one_later ORIGIN late.operation o late.is)
       ] in
       ap₂ (λ (x : Option Operation) (xs : List (Option Operation)). x ∷ xs) here (places_told places listed later)
   places_told _ _ at = absurd (cc)
 
   -- an operation that no enqueue is, by a test, is one of the history, later
   filter_timeline : (test : Operation → Bool) → ((o : Operation) (v : ℕ) → o.kind ≡ Enq v → test o ≡ false)
-      → ((o : Operation) → test (later_by (2 * length initial) o) ≡ test o)
-      → filter test all ≡ map (later_by (2 * length initial)) (filter test operations)
+      → ((o : Operation) → test (later_by ORIGIN o) ≡ test o)
+      → filter test all ≡ map (later_by ORIGIN) (filter test operations)
   filter_timeline test none same =
-      filter-append test (enqueues_from 0 initial) (map (later_by (2 * length initial)) operations)
-      ∙ ap (λ xs. xs ++ filter test (map (later_by (2 * length initial)) operations)) (no_enqueue 0 initial)
+      filter-append test (initial_enqueues initial) (map (later_by ORIGIN) operations)
+      ∙ ap (λ xs. xs ++ filter test (map (later_by ORIGIN) operations)) (no_enqueue (ORIGIN - length initial) initial)
       ∙ later_passes operations
     where
-      no_enqueue : (clock : ℕ) (values : List ℕ) → filter test (enqueues_from clock values) ≡ []
-      no_enqueue clock [] = refl
-      no_enqueue clock (v ∷ values) = rw (none (record { call = clock; ret = clock + 1; thread = 0; kind = Enq v }) v refl) (no_enqueue (clock + 2) values)
+      no_enqueue : (time : ℕ) (values : List ℕ) → filter test (enqueues_from time values) ≡ []
+      no_enqueue time [] = refl
+      no_enqueue time (v ∷ values) = rw (none (enqueue_at time v) v refl) (no_enqueue (time + 1) values)
 
-      later_passes : (os : List Operation) → filter test (map (later_by (2 * length initial)) os) ≡ map (later_by (2 * length initial)) (filter test os)
+      later_passes : (os : List Operation) → filter test (map (later_by ORIGIN) os) ≡ map (later_by ORIGIN) (filter test os)
       later_passes [] = refl
       later_passes (o ∷ os) = elim (cases_Bool (test o)) [
-        | inl is ↦ rw (same o, is) (ap (λ xs. later_by (2 * length initial) o ∷ xs) (later_passes os))
+        | inl is ↦ rw (same o, is) (ap (λ xs. later_by ORIGIN o ∷ xs) (later_passes os))
         | inr is ↦ rw (same o, is) (later_passes os)
       ]
 
@@ -173,7 +174,7 @@ module _ (initial : List ℕ) (operations : List Operation) where
   -- ---- the places of a `YES`
 
   places_back : (places : List ℕ) (listed : List Operation) → ArePlacesOf all places listed
-      → ArePlacesOf operations (filter_map (place_behind k) places) (filter_map (earlier (2 * length initial)) listed)
+      → ArePlacesOf operations (filter_map (place_behind k) places) (filter_map (earlier ORIGIN) listed)
   places_back [] [] at = refl
   places_back (p ∷ places) (o ∷ listed) at =
       let first : slice_get all p ≡ Some o = cc in
@@ -181,11 +182,11 @@ module _ (initial : List ℕ) (operations : List Operation) where
       let rest = places_back places listed later in
       elim (timeline_at initial operations p o first) [
         | inl early ↦
-            let call : 2 * p ≡ o.call = ap (λ (x : Operation). x.call) early.is in
+            let call : initial_time k p ≡ o.call = ap (λ (x : Operation). x.call) early.is in
             let within = early.within in
-            rw (lt-ltb p k within, earlier_none (2 * k) o (omega arith)) rest
+            rw (lt-ltb p k within, earlier_none ORIGIN o (omega arith)) rest
         | inr late ↦
-            let was : earlier (2 * k) o ≡ Some late.operation = ap (earlier (2 * k)) (sym late.is) ∙ earlier_later (2 * k) late.operation in
+            let was : earlier ORIGIN o ≡ Some late.operation = ap (earlier ORIGIN) (sym late.is) ∙ earlier_later ORIGIN late.operation in
             rw (le-ltb p k late.behind, was) (ap₂ (λ (x : Option Operation) (xs : List (Option Operation)). x ∷ xs) late.stands rest)
       ]
   places_back _ _ at = absurd (cc)
@@ -193,7 +194,7 @@ module _ (initial : List ℕ) (operations : List Operation) where
   -- the order of a `YES`, after the enqueues of the initial values
   pub order_back : (places : List ℕ) (listed : List Operation) → ArePlacesOf all places (timeline initial listed)
       → ArePlacesOf operations (filter_map (place_behind k) places) listed
-  order_back places listed at = subst (ArePlacesOf operations (filter_map (place_behind k) places)) (timeline_earlier initial listed)
+  order_back places listed at = subst (ArePlacesOf operations (filter_map (place_behind k) places)) (timeline_earlier initial listed few)
       (places_back places (timeline initial listed) at)
 
 -- ---- with no initial values it is so as it stands

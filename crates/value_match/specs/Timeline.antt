@@ -1,5 +1,6 @@
 -- What holds of a history, by its timeline, in which the initial values are enqueued before all else.
-use Rattle.std.specs.Prelude.{ℕ, ◌+◌, ◌*◌, ◌/◌, nat_lt, ℤ, pos, ◌-ℤ◌, List, if◌then◌else◌}
+use Rattle.std.specs.Prelude.{ℕ, ◌+◌, ◌-◌, ℤ, pos, ◌-ℤ◌, List}
+use Rattle.event_records.specs.declared.limits.TheConstants.{ORIGIN}
 use Rattle.history_merge.specs.declared.operation.Operation.{Operation}
 use Rattle.history_merge.specs.Initial.{Contents, enqueue_at, timeline}
 
@@ -7,18 +8,21 @@ use Rattle.history_merge.specs.Initial.{Contents, enqueue_at, timeline}
 abbrev pub timeline_of : Contents → List Operation
 timeline_of contents = timeline contents.initial contents.operations
 
--- on the timeline, the enqueue of the initial value v at place j
-abbrev pub initial_enqueue : ℕ → ℕ → Operation
-initial_enqueue j v = enqueue_at (2 * j) v
+-- the time at which the j-th of this many initial values is enqueued
+abbrev pub initial_time : ℕ → ℕ → ℕ
+initial_time initial_count j = ORIGIN - initial_count + j
 
--- a gap, by the clocks of the timeline
-abbrev pub clock_of_gap : ℕ → ℕ → ℕ
-clock_of_gap initial_count c = c + 2 * initial_count
+-- on the timeline, the enqueue of the initial value v at place j, of this many
+abbrev pub initial_enqueue : ℕ → ℕ → ℕ → Operation
+initial_enqueue initial_count j v = enqueue_at (initial_time initial_count j) v
 
--- the ticket of a clock: the enqueue of the j-th of k initial values has the ticket j - k, at its call and at its return
-abbrev pub ticket_of : ℕ → ℕ → ℤ
-ticket_of initial_count clock =
-    if nat_lt clock (2 * initial_count) then pos (clock / 2) -ℤ pos initial_count else pos clock -ℤ pos (2 * initial_count)
+-- the time of a ticket, or of the gap after it
+abbrev pub time_of : ℕ → ℕ
+time_of ticket = ticket + ORIGIN
+
+-- the ticket of a time: the enqueue of the j-th of k initial values has the ticket j - k, at its call and at its return
+abbrev pub ticket_of : ℕ → ℤ
+ticket_of time = pos time -ℤ pos ORIGIN
 
 -- the place of an operation after this many initial values
 abbrev pub behind : ℕ → ℕ → ℕ

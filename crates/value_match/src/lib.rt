@@ -18,7 +18,7 @@ mod values;
 mod violation;
 
 pub use accepted::Values;
-pub use life::{Life, MatchedValue, NEVER};
+pub use life::{Life, MatchedValue, NEVER, ticket_of};
 pub use matching::{MAX_MATCHED, Matched, Matching};
 pub use places::Places;
 pub use presorting::presort;

@@ -1,13 +1,23 @@
-ghost use Rattle.std.specs.Prelude.{◌≡◌, ◌↔◌, IsTrue};
+ghost use Rattle.std.specs.Prelude.{◌≡◌, ◌≤◌, ◌↔◌, IsTrue};
+ghost use Rattle.value_match.specs.declared.life.TheConstants.{NEVER};
+ghost use Rattle.value_match.specs.Timeline.{ticket_of};
 ghost use Rattle.value_match.specs.Choice.{StaysAtLeast};
 ghost use Rattle.value_match.specs.Lives.{enqueue_call, enqueue_return, dequeue_call, dequeue_return, entered_by, leaves_from};
 ghost use Rattle.value_match.specs.Longest.{IsLongerOf};
 
-use event_records::MAX_CLOCK;
+use event_records::{MAX_TIME, ORIGIN};
 use history_merge::{OpId, Operation};
 
-/// One above the greatest clock: the call and the return of the dequeue that a value never gets.
-pub const NEVER: u64 = MAX_CLOCK + 1;
+/// One above the greatest time: the call and the return of the dequeue that a value never gets.
+pub const NEVER: u64 = MAX_TIME + 1;
+
+/// The ticket of a time of the timeline. The enqueue of the j-th of k initial values has the ticket j - k.
+pub fn ticket_of(time: u64) -> i64
+    requires { time ≤ NEVER }
+    ensures { result ≡ ticket_of time }
+{
+    time as i64 - ORIGIN as i64
+}
 
 /// The life of a value in the queue: its successful enqueue, and its dequeue if there is one.
 #[derive(Clone, Copy, Debug, PartialEq, Eq)]

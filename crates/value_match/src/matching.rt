@@ -1,10 +1,9 @@
 ghost use Rattle.std.specs.Prelude.{◌≡◌, ◌≤◌, length};
-ghost use Rattle.value_match.specs.declared.life.TheConstants.{NEVER};
 ghost use Rattle.value_match.specs.declared.matching.TheConstants.{MAX_MATCHED};
 ghost use Rattle.history_merge.specs.Initial.{timeline};
 ghost use Rattle.history_merge.specs.Operations.{operations_of};
 ghost use Rattle.value_match.specs.Lives.{HoldsLives, HoldsPlaces, is_empty_answer, is_refused};
-ghost use Rattle.value_match.specs.Timeline.{ticket_of, timeline_of};
+ghost use Rattle.value_match.specs.Timeline.{timeline_of};
 ghost use Rattle.value_match.specs.Violations.{IsClear};
 ghost use Rattle.value_match.specs.Inner.SortedOut.{IsSortedOutOf};
 
@@ -29,9 +28,9 @@ pub(crate) struct SortedOut {
 /// A complete history in which no dequeue is of a value that was not there, and no value is dequeued twice; seen as its initial
 /// values and its operations.
 ///
-/// Places and tickets are the history's own, or those of its timeline, where the enqueues of the initial values come first:
-/// the value at place j is enqueued at the clocks 2j and 2j + 1, and what has ticket c in a history of k initial values has
-/// the clock c + 2k. If there are no initial values both are the same.
+/// Places are the history's own, or those of its timeline, where the enqueues of the initial values come first. Times are
+/// those of the timeline: what has ticket c has the time `ORIGIN + c`, and the j-th of k initial values is enqueued at the
+/// time `ORIGIN + j - k`.
 ///
 /// It borrows the history, and holds a word for each accepted value.
 #[derive(Drop)]
@@ -121,20 +120,6 @@ impl<'a> Matching<'a> {
         ensures { HoldsPlaces (timeline_of self.now) is_refused result.now }
     {
         self.sorted.refused.as_slice()
-    }
-
-    /// The ticket of a clock of the timeline. The enqueues of the initial values come before ticket 0.
-    pub fn ticket(&self, clock: u64) -> i64
-        requires { clock ≤ NEVER }
-        ensures { result ≡ ticket_of (length self.now.initial) clock }
-    {
-        let initial_count = self.history.initial().len() as i64;
-        let ticks = 2 * self.history.initial().len() as u64;
-        if clock < ticks {
-            (clock / 2) as i64 - initial_count
-        } else {
-            clock as i64 - 2 * initial_count
-        }
     }
 }
 

@@ -17,13 +17,15 @@ pub use Rattle.std.proofs.lemmas.Iterator.Consumers.{YieldsList-from_copied, Yie
 pub use Rattle.std.proofs.lemmas.Iterator.Consumers.{YieldsList-from_filter_map}
 pub use Rattle.std.proofs.lemmas.List.{append_cancel_left, flat_map_more, get_or_append_left, get_or_default}
 pub use Rattle.std.proofs.lemmas.List.{length-map, map-append, take_more, take_rest}
-pub use Rattle.std.proofs.lemmas.List.Elements.{All-cons, All-filter, All-map, All-nil, Contains-append_cases}
+pub use Rattle.std.proofs.lemmas.List.Elements.{All-cons, All-contains, All-filter, All-map, All-nil}
+pub use Rattle.std.proofs.lemmas.List.Elements.{Contains-append_cases}
 pub use Rattle.std.proofs.lemmas.List.Elements.{Contains-append_left, Contains-append_right, Contains-get_or}
 pub use Rattle.std.proofs.lemmas.List.Elements.{filter_agree, filter_map-append}
 pub use Rattle.std.proofs.lemmas.List.Folds.{Any-from_list_any, list_any-append, list_any-from_Any, map_fixed}
 pub use Rattle.std.proofs.lemmas.List.Kept.{AllPairs-cons, AllPairs-filter}
 pub use Rattle.std.proofs.lemmas.List.Sorted.{answers_always, Contains-permutation, IsNonDecreasingBy-from_sort_by_key}
-pub use Rattle.std.proofs.lemmas.List.Sorted.{IsPermutation-sym, IsPermutation-trans, length_permutation}
+pub use Rattle.std.proofs.lemmas.List.Sorted.{IsPermutation-map, IsPermutation-sym, IsPermutation-trans}
+pub use Rattle.std.proofs.lemmas.List.Sorted.{length_permutation}
 pub use Rattle.std.proofs.lemmas.Option.{get_or_from_slice_get, slice_get-get_or, slice_get_read, slice_get_within}
 pub use Rattle.std.proofs.lemmas.Result.{IfOk-weaker}
 pub use Rattle.std.specs.BTreeSet.{contains, IsFromIterResult}
@@ -36,27 +38,30 @@ pub use Rattle.event_records.specs.Turns.{answers, is_call, TakesTurns}
 pub use Rattle.event_records.specs.declared.event.Event.{Event}
 pub use Rattle.event_records.specs.declared.event.What.{What}
 pub use Rattle.event_records.specs.declared.event.What.TheVariants.{CallDeq, CallEnq, RetDeq, RetEmpty, RetEnq, RetNot}
-pub use Rattle.event_records.specs.declared.limits.TheConstants.{MAX_CLOCK, MAX_INITIAL, MAX_OPERATIONS, MAX_THREAD}
-pub use Rattle.event_records.specs.declared.limits.TheConstants.{MAX_TICKET}
+pub use Rattle.event_records.specs.declared.limits.TheConstants.{MAX_INITIAL, MAX_OPERATIONS, MAX_THREAD}
+pub use Rattle.event_records.specs.declared.limits.TheConstants.{MAX_TICKET, MAX_TIME, ORIGIN}
 pub use Rattle.history_merge.specs.Complete.{AreComplete, AreDistinct, called_value, called_values, IsCompleteHistory}
-pub use Rattle.history_merge.specs.Complete.{IsCompleteUpTo}
-pub use Rattle.history_merge.specs.Initial.{timeline, enqueues_from, Contents, HistoryView, IsCompleteFrom, later_by}
+pub use Rattle.history_merge.specs.Initial.{Contents, enqueue_at, enqueues_from, HistoryView, initial_enqueues}
+pub use Rattle.history_merge.specs.Initial.{IsCompleteFrom, later_by, timeline}
 pub use Rattle.history_merge.specs.Legal.{ArePlacesOf, IsLegalOrder, IsLinearizable}
 pub use Rattle.history_merge.specs.Operations.{Did, IsAt, NoneDid, operation_of, operations_of, Precedes}
 pub use Rattle.history_merge.specs.Queue.{accept, accept_all, IsAccepted}
 pub use Rattle.history_merge.specs.declared.operation.OpKind.{OpKind}
 pub use Rattle.history_merge.specs.declared.operation.OpKind.TheVariants.{Deq, Empty, Enq, Not}
 pub use Rattle.history_merge.specs.declared.operation.Operation.{Operation}
-pub use Rattle.history_merge.proofs.Distinct.{call_before_return, calls_rise, CallsFor, contains_at, contains_cons}
+pub use Rattle.history_merge.proofs.Distinct.{call_before_return, call_by_return, calls_rise, CallsFor, contains_at}
+pub use Rattle.history_merge.proofs.Distinct.{contains_cons}
+pub use Rattle.history_merge.proofs.Distinct.{no_enqueue, operations_are_complete, returns_at_call, returns_at_no_call}
+pub use Rattle.history_merge.proofs.Distinct.{some_are_complete}
 pub use Rattle.history_merge.proofs.Distinct.{not_in_none, one_at, operation_within, pairs_at, place_of}
 pub use Rattle.history_merge.proofs.Distinct.{return_differs_from_call, return_in_range, same_call, same_enqueue}
 pub use Rattle.history_merge.proofs.Distinct.{same_event, same_return, same_value_call, traced}
-pub use Rattle.history_merge.proofs.Timelines.{timeline_is_of_complete, linearizable_from_exactly}
-pub use Rattle.history_merge.proofs.Later.{later_injective, legal_moved, map_map, not_later}
+pub use Rattle.history_merge.proofs.Timelines.{timeline_is_complete, linearizable_from_exactly}
+pub use Rattle.history_merge.proofs.Later.{later_injective, map_map}
 pub use Rattle.value_match.specs.Choice.{IsChosenCover, IsChosenCoverFrom, IsChosenFresh, IsChosenFullViolation}
 pub use Rattle.value_match.specs.Choice.{IsChosenOrderViolation, IsChosenRepeat, IsChosenWitness, IsNextOfCover}
 pub use Rattle.value_match.specs.Choice.{StaysAtLeast}
-pub use Rattle.value_match.specs.Timeline.{behind, clock_of_gap, initial_enqueue}
+pub use Rattle.value_match.specs.Timeline.{behind, initial_enqueue, initial_time, time_of}
 pub use Rattle.value_match.specs.Lives.{AreLeastFreeGaps, call_or_never, Covers, dequeue_call, dequeue_of}
 pub use Rattle.value_match.specs.Lives.{dequeue_return, enqueue_of, enqueue_return, is_empty_answer, IsCovered}
 pub use Rattle.value_match.specs.Lives.{IsLeastFreeGap, IsLife, IsMaybeAt, leaves_from, lives_of, operations_of_life}
@@ -72,7 +77,7 @@ pub use Rattle.value_match.specs.declared.violation.CoverStep.{CoverStep}
 pub use Rattle.value_match.specs.declared.violation.Source.{Source}
 pub use Rattle.value_match.specs.declared.violation.Violation.{Violation}
 pub use Rattle.value_match.proofs.CoverLives.{AreLives, covers_are_lives}
-pub use Rattle.value_match.proofs.TimelineLines.{enqueue_place, enqueue_stands, same_operation, timeline_at}
+pub use Rattle.value_match.proofs.TimelineLines.{enqueue_place, enqueue_stands, few_initial, same_operation, timeline_at}
 pub use Rattle.value_match.proofs.Lists.{keeps, kept, mapped_from, mapped_to, one_deeper, passed_filter, passes_filter}
 pub use Rattle.value_match.proofs.Lives.{dequeued_if_called, one_life_of_enqueue}
 pub use Rattle.order_violation.specs.declared.pair.OrderPair.{OrderPair}

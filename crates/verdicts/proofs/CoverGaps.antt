@@ -1,9 +1,10 @@
 -- Without any one of its values, a chosen cover leaves a gap of the window open.
-use Rattle.verdicts.proofs.Common.{◌∙◌, [], ◌<◌, ◌∷◌, ◌≡◌, ◌≢◌, ◌≤◌, ap, arith, Bool, Contains, false, inl, inr, List}
-use Rattle.verdicts.proofs.Common.{ltb-false, MatchBool, MatchOption, nat_lt, refl, subst, sym, true, ℕ, call_or_never}
-use Rattle.verdicts.proofs.Common.{contains_cons, Covers, Deq, dequeue_call, dequeued_if_called, Did, Empty, enqueue_of}
-use Rattle.verdicts.proofs.Common.{enqueue_return, IsChosenCoverFrom, IsClear, IsCovered, IsLife, IsNextOfCover, Life}
-use Rattle.verdicts.proofs.Common.{NoneDid, not_in_none, Operation, return_differs_from_call, return_in_range}
+use Rattle.verdicts.proofs.Common.{[], ap, arith, Bool, call_or_never, Contains, contains_cons, Covers, Deq}
+use Rattle.verdicts.proofs.Common.{dequeue_call, dequeued_if_called, Did, Empty, Enq, enqueue_of, enqueue_return}
+use Rattle.verdicts.proofs.Common.{false, inl, inr, IsChosenCoverFrom, IsClear, IsCovered, IsLife, IsNextOfCover, Life}
+use Rattle.verdicts.proofs.Common.{List, ltb-false, MatchBool, MatchOption, nat_lt, no_enqueue, NoneDid, not_in_none}
+use Rattle.verdicts.proofs.Common.{Operation, refl, return_differs_from_call, return_in_range, subst, sym, true, ℕ}
+use Rattle.verdicts.proofs.Common.{◌<◌, ◌∙◌, ◌∷◌, ◌≡◌, ◌≢◌, ◌≤◌}
 
 below_if_not_same : (m n : ℕ) → m ≤ n → m ≢ n → m < n
 below_if_not_same m n le differs = grind arith
@@ -36,12 +37,13 @@ module _ (operations : List Operation) (empty : Operation) where
       pub among : Contains operations before
       pub after_call : empty.call ≤ before.call
       pub before_return : before.call < empty.ret
+      pub is_other : (v : ℕ) → before.kind ≢ Enq v
 
     enters_before : (before : Operation) (life : Life) → IsCalledInside before → IsLife operations life → Covers life before.call
         → enqueue_return life < before.call
     enters_before before life inside is covers =
         below_if_not_same (enqueue_return life) before.call covers.0 (return_differs_from_call operations
-        (enqueue_of life) before clear.complete is.1.0 inside.among)
+        (enqueue_of life) before clear.complete is.1.0 inside.among inside.is_other)
 
     next_stays : (before : Operation) (life : Life) → IsCalledInside before → IsNextOfCover operations before.call life → before.call < dequeue_call life
     next_stays before life inside next =
@@ -66,12 +68,13 @@ module _ (operations : List Operation) (empty : Operation) where
         let calls : dequeue_call life ≡ d.call = ap call_or_never found.1 in
         let did_d = subst (λ o. MatchOption o (NoneDid operations (Deq chosen.0.is_life.0)) (λ d. Did operations d (Deq chosen.0.is_life.0))) found.1
         chosen.0.is_life.2 in
-        let differs = return_differs_from_call operations empty d clear.complete did.0 did_d.0 in
+        let other = no_enqueue d (Deq chosen.0.is_life.0) did_d.1 refl in
+        let differs = return_differs_from_call operations empty d clear.complete did.0 did_d.0 other in
         let below : d.call < empty.ret = below_if_not_same d.call empty.ret (omega (arith, others.0)) (λ same. differs (sym same)) in (
           d,
           record {
             calls = calls;
-            inside = record { among = did_d.0; after_call = omega (arith, inside.after_call); before_return = below };
+            inside = record { among = did_d.0; after_call = omega (arith, inside.after_call); before_return = below; is_other = other };
             further = subst (λ c. IsChosenCoverFrom operations empty c rest) calls others.1;
           },
         )

@@ -1,21 +1,21 @@
 -- A chosen violation decides a history, and so does a chosen order that is legal.
-use Rattle.verdicts.proofs.Common.{◌≡◌, ◌⊎◌, All-map, inl, inr, List, subst, ℕ, AreComplete}
-use Rattle.verdicts.proofs.Common.{CoverStep, timeline, timeline_is_of_complete, fresh, IsChosenViolation, IsClear, IsDecided}
-use Rattle.verdicts.proofs.Common.{IsMatched, IsPlaceWithin, IsWitnessAnswer, linearizable_from_exactly, lines_of, No}
-use Rattle.verdicts.proofs.Common.{NoOrderViolation, Operation, operations_of, order, OrderPair, repeat, Violation}
-use Rattle.verdicts.proofs.Common.{violation_places, witness, Yes}
-use Rattle.value_match.specs.declared.violation.Violation.TheVariants as violation
+use Rattle.verdicts.proofs.Common.{All-map, AreComplete, CoverStep, few_initial, fresh, inl, inr, IsChosenViolation}
+use Rattle.verdicts.proofs.Common.{IsClear, IsDecided, IsMatched, IsPlaceWithin, IsWitnessAnswer}
+use Rattle.verdicts.proofs.Common.{linearizable_from_exactly, lines_of, List, No, NoOrderViolation, Operation}
+use Rattle.verdicts.proofs.Common.{operations_of, order, OrderPair, repeat, subst, timeline, timeline_is_complete}
+use Rattle.verdicts.proofs.Common.{Violation, violation_places, witness, Yes, ℕ, ◌≡◌, ◌⊎◌}
 use Rattle.value_match.specs.declared.matching.Matched.{Matched}
-use Rattle.value_match.specs.declared.matching.Matched.TheVariants as matched
 use Rattle.order_violation.specs.Pairs.{IsChosenPair}
-use Rattle.empty_witness.specs.declared.answer.WitnessAnswer.TheVariants as found
 use Rattle.linearizer.specs.Order.{AreChosenAndLegal}
-use Rattle.verdicts.specs.declared.shown.LinePlace.TheVariants as place
-use Rattle.verdicts.specs.declared.verifying.Claimed.TheVariants as claimed
 use Rattle.verdicts.specs.Laws.{TrueClaimDecides}
 use Rattle.verdicts.proofs.Exactly.{violation_excludes_order}
 use Rattle.verdicts.proofs.Chosen.{chosen_is_violation}
 use Rattle.verdicts.proofs.NamedPlaces.{all_within, each_shown, in_range}
+use Rattle.value_match.specs.declared.violation.Violation.TheVariants as violation
+use Rattle.value_match.specs.declared.matching.Matched.TheVariants as matched
+use Rattle.empty_witness.specs.declared.answer.WitnessAnswer.TheVariants as found
+use Rattle.verdicts.specs.declared.shown.LinePlace.TheVariants as place
+use Rattle.verdicts.specs.declared.verifying.Claimed.TheVariants as claimed
 
 -- a chosen violation decides
 pub no_is_decided : (initial : List ℕ) (operations : List Operation) (violation : Violation) → AreComplete (timeline initial operations)
@@ -23,11 +23,13 @@ pub no_is_decided : (initial : List ℕ) (operations : List Operation) (violatio
 no_is_decided initial operations violation complete chosen =
     let all = timeline initial operations in
     let full = chosen_is_violation all chosen.0 complete chosen.2 in
+    let few = few_initial initial operations complete in
     record {
       chosen = chosen;
       evidence = (chosen.0, chosen.1, full);
-      exact = λ exists. violation_excludes_order all chosen.0 complete full ((linearizable_from_exactly initial operations).0 exists);
-      places = all_within initial operations (violation_places violation) (lines_of chosen.0) (each_shown initial operations violation chosen.0 chosen.1);
+      exact = λ exists. violation_excludes_order all chosen.0 complete full ((linearizable_from_exactly initial operations few).0 exists);
+      places = all_within initial operations few (violation_places violation) (lines_of chosen.0)
+          (each_shown initial operations few violation chosen.0 chosen.1);
     }
 
 -- a chosen order decides
@@ -67,5 +69,5 @@ true_claim_decides initial events (claimed.Yes lines) complete few legal = (line
 true_claim_decides initial events (claimed.No kind lines) complete few shows =
     let operations = operations_of events in
     let full = shows.2.0 in
-    λ exists. violation_excludes_order (timeline initial operations) full (timeline_is_of_complete initial events complete few) shows.2.3
-    ((linearizable_from_exactly initial operations).0 exists)
+    λ exists. violation_excludes_order (timeline initial operations) full (timeline_is_complete initial events complete few) shows.2.3
+    ((linearizable_from_exactly initial operations few).0 exists)

@@ -1,9 +1,9 @@
 -- Each event of a complete history is the call or the return of one of its operations; so operations tell their events.
-use Rattle.verdicts.proofs.Common.{[], ◌∙◌, ◌∷◌, ◌≡◌, ◌⊎◌, ap, Bool, cond, cons_option, Contains, eq-eqb, eqb-true}
-use Rattle.verdicts.proofs.Common.{false, find, inl, inr, List, MatchOption, nat_eq, None, Option, refl, slice_get}
-use Rattle.verdicts.proofs.Common.{Some, subst, sym, true, ℕ, ArePartOf, contains_at, contains_cons, Event}
-use Rattle.verdicts.proofs.Common.{IsCompleteHistory, IsCompleteUpTo, not_in_none, one_at, Operation, operation_of}
-use Rattle.verdicts.proofs.Common.{operations_of, passed_filter, place_of, projection, same_event, TakesTurns, traced}
+use Rattle.verdicts.proofs.Common.{[], ap, ArePartOf, Bool, cond, cons_option, Contains, contains_at, contains_cons}
+use Rattle.verdicts.proofs.Common.{eq-eqb, eqb-true, Event, false, find, inl, inr, IsCompleteHistory, List}
+use Rattle.verdicts.proofs.Common.{MatchOption, nat_eq, None, not_in_none, one_at, Operation, operation_of}
+use Rattle.verdicts.proofs.Common.{operations_of, Option, passed_filter, place_of, projection, refl, same_event}
+use Rattle.verdicts.proofs.Common.{slice_get, Some, subst, sym, TakesTurns, traced, true, ℕ, ◌∙◌, ◌∷◌, ◌≡◌, ◌⊎◌}
 use Rattle.verdicts.proofs.ShrunkEvents.{TurnsAfter, answered, among_later, among_first}
 use Rattle.verdicts.proofs.SameLists.{same_lists}
 
@@ -75,7 +75,7 @@ held_or_answers thread (x ∷ later) pending e turns among own =
     ]
 
 -- each event of a complete history is held by one of its operations
-pub each_is_held : {n : ℕ} (events : List Event) (e : Event) → IsCompleteUpTo n events → Contains events e → IsHeld (operations_of events) e.ticket
+pub each_is_held : (events : List Event) (e : Event) → IsCompleteHistory events → Contains events e → IsHeld (operations_of events) e.ticket
 each_is_held events e complete among = elim (held_or_answers e.thread events None e (complete.threads_take_turns e.thread) among refl)
     [ inl none ↦ absurd none | inr held ↦ held ]
 
@@ -88,7 +88,7 @@ event_held events ticket held =
     ]
 
 -- events with one ticket are one
-one_event : {n : ℕ} (events : List Event) (e r : Event) → IsCompleteUpTo n events → Contains events e → Contains events r → e.ticket ≡ r.ticket → e ≡ r
+one_event : (events : List Event) (e r : Event) → IsCompleteHistory events → Contains events e → Contains events r → e.ticket ≡ r.ticket → e ≡ r
 one_event events e r complete in_e in_r same =
     let at_e = place_of events e in_e in
     let at_r = place_of events r in_r in

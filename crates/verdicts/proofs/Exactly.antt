@@ -1,14 +1,15 @@
 -- A complete history has a linearization if and only if it has no violation: beside one no order is legal, and without one there is one.
-use Rattle.verdicts.proofs.Common.{IsLife, option_map, call_before_return, cases_order, [], ⊤, ◌++◌, ◌<◌, ◌∙◌, ◌∷◌}
-use Rattle.verdicts.proofs.Common.{◌≡◌, ◌≤◌, ◌⊎◌, ap, append-nil, arith, Contains, Contains-permutation, eq-eqb, inl}
-use Rattle.verdicts.proofs.Common.{inr, IsPermutation-sym, IsSome, List, map, MatchOption, None, Option, refl}
-use Rattle.verdicts.proofs.Common.{slice_get, Some, sym, take, ℕ, accept, accept_all, AreComplete, contains_at}
-use Rattle.verdicts.proofs.Common.{CoversFrom, Deq, dequeue_of, Did, Empty, Enq, enqueue_of, fresh, FullViolation}
-use Rattle.verdicts.proofs.Common.{IsAccepted, IsEnqueuedTooLate, IsLegalOrder, IsNeverEnqueued, IsOrderViolation}
-use Rattle.verdicts.proofs.Common.{IsRepeatViolation, IsViolationOf, Life, NoneDid, Not, Operation, OpKind, order}
-use Rattle.verdicts.proofs.Common.{pairs_at, Precedes, repeat, witness, AllZip, filter, rules, zero, AreLeastFreeGaps}
-use Rattle.verdicts.proofs.Common.{chosen_cover, chosen_order_exists, is_empty_answer, IsClear, IsLeastFreeGap}
-use Rattle.verdicts.proofs.Common.{IsLinearizable, NoOrderViolation, NoWitnessViolation, one_deeper}
+use Rattle.verdicts.proofs.Common.{[], accept, accept_all, AllZip, ap, append-nil, AreComplete}
+use Rattle.verdicts.proofs.Common.{AreLeastFreeGaps, arith, call_by_return, cases_order, chosen_cover}
+use Rattle.verdicts.proofs.Common.{chosen_order_exists, Contains, Contains-permutation, contains_at, CoversFrom, Deq}
+use Rattle.verdicts.proofs.Common.{dequeue_of, Did, Empty, Enq, enqueue_of, eq-eqb, filter, fresh, FullViolation, inl}
+use Rattle.verdicts.proofs.Common.{inr, is_empty_answer, IsAccepted, IsClear, IsEnqueuedTooLate, IsLeastFreeGap}
+use Rattle.verdicts.proofs.Common.{IsLegalOrder, IsLife, IsLinearizable, IsNeverEnqueued, IsOrderViolation}
+use Rattle.verdicts.proofs.Common.{IsPermutation-sym, IsRepeatViolation, IsSome, IsViolationOf, Life, List, map}
+use Rattle.verdicts.proofs.Common.{MatchOption, no_enqueue, None, NoneDid, NoOrderViolation, Not, NoWitnessViolation}
+use Rattle.verdicts.proofs.Common.{one_deeper, Operation, OpKind, Option, option_map, order, pairs_at, Precedes, refl}
+use Rattle.verdicts.proofs.Common.{repeat, rules, slice_get, Some, sym, take, witness, zero, ℕ, ⊤, ◌++◌, ◌<◌, ◌∙◌, ◌∷◌}
+use Rattle.verdicts.proofs.Common.{◌≡◌, ◌≤◌, ◌⊎◌}
 use Rattle.std.proofs.lemmas.Option.{slice_get-map}
 use Rattle.value_match.proofs.TimelineLines.{mapped_option}
 use Rattle.history_merge.proofs.Runs.{enqueued, dequeued, enqueued_is_dequeued, IsQueueBefore, queue_before}
@@ -16,7 +17,7 @@ use Rattle.history_merge.proofs.Places.{Member, Member-right, StandsBefore, enqu
 use Rattle.history_merge.proofs.Places.{split_at_enqueue, split_at_dequeue, count, count-append, count_here}
 use Rattle.history_merge.proofs.Places.{count-le-calls, calls_of_kind, same_place, same_front}
 use Rattle.history_merge.proofs.Distinct.{place_of as listed_place}
-use Rattle.history_merge.proofs.Completeness.{called_once, calls-IsPermutation}
+use Rattle.history_merge.proofs.Completeness.{calls-IsPermutation, one_calls}
 use Rattle.verdicts.specs.Laws.{ViolationExcludesOrder, LinearizableExactly}
 use Rattle.linearizer.proofs.EachPosition.{some_injective}
 use Rattle.empty_witness.proofs.FreeGaps.{free_gap_or_covered}
@@ -64,7 +65,7 @@ module _ (operations listed : List Operation) (complete : AreComplete operations
   call_has_one_place : (i j v : ℕ) (x y : Operation) → slice_get listed i ≡ Some x → slice_get listed j ≡ Some y
       → calls_of_kind v x.kind ≡ 1 → calls_of_kind v y.kind ≡ 1 → i ≡ j
   call_has_one_place i j v x y at_i at_j is_x is_y =
-      let once = called_once operations v complete in
+      let once = one_calls v operations complete.apart in
       let moved = calls-IsPermutation v operations listed legal.holds_each_once in
       same_place (kinds_of listed) i j v x.kind y.kind (kind_at listed i x x.kind at_i refl) (kind_at listed j y y.kind at_j refl) is_x is_y (omega arith)
 
@@ -104,7 +105,7 @@ module _ (operations listed : List Operation) (complete : AreComplete operations
   no_repeat i j v x y at_i at_j is_x is_y below =
       let gone = gone_at_dequeue j v y at_j is_y in
       let taken = split_at_dequeue (kinds_of listed) i j v below (kind_at listed i x (Deq v) at_i is_x) in
-      let once = called_once operations v complete in
+      let once = one_calls v operations complete.apart in
       let moved = calls-IsPermutation v operations listed legal.holds_each_once in
       let few = count-le-calls (kinds_of listed) j v in
       let all = ap (count v) gone.1 in
@@ -171,7 +172,7 @@ module _ (operations listed : List Operation) (complete : AreComplete operations
       let gone = gone_at_dequeue k b z at_z is_z in
       let put_b = split_at_enqueue (kinds_of listed) j k b below (kind_at listed j y (Enq b) at_y is_y) in
       let put_a = split_at_enqueue (kinds_of listed) i j a first (kind_at listed i x (Enq a) at_x is_x) in
-      let once = called_once operations b complete in
+      let once = one_calls b operations complete.apart in
       let moved = calls-IsPermutation b operations listed legal.holds_each_once in
       let few = count-le-calls (kinds_of listed) k b in
       let all = ap (count b) put_b.1 in
@@ -185,7 +186,7 @@ module _ (operations listed : List Operation) (complete : AreComplete operations
   enqueues_differ i j x y at_x at_y precedes = elim (cases_order i j) [
     | inl same ↦
         let one : x ≡ y = some_injective (sym at_x ∙ ap (slice_get listed) same ∙ at_y) in
-        let ordered = call_before_return operations x complete (is_operation i x at_x) in
+        let ordered = call_by_return operations x complete (is_operation i x at_x) in
         let calls_same = ap (λ o. o.call) one in
         absurd (omega arith)
     | inr (inl below) ↦ below
@@ -279,7 +280,7 @@ gaps_of operations [] clear none each = ([], search rules)
 gaps_of operations (o ∷ answers) clear none each =
     let did = each o (zero, omega arith, refl) in
     let rest = gaps_of operations answers clear none (λ x among. each x (one_deeper o answers x among)) in
-    elim (free_gap_or_covered operations o clear did.0) [
+    elim (free_gap_or_covered operations o clear did.0 (no_enqueue o Empty did.1 refl)) [
       | inl free ↦ (free.0 ∷ rest.0, (free.1, rest.1))
       | inr covered ↦ let cover = chosen_cover operations o clear did covered in absurd (none o cover.0 cover.2)
     ]

@@ -1,26 +1,25 @@
 -- A verdict shows each operation once, so it names at most half as many as the history has events; its other lines are initial values.
-use Rattle.verdicts.proofs.Common.{[], ◌*◌, ◌++◌, ◌+◌, ◌<◌, ◌∙◌, ◌∷◌, ◌≡◌, ◌≤◌, ◌⊎◌, AllByRecursion, AllPairs}
-use Rattle.verdicts.proofs.Common.{AllZip, ap, arith, Bool, cond, Contains, Contains-append_cases, false, filter}
-use Rattle.verdicts.proofs.Common.{flat_map, inl, inr, IsDistinct, length, length-append, length-map}
-use Rattle.verdicts.proofs.Common.{length_permutation, List, ltb-false, map, MatchOption, nat_eq, nat_lt, None, not}
-use Rattle.verdicts.proofs.Common.{not-true, Option, option_to_list, refl, slice_get, slice_get_within, Some, subst}
-use Rattle.verdicts.proofs.Common.{suc, sym, true, zero, ℕ, AllPairs-tail, AreComplete, call_before_return, ClaimLine}
-use Rattle.verdicts.proofs.Common.{contains_at, contains_cons, Deq, dequeue_call, dequeue_of, Did, Empty, Enq}
-use Rattle.verdicts.proofs.Common.{enqueue_of, Event, timeline, enqueues_from, enqueue_place, fresh, FullViolation}
-use Rattle.verdicts.proofs.Common.{is_operation, IsChosenCoverFrom, IsChosenFullViolation, IsClear, IsCovered, IsLife}
-use Rattle.verdicts.proofs.Common.{IsVerdict, later_by, Life, line_at, LinePlace, lines_of, mapped_to, MAX_OPERATIONS}
-use Rattle.verdicts.proofs.Common.{No, NoneDid, not_in_none, one_deeper, one_life_of_enqueue, Operation}
-use Rattle.verdicts.proofs.Common.{operations_named, operations_of, operations_of_life, operations_rise, order}
-use Rattle.verdicts.proofs.Common.{pairs_at, passed_filter, place_of, repeat, return_differs_from_call, same_call}
-use Rattle.verdicts.proofs.Common.{same_return, traced, verdict_places, violation_places, witness, Yes}
-use Rattle.verdicts.proofs.Common.{timeline_is_of_complete, IsCompleteHistory, mapped_from, ne_eqb, same_enqueue}
-use Rattle.verdicts.proofs.Common.{value_of, Contains-append_right}
+use Rattle.verdicts.proofs.Common.{[], AllByRecursion, AllPairs, AllPairs-tail, AllZip, ap, AreComplete, arith, Bool}
+use Rattle.verdicts.proofs.Common.{call_before_return, ClaimLine, cond, Contains, Contains-append_cases}
+use Rattle.verdicts.proofs.Common.{Contains-append_right, contains_at, contains_cons, Deq, dequeue_call, dequeue_of}
+use Rattle.verdicts.proofs.Common.{Did, Empty, Enq, enqueue_of, enqueue_place, Event, false, filter}
+use Rattle.verdicts.proofs.Common.{flat_map, fresh, FullViolation, initial_enqueues, initial_time, inl, inr}
+use Rattle.verdicts.proofs.Common.{is_operation, IsChosenCoverFrom, IsChosenFullViolation, IsClear, IsCompleteHistory}
+use Rattle.verdicts.proofs.Common.{IsCovered, IsDistinct, IsLife, IsVerdict, later_by, length, length-append}
+use Rattle.verdicts.proofs.Common.{length-map, length_permutation, Life, line_at, LinePlace, lines_of, List, ltb-false}
+use Rattle.verdicts.proofs.Common.{map, mapped_from, mapped_to, MatchOption, MAX_INITIAL, MAX_OPERATIONS, nat_eq}
+use Rattle.verdicts.proofs.Common.{nat_lt, ne_eqb, No, no_enqueue, None, NoneDid, not, not-true, not_in_none}
+use Rattle.verdicts.proofs.Common.{one_deeper, one_life_of_enqueue, Operation, operations_are_complete}
+use Rattle.verdicts.proofs.Common.{operations_named, operations_of, operations_of_life, operations_rise, Option}
+use Rattle.verdicts.proofs.Common.{option_to_list, order, ORIGIN, pairs_at, passed_filter, place_of, refl, repeat}
+use Rattle.verdicts.proofs.Common.{returns_at_no_call, same_call, same_enqueue, same_return, slice_get}
+use Rattle.verdicts.proofs.Common.{slice_get_within, Some, subst, suc, sym, timeline, timeline_is_complete, traced}
+use Rattle.verdicts.proofs.Common.{true, value_of, verdict_places, violation_places, witness, Yes, zero, ℕ, ◌++◌, ◌+◌}
+use Rattle.verdicts.proofs.Common.{◌<◌, ◌∙◌, ◌∷◌, ◌≡◌, ◌≤◌, ◌⊎◌}
 use Rattle.std.specs.Cmp.{unsigned_Decides, nat_eq_equiv}
 use Rattle.std.proofs.lemmas.Map.Made.{is_member-Decides, length-le_from_is_member}
 use Rattle.std.proofs.lemmas.Slice.Zip.{AllZip-long}
 use Rattle.verdicts.specs.Laws.{VerdictHasFewLines}
-use Rattle.verdicts.specs.declared.shown.LinePlace.TheVariants as place
-use Rattle.verdicts.specs.declared.verifying.ClaimLine.TheVariants as line
 use Rattle.verdicts.specs.declared.verdict.Verdict.{Verdict}
 use Rattle.verdicts.proofs.CoverGaps.{IsCalledInside, chosen_are_lives, handover, all_stay}
 use Rattle.history_merge.proofs.TimelineOperations.{length_timeline}
@@ -29,8 +28,9 @@ use Rattle.verdicts.proofs.NamedLines.{cover_lines, life_lines, lines_are_operat
 use Rattle.verdicts.proofs.Chosen.{chosen_is_violation}
 use Rattle.verdicts.proofs.ShrunkEvents.{no_longer}
 use Rattle.linearizer.proofs.NoneTwice.{NoneTwice, none_twice-append, none_twice-filter}
-use Rattle.history_merge.proofs.Completeness.{operations_are_complete}
 use Rattle.value_match.proofs.TimelineLines.{mapped_option}
+use Rattle.verdicts.specs.declared.shown.LinePlace.TheVariants as place
+use Rattle.verdicts.specs.declared.verifying.ClaimLine.TheVariants as line
 
 -- ---- elements that stand once
 
@@ -111,7 +111,7 @@ half_of_events events complete =
     apart t called returned =
         let x = mapped_from (λ (o : Operation). o.call) operations t called in
         let y = mapped_from (λ (o : Operation). o.ret) operations t returned in
-        return_differs_from_call operations y.0 x.0 are y.1 x.1 (y.2 ∙ sym x.2)
+        returns_at_no_call events y.0 x.0 complete y.1 x.1 (y.2 ∙ sym x.2)
 
     at_event : (place : ℕ) (e : Event) (t : ℕ) → slice_get events place ≡ Some e → e.ticket ≡ t → Contains (map (λ e. e.ticket) events) t
     at_event place e t at same = subst (Contains (map (λ e. e.ticket) events)) same (mapped_to (λ e. e.ticket) events e (contains_at events place e at))
@@ -185,21 +185,22 @@ few_or_once operations (order enq_a enq_b deq_b (Some deq_a)) complete chosen = 
 few_or_once operations (witness empty cover) complete chosen =
     let clear : IsClear operations = record { complete = complete; no_fresh = chosen.0; no_repeat = chosen.1 } in
     let did = chosen.3.answers_empty in
-    let window = call_before_return operations empty complete did.0 in inr (
+    let other = no_enqueue empty Empty did.1 refl in
+    let window = call_before_return operations empty complete did.0 other in inr (
       λ among.
           let line = cover_lines operations cover (λ y in_cover. chosen_are_lives operations empty cover empty.call y chosen.3.cover_is_chosen in_cover)
           empty among in
           let clash : None ≡ Some line.is_life.0 = sym (ap value_of did.1) ∙ line.is_of.1 in
           cc,
       cover_once operations empty clear did chosen.3.is_covered cover empty
-          (record { among = did.0; after_call = omega arith; before_return = window }) chosen.3.cover_is_chosen,
+          (record { among = did.0; after_call = omega arith; before_return = window; is_other = other }) chosen.3.cover_is_chosen,
     )
 
 -- ---- the operations among the lines
 
--- the operation is none of the enqueues that fill the queue up to this clock
-abbrev is_own : ℕ → Operation → Bool
-is_own n o = not (nat_lt o.call n)
+-- the operation is none of the enqueues of initial values
+abbrev is_own : Operation → Bool
+is_own o = not (nat_lt o.call ORIGIN)
 
 -- the line is that of an operation
 abbrev line_is_operation : ClaimLine → Bool
@@ -211,35 +212,35 @@ module _ (initial : List ℕ) (operations : List Operation) where
   of_place (place.Op p) l at = ap line_is_operation (mapped_option line.Op (slice_get operations p) l at).2
   of_place (place.Initial p) l at = ap line_is_operation (mapped_option line.Initial (slice_get initial p) l at).2
 
-  of_line : (n : ℕ) (o : Operation) → line_is_operation (line_of n o) ≡ is_own n o
-  of_line n o = grind arith
+  of_line : (o : Operation) → line_is_operation (line_of o) ≡ is_own o
+  of_line o = grind arith
 
   -- the places of operations are those of the history's own
   counted : (places : List LinePlace) (listed : List Operation) → AllZip (IsShownAt initial operations) places listed
-      → length (filter is_operation places) ≡ length (filter (is_own (2 * length initial)) listed)
+      → length (filter is_operation places) ≡ length (filter is_own listed)
   counted [] [] each = refl
   counted (p ∷ places) (o ∷ listed) each =
-      both (counted places listed each.1) (is_operation p) (is_own (2 * length initial) o)
-      (of_place p (line_of (2 * length initial) o) each.0.0 ∙ of_line (2 * length initial) o)
+      both (counted places listed each.1) (is_operation p) (is_own o)
+      (of_place p (line_of o) each.0.0 ∙ of_line o)
     where
-      both : length (filter is_operation places) ≡ length (filter (is_own (2 * length initial)) listed) → (a b : Bool) → a ≡ b
+      both : length (filter is_operation places) ≡ length (filter is_own listed) → (a b : Bool) → a ≡ b
           → length (cond a (p ∷ filter is_operation places) (filter is_operation places))
-          ≡ length (cond b (o ∷ filter (is_own (2 * length initial)) listed) (filter (is_own (2 * length initial)) listed))
+          ≡ length (cond b (o ∷ filter is_own listed) (filter is_own listed))
       both rest true true same = ap suc rest
       both rest false false same = rest
       both rest _ _ same = cc
   counted _ _ each = absurd each
 
 -- the operations of a timeline that aren't the enqueues of initial values are the history's
-own_is_later : (initial : List ℕ) (operations : List Operation) (o : Operation) → Contains (timeline initial operations) o
-    → is_own (2 * length initial) o ≡ true → Contains (map (later_by (2 * length initial)) operations) o
-own_is_later initial operations o among own =
-    elim (Contains-append_cases (enqueues_from 0 initial) (map (later_by (2 * length initial)) operations) o among) [
+own_is_later : (initial : List ℕ) (operations : List Operation) (o : Operation) → length initial ≤ MAX_INITIAL → Contains (timeline initial operations) o
+    → is_own o ≡ true → Contains (map (later_by ORIGIN) operations) o
+own_is_later initial operations o few among own =
+    elim (Contains-append_cases (initial_enqueues initial) (map (later_by ORIGIN) operations) o among) [
       | inl here ↦
           let found = enqueue_place initial o here in
-          let call : 2 * found.0 ≡ o.call = ap (λ (x : Operation). x.call) found.3 in
+          let call : initial_time (length initial) found.0 ≡ o.call = ap (λ (x : Operation). x.call) found.3 in
           let within = slice_get_within initial found.0 found.1 found.2 in
-          let late = ltb-false o.call (2 * length initial) (not-true (nat_lt o.call (2 * length initial)) own) in
+          let late = ltb-false o.call ORIGIN (not-true (nat_lt o.call ORIGIN) own) in
           absurd (omega (arith, call, within, late))
       | inr there ↦ there
     ]
@@ -251,14 +252,11 @@ verdict_has_few_lines initial events verdict whole few_initial few_events chosen
     operations : List Operation
     operations = operations_of events
 
-    n : ℕ
-    n = 2 * length initial
-
     all : List Operation
     all = timeline initial operations
 
     complete : AreComplete all
-    complete = timeline_is_of_complete initial events whole few_initial
+    complete = timeline_is_complete initial events whole few_initial
 
     few : length operations ≤ MAX_OPERATIONS
     few = let half = half_of_events events whole.complete in omega (arith, few_events, half)
@@ -274,7 +272,7 @@ verdict_has_few_lines initial events verdict whole few_initial few_events chosen
         let long' = length_timeline initial is.0 in
         (omega (arith, few, moved), omega (arith, few, moved))
     by_verdict (No violation) is =
-        let shown = each_shown initial operations violation is.0 is.1 in
+        let shown = each_shown initial operations few_initial violation is.0 is.1 in
         let many = AllZip-long (IsShownAt initial operations) (violation_places violation) (lines_of is.0) shown in
         let named = counted initial operations (violation_places violation) (lines_of is.0) shown in
         let own = few_own in
@@ -282,7 +280,7 @@ verdict_has_few_lines initial events verdict whole few_initial few_events chosen
         (omega (arith, named, own), omega (arith, many, lines))
       where
         among : (o : Operation) → Contains (lines_of is.0) o → Contains all o
-        among = lines_are_operations all is.0 (chosen_is_violation all is.0 complete is.2) is.2
+        among = lines_are_operations all is.0 (chosen_is_violation all is.0 complete is.2)
 
         few_shown : length (lines_of is.0) ≤ MAX_OPERATIONS + length initial
         few_shown = elim (few_or_once all is.0 complete is.2) [
@@ -293,14 +291,14 @@ verdict_has_few_lines initial events verdict whole few_initial few_events chosen
               omega (arith, few)
         ]
 
-        few_own : length (filter (is_own n) (lines_of is.0)) ≤ MAX_OPERATIONS
+        few_own : length (filter is_own (lines_of is.0)) ≤ MAX_OPERATIONS
         few_own = elim (few_or_once all is.0 complete is.2) [
-          | inl short ↦ let less = no_longer (is_own n) (lines_of is.0) in omega arith
+          | inl short ↦ let less = no_longer is_own (lines_of is.0) in omega arith
           | inr once ↦
-              let each = no_more_listed all complete (filter (is_own n) (lines_of is.0)) (map (later_by n) operations)
-              (λ o at. let passed = passed_filter (is_own n) (lines_of is.0) o at in own_is_later initial operations o (among o passed.0) passed.1)
-              (λ o at. Contains-append_right (enqueues_from 0 initial) (map (later_by n) operations) o at)
-              (none_twice-filter (is_own n) (lines_of is.0) once) in
-              let long : length (map (later_by n) operations) ≡ length operations = simp length-map in
+              let each = no_more_listed all complete (filter is_own (lines_of is.0)) (map (later_by ORIGIN) operations)
+              (λ o at. let passed = passed_filter is_own (lines_of is.0) o at in own_is_later initial operations o few_initial (among o passed.0) passed.1)
+              (λ o at. Contains-append_right (initial_enqueues initial) (map (later_by ORIGIN) operations) o at)
+              (none_twice-filter is_own (lines_of is.0) once) in
+              let long : length (map (later_by ORIGIN) operations) ≡ length operations = simp length-map in
               omega (arith, few)
         ]

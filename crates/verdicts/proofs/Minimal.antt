@@ -1,15 +1,15 @@
 -- The selection by the lines of the chosen violation is minimal.
-use Rattle.verdicts.proofs.Common.{[], ◌∙◌, ◌∷◌, ◌≡◌, ◌⊎◌, ap, arith, Bool, cond, Contains, false, filter, flat_map}
-use Rattle.verdicts.proofs.Common.{inl, inr, List, None, Option, refl, Some, subst, sym, true, zero, ℕ, AreComplete}
-use Rattle.verdicts.proofs.Common.{call_before_return, contains_cons, Covers, Did, Empty, Enq, enqueue_of, fresh}
-use Rattle.verdicts.proofs.Common.{FullViolation, IsChosenFullViolation, IsChosenWitness, IsClear, IsCovered}
-use Rattle.verdicts.proofs.Common.{IsLinearizable, IsOrderViolation, IsViolationOf, IsWitnessViolation, Life, lines_of}
-use Rattle.verdicts.proofs.Common.{one_deeper, one_life_of_enqueue, Operation, operations_of_life, order}
-use Rattle.verdicts.proofs.Common.{passed_filter, repeat, same_enqueue, selects, value_of, violation_covers, witness}
+use Rattle.verdicts.proofs.Common.{[], ap, AreComplete, arith, Bool, call_before_return, call_by_return, cond}
+use Rattle.verdicts.proofs.Common.{Contains, contains_cons, Covers, Did, Empty, Enq, enqueue_of, false, filter}
+use Rattle.verdicts.proofs.Common.{flat_map, fresh, FullViolation, inl, inr, IsChosenFullViolation, IsChosenWitness}
+use Rattle.verdicts.proofs.Common.{IsClear, IsCovered, IsLinearizable, IsOrderViolation, IsViolationOf}
+use Rattle.verdicts.proofs.Common.{IsWitnessViolation, Life, lines_of, List, no_enqueue, None, one_deeper}
+use Rattle.verdicts.proofs.Common.{one_life_of_enqueue, Operation, operations_of_life, Option, order, passed_filter}
+use Rattle.verdicts.proofs.Common.{refl, repeat, same_enqueue, selects, Some, some_are_complete, subst, sym, true}
+use Rattle.verdicts.proofs.Common.{value_of, violation_covers, witness, zero, ℕ, ◌∙◌, ◌∷◌, ◌≡◌, ◌⊎◌}
 use Rattle.verdicts.proofs.Chosen.{chosen_is_violation}
 use Rattle.verdicts.proofs.CoverGaps.{left_by, chosen_are_lives}
 use Rattle.verdicts.proofs.Exactly.{linearizable_exactly, violation_excludes_order}
-use Rattle.verdicts.proofs.ShrunkEvents.{selected_are_complete}
 use Rattle.verdicts.proofs.NamedLines.{HasValue, IsOpOf, IsOpOfTwo, IsOpOfLife, fresh_lines, repeat_lines, order_lines}
 use Rattle.verdicts.proofs.NamedLines.{cover_lines, selects_as_value, SelectsLines, lines_are_selected, selected_for}
 use Rattle.verdicts.proofs.Selections.{violation_in_whole, violation_in_selected, life_in_whole}
@@ -50,7 +50,7 @@ not_itself : (operations : List Operation) (enq_a enq_b deq_b : Operation) (deq_
     (is : IsOrderViolation operations enq_a enq_b deq_b deq_a) → AreComplete operations → is.a ≡ is.b → ⊥
 not_itself operations enq_a enq_b deq_b deq_a is complete same =
     let one = same_enqueue operations enq_a enq_b is.b complete (subst (λ v. Did operations enq_a (Enq v)) same is.enqueues_a) is.enqueues_b in
-    let ordered = call_before_return operations enq_b complete is.enqueues_b.0 in
+    let ordered = call_by_return operations enq_b complete is.enqueues_b.0 in
     let returns = ap (λ o. o.ret) one in
     let first = is.enqueued_first in
     absurd (omega arith)
@@ -118,7 +118,7 @@ module _ (operations : List Operation) (complete : AreComplete operations) (valu
         no_order enq_a enq_b deq_b deq_a is =
             let same = both_same enq_a enq_b is.a is.b is.enqueues_a is.enqueues_b (has_one missing was)
             (has_one enq_a (in_small enq_a is.enqueues_a.0).0) (has_one enq_b (in_small enq_b is.enqueues_b.0).0) in
-            let smaller_complete = selected_are_complete (selects values' calls') small (selected_are_complete (selects values calls) operations complete) in
+            let smaller_complete = some_are_complete (selects values' calls') small (some_are_complete (selects values calls) operations complete) in
             not_itself smaller enq_a enq_b deq_b deq_a is smaller_complete same
 
     module _ (empty : Operation) (cover : List Life) (clear : IsClear operations) (chosen : IsChosenWitness operations empty cover)
@@ -158,7 +158,7 @@ module _ (operations : List Operation) (complete : AreComplete operations) (valu
 
       smaller_is_clear : IsClear smaller
       smaller_is_clear = record {
-        complete = selected_are_complete (selects values' calls') small (selected_are_complete (selects values calls) operations complete);
+        complete = some_are_complete (selects values' calls') small (some_are_complete (selects values calls) operations complete);
         no_fresh = λ deq enq is. clear.no_fresh deq enq (in_whole (fresh deq enq) is);
         no_repeat = λ enq first second is. clear.no_repeat enq first second (in_whole (repeat enq first second) is);
       }
@@ -167,9 +167,10 @@ module _ (operations : List Operation) (complete : AreComplete operations) (valu
       not_covered_without : (v : ℕ) → HasValue missing v → (empty' : Operation) → empty' ≡ empty → IsCovered smaller empty' → ⊥
       not_covered_without v is_missing empty' same covered =
           let x = has_value_of_cover missing v was is_missing in
-          let window = call_before_return operations empty complete chosen.answers_empty.0 in
+          let other = no_enqueue empty Empty chosen.answers_empty.1 refl in
+          let window = call_before_return operations empty complete chosen.answers_empty.0 other in
           let gap = left_by operations empty clear chosen.answers_empty chosen.is_covered cover empty x.0
-          (record { among = chosen.answers_empty.0; after_call = omega arith; before_return = window }) chosen.cover_is_chosen x.1 in
+          (record { among = chosen.answers_empty.0; after_call = omega arith; before_return = window; is_other = other }) chosen.cover_is_chosen x.1 in
           let z = subst (IsCovered smaller) same covered gap.0 (gap.1.after, gap.1.before_return) in
           let is_z = life_in_whole operations values calls z.0 (life_in_whole small values' calls' z.0 z.1) in
           let y = has_value_of_cover (enqueue_of z.0) is_z.0 (in_small (enqueue_of z.0) z.1.1.0).0 (ap value_of is_z.1.1) in
@@ -218,8 +219,8 @@ module _ (operations : List Operation) (complete : AreComplete operations) (valu
 
     smaller_is_linearizable : (full : FullViolation) → IsChosenFullViolation operations full → SelectsLines (lines_of full) values calls → IsLinearizable [] smaller
     smaller_is_linearizable full chosen named =
-        (linearizable_exactly smaller (selected_are_complete (selects values' calls') small
-        (selected_are_complete (selects values calls) operations complete))).1 (none_is_left full chosen named)
+        (linearizable_exactly smaller (some_are_complete (selects values' calls') small
+        (some_are_complete (selects values calls) operations complete))).1 (none_is_left full chosen named)
 
 module _ (operations : List Operation) (complete : AreComplete operations) (full : FullViolation) (chosen : IsChosenFullViolation operations full)
     (values calls : ℕ → Bool) (named : SelectsLines (lines_of full) values calls) where
@@ -232,7 +233,7 @@ module _ (operations : List Operation) (complete : AreComplete operations) (full
   pub selection_is_minimal : AreMinimal (filter (selects values calls) operations)
   selection_is_minimal = (
     λ linear. violation_excludes_order (filter (selects values calls) operations) full
-        (selected_are_complete (selects values calls) operations complete) stays_violation linear,
+        (some_are_complete (selects values calls) operations complete) stays_violation linear,
     λ values' calls' differs. elim (all_or_one (selects values' calls') (filter (selects values calls) operations)) [
       | inl all ↦ absurd (differs all)
       | inr one ↦ smaller_is_linearizable operations complete values calls values' calls' one.0 one.1 one.2 full chosen named

@@ -1,15 +1,14 @@
 -- What the lines of a violation name, and what a selection by them holds.
-use Rattle.verdicts.proofs.Common.{AllByRecursion, [], ◌↔◌, ◌∙◌, ◌∷◌, ◌≡◌, ◌⊎◌, ap, Bool, Contains, filter, filter_map, flat_map, inl}
-use Rattle.verdicts.proofs.Common.{inr, IsTrue, List, map, MatchOption, None, Option, option_map_or, option_to_list}
-use Rattle.verdicts.proofs.Common.{refl, Some, subst, sym, true, ℕ, AreComplete, contains_cons, Deq, dequeue_of, Did}
-use Rattle.verdicts.proofs.Common.{Enq, enqueue_of, fresh, FullViolation, IsChosenFullViolation, IsFreshViolation}
-use Rattle.verdicts.proofs.Common.{IsLife, IsOrderViolation, IsRepeatViolation, IsViolationOf, keeps, kept, Life}
-use Rattle.verdicts.proofs.Common.{lines_of, mapped_from, mapped_to, NoneDid, Not, Operation}
-use Rattle.verdicts.proofs.Common.{operations_of_life, OpKind, order, passed_filter, Precedes, repeat, same_call}
-use Rattle.verdicts.proofs.Common.{selects, value_of, witness}
+use Rattle.verdicts.proofs.Common.{[], AllByRecursion, ap, AreComplete, Bool, Contains, contains_cons, CoversFrom, Deq}
+use Rattle.verdicts.proofs.Common.{dequeue_of, Did, Enq, enqueue_of, filter, filter_map, flat_map, fresh}
+use Rattle.verdicts.proofs.Common.{FullViolation, inl, inr, IsFreshViolation, IsLife, IsOrderViolation}
+use Rattle.verdicts.proofs.Common.{IsRepeatViolation, IsTrue, IsViolationOf, keeps, kept, Life, lines_of, List, map}
+use Rattle.verdicts.proofs.Common.{mapped_from, mapped_to, MatchOption, None, NoneDid, Not, not_in_none, Operation}
+use Rattle.verdicts.proofs.Common.{operations_of_life, OpKind, Option, option_map_or, option_to_list, order}
+use Rattle.verdicts.proofs.Common.{passed_filter, Precedes, refl, repeat, same_call, selects, Some, subst, sym, true}
+use Rattle.verdicts.proofs.Common.{value_of, witness, ℕ, ◌↔◌, ◌∙◌, ◌∷◌, ◌≡◌, ◌⊎◌}
 use Rattle.std.proofs.lemmas.List.Elements.{All-contains, All-from_recursion}
 use Rattle.linearizer.proofs.NoneTwice.{from_flat_map}
-use Rattle.verdicts.proofs.CoverGaps.{chosen_are_lives}
 
 -- the values are those of the lines, and the calls are the lines' calls
 pub record SelectsLines (lines : List Operation) (values calls : ℕ → Bool) : Type 0 where
@@ -29,7 +28,7 @@ pub op_of : (operations : List Operation) (o : Operation) (kind : OpKind) (v : �
 op_of operations o kind v did is = (did.0, ap value_of did.1 ∙ is)
 
 -- what holds of the operations of a list, one after another, holds of each
-each_of : (P : Operation → Type 0) (xs : List Operation) → AllByRecursion P xs → (o : Operation) → Contains xs o → P o
+pub each_of : (P : Operation → Type 0) (xs : List Operation) → AllByRecursion P xs → (o : Operation) → Contains xs o → P o
 each_of P xs all o among = All-contains P xs o (All-from_recursion P xs all) among
 
 -- the lines of a fresh-value violation are of its value
@@ -105,18 +104,36 @@ cover_lines operations cover lives o at =
     let is = lives found.0 found.1 in
     record { life = found.0; among = found.1; is_life = is; is_of = life_lines operations found.0 is o found.2 }
 
--- the lines of a chosen violation are operations
-pub lines_are_operations : (operations : List Operation) (full : FullViolation) → IsViolationOf operations full → IsChosenFullViolation operations full
-    → (o : Operation) → Contains (lines_of full) o → Contains operations o
-lines_are_operations operations (fresh deq enq) is chosen o at = ((fresh_lines operations deq enq is).1 o at).0
-lines_are_operations operations (repeat enq first second) is chosen o at = (repeat_lines operations enq first second is o at).0
-lines_are_operations operations (order enq_a enq_b deq_b deq_a) is chosen o at =
+goes_on : (d : Option Operation) (P : Operation → Type 0) → MatchOption d ⊥ P → (x : Operation) × P x
+goes_on None P further = absurd further
+goes_on (Some d) P further = (d, further)
+
+-- the values of a cover are lives
+pub covered_lives : (operations : List Operation) (empty before : Operation) (cover : List Life) → CoversFrom operations empty before cover
+    → (life : Life) → Contains cover life → IsLife operations life
+covered_lives operations empty before [] covers life among = absurd covers
+covered_lives operations empty before (x ∷ []) covers life among = elim (contains_cons x [] life among) [
+  | inl same ↦ subst (IsLife operations) same covers.0
+  | inr later ↦ absurd (not_in_none life later)
+]
+covered_lives operations empty before (x ∷ next ∷ rest) covers life among = elim (contains_cons x (next ∷ rest) life among) [
+  | inl same ↦ subst (IsLife operations) same covers.0
+  | inr later ↦
+      let d = goes_on (dequeue_of x) (λ d. CoversFrom operations empty d (next ∷ rest)) covers.2 in
+      covered_lives operations empty d.0 (next ∷ rest) d.1 life later
+]
+
+-- the lines of a violation are operations
+pub lines_are_operations : (operations : List Operation) (full : FullViolation) → IsViolationOf operations full → (o : Operation)
+    → Contains (lines_of full) o → Contains operations o
+lines_are_operations operations (fresh deq enq) is o at = ((fresh_lines operations deq enq is).1 o at).0
+lines_are_operations operations (repeat enq first second) is o at = (repeat_lines operations enq first second is o at).0
+lines_are_operations operations (order enq_a enq_b deq_b deq_a) is o at =
     elim (order_lines operations enq_a enq_b deq_b deq_a is o at) [ inl of_a ↦ of_a.0 | inr of_b ↦ of_b.0 ]
-lines_are_operations operations (witness empty cover) is chosen o at =
+lines_are_operations operations (witness empty cover) is o at =
     elim (contains_cons empty (flat_map operations_of_life cover) o at) [
       | inl same ↦ subst (Contains operations) same is.answers_empty.0
-      | inr later ↦ (cover_lines operations cover (λ life among. chosen_are_lives operations empty cover empty.call life chosen.3.cover_is_chosen
-          among) o later).is_of.0
+      | inr later ↦ (cover_lines operations cover (covered_lives operations empty empty cover is.covers) o later).is_of.0
     ]
 
 -- whether an operation of a value is selected depends on the value alone

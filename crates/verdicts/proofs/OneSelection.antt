@@ -1,23 +1,24 @@
 -- Two minimal selections that keep one violation, the chosen one of both, are one.
-use Rattle.verdicts.proofs.Common.{[], ◌*◌, ◌∙◌, ◌≡◌, ◌≢◌, ◌⊎◌, ap, Bool, cases_lt, Contains, Contains-append_cases}
-use Rattle.verdicts.proofs.Common.{false, filter, inl, inr, length, List, map, refl, subst, sym, true, ℕ, AreComplete}
-use Rattle.verdicts.proofs.Common.{AreLinearizable, ClaimLine, Contents, contents_of, timeline, timeline_of_history}
-use Rattle.verdicts.proofs.Common.{FullViolation, HistoryView, IsLinearizable, IsMinimal, IsViolationOf}
-use Rattle.verdicts.proofs.Common.{KeepsViolation, linearizable_from_exactly, lines_of, lines_of_history, mapped_from}
-use Rattle.verdicts.proofs.Common.{mapped_to, Operation, operations_of, passed_filter, select, selects, StaysChosen}
-use Rattle.verdicts.proofs.Common.{Violation, violation_lines, violation_places, ViolationKind}
+use Rattle.verdicts.proofs.Common.{[], ap, AreComplete, AreLinearizable, arith, Bool, cases_lt, ClaimLine, Contains}
+use Rattle.verdicts.proofs.Common.{Contains-append_cases, Contents, contents_of, false, filter, FullViolation}
+use Rattle.verdicts.proofs.Common.{HistoryView, inl, inr, IsLinearizable, IsMinimal, IsViolationOf}
+use Rattle.verdicts.proofs.Common.{KeepsViolation, linearizable_from_exactly, lines_of, lines_of_history, List}
+use Rattle.verdicts.proofs.Common.{map, mapped_from, mapped_to, Operation, operations_of, ORIGIN, passed_filter, refl}
+use Rattle.verdicts.proofs.Common.{select, selects, some_are_complete, StaysChosen, subst, sym, timeline}
+use Rattle.verdicts.proofs.Common.{timeline_of_history, true, Violation, violation_lines, violation_places}
+use Rattle.verdicts.proofs.Common.{ViolationKind, ℕ, ◌∙◌, ◌≡◌, ◌≢◌, ◌⊎◌}
 use Rattle.verdicts.specs.declared.verifying.ClaimLine.TheVariants.{Op, Initial}
-use Rattle.verdicts.specs.declared.verifying.Claimed.TheVariants as claimed
 use Rattle.verdicts.proofs.Chosen.{chosen_is_violation}
 use Rattle.verdicts.proofs.Exactly.{violation_excludes_order}
-use Rattle.verdicts.proofs.Retiming.{lifted, lifted_rises, linearizable_there}
-use Rattle.verdicts.proofs.ShrunkEvents.{filters_swap, selected_are_complete}
+use Rattle.verdicts.proofs.Retiming.{lifted, lifted_rises, linearizable_there, start, timeline_late}
+use Rattle.verdicts.proofs.ShrunkEvents.{filters_swap, no_longer}
 use Rattle.verdicts.proofs.Minimal.{all_or_one}
 use Rattle.verdicts.proofs.NamedLines.{lines_are_operations}
 use Rattle.verdicts.proofs.NamedPlaces.{each_shown, shown_lines, accepted_value, early_line, late_line, line_of}
 use Rattle.verdicts.proofs.Selections.{violation_in_selected}
 use Rattle.verdicts.proofs.ShrunkHistories.{IsWhole, calls_behind, among_enqueues, timeline_is_whole}
 use Rattle.verdicts.proofs.ShrunkHistories.{selection_timeline}
+use Rattle.verdicts.specs.declared.verifying.Claimed.TheVariants as claimed
 
 -- claims of a `NO` that are one have the same lines
 one_list_of_lines : (k l : ViolationKind) (xs ys : List ClaimLine) → claimed.No k xs ≡ claimed.No l ys → xs ≡ ys
@@ -49,9 +50,6 @@ operation_among initial operations o among = elim (Contains-append_cases (map In
 module _ (whole x : HistoryView) (violation : Violation) (is_x : IsWhole x) (stays : StaysChosen whole violation x) (minimal : IsMinimal (contents_of x))
     (values empties : ℕ → Bool) (kept : (line : ClaimLine) → Contains (violation_lines whole violation) line
     → Contains (lines_of_history (select values empties (contents_of whole)).initial (select values empties (contents_of whole)).operations) line) where
-  abbrev n : ℕ
-  n = 2 * length x.initial
-
   abbrev full : FullViolation
   full = stays.1.0
 
@@ -74,33 +72,34 @@ module _ (whole x : HistoryView) (violation : Violation) (is_x : IsWhole x) (sta
   is_violation : IsViolationOf (timeline_of_history x) full
   is_violation = chosen_is_violation (timeline_of_history x) full complete stays.1.2
 
-  same_lines : violation_lines whole violation ≡ map (line_of n) (lines_of full)
+  same_lines : violation_lines whole violation ≡ map line_of (lines_of full)
   same_lines = sym (one_list_of_lines _ _ (violation_lines x stays.0) (violation_lines whole violation) stays.2)
-      ∙ shown_lines x.initial (operations_of x.events) (violation_places stays.0) (lines_of full)
-      (each_shown x.initial (operations_of x.events) stays.0 full stays.1.1)
+      ∙ shown_lines x.initial (operations_of x.events) is_x.few (violation_places stays.0) (lines_of full)
+      (each_shown x.initial (operations_of x.events) is_x.few stays.0 full stays.1.1)
 
   line_passes : (o : Operation) → Contains (lines_of full) o → passes o ≡ true
-  line_passes o among = elim (cases_lt o.call n) [
+  line_passes o among = elim (cases_lt o.call ORIGIN) [
     | inl early ↦
-        let found = among_enqueues x o (lines_are_operations (timeline_of_history x) full is_violation stays.1.2 o among) early in
-        let line = early_line n o early ∙ ap (λ k. Initial (accepted_value k)) found.1 in
+        let found = among_enqueues x o (lines_are_operations (timeline_of_history x) full is_violation o among) early in
+        let line = early_line o early ∙ ap (λ k. Initial (accepted_value k)) found.1 in
         let passed = passed_filter values whole.initial found.0 (value_among selected.initial selected.operations found.0
         (subst (Contains selected_lines) line here)) in
         ap (λ k. selects values (calls_behind (contents_of x) empties) (record { call = o.call; ret = o.ret; thread = o.thread; kind = k })) found.1 ∙ passed.1
     | inr late ↦ (passed_filter (selects values empties) (operations_of whole.events) _
-        (operation_among selected.initial selected.operations _ (subst (Contains selected_lines) (late_line n o late) here))).1
+        (operation_among selected.initial selected.operations _ (subst (Contains selected_lines) (late_line o late) here))).1
   ]
     where
-      here : Contains selected_lines (line_of n o)
-      here = kept (line_of n o) (subst (λ ls. Contains ls (line_of n o)) (sym same_lines) (mapped_to (line_of n) (lines_of full) o among))
+      here : Contains selected_lines (line_of o)
+      here = kept (line_of o) (subst (λ ls. Contains ls (line_of o)) (sym same_lines) (mapped_to line_of (lines_of full) o among))
 
   not_linearizable : AreLinearizable part → ⊥
   not_linearizable linear =
-      let timeline_linear = (linearizable_from_exactly part.initial part.operations).0 linear in
-      let moved = linearizable_there (lifted values x.initial) (lifted_rises values x.initial) (timeline part.initial part.operations) timeline_linear in
-      violation_excludes_order (filter passes (timeline_of_history x)) full (selected_are_complete passes (timeline_of_history x) complete)
+      let timeline_linear = (linearizable_from_exactly part.initial part.operations (omega (arith, no_longer values x.initial, is_x.few))).0 linear in
+      let moved = linearizable_there (start part.initial) (lifted values x.initial) (lifted_rises values x.initial is_x.few)
+      (timeline part.initial part.operations) (timeline_late part.initial part.operations) timeline_linear in
+      violation_excludes_order (filter passes (timeline_of_history x)) full (some_are_complete passes (timeline_of_history x) complete)
       (violation_in_selected (timeline_of_history x) values (calls_behind (contents_of x) empties) full line_passes is_violation)
-      (subst (IsLinearizable []) (sym (selection_timeline (contents_of x) values empties)) moved)
+      (subst (IsLinearizable []) (sym (selection_timeline (contents_of x) values empties is_x.few)) moved)
 
   none_differs : part ≢ contents_of x → ⊥
   none_differs differs = not_linearizable (minimal.1 part (values, empties, refl) differs)

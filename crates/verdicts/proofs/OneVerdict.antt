@@ -1,21 +1,15 @@
 -- What is found of a history is the only thing that can be found of it.
-use Rattle.verdicts.proofs.Common.{[], ◌*◌, ◌∙◌, ◌∷◌, ◌≡◌, ◌≤◌, AllZip, ap, append_cancel_left, ap₂, arith, filter}
-use Rattle.verdicts.proofs.Common.{length, List, map, None, Option, refl, slice_get, Some, subst, sym, true, ℕ}
-use Rattle.verdicts.proofs.Common.{AreComplete, ArePlacesOf, behind, chosen_order_is_one, CoverStep, dequeue_of, Did}
-use Rattle.verdicts.proofs.Common.{Empty, enqueue_of, Event, timeline, timeline_is_of_complete, clock_of_gap}
-use Rattle.verdicts.proofs.Common.{enqueues_from, fresh, FullViolation, is_empty_answer, IsAt, IsChosenCover}
+use Rattle.verdicts.proofs.Common.{[], AllZip, ap, append_cancel_left, ap₂, AreComplete, ArePlacesOf, arith, behind}
+use Rattle.verdicts.proofs.Common.{chosen_order_is_one, CoverStep, dequeue_of, Did, Empty, enqueue_of, Event, filter}
+use Rattle.verdicts.proofs.Common.{fresh, FullViolation, initial_enqueues, is_empty_answer, IsAt, IsChosenCover}
 use Rattle.verdicts.proofs.Common.{IsChosenViolation, IsClear, IsCompleteFrom, IsCovered, IsGapAnswer, IsLeastFreeGap}
 use Rattle.verdicts.proofs.Common.{IsMaybeOperation, IsOperation, IsSource, IsViolationOf, later_by, later_injective}
-use Rattle.verdicts.proofs.Common.{Life, linearizable_from_exactly, MAX_INITIAL, Names, NamesCover, NamesStep, No}
-use Rattle.verdicts.proofs.Common.{one_at, Operation, operations_of, operations_rise, order, OrderPair, passes_filter}
-use Rattle.verdicts.proofs.Common.{place_of, repeat, Source, Violation, witness, Yes}
-use Rattle.history_merge.proofs.Completeness.{operations_are_complete}
-use Rattle.value_match.specs.declared.matching.Matched.TheVariants as matched
-use Rattle.value_match.specs.declared.violation.Source.TheVariants as source
-use Rattle.value_match.specs.declared.violation.Violation.TheVariants as violation
+use Rattle.verdicts.proofs.Common.{length, Life, linearizable_from_exactly, List, map, MAX_INITIAL, Names, NamesCover}
+use Rattle.verdicts.proofs.Common.{NamesStep, No, None, one_at, Operation, operations_are_complete, operations_of}
+use Rattle.verdicts.proofs.Common.{operations_rise, Option, order, OrderPair, ORIGIN, passes_filter, place_of, refl}
+use Rattle.verdicts.proofs.Common.{repeat, slice_get, Some, Source, subst, sym, time_of, timeline}
+use Rattle.verdicts.proofs.Common.{timeline_is_complete, true, Violation, witness, Yes, ℕ, ◌∙◌, ◌∷◌, ◌≡◌, ◌≤◌}
 use Rattle.empty_witness.specs.declared.answer.GapAnswer.{GapAnswer}
-use Rattle.empty_witness.specs.declared.answer.GapAnswer.TheVariants as gap
-use Rattle.empty_witness.specs.declared.answer.WitnessAnswer.TheVariants as found
 use Rattle.linearizer.proofs.Positions.{beside}
 use Rattle.verdicts.specs.Laws.{VerdictIsOne, MatchedIsOne, PairIsOne, GapIsOne, WitnessIsOne}
 use Rattle.verdicts.proofs.Chosen.{one_chosen_violation, one_order, one_cover, one_witness}
@@ -23,6 +17,11 @@ use Rattle.verdicts.proofs.SameLists.{one_beside}
 use Rattle.linearizer.proofs.Keys.{one_place as one_place_of_key}
 use Rattle.std.proofs.lemmas.List.Sorted.{IsPermutation-refl}
 use Rattle.verdicts.proofs.Exactly.{violation_excludes_order}
+use Rattle.value_match.specs.declared.matching.Matched.TheVariants as matched
+use Rattle.value_match.specs.declared.violation.Source.TheVariants as source
+use Rattle.value_match.specs.declared.violation.Violation.TheVariants as violation
+use Rattle.empty_witness.specs.declared.answer.GapAnswer.TheVariants as gap
+use Rattle.empty_witness.specs.declared.answer.WitnessAnswer.TheVariants as found
 
 -- an operation stands at one place
 one_place_at : (operations : List Operation) (p q : ℕ) (o : Operation) → AreComplete operations → IsAt operations p o → IsAt operations q o → p ≡ q
@@ -106,23 +105,22 @@ module _ (initial : List ℕ) (operations : List Operation) (complete : AreCompl
 pub chosen_violation_is_one : (initial : List ℕ) (events : List Event) (x y : Violation) → IsCompleteFrom initial events → length initial ≤ MAX_INITIAL
     → IsChosenViolation initial (operations_of events) x → IsChosenViolation initial (operations_of events) y → x ≡ y
 chosen_violation_is_one initial events x y complete few chosen_x chosen_y =
-    let all_complete = timeline_is_of_complete initial events complete few in
+    let all_complete = timeline_is_complete initial events complete few in
     one_violation initial (operations_of events) all_complete x y chosen_x.0 chosen_y.0
     (one_chosen_violation (timeline initial (operations_of events)) chosen_x.0 chosen_y.0 all_complete chosen_x.2 chosen_y.2) chosen_x.1 chosen_y.1
 
 -- what stands behind the same enqueues is the same
 one_behind : (initial : List ℕ) (xs ys : List Operation) → timeline initial xs ≡ timeline initial ys → xs ≡ ys
 one_behind initial xs ys same =
-    let n = 2 * length initial in
-    later_injective n xs ys (append_cancel_left (enqueues_from 0 initial) (map (later_by n) xs) (map (later_by n) ys) same)
+    later_injective ORIGIN xs ys (append_cancel_left (initial_enqueues initial) (map (later_by ORIGIN) xs) (map (later_by ORIGIN) ys) same)
 
 -- a history has one verdict
 pub verdict_is_one : VerdictIsOne
 verdict_is_one initial events (Yes ps) (Yes qs) complete few x exact_x y exact_y =
     let operations = operations_of events in
     let all = timeline initial operations in
-    let all_complete = timeline_is_of_complete initial events complete few in
-    let linear = (linearizable_from_exactly initial operations).0 exact_x in
+    let all_complete = timeline_is_complete initial events complete few in
+    let linear = (linearizable_from_exactly initial operations few).0 exact_x in
     let none = λ (b : FullViolation) (violates : IsViolationOf all b). violation_excludes_order all b all_complete violates linear in
     let clear : IsClear all = record {
       complete = all_complete;
@@ -189,9 +187,9 @@ one_least_gap operations o c d x y = let le = x.least d y.in_window y.is_free in
 free_or_covered : (operations : List Operation) (o : Operation) (c : ℕ) → IsLeastFreeGap operations o c → IsCovered operations o → ⊥
 free_or_covered operations o c free covered = let stays = covered c free.in_window in free.is_free stays.0 stays.1 stays.2
 
--- gaps that are one by the clocks are one
-gap_told : (k c d : ℕ) → clock_of_gap k c ≡ clock_of_gap k d → c ≡ d
-gap_told k c d same = omega (arith, same)
+-- gaps at one time are one
+gap_told : (c d : ℕ) → time_of c ≡ time_of d → c ≡ d
+gap_told c d same = omega (arith, same)
 
 -- one gap is found
 pub gap_is_one : GapIsOne
@@ -206,27 +204,27 @@ gap_is_one initial operations place = one
     one : (x y : GapAnswer) → IsClear all → IsGapAnswer initial operations place x → IsGapAnswer initial operations place y → x ≡ y
     one (gap.Free c) (gap.Free d) clear x y =
         let same = one_at all (behind k place) x.0 y.0 x.1 y.1 in
-        let gaps = one_least_gap all y.0 (clock_of_gap k c) (clock_of_gap k d) (subst (λ o. IsLeastFreeGap all o (clock_of_gap k c)) same x.2) y.2 in
-        ap (λ c. gap.Free c) (gap_told k c d gaps)
+        let gaps = one_least_gap all y.0 (time_of c) (time_of d) (subst (λ o. IsLeastFreeGap all o (time_of c)) same x.2) y.2 in
+        ap (λ c. gap.Free c) (gap_told c d gaps)
     one (gap.Free c) (gap.Covered cover) clear x y =
         let same = one_at all (behind k place) x.0 y.0 x.1 y.2 in
-        absurd (free_or_covered all y.0 (clock_of_gap k c) (subst (λ o. IsLeastFreeGap all o (clock_of_gap k c)) same x.2) y.4)
+        absurd (free_or_covered all y.0 (time_of c) (subst (λ o. IsLeastFreeGap all o (time_of c)) same x.2) y.4)
     one (gap.Covered cover) (gap.Free c) clear x y =
         let same = one_at all (behind k place) y.0 x.0 y.1 x.2 in
-        absurd (free_or_covered all x.0 (clock_of_gap k c) (subst (λ o. IsLeastFreeGap all o (clock_of_gap k c)) same y.2) x.4)
+        absurd (free_or_covered all x.0 (time_of c) (subst (λ o. IsLeastFreeGap all o (time_of c)) same y.2) x.4)
     one (gap.Covered steps) (gap.Covered steps') clear x y =
         let same = one_at all (behind k place) x.0 y.0 x.2 y.2 in
         let lives = one_cover all y.0 y.0.call x.1 y.1 clear (subst (λ o. IsChosenCover all o x.1) same x.5) y.5 in
         ap (λ steps. gap.Covered steps) (one_named_cover initial operations clear.complete y.1 steps steps'
         (subst (NamesCover initial operations steps) lives x.3) y.3)
 
-gaps_told : (k : ℕ) (cs ds : List ℕ) → map (clock_of_gap k) cs ≡ map (clock_of_gap k) ds → cs ≡ ds
-gaps_told k [] [] same = refl
-gaps_told k (c ∷ cs) (d ∷ ds) same =
-    let first : clock_of_gap k c ≡ clock_of_gap k d = cc in
-    let rest : map (clock_of_gap k) cs ≡ map (clock_of_gap k) ds = cc in
-    ap₂ (λ (n : ℕ) (ns : List ℕ). n ∷ ns) (gap_told k c d first) (gaps_told k cs ds rest)
-gaps_told k _ _ same = cc
+gaps_told : (cs ds : List ℕ) → map time_of cs ≡ map time_of ds → cs ≡ ds
+gaps_told [] [] same = refl
+gaps_told (c ∷ cs) (d ∷ ds) same =
+    let first : time_of c ≡ time_of d = cc in
+    let rest : map time_of cs ≡ map time_of ds = cc in
+    ap₂ (λ (n : ℕ) (ns : List ℕ). n ∷ ns) (gap_told c d first) (gaps_told cs ds rest)
+gaps_told _ _ same = cc
 
 -- where each empty answer has a free gap, none is covered
 none_covered : (operations : List Operation) (gaps : List ℕ) (o : Operation)
@@ -240,15 +238,14 @@ none_covered operations gaps o each did covered =
 -- one answer of the search for covered windows is found
 pub witness_is_one : WitnessIsOne
 witness_is_one initial operations (found.Gaps cs) (found.Gaps ds) clear x y =
-    let k = length initial in
     let all = timeline initial operations in
-    let clocks = one_beside (λ o c. IsLeastFreeGap all o c) (one_least_gap all) (filter is_empty_answer all) (map (clock_of_gap k) cs)
-    (map (clock_of_gap k) ds) x y in
-    ap (λ gaps. found.Gaps gaps) (gaps_told k cs ds clocks)
+    let times = one_beside (λ o c. IsLeastFreeGap all o c) (one_least_gap all) (filter is_empty_answer all) (map time_of cs)
+    (map time_of ds) x y in
+    ap (λ gaps. found.Gaps gaps) (gaps_told cs ds times)
 witness_is_one initial operations (found.Gaps cs) (found.Covered place cover) clear x y =
-    absurd (none_covered (timeline initial operations) (map (clock_of_gap (length initial)) cs) y.0 x y.4.answers_empty y.4.is_covered)
+    absurd (none_covered (timeline initial operations) (map time_of cs) y.0 x y.4.answers_empty y.4.is_covered)
 witness_is_one initial operations (found.Covered place cover) (found.Gaps cs) clear x y =
-    absurd (none_covered (timeline initial operations) (map (clock_of_gap (length initial)) cs) x.0 y x.4.answers_empty x.4.is_covered)
+    absurd (none_covered (timeline initial operations) (map time_of cs) x.0 y x.4.answers_empty x.4.is_covered)
 witness_is_one initial operations (found.Covered p steps) (found.Covered q steps') clear x y =
     let b : FullViolation = witness x.0 x.1 in
     let c : FullViolation = witness y.0 y.1 in

@@ -1,22 +1,22 @@
 -- What violates among some operations violates among others, where each did the same and the order of clocks is kept. So violations of a
 -- selection are violations of the whole, those that are selected stay, and what is chosen in the whole stays chosen in the selection by
 -- its lines.
-use Rattle.verdicts.proofs.Common.{[], ◌<◌, ◌∷◌, ◌≡◌, ap, arith, Contains, Contains-append_left, Contains-append_right}
-use Rattle.verdicts.proofs.Common.{flat_map, inl, inr, List, map, mapped_from, MatchOption, None, one_deeper}
-use Rattle.verdicts.proofs.Common.{operations_of_life, Option, option_map, option_to_list, refl, Some, subst, suc, sym}
-use Rattle.verdicts.proofs.Common.{zero, ℕ, CoversFrom, Deq, dequeue_of, Did, Empty, Enq, enqueue_of, fresh}
-use Rattle.verdicts.proofs.Common.{FullViolation, IsLife, IsViolationOf, Life, lines_of, NoneDid, Not, Operation}
-use Rattle.verdicts.proofs.Common.{OpKind, order, Precedes, repeat, value_of, witness, ⊤, ◌∙◌, Bool, filter}
-use Rattle.verdicts.proofs.Common.{option_map_or, true, passed_filter, passes_filter, selects, IsWitnessViolation}
-use Rattle.verdicts.proofs.Common.{length, nat_lt, AreComplete, behind, chosen_cover_is_shortest, dequeue_call}
-use Rattle.verdicts.proofs.Common.{timeline, IsChosenCoverFrom, IsChosenFullViolation, IsChosenViolation, IsClear}
-use Rattle.verdicts.proofs.Common.{IsCovered, IsShortestCover, Names, NamesStep, one_at, Violation, violation_covers}
+use Rattle.verdicts.proofs.Common.{[], AllByRecursion, ap, AreComplete, arith, behind, Bool, chosen_cover_is_shortest}
+use Rattle.verdicts.proofs.Common.{Contains, Contains-append_left, Contains-append_right, CoversFrom, Deq}
+use Rattle.verdicts.proofs.Common.{dequeue_call, dequeue_of, Did, Empty, Enq, enqueue_of, filter, flat_map, fresh}
+use Rattle.verdicts.proofs.Common.{FullViolation, inl, inr, IsChosenCoverFrom, IsChosenFullViolation}
+use Rattle.verdicts.proofs.Common.{IsChosenViolation, IsClear, IsCovered, IsLife, IsShortestCover, IsViolationOf}
+use Rattle.verdicts.proofs.Common.{IsWitnessViolation, length, Life, lines_of, List, map, mapped_from, MatchOption}
+use Rattle.verdicts.proofs.Common.{Names, NamesStep, nat_lt, None, NoneDid, Not, one_at, one_deeper, Operation}
+use Rattle.verdicts.proofs.Common.{operations_of_life, OpKind, Option, option_map, option_map_or, option_to_list}
+use Rattle.verdicts.proofs.Common.{order, passed_filter, passes_filter, Precedes, refl, repeat, selects, Some}
+use Rattle.verdicts.proofs.Common.{some_are_complete, subst, suc, sym, timeline, true, value_of, Violation}
+use Rattle.verdicts.proofs.Common.{violation_covers, witness, zero, ℕ, ⊤, ◌++◌, ◌<◌, ◌∙◌, ◌∷◌, ◌≡◌}
 use Rattle.linearizer.proofs.NoneTwice.{into_flat_map}
 use Rattle.std.proofs.lemmas.Slice.Zip.{AllZip-long}
-use Rattle.value_match.specs.declared.violation.Violation.TheVariants as violation
 use Rattle.verdicts.proofs.CoverGaps.{chosen_are_lives, match_then}
-use Rattle.verdicts.proofs.ShrunkEvents.{selected_are_complete}
 use Rattle.verdicts.proofs.NamedLines.{SelectsLines, lines_are_selected}
+use Rattle.value_match.specs.declared.violation.Violation.TheVariants as violation
 
 -- the operations of a life, each by its image
 abbrev pub mapped_life : (Operation → Operation) → Life → Life
@@ -59,45 +59,57 @@ module _ (f : Operation → Operation) (xs : List Operation) where
   abbrev AreImages : List Operation → Type 0
   AreImages listed = (o : Operation) → Contains listed o → Contains (map f xs) o
 
-  maybe_from : (d : Option Operation) → AreImages (option_to_list d) → (x : Option Operation) × (option_map f x ≡ d)
-  maybe_from None are = (None, refl)
-  maybe_from (Some d) are = let found = mapped_from f xs d (are d (zero, omega arith, refl)) in (Some found.0, ap (λ o. Some o) found.2)
+  -- these are among those that have images
+  abbrev pub AreAmong : List Operation → Type 0
+  AreAmong listed = AllByRecursion (Contains xs) listed
+
+  maybe_from : (d : Option Operation) → AreImages (option_to_list d)
+      → (x : Option Operation) × (option_map f x ≡ d) × AreAmong (option_to_list x)
+  maybe_from None are = (None, refl, tt)
+  maybe_from (Some d) are = let found = mapped_from f xs d (are d (zero, omega arith, refl)) in (Some found.0, ap (λ o. Some o) found.2, (found.1, tt))
 
   -- a life of images is the image of one
-  pub life_from : (life : Life) → AreImages (operations_of_life life) → (x : Life) × (mapped_life f x ≡ life)
+  pub life_from : (life : Life) → AreImages (operations_of_life life)
+      → (x : Life) × (mapped_life f x ≡ life) × AreAmong (operations_of_life x)
   life_from life are =
       let enqueue = mapped_from f xs (enqueue_of life) (are (enqueue_of life) (zero, omega arith, refl)) in
       let dequeue = maybe_from (dequeue_of life) (λ o at. are o (one_deeper (enqueue_of life) (option_to_list (dequeue_of life)) o at)) in
-      (record { enqueue = enqueue.0; dequeue = dequeue.0 }, λ i. record { enqueue = enqueue.2 i; dequeue = dequeue.1 i })
+      (record { enqueue = enqueue.0; dequeue = dequeue.0 }, λ i. record { enqueue = enqueue.2 i; dequeue = dequeue.1 i }, (enqueue.1, dequeue.2))
 
-  cover_from : (cover : List Life) → AreImages (flat_map operations_of_life cover) → (lives : List Life) × (map (mapped_life f) lives ≡ cover)
-  cover_from [] are = ([], refl)
+  cover_from : (cover : List Life) → AreImages (flat_map operations_of_life cover)
+      → (lives : List Life) × (map (mapped_life f) lives ≡ cover) × AreAmong (flat_map operations_of_life lives)
+  cover_from [] are = ([], refl, tt)
   cover_from (life ∷ cover) are =
       let first = life_from life (λ o at. are o (Contains-append_left (operations_of_life life) (flat_map operations_of_life cover) o at)) in
       let rest = cover_from cover (λ o at. are o (Contains-append_right (operations_of_life life) (flat_map operations_of_life cover) o at)) in
-      (first.0 ∷ rest.0, λ i. first.1 i ∷ rest.1 i)
+      (first.0 ∷ rest.0, λ i. first.1 i ∷ rest.1 i, joined (operations_of_life first.0) (flat_map operations_of_life rest.0) first.2 rest.2)
+    where
+      joined : (us vs : List Operation) → AreAmong us → AreAmong vs → AreAmong (us ++ vs)
+      joined [] vs in_us in_vs = in_vs
+      joined (u ∷ us) vs in_us in_vs = (in_us.0, joined us vs in_us.1 in_vs)
 
   -- a violation whose lines are images is the image of one
-  pub violation_from : (full : FullViolation) → AreImages (lines_of full) → (x : FullViolation) × (mapped_violation f x ≡ full)
+  pub violation_from : (full : FullViolation) → AreImages (lines_of full)
+      → (x : FullViolation) × (mapped_violation f x ≡ full) × AreAmong (lines_of x)
   violation_from (fresh deq enq) are =
       let d = mapped_from f xs deq (are deq (zero, omega arith, refl)) in
       let e = maybe_from enq (λ o at. are o (one_deeper deq (option_to_list enq) o at)) in
-      (fresh d.0 e.0, λ i. fresh (d.2 i) (e.1 i))
+      (fresh d.0 e.0, λ i. fresh (d.2 i) (e.1 i), (d.1, e.2))
   violation_from (repeat enq first second) are =
       let e = mapped_from f xs enq (are enq (zero, omega arith, refl)) in
       let d = mapped_from f xs first (are first (1, omega arith, refl)) in
       let s = mapped_from f xs second (are second (2, omega arith, refl)) in
-      (repeat e.0 d.0 s.0, λ i. repeat (e.2 i) (d.2 i) (s.2 i))
+      (repeat e.0 d.0 s.0, λ i. repeat (e.2 i) (d.2 i) (s.2 i), (e.1, (d.1, (s.1, tt))))
   violation_from (order enq_a enq_b deq_b deq_a) are =
       let a = mapped_from f xs enq_a (are enq_a (zero, omega arith, refl)) in
       let b = mapped_from f xs enq_b (are enq_b (1, omega arith, refl)) in
       let d = mapped_from f xs deq_b (are deq_b (2, omega arith, refl)) in
       let e = maybe_from deq_a (λ o at. are o (suc (suc (suc at.0)), omega (arith, at.1), at.2)) in
-      (order a.0 b.0 d.0 e.0, λ i. order (a.2 i) (b.2 i) (d.2 i) (e.1 i))
+      (order a.0 b.0 d.0 e.0, λ i. order (a.2 i) (b.2 i) (d.2 i) (e.1 i), (a.1, (b.1, (d.1, e.2))))
   violation_from (witness empty cover) are =
       let o = mapped_from f xs empty (are empty (zero, omega arith, refl)) in
       let lives = cover_from cover (λ x at. are x (one_deeper empty (flat_map operations_of_life cover) x at)) in
-      (witness o.0 lives.0, λ i. witness (o.2 i) (lives.1 i))
+      (witness o.0 lives.0, λ i. witness (o.2 i) (lives.1 i), (o.1, lives.2))
 
 -- ---- what is carried
 
@@ -112,8 +124,8 @@ module _ (from to : List Operation) (f g : Operation → Operation) (IsTaken : O
     (did : (o : Operation) (kind : OpKind) → IsTaken o → Did from (f o) kind → Did to (g o) kind)
     (none_did : (o : Operation) (v : ℕ) (own kind : OpKind) → Did from o own → value_of own ≡ Some v → value_of kind ≡ Some v → NoneDid from kind
     → NoneDid to kind)
-    (precedes : (x y : Operation) → Precedes (f x) (f y) → Precedes (g x) (g y))
-    (in_turn : (x y : Operation) → (f x).ret < (f y).ret → (g x).ret < (g y).ret) where
+    (precedes : (x y : Operation) → IsTaken x → IsTaken y → Precedes (f x) (f y) → Precedes (g x) (g y))
+    (in_turn : (x y : Operation) → IsTaken x → IsTaken y → (f x).ret < (f y).ret → (g x).ret < (g y).ret) where
   -- all of these are taken
   abbrev AreTaken : List Operation → Type 0
   AreTaken listed = (o : Operation) → Contains listed o → IsTaken o
@@ -127,20 +139,25 @@ module _ (from to : List Operation) (f g : Operation → Operation) (IsTaken : O
         (λ d at. did d (Deq is.0) (taken d (one_deeper (enqueue_of life) (option_to_list (dequeue_of life)) d at))),
   )
 
-  cover_carried : (empty before : Operation) (cover : List Life) → AreTaken (flat_map operations_of_life cover)
+  cover_carried : (empty before : Operation) (cover : List Life) → IsTaken empty → IsTaken before → AreTaken (flat_map operations_of_life cover)
       → CoversFrom from (f empty) (f before) (map (mapped_life f) cover) → CoversFrom to (g empty) (g before) (map (mapped_life g) cover)
-  cover_carried empty before [] taken covers = covers
-  cover_carried empty before (life ∷ []) taken covers = (
-    life_carried life (λ o at. taken o (Contains-append_left (operations_of_life life) [] o at)) covers.0,
-    precedes (enqueue_of life) before covers.1,
-    mapped_then _ _ f g (dequeue_of life) covers.2 (λ none. none) (λ d at. precedes empty d),
-  )
-  cover_carried empty before (life ∷ next ∷ rest) taken covers = (
-    life_carried life (λ o at. taken o (Contains-append_left (operations_of_life life) (flat_map operations_of_life (next ∷ rest)) o at)) covers.0,
-    precedes (enqueue_of life) before covers.1,
-    mapped_then _ _ f g (dequeue_of life) covers.2 (λ none. none) (λ d at. cover_carried empty d (next ∷ rest)
-        (λ o later. taken o (Contains-append_right (operations_of_life life) (flat_map operations_of_life (next ∷ rest)) o later))),
-  )
+  cover_carried empty before [] is_empty is_before taken covers = covers
+  cover_carried empty before (life ∷ []) is_empty is_before taken covers =
+      let own : AreTaken (operations_of_life life) = λ o at. taken o (Contains-append_left (operations_of_life life) [] o at) in (
+        life_carried life own covers.0,
+        precedes (enqueue_of life) before (own (enqueue_of life) (zero, omega arith, refl)) is_before covers.1,
+        mapped_then _ _ f g (dequeue_of life) covers.2 (λ none. none)
+            (λ d at. precedes empty d is_empty (own d (one_deeper (enqueue_of life) (option_to_list (dequeue_of life)) d at))),
+      )
+  cover_carried empty before (life ∷ next ∷ rest) is_empty is_before taken covers =
+      let own : AreTaken (operations_of_life life) = λ o at. taken o
+      (Contains-append_left (operations_of_life life) (flat_map operations_of_life (next ∷ rest)) o at) in (
+        life_carried life own covers.0,
+        precedes (enqueue_of life) before (own (enqueue_of life) (zero, omega arith, refl)) is_before covers.1,
+        mapped_then _ _ f g (dequeue_of life) covers.2 (λ none. none) (λ d at. cover_carried empty d (next ∷ rest) is_empty
+            (own d (one_deeper (enqueue_of life) (option_to_list (dequeue_of life)) d at))
+            (λ o later. taken o (Contains-append_right (operations_of_life life) (flat_map operations_of_life (next ∷ rest)) o later))),
+      )
 
   -- a violation is one there
   pub violation_carried : (full : FullViolation) → AreTaken (lines_of full) → IsViolationOf from (mapped_violation f full)
@@ -153,12 +170,13 @@ module _ (from to : List Operation) (f g : Operation → Operation) (IsTaken : O
         not_refused = none_did (f deq) never.value (Deq never.value) (Not never.value) never.dequeues refl refl never.not_refused;
       })
       (λ e at late.
-      let taken_e = taken e (one_deeper deq (option_to_list enq) e at) in record {
+      let taken_e = taken e (one_deeper deq (option_to_list enq) e at) in
+      let taken_deq = taken deq (zero, omega arith, refl) in record {
         value = late.value;
-        dequeues = did deq (Deq late.value) (taken deq (zero, omega arith, refl)) late.dequeues;
+        dequeues = did deq (Deq late.value) taken_deq late.dequeues;
         enqueues = elim late.enqueues [
           | inl refused ↦ inl (did e (Not late.value) taken_e refused)
-          | inr accepted ↦ inr (did e (Enq late.value) taken_e accepted.0, precedes deq e accepted.1)
+          | inr accepted ↦ inr (did e (Enq late.value) taken_e accepted.0, precedes deq e taken_deq taken_e accepted.1)
         ];
       })
   violation_carried (repeat enq first second) taken is = record {
@@ -166,7 +184,7 @@ module _ (from to : List Operation) (f g : Operation → Operation) (IsTaken : O
     enqueues = did enq (Enq is.value) (taken enq (zero, omega arith, refl)) is.enqueues;
     dequeues = did first (Deq is.value) (taken first (1, omega arith, refl)) is.dequeues;
     dequeues_again = did second (Deq is.value) (taken second (2, omega arith, refl)) is.dequeues_again;
-    in_order = in_turn first second is.in_order;
+    in_order = in_turn first second (taken first (1, omega arith, refl)) (taken second (2, omega arith, refl)) is.in_order;
   }
   violation_carried (order enq_a enq_b deq_b deq_a) taken is = record {
     a = is.a;
@@ -174,13 +192,15 @@ module _ (from to : List Operation) (f g : Operation → Operation) (IsTaken : O
     b = is.b;
     enqueues_b = did enq_b (Enq is.b) (taken enq_b (1, omega arith, refl)) is.enqueues_b;
     dequeues_b = did deq_b (Deq is.b) (taken deq_b (2, omega arith, refl)) is.dequeues_b;
-    enqueued_first = precedes enq_a enq_b is.enqueued_first;
+    enqueued_first = precedes enq_a enq_b (taken enq_a (zero, omega arith, refl)) (taken enq_b (1, omega arith, refl)) is.enqueued_first;
     dequeued_later = mapped_then _ _ f g deq_a is.dequeued_later (none_did (f enq_a) is.a (Enq is.a) (Deq is.a) is.enqueues_a refl refl)
-        (λ d at later. (did d (Deq is.a) (taken d (suc (suc (suc at.0)), omega (arith, at.1), at.2)) later.0, precedes deq_b d later.1));
+        (λ d at later.
+        let taken_d = taken d (suc (suc (suc at.0)), omega (arith, at.1), at.2) in
+        (did d (Deq is.a) taken_d later.0, precedes deq_b d (taken deq_b (2, omega arith, refl)) taken_d later.1));
   }
   violation_carried (witness empty cover) taken is = record {
     answers_empty = did empty Empty (taken empty (zero, omega arith, refl)) is.answers_empty;
-    covers = cover_carried empty empty cover (λ o at. taken o (one_deeper empty (flat_map operations_of_life cover) o at)) is.covers;
+    covers = cover_carried empty empty cover (taken empty (zero, omega arith, refl)) (taken empty (zero, omega arith, refl)) (λ o at. taken o (one_deeper empty (flat_map operations_of_life cover) o at)) is.covers;
   }
 
 -- the same at the operations' own clocks
@@ -190,13 +210,13 @@ module _ (from to : List Operation) (IsTaken : Operation → Type 0)
     → NoneDid to kind) where
   -- a life stays one
   pub life_stays : (life : Life) → ((o : Operation) → Contains (operations_of_life life) o → IsTaken o) → IsLife from life → IsLife to life
-  life_stays life taken is = subst (IsLife to) (life_itself life) (life_carried from to itself itself IsTaken did none_did (λ x y before. before)
-      (λ x y less. less) life taken (subst (IsLife from) (sym (life_itself life)) is))
+  life_stays life taken is = subst (IsLife to) (life_itself life) (life_carried from to itself itself IsTaken did none_did
+      (λ x y taken_x taken_y before. before) (λ x y taken_x taken_y less. less) life taken (subst (IsLife from) (sym (life_itself life)) is))
 
   -- a violation stays one
   pub violation_stays : (full : FullViolation) → ((o : Operation) → Contains (lines_of full) o → IsTaken o) → IsViolationOf from full → IsViolationOf to full
   violation_stays full taken is = subst (IsViolationOf to) (violation_itself full) (violation_carried from to itself itself IsTaken did none_did
-      (λ x y before. before) (λ x y less. less) full taken (subst (IsViolationOf from) (sym (violation_itself full)) is))
+      (λ x y taken_x taken_y before. before) (λ x y taken_x taken_y less. less) full taken (subst (IsViolationOf from) (sym (violation_itself full)) is))
 
 -- the operations of each value of a cover are lines
 pub line_of_life : (empty : Operation) (cover : List Life) (life : Life) → Contains cover life → (o : Operation) → Contains (operations_of_life life) o
@@ -277,7 +297,7 @@ module _ (operations : List Operation) (complete : AreComplete operations) (valu
 
   small_is_clear : IsClear operations → IsClear small
   small_is_clear clear = record {
-    complete = selected_are_complete (selects values calls) operations complete;
+    complete = some_are_complete (selects values calls) operations complete;
     no_fresh = λ deq enq is. clear.no_fresh deq enq (in_whole (fresh deq enq) is);
     no_repeat = λ enq first second is. clear.no_repeat enq first second (in_whole (repeat enq first second) is);
   }

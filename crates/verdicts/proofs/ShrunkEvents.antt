@@ -1,20 +1,21 @@
 -- Some operations of a complete history, with both their events, make a complete history, and so do the selected initial values and the
 -- events of the selected operations; the tickets of these operations keep just these events.
-use Rattle.verdicts.proofs.Common.{[], ⊤, ◌<◌, ◌∙◌, ◌∷◌, ◌≡◌, ◌≢◌, ◌≤◌, All, All-filter, AllPairs, AllPairs-cons}
-use Rattle.verdicts.proofs.Common.{AllPairs-filter, ap, arith, Bool, cond, cons_option, Contains, eq-eqb, eqb-true}
-use Rattle.verdicts.proofs.Common.{false, filter, filter_map, find, IsTrue, List, MatchBool, nat_eq, None, Option}
-use Rattle.verdicts.proofs.Common.{refl, Some, subst, suc, sym, true, zero, ℕ, AllPairs-tail, answers, CallDeq}
-use Rattle.verdicts.proofs.Common.{called_value, CallEnq, Deq, Empty, Enq, Event, is_call, IsCompleteUpTo, MAX_THREAD}
-use Rattle.verdicts.proofs.Common.{Not, one_deeper, Operation, operation_of, operations_of, OpKind, projection, RetDeq}
-use Rattle.verdicts.proofs.Common.{RetEmpty, RetEnq, RetNot, TakesTurns, What, get_or, kept, keeps, Contains-get_or}
-use Rattle.verdicts.proofs.Common.{passed_filter, ◌||◌, ◌⊎◌, Any-from_list_any, inl, inr, list_any-from_Any}
-use Rattle.verdicts.proofs.Common.{AreComplete, holds_ticket, MAX_CLOCK, passes_filter, return_differs_from_call}
-use Rattle.verdicts.proofs.Common.{same_call, same_return, ◌++◌, Contains-append_cases, Contains-append_left}
-use Rattle.verdicts.proofs.Common.{Contains-append_right, length, not, AreDistinct, called_values, timeline}
-use Rattle.verdicts.proofs.Common.{timeline_is_of_complete, IsCompleteFrom, MAX_INITIAL}
+use Rattle.verdicts.proofs.Common.{[], All, All-filter, AllPairs, AllPairs-cons, AllPairs-filter, AllPairs-tail}
+use Rattle.verdicts.proofs.Common.{answers, Any-from_list_any, ap, AreComplete, AreDistinct, arith, Bool, CallDeq}
+use Rattle.verdicts.proofs.Common.{called_value, called_values, CallEnq, cond, cons_option, Contains}
+use Rattle.verdicts.proofs.Common.{Contains-append_cases, Contains-append_left, Contains-append_right, Contains-get_or}
+use Rattle.verdicts.proofs.Common.{Deq, Empty, Enq, eq-eqb, eqb-true, Event, false, filter, filter_map, find, get_or}
+use Rattle.verdicts.proofs.Common.{holds_ticket, inl, inr, is_call, IsCompleteFrom, IsCompleteHistory, IsTrue, keeps}
+use Rattle.verdicts.proofs.Common.{kept, length, List, list_any-from_Any, MatchBool, MAX_INITIAL, MAX_THREAD}
+use Rattle.verdicts.proofs.Common.{MAX_TICKET, nat_eq, None, Not, not, one_deeper, Operation, operation_of}
+use Rattle.verdicts.proofs.Common.{operations_are_complete, operations_of, OpKind, Option, passed_filter}
+use Rattle.verdicts.proofs.Common.{passes_filter, projection, refl, RetDeq, RetEmpty, RetEnq, RetNot, returns_at_call}
+use Rattle.verdicts.proofs.Common.{same_call, same_return, Some, subst, suc, sym, TakesTurns, timeline}
+use Rattle.verdicts.proofs.Common.{timeline_is_complete, true, What, zero, ℕ, ⊤, ◌++◌, ◌<◌, ◌||◌, ◌∙◌, ◌∷◌, ◌≡◌, ◌≢◌}
+use Rattle.verdicts.proofs.Common.{◌≤◌, ◌⊎◌}
 use Rattle.std.proofs.lemmas.List.Elements.{All-contains}
 use Rattle.history_merge.specs.Operations.{kind_of}
-use Rattle.history_merge.proofs.Completeness.{made_of, up_to_more}
+use Rattle.history_merge.proofs.Completeness.{made_of}
 use Rattle.history_merge.proofs.Turns.{answer_is_return}
 use Rattle.std.proofs.lemmas.Bool.{or_cases, or_left, or_right}
 use Rattle.std.proofs.lemmas.List.Filters.{length-filter_both}
@@ -273,11 +274,11 @@ AllPairs-kept {X} {Y} R f keeps (x ∷ xs) pairs = pick (f x) refl (keeps x) pai
         (rest (AllPairs-tail R y (filter_map f xs) pairs')))
 
 -- where both events of an operation are kept, or neither, the kept events are a complete history
-pub kept_is_complete : {n : ℕ} (keeps : ℕ → Bool) (test : Operation → Bool) (events : List Event) → IsCompleteUpTo n events
-    → KeepsBoth keeps test (operations_of events) → IsCompleteUpTo n (filter (λ e. keeps e.ticket) events)
-kept_is_complete {n} keeps test events complete both = record {
+pub kept_is_complete : (keeps : ℕ → Bool) (test : Operation → Bool) (events : List Event) → IsCompleteHistory events
+    → KeepsBoth keeps test (operations_of events) → IsCompleteHistory (filter (λ e. keeps e.ticket) events)
+kept_is_complete keeps test events complete both = record {
   tickets_rise = AllPairs-filter (λ x y. x.ticket < y.ticket) (λ e. keeps e.ticket) events complete.tickets_rise;
-  tickets_in_range = All-filter (λ e. keeps e.ticket) (λ e. e.ticket ≤ n) events complete.tickets_in_range;
+  tickets_in_range = All-filter (λ e. keeps e.ticket) (λ e. e.ticket ≤ MAX_TICKET) events complete.tickets_in_range;
   threads_in_range = All-filter (λ e. keeps e.ticket) (λ e. e.thread ≤ MAX_THREAD) events complete.threads_in_range;
   threads_take_turns = λ thread. subst TakesTurns (filters_swap (λ e. keeps e.ticket) (λ e. nat_eq e.thread thread) events)
       (kept_turns keeps test thread events None (complete.threads_take_turns thread) both tt);
@@ -315,8 +316,8 @@ module _ (operations : List Operation) (complete : AreComplete operations) (test
   one_holder : (x o : Operation) (ticket : ℕ) → Contains operations x → Contains operations o → (x.call ≡ ticket) ⊎ (x.ret ≡ ticket)
       → (o.call ≡ ticket) ⊎ (o.ret ≡ ticket) → x ≡ o
   one_holder x o ticket in_x in_o (inl is_x) (inl is_o) = same_call operations x o complete in_x in_o (is_x ∙ sym is_o)
-  one_holder x o ticket in_x in_o (inl is_x) (inr is_o) = absurd (return_differs_from_call operations o x complete in_o in_x (is_o ∙ sym is_x))
-  one_holder x o ticket in_x in_o (inr is_x) (inl is_o) = absurd (return_differs_from_call operations x o complete in_x in_o (is_x ∙ sym is_o))
+  one_holder x o ticket in_x in_o (inl is_x) (inr is_o) = sym (returns_at_call operations o x complete in_o in_x (is_o ∙ sym is_x))
+  one_holder x o ticket in_x in_o (inr is_x) (inl is_o) = returns_at_call operations x o complete in_x in_o (is_x ∙ sym is_o)
   one_holder x o ticket in_x in_o (inr is_x) (inr is_o) = same_return operations x o complete in_x in_o (is_x ∙ sym is_o)
 
   held_as_tested : (o : Operation) (ticket : ℕ) → Contains operations o → (o.call ≡ ticket) ⊎ (o.ret ≡ ticket) → (passes holds : Bool)
@@ -343,26 +344,18 @@ abbrev pub events_at_tickets_of : List Operation → List Event → List Event
 events_at_tickets_of selected events = filter (λ e. holds_ticket selected e.ticket) events
 
 -- the events of selected operations are a complete history
-pub selected_events_are_complete : {n : ℕ} (test : Operation → Bool) (events : List Event) → n ≤ MAX_CLOCK → IsCompleteUpTo n events
-    → IsCompleteUpTo n (events_at_tickets_of (filter test (operations_of events)) events)
-selected_events_are_complete test events within complete =
+pub selected_events_are_complete : (test : Operation → Bool) (events : List Event) → IsCompleteHistory events
+    → IsCompleteHistory (events_at_tickets_of (filter test (operations_of events)) events)
+selected_events_are_complete test events complete =
     kept_is_complete (holds_ticket (filter test (operations_of events))) test events complete
-    (tickets_keep_both (operations_of events) (events, up_to_more events within complete, refl) test)
+    (tickets_keep_both (operations_of events) (operations_are_complete events complete) test)
 
 -- the operations of these events are the selected ones
-pub operations_of_selected : {n : ℕ} (test : Operation → Bool) (events : List Event) → n ≤ MAX_CLOCK → IsCompleteUpTo n events
+pub operations_of_selected : (test : Operation → Bool) (events : List Event) → IsCompleteHistory events
     → operations_of (events_at_tickets_of (filter test (operations_of events)) events) ≡ filter test (operations_of events)
-operations_of_selected test events within complete =
+operations_of_selected test events complete =
     kept_operations (holds_ticket (filter test (operations_of events))) test events (λ thread. (None, complete.threads_take_turns thread))
-    (tickets_keep_both (operations_of events) (events, up_to_more events within complete, refl) test)
-
--- some operations of a complete history are those of a complete history
-pub selected_are_complete : (test : Operation → Bool) (operations : List Operation) → AreComplete operations → AreComplete (filter test operations)
-selected_are_complete test operations complete = (
-  events_at_tickets_of (filter test (operations_of complete.0)) complete.0,
-  selected_events_are_complete test complete.0 (omega arith) complete.1,
-  ap (filter test) complete.2 ∙ sym (operations_of_selected test complete.0 (omega arith) complete.1),
-)
+    (tickets_keep_both (operations_of events) (operations_are_complete events complete) test)
 
 -- some elements of a list are no more than all
 pub no_longer : {X : Type 0} (p : X → Bool) (xs : List X) → length (filter p xs) ≤ length xs
@@ -397,12 +390,12 @@ module _ (initial : List ℕ) (events : List Event) (whole : IsCompleteFrom init
 
   -- the operations of the kept events are those that pass the test
   pub operations_kept : operations_of events_kept ≡ filter test (operations_of events)
-  operations_kept = operations_of_selected test events (omega arith) whole.complete
+  operations_kept = operations_of_selected test events whole.complete
 
   -- the kept events are a complete history from the kept initial values
   pub kept_is_complete_from : IsCompleteFrom (filter values initial) events_kept
   kept_is_complete_from =
-      let complete = selected_events_are_complete test events (omega arith) whole.complete in
+      let complete = selected_events_are_complete test events whole.complete in
       record {
         complete = complete;
         values_are_distinct = distinct_kept values initial (called_values events) (called_values events_kept) whole.values_are_distinct
@@ -420,4 +413,4 @@ module _ (initial : List ℕ) (events : List Event) (whole : IsCompleteFrom init
   kept_timeline_are_complete few =
       let shorter = no_longer values initial in
       subst (λ os. AreComplete (timeline (filter values initial) os)) operations_kept
-      (timeline_is_of_complete (filter values initial) events_kept kept_is_complete_from (omega arith))
+      (timeline_is_complete (filter values initial) events_kept kept_is_complete_from (omega arith))

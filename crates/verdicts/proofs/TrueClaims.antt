@@ -1,21 +1,21 @@
 -- The claim of a verdict lists the operations and the initial values that the verdict names.
-use Rattle.verdicts.proofs.Common.{[], ◌*◌, ◌-◌, ◌<◌, ◌∙◌, ◌∷◌, ◌≡◌, ◌≢◌, AllPairs, AllZip, ap, arith, cond}
-use Rattle.verdicts.proofs.Common.{cons_option, Contains, eq-eqb, get_or_append_left, inl, inr, le-leb, length}
-use Rattle.verdicts.proofs.Common.{length-append, List, lt-ltb, map, nat_eq, nat_lt, ne_eqb, None, not, Option}
-use Rattle.verdicts.proofs.Common.{option_map, position, prefix_len, refl, slice_get, slice_get_within, Some, subst}
-use Rattle.verdicts.proofs.Common.{suc, sym, zero, ℕ, AllPairs-tail, ArePlacesOf, called_values, contains_at}
-use Rattle.verdicts.proofs.Common.{contains_cons, Event, timeline, timeline_at, initial_enqueue, fresh, FullViolation}
-use Rattle.verdicts.proofs.Common.{IsCompleteFrom, IsLegalOrder, LinePlace, lines_of, MAX_TICKET, Names, not_in_none}
-use Rattle.verdicts.proofs.Common.{one_deeper, Operation, operation_within, operations_at, operations_of, order}
-use Rattle.verdicts.proofs.Common.{pairs_at, place_of, repeat, stands_for, Violation, violation_kind, violation_places}
-use Rattle.verdicts.proofs.Common.{witness}
+use Rattle.verdicts.proofs.Common.{[], AllPairs, AllPairs-tail, AllZip, ap, ArePlacesOf, arith, called_values, cond}
+use Rattle.verdicts.proofs.Common.{cons_option, Contains, contains_at, contains_cons, eq-eqb, Event, fresh}
+use Rattle.verdicts.proofs.Common.{FullViolation, get_or_append_left, initial_enqueue, initial_time, inl, inr}
+use Rattle.verdicts.proofs.Common.{IsCompleteFrom, IsLegalOrder, le-leb, length, length-append, LinePlace, lines_of}
+use Rattle.verdicts.proofs.Common.{List, lt-ltb, map, MAX_INITIAL, MAX_TICKET, Names, nat_eq, nat_lt, ne_eqb, None}
+use Rattle.verdicts.proofs.Common.{not, not_in_none, one_deeper, Operation, operation_within, operations_at}
+use Rattle.verdicts.proofs.Common.{operations_of, Option, option_map, order, pairs_at, place_of, position, prefix_len}
+use Rattle.verdicts.proofs.Common.{refl, repeat, slice_get, slice_get_within, Some, stands_for, subst, suc, sym}
+use Rattle.verdicts.proofs.Common.{timeline, timeline_at, Violation, violation_kind, violation_places, witness, zero}
+use Rattle.verdicts.proofs.Common.{ℕ, ◌-◌, ◌<◌, ◌∙◌, ◌∷◌, ◌≡◌, ◌≢◌, ◌≤◌}
 use Rattle.value_match.specs.declared.violation.Violation.TheVariants.{Fresh, Repeat, Order, Witness}
 use Rattle.verdicts.specs.declared.verifying.ClaimLine.TheVariants.{Initial}
-use Rattle.verdicts.specs.declared.verdict.Verdict.TheVariants as found
 use Rattle.verdicts.specs.Claims.{kind_of}
 use Rattle.verdicts.specs.Laws.{EvidenceIsTrueClaim}
-use Rattle.verdicts.proofs.NamedPlaces.{IsShownAt, each_shown, shown_lines}
-use Rattle.verdicts.proofs.NamedPlaces.{accepted_value, early_line, later_line, line_of}
+use Rattle.verdicts.proofs.NamedPlaces.{IsShownAt, each_shown, shown_lines, accepted_value, early_line, later_line}
+use Rattle.verdicts.proofs.NamedPlaces.{line_of}
+use Rattle.verdicts.specs.declared.verdict.Verdict.TheVariants as found
 
 -- a violation and the operations that it names are of one kind
 pub same_kind : (initial : List ℕ) (operations : List Operation) (violation : Violation) (full : FullViolation) → Names initial operations violation full
@@ -45,23 +45,23 @@ place_of_value values j v apart at =
     pick : (n : ℕ) → n ≡ j → j < length values → cond (nat_lt n (length values)) (Some n) None ≡ Some j
     pick n same within = rw same (rw (lt-ltb j (length values) within) refl)
 
-module _ (initial : List ℕ) (events : List Event) (whole : IsCompleteFrom initial events) where
+module _ (initial : List ℕ) (events : List Event) (whole : IsCompleteFrom initial events) (few : length initial ≤ MAX_INITIAL) where
   line_stands : (p : ℕ) (x : Operation) → slice_get (timeline initial (operations_of events)) p ≡ Some x
-      → stands_for initial (line_of (2 * length initial) x) ≡ Some x
+      → stands_for initial (line_of x) ≡ Some x
   line_stands p x at = elim (timeline_at initial (operations_of events) p x at) [
     | inl early ↦
-        let call : 2 * p ≡ x.call = ap (λ (o : Operation). o.call) early.is in
+        let call : initial_time (length initial) p ≡ x.call = ap (λ (o : Operation). o.call) early.is in
         let within = early.within in
         let value : accepted_value x.kind ≡ early.value = ap (λ (o : Operation). accepted_value o.kind) (sym early.is) in
-        ap (stands_for initial) (early_line (2 * length initial) x (omega arith) ∙ ap (λ v. Initial v) value)
-        ∙ ap (option_map (λ j. initial_enqueue j early.value)) (place_of_value initial p early.value apart early.stands) ∙ ap (λ o. Some o) early.is
+        ap (stands_for initial) (early_line x (omega arith) ∙ ap (λ v. Initial v) value)
+        ∙ ap (option_map (λ j. initial_enqueue (length initial) j early.value)) (place_of_value initial p early.value apart early.stands) ∙ ap (λ o. Some o) early.is
     | inr late ↦
         let among = contains_at (operations_of events) (p - length initial) late.operation late.stands in
         let within = operation_within events late.operation whole.complete among in
-        ap (λ o. stands_for initial (line_of (2 * length initial) o)) (sym late.is)
-        ∙ ap (stands_for initial) (later_line (2 * length initial) late.operation)
+        ap (λ o. stands_for initial (line_of o)) (sym late.is)
+        ∙ ap (stands_for initial) (later_line late.operation)
         ∙ rw (
-          le-leb late.operation.call MAX_TICKET within.0,
+          le-leb late.operation.call MAX_TICKET (omega (arith, within)),
           le-leb late.operation.ret MAX_TICKET within.1,
         ) (ap (λ o. Some o) late.is)
   ]
@@ -72,7 +72,7 @@ module _ (initial : List ℕ) (events : List Event) (whole : IsCompleteFrom init
           rw (get_or_append_left initial (called_values events) d i (omega arith), get_or_append_left initial (called_values events) d j within) at pair
 
   lines_stand : (listed : List Operation) → ((o : Operation) → Contains listed o → Contains (timeline initial (operations_of events)) o)
-      → map (stands_for initial) (map (line_of (2 * length initial)) listed) ≡ map (λ o. Some o) listed
+      → map (stands_for initial) (map line_of listed) ≡ map (λ o. Some o) listed
   lines_stand [] among = refl
   lines_stand (o ∷ listed) among =
       let at = place_of (timeline initial (operations_of events)) o (among o (zero, omega arith, refl)) in
@@ -107,9 +107,9 @@ evidence_is_true initial events (found.Yes places) whole few is =
     subst (IsLegalOrder initial (operations_of events)) (sym (operations_there (operations_of events) places is.0 is.1)) is.2
 evidence_is_true initial events (found.No violation) whole few is =
     let operations = operations_of events in
-    let each = each_shown initial operations violation is.0 is.1 in (
+    let each = each_shown initial operations few violation is.0 is.1 in (
       lines_of is.0,
-      ap (map (stands_for initial)) (shown_lines initial operations (violation_places violation) (lines_of is.0) each)
-          ∙ lines_stand initial events whole (lines_of is.0) (shown_among initial operations (violation_places violation) (lines_of is.0) each),
+      ap (map (stands_for initial)) (shown_lines initial operations few (violation_places violation) (lines_of is.0) each)
+          ∙ lines_stand initial events whole few (lines_of is.0) (shown_among initial operations (violation_places violation) (lines_of is.0) each),
       (is.0, sym (same_kind initial operations violation is.0 is.1), refl, is.2),
     )

@@ -1,6 +1,6 @@
 -- What is claimed of a history, and when that is so.
-use Rattle.std.specs.Prelude.{◌≡◌, ℕ, ◌*◌, ◌&&◌, nat_le, nat_eq, List, length, map, position, Option, Some, None, option_map, if◌then◌else◌}
-use Rattle.event_records.specs.declared.limits.TheConstants.{MAX_TICKET}
+use Rattle.std.specs.Prelude.{◌≡◌, ℕ, ◌&&◌, nat_le, nat_eq, List, length, map, position, Option, Some, None, option_map, if◌then◌else◌}
+use Rattle.event_records.specs.declared.limits.TheConstants.{MAX_TICKET, ORIGIN}
 use Rattle.history_merge.specs.declared.operation.Operation.{Operation}
 use Rattle.history_merge.specs.Initial.{timeline, later_by}
 use Rattle.history_merge.specs.Legal.{IsLegalOrder}
@@ -26,15 +26,15 @@ ShowsViolation operations kind shown = (full : FullViolation) × (kind_of full �
 
 -- on the timeline, the enqueue of this value where it is an initial one
 abbrev pub initial_enqueue_of : List ℕ → ℕ → Option Operation
-initial_enqueue_of initial v = option_map (λ j. initial_enqueue j v) (position (λ w. nat_eq w v) initial)
+initial_enqueue_of initial v = option_map (λ j. initial_enqueue (length initial) j v) (position (λ w. nat_eq w v) initial)
 
 -- the operation on the timeline, where its tickets are in their range
-abbrev pub on_timeline : ℕ → Operation → Option Operation
-on_timeline initial_count o = if nat_le o.call MAX_TICKET && nat_le o.ret MAX_TICKET then Some (later_by (2 * initial_count) o) else None
+abbrev pub on_timeline : Operation → Option Operation
+on_timeline o = if nat_le o.call MAX_TICKET && nat_le o.ret MAX_TICKET then Some (later_by ORIGIN o) else None
 
 -- what a line of a claim stands for on the timeline: an operation, or the enqueue of an initial value
 abbrev pub stands_for : List ℕ → ClaimLine → Option Operation
-stands_for initial (Op o) = on_timeline (length initial) o
+stands_for initial (Op o) = on_timeline o
 stands_for initial (Initial v) = initial_enqueue_of initial v
 
 -- the lines stand for these operations, one by one

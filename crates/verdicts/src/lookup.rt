@@ -1,5 +1,5 @@
 //! The operations on the timeline of a history, looked up by their calls.
-ghost use Rattle.std.specs.Prelude.{◌≡◌, ◌<◌, ◌↔◌, IfSome, IsTrue, Contains, length, nat_eq, position, slice_index_or};
+ghost use Rattle.std.specs.Prelude.{◌≡◌, ◌<◌, ◌≤◌, ◌↔◌, IfSome, IsTrue, Contains, length, nat_eq, position, slice_index_or};
 ghost use Rattle.history_merge.specs.declared.operation.Operation.{Operation};
 ghost use Rattle.event_records.specs.declared.limits.TheConstants.{MAX_INITIAL};
 ghost use Rattle.history_merge.specs.Initial.{timeline};
@@ -9,11 +9,11 @@ ghost use Rattle.verdicts.specs.Claims.{initial_enqueue_of, on_timeline, stands_
 ghost use Rattle.verdicts.specs.Inner.Claims.{CallsRise, IsLookedUp};
 
 use crate::verifying::ClaimLine;
-use event_records::MAX_TICKET;
+use event_records::{MAX_TICKET, ORIGIN};
 use history_merge::{History, OpKind, Operation, PackedOperation};
 
-/// The initial values of a history, and its timeline: the queue is empty first, the initial values are enqueued one
-/// after another, and then come the operations.
+/// The initial values of a history, and its timeline: the initial values are enqueued one after another, and then come
+/// the operations.
 #[derive(Clone, Copy)]
 pub(crate) struct Lookup<'a> {
     pub initial: &'a [u64],
@@ -43,18 +43,16 @@ impl<'a> Lookup<'a> {
         }
     }
 
-    /// The operation by its clock, where its tickets are in their range.
+    /// The operation by the times of its tickets, where these are in their range.
     fn later(&self, operation: Operation) -> Option<Operation>
-        requires { IsLookedUp self.now }
-        ensures { result ≡ on_timeline (length self.now.initial.now) operation }
+        ensures { result ≡ on_timeline operation }
     {
         if operation.call > MAX_TICKET || operation.ret > MAX_TICKET {
             return None;
         }
-        let start = 2 * self.initial.len() as u64;
         Some(Operation {
-            call: operation.call + start,
-            ret: operation.ret + start,
+            call: operation.call + ORIGIN,
+            ret: operation.ret + ORIGIN,
             thread: operation.thread,
             kind: operation.kind,
         })
@@ -66,7 +64,7 @@ impl<'a> Lookup<'a> {
         ensures { result ≡ initial_enqueue_of self.now.initial.now value }
     {
         let place = place_of(self.initial, value)?;
-        Some(initial_enqueue(place, value))
+        Some(initial_enqueue(self.initial.len(), place, value))
     }
 
     /// Whether this is one of the operations, and did this.
@@ -93,15 +91,16 @@ fn place_of(values: &[u64], value: u64) -> Option<usize>
     values.iter().position(|other| *other == value)
 }
 
-/// The enqueue of the initial value at this place.
-fn initial_enqueue(place: usize, value: u64) -> Operation
-    requires { place < MAX_INITIAL }
-    ensures { result ≡ initial_enqueue place value }
+/// The enqueue of the initial value at this place, of this many.
+fn initial_enqueue(initial_count: usize, place: usize, value: u64) -> Operation
+    requires few { initial_count ≤ MAX_INITIAL }
+    requires within { place < initial_count }
+    ensures { result ≡ initial_enqueue initial_count place value }
 {
-    let call = 2 * place as u64;
+    let time = ORIGIN - initial_count as u64 + place as u64;
     Operation {
-        call,
-        ret: call + 1,
+        call: time,
+        ret: time,
         thread: 0,
         kind: OpKind::Enq(value),
     }

@@ -1,9 +1,10 @@
 //! The answers about one history beside those of plain scans of its timeline, told by the history's own places.
 
-use crate::tests::plain_gaps::{PlainWitness, clocks_at, plain_cover, plain_gap, plain_witness};
+use crate::tests::plain_gaps::{PlainWitness, operation_at, plain_cover, plain_gap, plain_witness};
 use crate::tests::plain_order::plain_linearization;
 use crate::tests::plain_pairs::plain_pair;
 use empty_witness::{GapAnswer, WitnessAnswer, find_witness, gap_for};
+use event_records::ORIGIN;
 use history_merge::{History, OpId};
 use order_violation::{OrderPair, find_order};
 use std::alloc::{AllocError, Global};
@@ -134,18 +135,18 @@ fn is_told_cover(first: usize, cover: &[CoverStep], plain: &[CoverStep]) -> bool
     true
 }
 
-/// The ticket of a gap of the timeline, whose first tickets are those of the initial values.
-fn told_gap(first: usize, gap: u64) -> u64 {
-    gap.saturating_sub((first as u64).saturating_mul(2))
+/// Whether a ticket is that of a time.
+fn is_told_gap(gap: u64, time: u64) -> bool {
+    gap.checked_add(ORIGIN) == Some(time)
 }
 
 /// Whether the gaps are those of a timeline.
-fn are_told_gaps(first: usize, gaps: &[u64], plain: &[u64]) -> bool {
+fn are_told_gaps(gaps: &[u64], plain: &[u64]) -> bool {
     if gaps.len() != plain.len() {
         return false;
     }
     for (found, gap) in gaps.iter().zip(plain) {
-        if *found != told_gap(first, *gap) {
+        if !is_told_gap(*found, *gap) {
             return false;
         }
     }
@@ -204,7 +205,7 @@ fn are_same_windows(
 fn is_same_witness(first: usize, found: &WitnessAnswer, plain: &PlainWitness) -> bool {
     match (found, plain) {
         (WitnessAnswer::Gaps(gaps), PlainWitness::Gaps(plain_gaps)) => {
-            are_told_gaps(first, gaps.as_slice(), plain_gaps)
+            are_told_gaps(gaps.as_slice(), plain_gaps)
         }
         (WitnessAnswer::Covered { empty, cover }, PlainWitness::Covered(plain_empty, steps)) => {
             *empty == told_id(first, *plain_empty) && is_told_cover(first, cover.as_slice(), steps)
@@ -241,9 +242,9 @@ fn is_same_gap(
     let first = matching.initial().len();
     let timeline = matching.timeline();
     let place = first.saturating_add(empty.place()) & 0xffff_ffff;
-    let answer = clocks_at(timeline, OpId::new(place as u32))?;
+    let answer = operation_at(timeline, OpId::new(place as u32))?;
     match (found, plain_gap(timeline, values, &answer)) {
-        (GapAnswer::Free(gap), Some(clock)) => Ok(*gap == told_gap(first, clock)),
+        (GapAnswer::Free(gap), Some(time)) => Ok(is_told_gap(*gap, time)),
         (GapAnswer::Covered(cover), None) => {
             let steps = plain_cover(alloc, values, &answer)?.ok_or("no cover")?;
             Ok(is_told_cover(first, cover.as_slice(), &steps))

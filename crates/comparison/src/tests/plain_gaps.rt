@@ -15,7 +15,7 @@ fn is_free(values: &[MatchedValue], gap: u64) -> bool {
     !values.iter().any(|value| covers(&value.life, gap))
 }
 
-/// The least free gap of a window, looked for at its call and at each clock of the timeline in it.
+/// The least free gap of a window, looked for at its call and at each time of the timeline in it.
 pub(crate) fn plain_gap(
     timeline: &[PackedOperation],
     values: &[MatchedValue],
@@ -100,8 +100,8 @@ pub enum PlainWitness {
     Covered(OpId, Vec<CoverStep>),
 }
 
-/// The operation at a place of a timeline, by its clocks.
-pub(crate) fn clocks_at(timeline: &[PackedOperation], id: OpId) -> Result<Operation, Fail> {
+/// The operation at a place of a timeline.
+pub(crate) fn operation_at(timeline: &[PackedOperation], id: OpId) -> Result<Operation, Fail> {
     let operation = timeline.get(id.place()).ok_or("no operation")?;
     Ok(operation.unpack())
 }
@@ -115,7 +115,7 @@ fn free_gaps(
     let timeline = matching.timeline();
     let mut gaps = Vec::new(alloc);
     for empty in matching.timeline_empties() {
-        if let Some(gap) = plain_gap(timeline, values, &clocks_at(timeline, *empty)?) {
+        if let Some(gap) = plain_gap(timeline, values, &operation_at(timeline, *empty)?) {
             gaps.push(gap)?;
         }
     }
@@ -128,7 +128,7 @@ fn first_covered(matching: &Matching, values: &[MatchedValue]) -> Result<Option<
     let mut first = None;
     let mut least = u64::MAX;
     for empty in matching.timeline_empties() {
-        let answer = clocks_at(timeline, *empty)?;
+        let answer = operation_at(timeline, *empty)?;
         if answer.ret < least && plain_gap(timeline, values, &answer).is_none() {
             first = Some(*empty);
             least = answer.ret;
@@ -146,7 +146,7 @@ pub(crate) fn plain_witness(
     match first_covered(matching, values)? {
         None => Ok(PlainWitness::Gaps(free_gaps(alloc, matching, values)?)),
         Some(empty) => {
-            let answer = clocks_at(matching.timeline(), empty)?;
+            let answer = operation_at(matching.timeline(), empty)?;
             let cover = plain_cover(alloc, values, &answer)?.ok_or("no cover")?;
             Ok(PlainWitness::Covered(empty, cover))
         }

@@ -148,37 +148,20 @@ const OF_TWO: &[Row] = &[
     (20, 999_999_999_999, 63, Empty),
 ];
 
-type Shown<'a> = (&'a [u64], &'a [Row], &'a [Row]);
+type Shown<'a> = (&'a [u64], &'a [(i64, u64)], &'a [Row]);
 
-/// Initial values, operations, and these on the timeline, which begins with the enqueues of the initial values.
+/// Initial values, the tickets at which they enter the queue, and operations.
 static SHOWN: [Shown<'static>; 6] = [
     (&[], &[], &[]),
-    (&[], OVERLAPPING, OVERLAPPING),
-    (&[], HIDDEN, HIDDEN),
-    (&[], GREATEST, GREATEST),
+    (&[], &[], OVERLAPPING),
+    (&[], &[], HIDDEN),
+    (&[], &[], GREATEST),
     (
         &[u64::MAX, 5, 0],
+        &[(-3, u64::MAX), (-2, 5), (-1, 0)],
         OF_THREE,
-        &[
-            (0, 1, 0, Enq(u64::MAX)),
-            (2, 3, 0, Enq(5)),
-            (4, 5, 0, Enq(0)),
-            (9, 11, 2, Deq(u64::MAX)),
-            (10, 12, 0, Not(6)),
-        ],
     ),
-    (
-        &[5, 6],
-        OF_TWO,
-        &[
-            (0, 1, 0, Enq(5)),
-            (2, 3, 0, Enq(6)),
-            (4, 8, 1, Deq(5)),
-            (7, 11, 2, Enq(8)),
-            (13, 14, 1, Not(9)),
-            (24, 1_000_000_000_003, 63, Empty),
-        ],
-    ),
+    (&[5, 6], &[(-2, 5), (-1, 6)], OF_TWO),
 ];
 
 /// Whether the history has these events.
@@ -194,7 +177,7 @@ fn are_events(history: &History, events: &[Event]) -> bool {
 
 /// What of the history that is made isn't as it should be; none if all is.
 fn wrong_part(alloc: Global, maker: Maker, shown: &Shown) -> Result<Option<&'static str>, Fail> {
-    let (initial, rows, timeline) = *shown;
+    let (initial, entered, rows) = *shown;
     let events = events_of(alloc, rows)?;
     if initial.len() > MAX_INITIAL || events.len() > MAX_EVENTS {
         return Err("too many values or events")?;
@@ -206,7 +189,7 @@ fn wrong_part(alloc: Global, maker: Maker, shown: &Shown) -> Result<Option<&'sta
         Some("events")
     } else if !are_rows(&history.operations(), rows) {
         Some("operations")
-    } else if !is_timeline(history.timeline(), timeline) {
+    } else if !is_timeline(history.timeline(), entered, rows) {
         Some("timeline")
     } else {
         None

@@ -1,8 +1,6 @@
-use super::small_histories::{
-    HIDDEN, Row, are_rows, history_behind, is_row, is_timeline, matching_of,
-};
+use super::small_histories::{HIDDEN, Row, are_rows, history_behind, is_timeline, matching_of};
 use history_merge::OpKind::{Deq, Empty, Enq, Not};
-use history_merge::{OpId, Operation};
+use history_merge::{OpId, Operation, PackedOperation};
 use std::alloc::Global;
 use std::test::Fail;
 use value_match::{
@@ -78,15 +76,13 @@ fn names_a_value_that_was_not_there_or_came_twice(rt: HostRuntime) -> Result<(),
 struct Shown {
     initial: &'static [u64],
     rows: &'static [Row],
-    /// The operations on the timeline, which begins with the enqueues of the initial values.
-    timeline: &'static [Row],
+    /// The tickets at which the initial values enter the queue.
+    entered: &'static [(i64, u64)],
     /// The accepted values, by the places of their enqueues and dequeues on the timeline.
     values: &'static [(usize, Option<usize>)],
     /// The empty dequeues and the failed enqueues, by their places among the operations.
     empties: &'static [usize],
     refused: &'static [usize],
-    /// The tickets at which the first clocks stand.
-    tickets: [i64; 6],
 }
 
 static SHOWN: [Shown; 3] = [
@@ -99,40 +95,26 @@ static SHOWN: [Shown; 3] = [
             (6, 8, 0, Not(8)),
             (7, 9, 1, Empty),
         ],
-        timeline: &[
-            (0, 4, 0, Enq(7)),
-            (1, 3, 1, Deq(7)),
-            (2, 5, 2, Enq(9)),
-            (6, 8, 0, Not(8)),
-            (7, 9, 1, Empty),
-        ],
+        entered: &[],
         values: &[(0, Some(1)), (2, None)],
         empties: &[4],
         refused: &[3],
-        tickets: [0, 1, 2, 3, 4, 5],
     },
     Shown {
         initial: &[5],
         rows: &[(0, 1, 0, Deq(5)), (2, 3, 0, Empty), (4, 5, 0, Not(8))],
-        timeline: &[
-            (0, 1, 0, Enq(5)),
-            (2, 3, 0, Deq(5)),
-            (4, 5, 0, Empty),
-            (6, 7, 0, Not(8)),
-        ],
+        entered: &[(-1, 5)],
         values: &[(0, Some(1))],
         empties: &[1],
         refused: &[2],
-        tickets: [-1, -1, 0, 1, 2, 3],
     },
     Shown {
         initial: &[5, 6],
         rows: &[(0, 1, 0, Deq(5))],
-        timeline: &[(0, 1, 0, Enq(5)), (2, 3, 0, Enq(6)), (4, 5, 0, Deq(5))],
+        entered: &[(-2, 5), (-1, 6)],
         values: &[(0, Some(2)), (1, None)],
         empties: &[],
         refused: &[],
-        tickets: [-2, -2, -1, -1, 0, 1],
     },
 ];
 
@@ -140,29 +122,24 @@ static SHOWN: [Shown; 3] = [
 fn is_part(
     id: Option<OpId>,
     operation: Option<Operation>,
-    timeline: &[Row],
+    timeline: &[PackedOperation],
     place: Option<usize>,
 ) -> bool {
-    match place {
-        None => id.is_none() && operation.is_none(),
-        Some(place) => place_of(id) == Some(place) && is_row(operation, timeline.get(place)),
-    }
+    let wanted = place.and_then(|place| timeline.get(place));
+    place_of(id) == place && operation == wanted.map(|packed| packed.unpack())
 }
 
 /// Whether these are the accepted values.
-fn are_values(values: &Values, shown: &Shown) -> bool {
+fn are_values(values: &Values, timeline: &[PackedOperation], shown: &Shown) -> bool {
     if values.len() != shown.values.len() {
         return false;
     }
     for place in 0..values.len() {
         let value = values.get(place);
         let (enqueue, dequeue) = shown.values[place];
-        if !is_part(
-            Some(value.enqueue),
-            Some(value.life.enqueue),
-            shown.timeline,
-            Some(enqueue),
-        ) || !is_part(value.dequeue, value.life.dequeue, shown.timeline, dequeue)
+        let (entered, left) = (Some(value.life.enqueue), value.life.dequeue);
+        if !is_part(Some(value.enqueue), entered, timeline, Some(enqueue))
+            || !is_part(value.dequeue, left, timeline, dequeue)
         {
             return false;
         }
@@ -185,16 +162,6 @@ fn are_places(timeline: &[OpId], places: &Places, first: usize, wanted: &[usize]
     true
 }
 
-/// Whether the first clocks stand at these tickets.
-fn are_tickets(matching: &Matching, tickets: [i64; 6]) -> bool {
-    for clock in 0..6usize {
-        if matching.ticket(clock as u64) != tickets[clock] {
-            return false;
-        }
-    }
-    true
-}
-
 /// What of the matching isn't as it should be; none if all is.
 fn wrong_part(matching: &Matching, shown: &Shown) -> Option<&'static str> {
     let first = shown.initial.len();
@@ -202,9 +169,9 @@ fn wrong_part(matching: &Matching, shown: &Shown) -> Option<&'static str> {
         Some("initial values")
     } else if !are_rows(&matching.operations(), shown.rows) {
         Some("operations")
-    } else if !is_timeline(matching.timeline(), shown.timeline) {
+    } else if !is_timeline(matching.timeline(), shown.entered, shown.rows) {
         Some("timeline")
-    } else if !are_values(&matching.values(), shown) {
+    } else if !are_values(&matching.values(), matching.timeline(), shown) {
         Some("values")
     } else if !are_places(
         matching.timeline_empties(),
@@ -220,8 +187,6 @@ fn wrong_part(matching: &Matching, shown: &Shown) -> Option<&'static str> {
         shown.refused,
     ) {
         Some("failed enqueues")
-    } else if !are_tickets(matching, shown.tickets) {
-        Some("tickets")
     } else {
         None
     }

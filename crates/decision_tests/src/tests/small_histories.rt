@@ -5,7 +5,7 @@ use history_merge::OpKind::{Deq, Empty, Enq, Not};
 use history_merge::{History, OpId, OpKind, Operation, Operations, PackedOperation, history_from};
 use std::alloc::{AllocError, Global};
 use std::test::Fail;
-use value_match::{Matched, Matching, match_values};
+use value_match::{Matched, Matching, NEVER, match_values, ticket_of};
 
 /// An operation: the tickets of its call and its return, its thread, and what it did.
 pub(crate) type Row = (u64, u64, u8, OpKind);
@@ -142,13 +142,47 @@ pub(crate) fn are_rows(operations: &Operations, rows: &[Row]) -> bool {
     left.next().is_none() && are_at_places(operations, rows)
 }
 
-/// Whether the timeline is of these operations.
-pub(crate) fn is_timeline(timeline: &[PackedOperation], rows: &[Row]) -> bool {
+/// Whether an operation of a timeline has these tickets, and did this.
+fn is_told(operation: &Operation, call: i64, ret: i64, kind: OpKind) -> bool {
+    let is_timed = operation.call <= NEVER && operation.ret <= NEVER;
+    is_timed
+        && ticket_of(operation.call) == call
+        && ticket_of(operation.ret) == ret
+        && operation.kind == kind
+}
+
+/// Whether the timeline is of initial values that enter at these tickets, and then of these operations.
+pub(crate) fn is_timeline(
+    timeline: &[PackedOperation],
+    entered: &[(i64, u64)],
+    rows: &[Row],
+) -> bool {
+    let mut left = timeline.iter();
+    for (ticket, value) in entered {
+        let operation = left.next().map(|packed| packed.unpack());
+        if !operation.is_some_and(|operation| is_told(&operation, *ticket, *ticket, Enq(*value))) {
+            return false;
+        }
+    }
+    are_told_rows(left.as_slice(), rows)
+}
+
+/// Whether an operation of a timeline is that of the row.
+fn is_told_row(operation: &Operation, row: &Row) -> bool {
+    let (call, ret, thread, kind) = *row;
+    match (i64::try_from(call), i64::try_from(ret)) {
+        (Ok(call), Ok(ret)) => operation.thread == thread && is_told(operation, call, ret, kind),
+        _ => false,
+    }
+}
+
+/// Whether these operations of a timeline are those of the rows.
+fn are_told_rows(timeline: &[PackedOperation], rows: &[Row]) -> bool {
     if timeline.len() != rows.len() {
         return false;
     }
     for (packed, row) in timeline.iter().zip(rows) {
-        if !is_row(Some(packed.unpack()), Some(row)) {
+        if !is_told_row(&packed.unpack(), row) {
             return false;
         }
     }

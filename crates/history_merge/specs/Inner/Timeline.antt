@@ -1,6 +1,6 @@
 -- The operations of a timeline, by their tickets again.
-use Rattle.std.specs.Prelude.{◌≡◌, ◌≤◌, ℕ, ◌*◌, ◌-◌, List, drop, length, map}
-use Rattle.event_records.specs.declared.limits.TheConstants.{MAX_INITIAL}
+use Rattle.std.specs.Prelude.{◌≡◌, ◌≤◌, ℕ, ◌-◌, List, drop, length, map}
+use Rattle.event_records.specs.declared.limits.TheConstants.{MAX_INITIAL, ORIGIN}
 use Rattle.history_merge.specs.declared.operation.Operation.{Operation}
 use Rattle.history_merge.specs.Initial.{timeline}
 
@@ -10,7 +10,7 @@ earlier_by n o = record { call = o.call - n; ret = o.ret - n; thread = o.thread;
 
 -- the operations behind this many enqueues of initial values, by their tickets
 abbrev pub operations_on : ℕ → List Operation → List Operation
-operations_on initial_count timeline = map (earlier_by (2 * initial_count)) (drop initial_count timeline)
+operations_on initial_count timeline = map (earlier_by ORIGIN) (drop initial_count timeline)
 
 -- they are the timeline of these initial values and their operations
 pub record IsTimeline (initial : List ℕ) (all : List Operation) : Type 0 where

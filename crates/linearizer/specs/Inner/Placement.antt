@@ -1,6 +1,6 @@
 -- What the steps on the way to the chosen order give.
 use Rattle.std.specs.Prelude.{◌≡◌, ℕ, ◌<◌, ◌≤◌, ◌++◌, List, All, AllPairs, IsPermutation, Some}
-use Rattle.std.specs.Prelude.{length, map, filter, filter_map, slice_get, slice_index, take}
+use Rattle.std.specs.Prelude.{drop, length, map, filter, filter_map, slice_get, slice_index, take}
 use Rattle.std.specs.List.{AllZip}
 use Rattle.history_merge.specs.declared.operation.Operation.{Operation}
 use Rattle.history_merge.specs.Operations.{IsAt}
@@ -13,7 +13,7 @@ use Rattle.linearizer.specs.declared.position.Class.TheVariants.{EarlierDequeue,
 use Rattle.linearizer.specs.declared.position.Position.{Position as Stored}
 use Rattle.linearizer.specs.declared.position.Placed.{Placed}
 use Rattle.linearizer.specs.declared.timed.Timed.{Timed}
-use Rattle.linearizer.specs.Values.{IsValueOrder, enqueue_gap, greatest_leaves_from}
+use Rattle.linearizer.specs.Values.{IsValueOrder, enqueue_gap, greatest_leaves_from, least_entered_by}
 use Rattle.linearizer.specs.Order.{Position, StandsBefore, IsPositionOf, earlier_dequeues, noop_answers, noop_position, enqueues, other_dequeues}
 
 -- the values without their places
@@ -46,9 +46,9 @@ pub record AreEnqueueGaps (lives : List Life) (gaps : List ℕ) : Type 0 where
   pub one_each : length gaps ≡ length lives
   pub at_each : (i : ℕ) → i < length lives → slice_index gaps i ≡ enqueue_gap lives i
 
--- no enqueue is called after its gap
+-- no enqueue is called after its value or a later one has entered
 abbrev pub AreCalledInTime : List Life → Type 0
-AreCalledInTime lives = (i : ℕ) (life : Life) → slice_get lives i ≡ Some life → enqueue_call life ≤ enqueue_gap lives i
+AreCalledInTime lives = (i : ℕ) (life : Life) → slice_get lives i ≡ Some life → enqueue_call life ≤ least_entered_by (drop i lives)
 
 -- the class by its number
 abbrev pub class_number : Class → ℕ

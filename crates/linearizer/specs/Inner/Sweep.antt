@@ -48,7 +48,7 @@ TakesOneOf values first_in first_out place =
     (m : MatchedValue) → slice_get values first_in.place ≡ Some m
     → ((first_out.time < leaves_from m.life) × (place ≡ first_out.place)) ⊎ ((leaves_from m.life ≤ first_out.time) × (place ≡ first_in.place))
 
--- the values in their chosen order, each once and by its place, with the gap of each enqueue, which comes after its call
+-- the values in their chosen order, each once and by its place, with the gap of each enqueue, which is called in time
 pub record IsInOrder (values : List MatchedValue) (order : List Timed) : Type 0 where
   pub within : All (λ place. place < length values) (places_in order)
   pub holds_each_once : IsPermutation values (elements_at values (places_in order))

@@ -1,5 +1,5 @@
 -- What a sweep over the values finds.
-use Rattle.std.specs.Prelude.{◌≤◌, List, Contains}
+use Rattle.std.specs.Prelude.{◌<◌, List, Contains}
 use Rattle.value_match.specs.declared.life.Life.{Life}
 use Rattle.value_match.specs.declared.life.MatchedValue.{MatchedValue}
 use Rattle.value_match.specs.Lives.{enqueue_call, entered_by}
@@ -18,7 +18,7 @@ pub record IsPassedOver (values : List MatchedValue) (next : MatchedValue) : Typ
   pub is_next : IsChoice remaining next.life
   pub entered : Life
   pub is_left : Contains remaining entered
-  pub too_late : entered_by entered ≤ enqueue_call next.life
+  pub too_late : entered_by entered < enqueue_call next.life
   pub are_left : (x a : MatchedValue) → Contains values x → Contains values a → Overtakes x.life a.life → Contains remaining x.life
 
 -- the values in their chosen order, or the one that can't come next

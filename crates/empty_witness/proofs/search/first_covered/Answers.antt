@@ -1,7 +1,8 @@
 use Rattle.empty_witness.proofs.Common.{append-nil, IsFirstCovered, rules, subst, sym, take_all, timeline_of, ◌++◌}
-use Rattle.empty_witness.proofs.Answers.{answer_is_empty, covered_if_none, first_of_one, gap_if_some, one_more_covered, one_more_free}
-use Rattle.empty_witness.proofs.search.first_covered.Goals as goal
+use Rattle.empty_witness.proofs.Answers.{answer_is_empty, covered_if_none, first_of_one, gap_if_some, one_more_covered}
+use Rattle.empty_witness.proofs.Answers.{one_more_free}
 use Rattle.empty_witness.proofs.search.first_covered.Goals.{then-is_none, else-is_none}
+use Rattle.empty_witness.proofs.search.first_covered.Goals as goal
 
 pub answer_at-answer-requires : goal.answer_at-answer-requires
 answer_at-answer-requires c = answer_is_empty (timeline_of c.args.matching.now) c.args.others.now c.loop-empty.empty-index c.empty-item.result c.requires.others

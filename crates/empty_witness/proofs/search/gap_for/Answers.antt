@@ -1,8 +1,8 @@
 use Rattle.empty_witness.proofs.Common.{ap, AreSpansOf, arith, behind, IsAt, IsEmptyAnswerAt, length, List, Operation}
 use Rattle.empty_witness.proofs.Common.{slice_get_within, subst, sym, timeline_of, ℕ, ◌≡◌}
-use Rattle.empty_witness.proofs.ToldGaps.{empty_behind, gap_told}
-use Rattle.empty_witness.proofs.search.gap_for.Goals as goal
+use Rattle.empty_witness.proofs.EmptyTimes.{empty_behind}
 use Rattle.empty_witness.proofs.search.gap_for.Goals.{After-answer_at-answer}
+use Rattle.empty_witness.proofs.search.gap_for.Goals as goal
 
 pub prove-unreachable-requires : goal.prove-unreachable-requires
 prove-unreachable-requires c =
@@ -32,11 +32,10 @@ pub returns-in-Some : goal.returns-in-Some
 returns-in-Some c =
     let matching = c.args.matching.now in
     let o = c.answer_at-answer.result.operation in
-    let count = ap (λ (l : List ℕ). length l) c.initial-initial_count.ensures.initial in
     let are = subst (AreSpansOf (timeline_of matching)) (sym c.as_slice.ensures.value) c.in_ok-spans.ensures in
     let free = c.in-Some.ensures (timeline_of matching) are in
     let at = answer_at_place ((goal.at.returns-in-Some c).After-answer_at-answer) in
-    rw (c.told_gap.ensures, count) (o, at, gap_told matching.initial matching.operations _ o c.in-Some.gap at c.answer_at-answer.ensures.is_empty.1 free)
+    (o, at, free)
 
 pub returns : goal.returns
 returns c =

@@ -1,7 +1,7 @@
 use Rattle.empty_witness.proofs.Common.{arith, IsWithSpan, length, subst, ◌<◌}
 use Rattle.empty_witness.proofs.ValueSpans.{are_spans, no_spans, with_value, without_value}
-use Rattle.empty_witness.proofs.spans.spans_of.Goals as goal
 use Rattle.empty_witness.proofs.spans.spans_of.Goals.{then-stay+in_ok-add_stay, else-stay}
+use Rattle.empty_witness.proofs.spans.spans_of.Goals as goal
 
 pub loop-place-init : goal.loop-place-init
 loop-place-init c = rw c.new-spans.ensures.items (no_spans c.values-values.result)

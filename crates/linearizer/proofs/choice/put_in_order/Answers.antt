@@ -126,7 +126,7 @@ loop-entries-preserved c =
     let turn = next states.After-choice-next first in
     let read = c.get.ensures ∙ get_or_from_slice_get c.args.values.now c.choice-next.result turn.value c.get.result turn.is_at in
     let called = c.enqueue_call.ensures ∙ ap (λ m. enqueue_call m.life) read in
-    rw (c.in_ok-push.ensures.items, c.new.ensures)
+    rw (c.in_ok-push.ensures.items, c.new.ensures, c.saturating_sub.ensures)
     (swept_next c.args.values.now c.as_slice-entries.result.now c.as_slice-dequeues.result.now c.loop-entries.taken.items _ _ _ _
     c.loop-entries.order.items c.choice-next.result c.unpack-entry.result turn c.loop-entries.invariant
     (entered states.After-first_left-first_in) (dequeued states.After-first_left-first_out)

@@ -1,8 +1,10 @@
-use Rattle.linearizer.proofs.Common.{ap, filter, get_or, is_empty_answer, length, length_push, refl, rules}
-use Rattle.linearizer.proofs.Common.{slice_get_read, Some, sym, timeline_of, zip_end, zip_turn, ℕ, ◌<◌, ◌∙◌, ◌≡◌}
+use Rattle.linearizer.proofs.Common.{ap, arith, filter, get_or, is_empty_answer, length, length_push, refl, rules}
+use Rattle.linearizer.proofs.Common.{slice_get_read, Some, sym, time_of, timeline_of, zip_end, zip_turn, ℕ, ◌<◌, ◌∙◌}
+use Rattle.linearizer.proofs.Common.{◌≡◌}
 use Rattle.linearizer.proofs.Additions.{IsNamed, adds_all, adds_empty, gap_beside, named, named_early, named_few}
-use Rattle.linearizer.proofs.noops.add_empties.Goals as goal
 use Rattle.linearizer.proofs.noops.add_empties.Goals.{After-place}
+use Rattle.history_merge.specs.declared.packed.TheConstants.{PACKED_LIMIT}
+use Rattle.linearizer.proofs.noops.add_empties.Goals as goal
 
 -- the place and the gap of this turn
 pair : (c : After-place) → (length c.loop-id.yielded < length c.timeline_empties.result.now) × (length c.loop-id.yielded < length c.args.gaps.now)
@@ -19,11 +21,17 @@ turn c = named _ _ c.timeline_empties.result.now _ _ c.timeline_empties.ensures
 pub new-requires-clause-place : goal.new-requires-clause-place
 new-requires-clause-place c = named_few _ _ _ _ (turn (goal.at.new-requires-clause-place c).After-place) c.requires.few
 
+-- the gap's time is in range
+early : (c : After-place) → time_of c.in-Some.gap.now < PACKED_LIMIT
+early c =
+    let free = gap_beside _ _ c.args.gaps.now _ c.in-Some.gap.now 0 _ c.requires.gaps (turn c).is_listed ((pair c).3 0) in
+    named_early _ _ _ _ _ (turn c) c.requires.clear free
+
+pub overflow_add-gap : goal.overflow_add-gap
+overflow_add-gap c = omega (arith, early (goal.at.overflow_add-gap c).After-place)
+
 pub new-requires-clause-time : goal.new-requires-clause-time
-new-requires-clause-time c =
-    let of_place = (goal.at.new-requires-clause-time c).After-place in
-    let free = gap_beside _ _ c.args.gaps.now _ c.in-Some.gap.now 0 _ c.requires.gaps (turn of_place).is_listed ((pair of_place).3 0) in
-    named_early _ _ _ _ _ (turn of_place) c.requires.clear free
+new-requires-clause-time c = early (goal.at.new-requires-clause-time c).After-place
 
 pub loop-id-preserved : goal.loop-id-preserved
 loop-id-preserved c =

@@ -8,7 +8,7 @@ returns-in-Fresh-clause-matched c =
     let found = subst (IsMatchOutcomeOf _) c.in-Fresh.is c.in_ok-sorted.ensures in
     let chosen = subst (λ all. AreChosenFresh all c.in-Fresh.places) c.timeline.ensures.timeline found in
     rw (c.told_fresh.ensures, c.initial-initial_count.ensures.initial)
-    (fresh_told history.initial (operations_of history.events) c.in-Fresh.places chosen)
+    (fresh_told history.initial (operations_of history.events) c.initial-initial_count.ensures.few c.in-Fresh.places chosen)
 
 pub returns-in-Repeat-clause-matched : goal.returns-in-Repeat-clause-matched
 returns-in-Repeat-clause-matched c =
@@ -16,4 +16,4 @@ returns-in-Repeat-clause-matched c =
     let found = subst (IsMatchOutcomeOf _) c.in-Repeat.is c.in_ok-sorted.ensures in
     let chosen = subst (λ all. AreChosenRepeat all c.in-Repeat.places) c.timeline.ensures.timeline found in
     rw (c.told_repeat.ensures, c.initial-initial_count.ensures.initial)
-    (repeat_told history.initial (operations_of history.events) c.in-Repeat.places chosen)
+    (repeat_told history.initial (operations_of history.events) c.initial-initial_count.ensures.few c.in-Repeat.places chosen)

@@ -1,4 +1,4 @@
-use Rattle.verdicts.proofs.Common.{◌∙◌, ap, Decides-at, get_or_from_slice_get, refl, slice_get_read, Some, sym}
+use Rattle.verdicts.proofs.Common.{ap, Decides-at, get_or_from_slice_get, refl, slice_get_read, Some, sym, ◌∙◌}
 use Rattle.verdicts.proofs.Lookups.{eq-Decides}
 use Rattle.verdicts.proofs.lookup.is_at.Goals as goal
 

@@ -1,9 +1,9 @@
-use Rattle.verdicts.proofs.Common.{◌∙◌, ◌≡◌, ap, arith, contains, IfOk-weaker, length, nat_cmp, subst}
-use Rattle.verdicts.proofs.Common.{timeline_is_of_complete, operations_of, SelectsNamed, violation_lines}
+use Rattle.verdicts.proofs.Common.{ap, arith, contains, Event, filter, holds_ticket, IfOk-weaker, length}
+use Rattle.verdicts.proofs.Common.{nat_cmp, operations_of, selects, SelectsNamed, subst, timeline_is_complete}
+use Rattle.verdicts.proofs.Common.{violation_lines, ◌∙◌, ◌≡◌}
 use Rattle.verdicts.proofs.Selections.{has_shortest_cover}
 use Rattle.verdicts.proofs.ShrunkEvents.{no_longer}
 use Rattle.verdicts.proofs.ShrunkHistories.{IsShrunk, IsWhole, are_complete, are_shrunk}
-use Rattle.verdicts.proofs.Common.{filter, selects, holds_ticket, Event}
 use Rattle.verdicts.proofs.shrinking.shrink.Goals as goal
 
 pub history_of-requires-clause-few_initial : goal.history_of-requires-clause-few_initial
@@ -47,7 +47,7 @@ returns c =
       same_violation = IfOk-weaker small (IsShrunk whole violation) _ (λ s is. is.same_violation) shrunk;
       minimal = IfOk-weaker small (IsShrunk whole violation) _ (λ s is. is.minimal) shrunk;
       shortest = IfOk-weaker small (IsShrunk whole violation) _ (λ s is. has_shortest_cover whole.initial (operations_of whole.events) violation
-          (timeline_is_of_complete whole.initial whole.events is_whole.complete is_whole.few) c.requires) shrunk;
+          (timeline_is_complete whole.initial whole.events is_whole.complete is_whole.few) c.requires) shrunk;
       initial = IfOk-weaker small (IsShrunk whole violation) _ (λ s is. is.initial) shrunk;
       events = IfOk-weaker small (IsShrunk whole violation) _ (λ s is. is.events) shrunk;
       complete = IfOk-weaker small (IsShrunk whole violation) _ (λ s is. is.complete) shrunk;

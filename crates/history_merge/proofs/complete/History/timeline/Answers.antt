@@ -1,7 +1,7 @@
-use Rattle.history_merge.proofs.Common.{◌∙◌, ap, AreComplete, arith, events_of, length, subst, sym, timeline}
+use Rattle.history_merge.proofs.Common.{ap, AreComplete, arith, events_of, length, subst, sym, timeline, ◌∙◌}
 use Rattle.history_merge.proofs.Completeness.{few_operations}
 use Rattle.history_merge.proofs.TimelineOperations.{length_timeline}
-use Rattle.history_merge.proofs.Timelines.{timeline_is_of_complete}
+use Rattle.history_merge.proofs.Timelines.{timeline_is_complete}
 use Rattle.history_merge.proofs.complete.History.timeline.Goals as goal
 
 pub returns-clause-complete : goal.returns-clause-complete
@@ -10,7 +10,7 @@ returns-clause-complete c =
     let initial = c.self.inside.timeline.initial in
     let own = c.self.inside.timeline.operations in
     subst AreComplete (sym (c.all.ensures.timeline ∙ ap (timeline initial) kept.formed))
-    (timeline_is_of_complete initial (events_of own) kept.complete c.all.ensures.few)
+    (timeline_is_complete initial (events_of own) kept.complete c.all.ensures.few)
 
 pub returns-clause-few : goal.returns-clause-few
 returns-clause-few c =

@@ -1,5 +1,5 @@
-use Rattle.history_merge.proofs.Common.{◌∙◌, ◌≡◌, ap, arith, Contents, drop, later_by, length, operations_on}
-use Rattle.std.proofs.Common.{◌*◌, map}
+use Rattle.history_merge.proofs.Common.{ap, arith, Contents, drop, later_by, length, operations_on, ORIGIN, ◌∙◌, ◌≡◌}
+use Rattle.std.proofs.Common.{map}
 use Rattle.history_merge.proofs.TimelineOperations.{behind_enqueues, length_timeline}
 use Rattle.history_merge.proofs.timeline.Timeline.behind.Goals as goal
 
@@ -18,4 +18,4 @@ returns c =
     let count : c.len.result ≡ length initial = omega (arith, c.len.ensures) in
     c.split_at.ensures.back ∙ ap (drop c.len.result) c.as_slice.ensures.value ∙ ap (λ n. drop n all) count
     ∙ behind_enqueues initial all (operations_on (length initial) all) c.self.invariant.is
-    ∙ ap (λ (view : Contents). map (later_by (2 * length view.initial)) view.operations) c.self.view_is
+    ∙ ap (λ (view : Contents). map (later_by ORIGIN) view.operations) c.self.view_is

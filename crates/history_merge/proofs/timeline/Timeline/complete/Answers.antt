@@ -1,6 +1,6 @@
-use Rattle.history_merge.proofs.Common.{◌+◌, ◌∙◌, ◌≡◌, ap, arith, Contents, get_or_from_slice_get, length, Operation}
-use Rattle.history_merge.proofs.Common.{operations_on, set, subst, sym, timeline}
-use Rattle.std.proofs.Common.{◌*◌, ◌<◌, get_or}
+use Rattle.history_merge.proofs.Common.{ap, arith, Contents, get_or_from_slice_get, length, Operation, operations_on}
+use Rattle.history_merge.proofs.Common.{set, subst, sym, timeline, ◌+◌, ◌∙◌, ◌≡◌}
+use Rattle.std.proofs.Common.{◌<◌, get_or}
 use Rattle.history_merge.proofs.TimelineOperations.{completed, is_timeline, operations_back}
 use Rattle.history_merge.proofs.timeline.Timeline.complete.Goals.{After-self-1}
 use Rattle.history_merge.proofs.timeline.Timeline.complete.Goals as goal
@@ -16,11 +16,10 @@ changed c =
     let place = c.args.place in
     let d = c.index.result.now in
     let count : c.len.result ≡ length initial = omega (arith, c.len.ensures) in
-    let ticks = c.ticks.ensures ∙ ap (λ (view : Contents). 2 * length view.initial) (sym c.self.view_is) in
     let within : place < length own = subst (λ (view : Contents). place < length view.operations) (sym c.self.view_is) c.requires.place in
     let at = c.unpack-pending.ensures.operation ∙ c.index.ensures ∙ ap (λ k. get_or all (k + place) d) count in
     ap (λ k. set all (k + place) c.new.result) count
-    ∙ ap (set all (length initial + place)) (c.new.ensures ∙ ap (λ n. record c.unpack-pending.result { ret = c.args.ret + n; kind = c.args.kind }) ticks)
+    ∙ ap (set all (length initial + place)) c.new.ensures
     ∙ completed initial all own place c.args.ret c.args.kind d c.unpack-pending.result c.self.invariant.is within at
     ∙ ap (λ (view : Contents). timeline initial (set view.operations place (record (get_or view.operations place d) { ret = c.args.ret; kind = c.args.kind })))
     c.self.view_is

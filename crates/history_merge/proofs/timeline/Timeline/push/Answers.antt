@@ -1,18 +1,16 @@
-use Rattle.history_merge.proofs.Common.{[], ◌++◌, ◌∙◌, ◌∷◌, ◌≡◌, ap, Contents, inl, inr, IsTimeline, later_by, length}
-use Rattle.history_merge.proofs.Common.{on_ok_weaker, operations_on, subst, sym, timeline}
-use Rattle.std.proofs.Common.{◌*◌}
+use Rattle.history_merge.proofs.Common.{[], ap, Contents, inl, inr, IsTimeline, length, on_ok_weaker, operations_on}
+use Rattle.history_merge.proofs.Common.{subst, sym, timeline, ◌++◌, ◌∙◌, ◌∷◌, ◌≡◌}
 use Rattle.history_merge.proofs.TimelineOperations.{is_timeline, operations_back, pushed, timeline_push}
 use Rattle.history_merge.proofs.timeline.Timeline.push.Goals.{After-push}
 use Rattle.history_merge.proofs.timeline.Timeline.push.Goals as goal
 
 -- one operation more on the timeline
-more : (c : After-push) → c.self.inside.all.items ++ c.later-later.result ∷ [] ≡ timeline c.self.inside.initial.items (c.args.self.now.operations ++ c.args.operation ∷ [])
+more : (c : After-push) → c.self.inside.all.items ++ c.later.result ∷ [] ≡ timeline c.self.inside.initial.items (c.args.self.now.operations ++ c.args.operation ∷ [])
 more c =
     let initial = c.self.inside.initial.items in
     let own = operations_on (length initial) c.self.inside.all.items in
-    let ticks = c.ticks.ensures ∙ ap (λ (view : Contents). 2 * length view.initial) (sym c.self.view_is) in
-    ap (λ os. os ++ c.later-later.result ∷ []) c.self.invariant.is
-    ∙ ap (λ o. timeline initial own ++ o ∷ []) (c.later-later.ensures ∙ ap (λ n. later_by n c.args.operation) ticks)
+    ap (λ os. os ++ c.later.result ∷ []) c.self.invariant.is
+    ∙ ap (λ o. timeline initial own ++ o ∷ []) c.later.ensures
     ∙ timeline_push initial own c.args.operation
     ∙ ap (λ (view : Contents). timeline initial (view.operations ++ c.args.operation ∷ [])) c.self.view_is
 
@@ -20,7 +18,7 @@ pub invariant_of-self : goal.invariant_of-self
 invariant_of-self c =
     let initial = c.self.inside.initial.items in
     let old = c.self.inside.all.items in
-    elim (pushed c.push.result old c.push.new.operations.items (old ++ c.later-later.result ∷ []) c.push.ensures.added c.push.ensures.kept) [
+    elim (pushed c.push.result old c.push.new.operations.items (old ++ c.later.result ∷ []) c.push.ensures.added c.push.ensures.kept) [
       | inl added ↦ is_timeline initial c.push.new.operations.items (c.args.self.now.operations ++ c.args.operation ∷ []) c.self.invariant.few
           (added ∙ more c)
       | inr kept ↦ subst (IsTimeline initial) (sym kept) c.self.invariant

@@ -7,4 +7,4 @@ returns c =
     let history = c.self.inside.history.now in
     let places = c.timeline_refused.result.now in
     let holds = subst (λ matching. HoldsPlaces (timeline_of matching) is_refused places) (sym c.self.view_is) c.timeline_refused.ensures in
-    rw (← c.self.view_is, c.new.ensures, c.initial.ensures.initial) (refused_told history.initial (operations_of history.events) places holds)
+    rw (← c.self.view_is, c.new.ensures, c.initial.ensures.initial) (refused_told history.initial (operations_of history.events) c.initial.ensures.few places holds)
