@@ -103,9 +103,19 @@ fn fault_told(outcome: &Outcome, status: u8) -> Option<Fault> {
     }
 }
 
-/// What a message says of a fault of `stress`, on a shelf of queues with these names.
-fn complaint_of_run<'a>(fault: Fault, task: &Task<'a>, names: &'a [&'a str]) -> Complaint<'a> {
+/// What a message says of a fault, if this much of the input is kept, on a shelf of queues with these names.
+fn complaint_of<'a>(
+    fault: Fault,
+    task: &Task<'a>,
+    given: Given<'a>,
+    names: &'a [&'a str],
+) -> Complaint<'a> {
     match (fault, task) {
+        (Fault::Text(fault), _) => Complaint::Text(fault, given),
+        (Fault::History(incomplete), _) => {
+            Complaint::History(incomplete.fault, incomplete.clash, given)
+        }
+        (Fault::Size, _) => Complaint::Size,
         (Fault::Queue, Task::Stress(options)) => Complaint::Queue {
             name: options.queue,
             names,
@@ -116,23 +126,6 @@ fn complaint_of_run<'a>(fault: Fault, task: &Task<'a>, names: &'a [&'a str]) -> 
         },
         (Fault::Run(fault), _) => Complaint::Run(fault),
         _ => Complaint::Memory,
-    }
-}
-
-/// What a message says of a fault, if this much of the input is kept.
-fn complaint_of<'a>(
-    fault: Fault,
-    task: &Task<'a>,
-    given: Given<'a>,
-    names: &'a [&'a str],
-) -> Complaint<'a> {
-    match fault {
-        Fault::Text(fault) => Complaint::Text(fault, given),
-        Fault::History(incomplete) => {
-            Complaint::History(incomplete.fault, incomplete.clash, given)
-        }
-        Fault::Size => Complaint::Size,
-        _ => complaint_of_run(fault, task, names),
     }
 }
 
@@ -181,22 +174,6 @@ fn message_of<'b, 'a, S>(
     sentence(alloc, &complaint)
 }
 
-/// Says why a command found nothing, or that its answer wasn't written; of a verdict nothing.
-fn say_why<'b, 'a, S, E: TextSink>(
-    alloc: Global,
-    ended: &Ended<'b, 'a, S>,
-    status: u8,
-    errors: &mut E,
-)
-    ensures silent { status ≤ 1 → errors.new ≡ errors.old }
-    ensures said { 2 ≤ status → E.has_refused errors.old ≡ false
-        → SaysMessage (E.contents errors.old) (E.contents errors.new) (E.has_refused errors.new) }
-{
-    if status > 1 {
-        tell_made(&message_of(alloc, ended, status), errors);
-    }
-}
-
 /// Says to one who sits at the output how a long history is kept.
 fn say_how_to_keep<E: TextSink>(
     alloc: Global,
@@ -222,7 +199,7 @@ fn say_how_to_keep<E: TextSink>(
     }
 }
 
-/// Says what is to be said of a command that ended.
+/// Says why a command that ended found nothing, or that its answer wasn't written, of a verdict nothing; and how a long history is kept.
 pub(crate) fn say_at_end<'b, 'a, S, E: TextSink>(
     alloc: Global,
     ended: &Ended<'b, 'a, S>,
@@ -234,7 +211,9 @@ pub(crate) fn say_at_end<'b, 'a, S, E: TextSink>(
     ensures said { terminals.output ≡ false → 2 ≤ status → E.has_refused errors.old ≡ false
         → SaysMessage (E.contents errors.old) (E.contents errors.new) (E.has_refused errors.new) }
 {
-    say_why(alloc, ended, status, errors);
+    if status > 1 {
+        tell_made(&message_of(alloc, ended, status), errors);
+    }
     say_how_to_keep(alloc, ended.order, ended.outcome, terminals, errors);
 }
 

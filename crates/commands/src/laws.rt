@@ -13,11 +13,14 @@ ghost use Rattle.command_words.specs.declared.options.DrawOptions.{DrawOptions};
 ghost use Rattle.command_words.specs.Commands.{check, shrink, verify, draw, convert, stats, sim};
 ghost use Rattle.command_words.specs.Options.{Settings};
 ghost use Rattle.commands.specs.Answers.{Reply, ShowsNoViolation, played};
+ghost use Rattle.commands.specs.Evidence.{CheckedIsValid, ShrunkIsValid, ShrunkIsChecked, DrawnAsChecked};
+ghost use Rattle.commands.specs.Conversions.{ConvertedIsSameHistory, ConvertedIsKept, ConvertedIsChecked, ConvertedIsCounted, ConvertedIsVerified};
 ghost use Rattle.commands.specs.Judging.{SimulatesIn};
 ghost use Rattle.commands.specs.OneAnswer.{HasOneAnswer};
 ghost use Rattle.commands.specs.Stressing.{StressesUnshelved, proved_name};
 
 /// No false alarm: the answer to an honest schedule that is done is `YES`.
+#[tactic(auto, using(crate::proofs::Runs::honest_gets_a_yes))]
 pub fn honest_schedules_get_a_yes()
     ensures { (setting : Setting) (schedule : List Attempt) (answer : Reply)
         → setting.threads ≤ MAX_THREADS → IsHonest setting schedule → IsDone setting schedule → SimulatesIn setting schedule answer
@@ -40,4 +43,33 @@ pub fn one_answer()
 /// violation.
 pub fn runs_of_the_proved_queue_are_linearizable()
     ensures { (settings : Settings) (answer : Reply) → settings.queue ≡ proved_name → StressesUnshelved settings answer → ShowsNoViolation answer }
+{}
+
+/// Every verdict that `check` writes is evidence: `verify` answers the input, followed by the verdict, with `VALID`, or
+/// memory runs out.
+pub fn a_checked_verdict_is_valid()
+    ensures { CheckedIsValid }
+{}
+
+/// What `shrink` writes of a history that is not linearizable is the text of a history and of its verdict: `verify` answers it with `VALID`, and `check`
+/// answers the history with that same verdict, or memory runs out.
+pub fn what_is_shrunk_is_valid()
+    ensures valid { ShrunkIsValid }
+    ensures checked { ShrunkIsChecked }
+{}
+
+/// `draw` decides a history as `check` does: it answers a history on its own as it answers the history followed by the verdict
+/// of `check`, or memory runs out.
+pub fn a_history_is_drawn_with_its_verdict()
+    ensures { (options : DrawOptions) → DrawnAsChecked options }
+{}
+
+/// The text of a history and what `convert` writes of it stand for one history: `check` answers both alike, and so does
+/// `stats`; `verify` answers both alike with a verdict after them; or memory runs out. A text of version 2 comes out as it is.
+pub fn conversion_keeps_answers()
+    ensures same_history { ConvertedIsSameHistory }
+    ensures kept { ConvertedIsKept }
+    ensures checked { ConvertedIsChecked }
+    ensures counted { ConvertedIsCounted }
+    ensures verified { ConvertedIsVerified }
 {}

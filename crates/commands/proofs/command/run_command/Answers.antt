@@ -1,5 +1,6 @@
-use Rattle.commands.proofs.Common.{◌∙◌, arith, sym, same_Some}
-use Rattle.commands.proofs.Runs.{memory_has_3, memory_printed, memory_ran_out, or_no_memory, reads_out_of_memory, reads_printed}
+use Rattle.commands.proofs.Common.{◌∙◌, arith, same_Some, sym}
+use Rattle.commands.proofs.Runs.{memory_has_3, memory_printed, memory_ran_out, or_no_memory, reads_out_of_memory}
+use Rattle.commands.proofs.Runs.{reads_printed}
 use Rattle.commands.proofs.command.run_command.Goals as goal
 
 pub returns-in-Err-clause-reads : goal.returns-in-Err-clause-reads
