@@ -33,7 +33,7 @@ pub use Rattle.std.proofs.Common.{[], ◌++◌, ◌+◌, ◌<◌, ◌∙◌, ◌
 pub use Rattle.std.proofs.Common.{filter, flat_map, IfSome, inl, inr, length, List, None, Option, refl, Some, subst}
 pub use Rattle.std.proofs.Common.{sym, take, true, ℕ}
 pub use Rattle.std.proofs.Math.Logic.{⊎_map}
-pub use Rattle.std.proofs.lemmas.Option.{IfSome_then, same_Some}
+pub use Rattle.std.proofs.lemmas.Option.{IfSome_then}
 pub use Rattle.std.proofs.lemmas.Result.{err_from_is_err_and}
 pub use Rattle.text_lines.proofs.Putting.{asked_if_err, asked_if_ok, bytes_if_err, bytes_if_ok, longer_front}
 pub use Rattle.text_lines.proofs.Putting.{refused_if_err, refused_text, writes_then}

@@ -1,11 +1,11 @@
 -- What a run gives: of a schedule, of a queue, and of the words of a command.
 use Rattle.commands.proofs.Common.{[], ◌++◌, ◌+◌, ◌<◌, ◌∙◌, ◌∷◌, ◌≡◌, ◌≢◌, ◌≤◌, ◌⊎◌, Ahead, All, AnswersOf}
 use Rattle.commands.proofs.Common.{AnswersOrNoMemory, ap, arith, Attempt, Bool, claim_of, codes, collected_lists}
-use Rattle.commands.proofs.Common.{Event, false, flat_map, HistoryView, IfSome, IfSome_then, inl, inr, IsCompleteFrom}
+use Rattle.commands.proofs.Common.{Event, false, flat_map, HistoryView, IfSome, inl, inr, IsCompleteFrom}
 use Rattle.commands.proofs.Common.{IsCompleteHistory, IsDecided, IsExact, IsLinearizable, IsMerged, LEAST_INITIAL_NAME}
 use Rattle.commands.proofs.Common.{length, List, memory_fault, No, None, One, operations_of, Option, played, refl}
-use Rattle.commands.proofs.Common.{rejections, Reply, said_in, same_Some, Setting, shown, Some, stress, subst, sym}
-use Rattle.commands.proofs.Common.{take, true, Two, Verdict, Version, Yes, ℕ}
+use Rattle.commands.proofs.Common.{rejections, Reply, said_in, Setting, shown, Some, stress, subst, sym, take, true}
+use Rattle.commands.proofs.Common.{Two, Verdict, Version, Yes, ℕ}
 use Rattle.clap.specs.Kinds.{HasKind, IsAmong, Kinds}
 use Rattle.clap.specs.Values.{kind_of}
 use Rattle.clap.specs.declared.error.Error.{Error}
@@ -14,7 +14,7 @@ use Rattle.command_words.specs.Options.{IsWithinRanges, Settings}
 use Rattle.commands.specs.Answers.{run_fault}
 use Rattle.commands.specs.Inner.Running.{Explains}
 use Rattle.commands.specs.Judging.{SimulatesIn}
-use Rattle.commands.specs.Running.{PrintsAnswer, PrintsOneOf, PrintsSaid}
+use Rattle.commands.specs.Running.{PrintsAnswer, PrintsOneOf}
 use Rattle.commands.specs.Stressing.{first_values, IsFirstNamed, IsShownRun, run_version, RunsOrFails}
 use Rattle.commands.specs.declared.stress.TheConstants.{TRIES}
 use Rattle.event_records.specs.Question.{Question}
@@ -33,9 +33,10 @@ use Rattle.recorder_core.specs.Laws.{IsDone}
 use Rattle.recorder_core.specs.Replay.{AreRecorded, effects_order, IsHonest, Replays}
 use Rattle.recorder_core.specs.Schedule.{accepted}
 use Rattle.simulation.specs.declared.playing.Rejection.{Rejection}
-use Rattle.std.proofs.Common.{◌&&◌, ◌==◌, add-one, AllPairs, drop, get_or, if◌then◌else◌, leb-true, nat_eq, nat_le}
-use Rattle.std.proofs.Common.{suc, take-suc, zero}
+use Rattle.std.proofs.Common.{◌&&◌, ◌==◌, AllPairs, drop, get_or, if◌then◌else◌, leb-true, nat_eq, nat_le, suc}
+use Rattle.std.proofs.Math.Seq.{drop-cons}
 use Rattle.std.proofs.lemmas.Cmp.{nat_list_eq_equiv}
+use Rattle.std.proofs.lemmas.List.{take-append-drop, take_more}
 use Rattle.std.proofs.lemmas.List.Elements.{All-cons, All-nil, All-push}
 use Rattle.std.proofs.lemmas.List.FromFn.{get_or-range_with_len, length-range_with_len}
 use Rattle.std.specs.Cmp.Lexicographic.{pointwise, same_text}
@@ -222,80 +223,48 @@ other_name text bytes name e f same =
     let told = f ∙ ap (λ l. pointwise nat_eq l name) (e ∙ same) ∙ equal in
     cc
 
-parted : {X : Type 0} (xs : List X) (i : ℕ) (x : X) → i < length xs → x ≡ get_or xs i x → xs ≡ take i xs ++ x ∷ drop (suc i) xs
-parted [] i x h e = absurd (omega (arith, h))
-parted (y ∷ ys) zero x h e = ap (λ z. z ∷ ys) (sym e)
-parted (y ∷ ys) (suc i) x h e = ap (λ l. y ∷ l) (parted ys i x (omega (arith, h)) e)
-
 module _ {X : Type 0} (name_of : X → List ℕ) (name : List ℕ) (xs : List X) (i : ℕ) (x : X) (inside : i < length xs) (is : x ≡ get_or xs i x)
     (passed : All (λ y. name_of y ≢ name) (take i xs)) where
   -- a queue with the name, before which none has it, is the first of the name
   pub found_first : name_of x ≡ name → IsFirstNamed name_of name xs x
-  found_first named = record { before = take i xs; after = drop (suc i) xs; parts = parted xs i x inside is; named = named; others = passed }
+  found_first named = record {
+    before = take i xs;
+    after = drop (suc i) xs;
+    parts = sym (take-append-drop i xs) ∙ ap (λ l. take i xs ++ l) (drop-cons xs i x inside ∙ ap (λ z. z ∷ drop (suc i) xs) (sym is));
+    named = named;
+    others = passed;
+  }
 
   -- where the next has another name, none of one more has it
   pub passed_more : (name_of x ≢ name) → All (λ y. name_of y ≢ name) (take (i + 1) xs)
-  passed_more other =
-      let more = ap (λ n. take n xs) (add-one i) ∙ take-suc xs i x inside ∙ ap (λ z. take i xs ++ z ∷ []) (sym is) in
-      subst (All (λ y. name_of y ≢ name)) (sym more) (All-push (λ y. name_of y ≢ name) (take i xs) x passed other)
+  passed_more other = rw (take_more xs i x inside, ← is) (All-push (λ y. name_of y ≢ name) (take i xs) x passed other)
 
 -- ---- what an error of the words leaves behind where nothing is wrong with them
 
--- memory ran out, and that is printed
-pub memory_ran_out : (e : Error) (kinds : Kinds) (old new : Option (List ℕ)) (refused : Bool) (result : ℕ) → kinds ≡ [] → HasKind kinds e
-    → Explains (kind_of e) old new refused result → PrintsAnswer old new refused result memory_fault
-memory_ran_out e kinds old new refused result none memory (inr printed) = printed
-memory_ran_out e kinds old new refused result none (inl memory) (inl text) = absurd (text.usual memory)
-memory_ran_out e kinds old new refused result none (inr among) (inl text) = absurd (subst (IsAmong (kind_of e)) none among)
+module _ (old new : Option (List ℕ)) (refused : Bool) (result : ℕ) where
+  -- memory ran out, and that is printed
+  pub memory_ran_out : (e : Error) (kinds : Kinds) → kinds ≡ [] → HasKind kinds e → Explains (kind_of e) old new refused result
+      → PrintsAnswer old new refused result memory_fault
+  memory_ran_out e kinds none memory (inr printed) = printed
+  memory_ran_out e kinds none (inl memory) (inl text) = absurd (text.usual memory)
+  memory_ran_out e kinds none (inr among) (inl text) = absurd (subst (IsAmong (kind_of e)) none among)
+
+  -- out of memory is an answer of any kind, said alike quietly or whole
+  pub memory_printed : (quiet : Bool) (IsAnswer : Reply → Type 0) → PrintsAnswer old new refused result memory_fault
+      → PrintsOneOf quiet (λ answer. IsAnswer answer ⊎ (answer ≡ memory_fault)) old new refused result
+  memory_printed true IsAnswer printed = record { answer = memory_fault; right = inr refl; printed = printed }
+  memory_printed false IsAnswer printed = record { answer = memory_fault; right = inr refl; printed = printed }
+
+  -- so it is of a command that reads
+  pub reads_out_of_memory : (quiet : Bool) (request : Request) (input : Option Ahead) → PrintsAnswer old new refused result memory_fault
+      → IfSome input (λ a. PrintsOneOf quiet (AnswersOrNoMemory (AnswersOf request) a) old new refused result)
+  reads_out_of_memory quiet request None printed = tt
+  reads_out_of_memory quiet request (Some a) printed = memory_printed quiet (AnswersOf request a) printed
 
 -- and the status says so
 pub memory_has_3 : (old new : Option (List ℕ)) (refused : Bool) (result : ℕ) → PrintsAnswer old new refused result memory_fault → result ≡ 3
 memory_has_3 old new false result printed = printed.1
 memory_has_3 old new true result printed = printed.1
-
--- out of memory is said alike, quietly or whole
-pub memory_is_said : (quiet : Bool) (old new : Option (List ℕ)) (refused : Bool) (result : ℕ) → PrintsAnswer old new refused result memory_fault
-    → PrintsSaid quiet old new refused result memory_fault
-memory_is_said true old new refused result printed = printed
-memory_is_said false old new refused result printed = printed
-
--- out of memory is an answer of any kind
-pub memory_printed : (quiet : Bool) (IsAnswer : Reply → Type 0) (e : Error) (kinds : Kinds) (old new : Option (List ℕ)) (refused : Bool) (result : ℕ)
-    → kinds ≡ [] → HasKind kinds e → Explains (kind_of e) old new refused result
-    → PrintsOneOf quiet (λ answer. IsAnswer answer ⊎ (answer ≡ memory_fault)) old new refused result
-memory_printed quiet IsAnswer e kinds old new refused result none has explained = record {
-  answer = memory_fault;
-  right = inr refl;
-  printed = memory_is_said quiet old new refused result (memory_ran_out e kinds old new refused result none has explained);
-}
-
--- a command that reads
-pub reads_out_of_memory : (quiet : Bool) (request : Request) (e : Error) (kinds : Kinds) (input : Option Ahead) (old new : Option (List ℕ)) (refused : Bool)
-    (result : ℕ) → kinds ≡ [] → HasKind kinds e → Explains (kind_of e) old new refused result
-    → IfSome input (λ a. PrintsOneOf quiet (AnswersOrNoMemory (AnswersOf request) a) old new refused result)
-reads_out_of_memory quiet request e kinds None old new refused result none has explained = tt
-reads_out_of_memory quiet request e kinds (Some a) old new refused result none has explained =
-    (memory_printed quiet (AnswersOf request a) e kinds old new refused result none has explained)
-
--- ---- what was found is printed
-
--- an answer of a kind is one of that kind, or out of memory
-pub or_no_memory : (quiet : Bool) (IsAnswer : Reply → Type 0) (old new : Option (List ℕ)) (refused : Bool) (result : ℕ)
-    → PrintsOneOf quiet IsAnswer old new refused result → PrintsOneOf quiet (λ answer. IsAnswer answer ⊎ (answer ≡ memory_fault)) old new refused result
-or_no_memory quiet IsAnswer old new refused result p = record {
-  answer = p.answer;
-  right = inl p.right;
-  printed = p.printed;
-}
-
--- of a command that reads
-pub reads_printed : (asked : Option Request) (given request : Request) (quiet : Bool) (old new : Option (List ℕ)) (refused : Bool) (result : ℕ)
-    (input : Option Ahead) → asked ≡ Some given → asked ≡ Some request
-    → IfSome input (λ a. PrintsOneOf quiet (AnswersOf given a) old new refused result)
-    → IfSome input (λ a. PrintsOneOf quiet (AnswersOrNoMemory (AnswersOf request) a) old new refused result)
-reads_printed asked given request quiet old new refused result input is_given is found =
-    IfSome_then input found (λ a printed. or_no_memory quiet (AnswersOf request a) old new refused result
-    (subst (λ r. PrintsOneOf quiet (AnswersOf r a) old new refused result) (same_Some given request (sym is_given ∙ is)) printed))
 
 -- requests of `stress` that are the same have the same settings
 pub same_settings : (s t : Settings) → stress s ≡ stress t → s ≡ t

@@ -95,14 +95,6 @@ pub(crate) fn greet<E: TextSink>(
     }
 }
 
-/// The fault that has this status; none if the answer wasn't written.
-fn fault_told(outcome: &Outcome, status: u8) -> Option<Fault> {
-    match outcome {
-        Err(fault) if fault.status() == status => Some(*fault),
-        _ => None,
-    }
-}
-
 /// What a message says of a fault, if this much of the input is kept, on a shelf of queues with these names.
 fn complaint_of<'a>(
     fault: Fault,
@@ -149,15 +141,6 @@ fn names_on<'a>(alloc: Global, shelf: &[NamedQueue<'a>]) -> Result<Vec<&'a str>,
     Ok(names)
 }
 
-/// What is kept of its input, and what that was to be.
-fn given_to<'b, 'a, S>(ended: &Ended<'b, 'a, S>) -> Given<'b> {
-    Given {
-        reads: reads_of(name_of(&ended.order.task)).unwrap_or(Reads::History),
-        front: ended.kept.front(),
-        is_whole: ended.kept.is_whole(),
-    }
-}
-
 /// The message about a command that ended with a status which is no verdict's.
 fn message_of<'b, 'a, S>(
     alloc: Global,
@@ -166,11 +149,18 @@ fn message_of<'b, 'a, S>(
 ) -> Result<String, AllocError>
     ensures { IfOk result (λ made. IsMessage (string_bytes made)) }
 {
-    let Some(fault) = fault_told(ended.outcome, status) else {
-        return sentence(alloc, &Complaint::Write);
+    let fault = match ended.outcome {
+        Err(fault) if fault.status() == status => *fault,
+        _ => return sentence(alloc, &Complaint::Write),
     };
     let names = names_on(alloc, ended.shelf)?;
-    let complaint = complaint_of(fault, &ended.order.task, given_to(ended), names.as_slice());
+    let task = &ended.order.task;
+    let given = Given {
+        reads: reads_of(name_of(task)).unwrap_or(Reads::History),
+        front: ended.kept.front(),
+        is_whole: ended.kept.is_whole(),
+    };
+    let complaint = complaint_of(fault, task, given, names.as_slice());
     sentence(alloc, &complaint)
 }
 
@@ -247,27 +237,17 @@ pub(crate) fn say_mistake<T: AsStr, E: TextSink>(
     ensures said { 2 < status → E.has_refused errors.old ≡ false
         → SaysMessage (E.contents errors.old) (E.contents errors.new) (E.has_refused errors.new) }
 {
-    if status <= 1 {
-        return;
+    match status {
+        0 | 1 => {}
+        2 => say_mistaken_words(alloc, words, error, terminals, errors),
+        _ => {
+            let complaint = match error.kind() {
+                ErrorKind::OutOfMemory => Complaint::Memory,
+                _ => Complaint::Write,
+            };
+            tell_made(&sentence(alloc, &complaint), errors);
+        }
     }
-    if status == 2 {
-        say_mistaken_words(alloc, words, error, terminals, errors);
-    } else {
-        say_unexplained(alloc, error, errors);
-    }
-}
-
-/// Says why the words couldn't be explained: memory ran out, or the writer refused.
-fn say_unexplained<E: TextSink>(alloc: Global, error: &Error, errors: &mut E)
-    ensures { E.has_refused errors.old ≡ false
-        → SaysMessage (E.contents errors.old) (E.contents errors.new) (E.has_refused errors.new) }
-{
-    let complaint = if error.kind() == ErrorKind::OutOfMemory {
-        Complaint::Memory
-    } else {
-        Complaint::Write
-    };
-    tell_made(&sentence(alloc, &complaint), errors);
 }
 
 /// Says what is wrong with the words, unless the terminal shows it as standard output.

@@ -108,10 +108,12 @@ where
     E: TextSink,
     requires fresh { W.has_refused writer.old ≡ false }
     requires ranges { IsInRange (request_of order.now.task) }
-    ensures reads { IfSome (S.ahead reader) (λ input. PrintsOneOf order.now.is_quiet (AnswersOf (request_of order.now.task) input)
+    ensures reads { IfSome (S.ahead reader) (λ input. PrintsOneOf order.now.is_quiet
+        (AnswersOrNoMemory (AnswersOf (request_of order.now.task)) input)
         (W.contents writer.old) (W.contents writer.new) (W.has_refused writer.new) result) }
     ensures stresses { (settings : Settings) → request_of order.now.task ≡ stress settings
-        → PrintsOneOf order.now.is_quiet (Stresses (λ s. s.name.now) (λ s. may s.queue) (λ s. may_preload s.queue) shelf.now settings)
+        → PrintsOneOf order.now.is_quiet
+        (AnswersOrNoMemory (Stresses (λ s. s.name.now) (λ s. may s.queue) (λ s. may_preload s.queue) shelf.now) settings)
         (W.contents writer.old) (W.contents writer.new) (W.has_refused writer.new) result }
     ensures asked { WritesAndFlushes W.transition (W.has_refused writer.new) writer.old writer.new }
     ensures passed_on { W.has_refused writer.new ≡ false → W.holds_back writer.new ≡ false }

@@ -45,23 +45,15 @@ pub fn runs_of_the_proved_queue_are_linearizable()
     ensures { (settings : Settings) (answer : Reply) → settings.queue ≡ proved_name → StressesUnshelved settings answer → ShowsNoViolation answer }
 {}
 
-/// Every verdict that `check` writes is evidence: `verify` answers the input, followed by the verdict, with `VALID`, or
-/// memory runs out.
-pub fn a_checked_verdict_is_valid()
-    ensures { CheckedIsValid }
-{}
-
-/// What `shrink` writes of a history that is not linearizable is the text of a history and of its verdict: `verify` answers it with `VALID`, and `check`
-/// answers the history with that same verdict, or memory runs out.
-pub fn what_is_shrunk_is_valid()
-    ensures valid { ShrunkIsValid }
-    ensures checked { ShrunkIsChecked }
-{}
-
-/// `draw` decides a history as `check` does: it answers a history on its own as it answers the history followed by the verdict
-/// of `check`, or memory runs out.
-pub fn a_history_is_drawn_with_its_verdict()
-    ensures { (options : DrawOptions) → DrawnAsChecked options }
+/// Every answer is evidence. `verify` answers an input, followed by the verdict that `check` writes of it, with `VALID`. What `shrink`
+/// writes of a history that is not linearizable is the text of a history and of its verdict: `verify` answers it with `VALID`, and
+/// `check` answers the history with that same verdict. `draw` decides a history as `check` does: it answers a history on its own as it
+/// answers the history followed by the verdict of `check`. Or memory runs out.
+pub fn every_answer_is_evidence()
+    ensures checked { CheckedIsValid }
+    ensures shrunk { ShrunkIsValid }
+    ensures checked_again { ShrunkIsChecked }
+    ensures drawn { (options : DrawOptions) → DrawnAsChecked options }
 {}
 
 /// The text of a history and what `convert` writes of it stand for one history: `check` answers both alike, and so does

@@ -21,9 +21,8 @@ mod words;
 pub use beside::Terminals;
 pub use command::{run_command, run_over};
 pub use laws::{
-    a_checked_verdict_is_valid, a_history_is_drawn_with_its_verdict, conversion_keeps_answers,
-    honest_schedules_get_a_yes, one_answer, runs_of_the_proved_queue_are_linearizable,
-    what_is_shrunk_is_valid,
+    conversion_keeps_answers, every_answer_is_evidence, honest_schedules_get_a_yes, one_answer,
+    runs_of_the_proved_queue_are_linearizable,
 };
 pub use outcome::{Fault, Outcome, Report};
 pub use print::status_of;
