@@ -1,8 +1,7 @@
 -- The names that most proofs of this crate cite, passed on from one place. Declares nothing.
 pub use Rattle.command_words.specs.Commands.{stress}
 pub use Rattle.command_words.specs.Options.{settings_of}
-pub use Rattle.commands.specs.Answers.{answer_of_text_fault, converted, judged, memory_fault, played, rejection_lines}
-pub use Rattle.commands.specs.Answers.{Reply, shown}
+pub use Rattle.commands.specs.Answers.{answer_of_text_fault, converted, judged, memory_fault, played, Reply, shown}
 pub use Rattle.commands.specs.Evidence.{input_of}
 pub use Rattle.commands.specs.Inputs.{alone, claim_on, ClaimOnText, Drawable, IsClaimOf, IsDrawableOf}
 pub use Rattle.commands.specs.Inputs.{IsFaultOfClaimInput, IsFaultOfDrawableInput, IsFaultOfHistoryInput, IsHistoryOf}

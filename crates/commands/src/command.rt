@@ -4,7 +4,7 @@ ghost use Rattle.command_words.specs.Commands.{Request, stress, is_quiet_in, req
 ghost use Rattle.command_words.specs.Options.{Settings};
 ghost use Rattle.commands.specs.Judging.{AnswersOrNoMemory};
 ghost use Rattle.commands.specs.Outcomes.{answer_of, NamesPlaces};
-ghost use Rattle.commands.specs.Running.{AnswersOf, PrintsOneOf, PrintsSaid, ExplainsUse, SaysMessage, WritesAndFlushes, usage_status};
+ghost use Rattle.commands.specs.Running.{AnswersOf, PrintsOneOf, ExplainsUse, SaysMessage, WritesAndFlushes, usage_status};
 ghost use Rattle.commands.specs.Inner.Running.{Explains};
 ghost use Rattle.commands.specs.Stressing.{Stresses};
 ghost use Rattle.clap.specs.Values.{kind_of};

@@ -1,5 +1,5 @@
 //! The commands that read a history, alone or with a verdict after it, and draw nothing.
-ghost use Rattle.std.specs.Prelude.{[], ◌≡◌, IfErr, IfOk, IfSome};
+ghost use Rattle.std.specs.Prelude.{[], ◌≡◌, IfSome};
 ghost use Rattle.history_merge.specs.Initial.{IsCompleteFrom};
 ghost use Rattle.history_merge.specs.Legal.{IsLinearizable};
 ghost use Rattle.history_merge.specs.Operations.{operations_of};
@@ -8,8 +8,8 @@ ghost use Rattle.history_text.specs.declared.version.Version.TheVariants.{One};
 ghost use Rattle.history_text.specs.declared.version.Version.{Version};
 ghost use Rattle.value_match.specs.Outcome.{IsChosenViolation};
 ghost use Rattle.commands.specs.Inputs.{IsClaimOf, IsFaultOfClaimInput, IsFaultOfHistoryInput, IsHistoryOf};
-ghost use Rattle.commands.specs.Judging.{AnswersFor, AnswersOrNoMemory, Converts, Counts, IsFaulty, IsShrunk, IsSound};
-ghost use Rattle.commands.specs.Judging.{Judges, said_by, Shrinks, Verifies};
+ghost use Rattle.commands.specs.Judging.{AnswersFor, AnswersOrNoMemory, Converts, Counts, IsShrunk, IsSound};
+ghost use Rattle.commands.specs.Judging.{Judges, Shrinks, Verifies};
 ghost use Rattle.commands.specs.Outcomes.{answer_of, NamesPlaces};
 
 use crate::input::{claimed_of, given_history, history_of};

@@ -1,13 +1,16 @@
 //! `stress`: a recorded run of a queue, and its verdict.
-ghost use Rattle.std.specs.Prelude.{◌≡◌, ◌≢◌, ◌≤◌, ◌*◌, IfOk, IfSome, IfNone, All};
+ghost use Rattle.std.specs.Prelude.{◌≡◌, ◌≢◌, ◌≤◌, ◌*◌, IfOk, IfSome, IfNone, List, All};
+ghost use Rattle.event_records.specs.declared.event.Event.{Event};
 ghost use Rattle.event_records.specs.declared.limits.TheConstants.{MAX_OPERATIONS, MAX_STRESS_INITIAL};
+ghost use Rattle.history_merge.specs.Legal.{IsLinearizable};
+ghost use Rattle.history_merge.specs.Merge.{IsMerged};
+ghost use Rattle.history_merge.specs.Operations.{operations_of};
 ghost use Rattle.workloads.specs.Seeds.{IsSeeded};
 ghost use Rattle.queue_interface.specs.Answers.{AnswersInKind, TakesOrRefuses};
 ghost use Rattle.command_words.specs.Options.{settings_of, IsWithinRanges};
 ghost use Rattle.commands.specs.Answers.{ShowsNoViolation};
 ghost use Rattle.commands.specs.Judging.{AnswersOrNoMemory};
 ghost use Rattle.commands.specs.Outcomes.{answer_of, NamesPlaces};
-ghost use Rattle.commands.specs.Inner.Stressing.{IsLinearizableRun};
 ghost use Rattle.commands.specs.Stressing.{IsFirstNamed, IsShownRun, RunsOrFails, Stresses, StressesQueue, StressesUnshelved, first_values, run_version};
 
 use crate::histories::PIECES;
@@ -158,7 +161,8 @@ fn plan_of<'a>(alloc: Global, options: &StressOptions<'a>) -> Result<(Plan, Vec<
 fn judge_run<R: Threads + Sync>(rt: &R, alloc: Global, recorded: &Recorded, count: usize) -> Outcome
     requires { recorded.now.initial ≡ first_values count }
     ensures found { AnswersOrNoMemory (IsShownRun count) recorded.now.lists (answer_of result) }
-    ensures linearizable { IsLinearizableRun count recorded.now.lists → ShowsNoViolation (answer_of result) }
+    ensures linearizable { ((events : List Event) → IsMerged recorded.now.lists events → IsLinearizable (first_values count) (operations_of events))
+        → ShowsNoViolation (answer_of result) }
     ensures places { NamesPlaces result }
 {
     let history = recorded.history(alloc)?;
