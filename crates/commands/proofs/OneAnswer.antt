@@ -14,13 +14,12 @@ use Rattle.commands.proofs.Common.{true, Two, Verdict, verdict_text, Verifies, V
 use Rattle.command_words.specs.Commands.{check, convert, draw, shrink, sim, stats, verify}
 use Rattle.command_words.specs.declared.options.DrawOptions.{DrawOptions}
 use Rattle.commands.specs.Answers.{answer_of_history_fault, answer_status, counted, ShowsNoViolation, verified}
-use Rattle.commands.specs.Conversions.{ConvertedIsChecked, ConvertedIsCounted, ConvertedIsKept, ConvertedIsSameHistory}
-use Rattle.commands.specs.Conversions.{ConvertedIsVerified}
-use Rattle.commands.specs.Evidence.{CheckedIsValid, DrawnAsChecked, IsValidOrNoMemory, ShrunkIsChecked, ShrunkIsValid}
+use Rattle.commands.specs.Evidence.{CheckedIsValid, ConvertedIsChecked, ConvertedIsCounted, ConvertedIsKept}
+use Rattle.commands.specs.Evidence.{ConvertedIsSameHistory, ConvertedIsVerified, DrawnAsChecked, HasOneAnswer}
+use Rattle.commands.specs.Evidence.{IsValidOrNoMemory, ShrunkIsChecked, ShrunkIsValid}
 use Rattle.commands.specs.Inputs.{drawable}
 use Rattle.commands.specs.Judging.{DrawsAlone, DrawsClaim, DrawsSound, FaultOr, IsDrawnDecided, IsEvident, IsFaulty}
 use Rattle.commands.specs.Judging.{IsOfValue, IsPlayed, IsShrunk, IsVerdictClaim, Shrinks, Simulates}
-use Rattle.commands.specs.OneAnswer.{HasOneAnswer}
 use Rattle.event_records.specs.declared.limits.TheConstants.{MAX_INITIAL}
 use Rattle.history_merge.proofs.ExactFaults.{complete_has_no_fault}
 use Rattle.history_merge.proofs.OneFault.{one_first_fault}

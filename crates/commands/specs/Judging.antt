@@ -24,9 +24,8 @@ use Rattle.verdicts.specs.Claiming.{claim_of}
 use Rattle.value_match.specs.Outcome.{IsChosenViolation}
 use Rattle.verdicts.specs.Decided.{IsDecided}
 use Rattle.verdicts.specs.Selection.{KeepsViolation, StaysChosen, IsMinimal, HasShortestCover, ArePartOf, contents_of}
-use Rattle.history_text.specs.Versions.{HistoryText}
+use Rattle.history_text.specs.Versions.{HistoryText, said_in}
 use Rattle.history_text.specs.declared.version.Version.TheVariants.{Two}
-use Rattle.history_text.specs.Versions.{said_in}
 use Rattle.command_words.specs.declared.options.DrawOptions.{DrawOptions}
 use Rattle.command_words.specs.declared.options.PictureForm.{PictureForm}
 use Rattle.command_words.specs.declared.options.PictureForm.TheVariants.{Html, Svg, Terminal}

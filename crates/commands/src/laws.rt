@@ -13,10 +13,9 @@ ghost use Rattle.command_words.specs.declared.options.DrawOptions.{DrawOptions};
 ghost use Rattle.command_words.specs.Commands.{check, shrink, verify, draw, convert, stats, sim};
 ghost use Rattle.command_words.specs.Options.{Settings};
 ghost use Rattle.commands.specs.Answers.{Reply, ShowsNoViolation, played};
-ghost use Rattle.commands.specs.Evidence.{CheckedIsValid, ShrunkIsValid, ShrunkIsChecked, DrawnAsChecked};
-ghost use Rattle.commands.specs.Conversions.{ConvertedIsSameHistory, ConvertedIsKept, ConvertedIsChecked, ConvertedIsCounted, ConvertedIsVerified};
+ghost use Rattle.commands.specs.Evidence.{CheckedIsValid, ConvertedIsChecked, ConvertedIsCounted, ConvertedIsKept, ConvertedIsSameHistory};
+ghost use Rattle.commands.specs.Evidence.{ConvertedIsVerified, DrawnAsChecked, HasOneAnswer, ShrunkIsChecked, ShrunkIsValid};
 ghost use Rattle.commands.specs.Judging.{SimulatesIn};
-ghost use Rattle.commands.specs.OneAnswer.{HasOneAnswer};
 ghost use Rattle.commands.specs.Stressing.{StressesUnshelved, proved_name};
 
 /// No false alarm: the answer to an honest schedule that is done is `YES`.
