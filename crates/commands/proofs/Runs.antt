@@ -114,18 +114,11 @@ honest_gets_a_yes setting schedule answer few honest done (inl ended) =
 
 -- numbers from a on are at least as great as what a is
 at_least : (b a n : ℕ) → b ≤ a → All (λ v. b ≤ v) (range_with_len a n)
-at_least b a n least k d below =
-    let many = length-range_with_len a n in
-    let is = get_or-range_with_len a n k d (omega (arith, many, below)) in
-    omega (arith, is, least)
+at_least b a n least k d below = grind (arith, get_or-range_with_len, length-range_with_len)
 
 -- they are distinct
 are_distinct : (a n : ℕ) → AllPairs (λ v w. v ≢ w) (range_with_len a n)
-are_distinct a n j k d before below =
-    let many = length-range_with_len a n in
-    let earlier = get_or-range_with_len a n j d (omega (arith, many, before, below)) in
-    let later = get_or-range_with_len a n k d (omega (arith, many, below)) in
-    λ same. absurd (omega (arith, earlier, later, same, before))
+are_distinct a n j k d before below = grind (arith, get_or-range_with_len, length-range_with_len)
 
 -- a queue may be given them
 pub first_values_are_names : (count : ℕ) → count ≤ MAX_STRESS_INITIAL → AreInitialNames (first_values count)
