@@ -1,5 +1,5 @@
--- What is answered of a history that was read, what of that is written, and what is answered of what is written. Out of memory aside an input
--- has one answer.
+-- What is answered of a history that was read, what of that is written, and what is answered of what is written. Out
+-- of memory aside an input has one answer.
 use Rattle.commands.proofs.Common.{[], ⊎_map, ◌++◌, ◌<◌, ◌∙◌, ◌∷◌, ◌≡◌, ◌≤◌, ◌⊎◌, Ahead, alone, answer_of_text_fault}
 use Rattle.commands.proofs.Common.{AnswersFor, AnswersOf, AnswersOrNoMemory, ap, arith, Attempt, Bool, claim_of}
 use Rattle.commands.proofs.Common.{claim_on, Claimed, ClaimOnText, collected_lists, converted, Converts, Counts}

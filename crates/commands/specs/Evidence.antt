@@ -1,5 +1,5 @@
--- An input has one answer. What one command writes, another answers alike: every answer is evidence, and what `convert` writes stands
--- for the history that it read.
+-- An input has one answer. What one command writes, another answers alike: every answer is evidence, and what
+-- `convert` writes stands for the history that it read.
 use Rattle.std.specs.Prelude.{◌≡◌, ℕ, List, ◌++◌, ◌⊎◌, true}
 use Rattle.text_lines.specs.Input.{Ahead, EndOfInput}
 use Rattle.history_text.specs.Claims.{HasVerdictText}
@@ -34,7 +34,8 @@ HasOneAnswer request = (input : Ahead) (a b : Reply) → AnswersOf request input
 abbrev pub IsValidOrNoMemory : Reply → Type 0
 IsValidOrNoMemory answer = (answer ≡ verified true) ⊎ (answer ≡ memory_fault)
 
--- where `check` answers an input with a verdict, `verify` answers that input, followed by the verdict's text, with `VALID`
+-- where `check` answers an input with a verdict, `verify` answers that input, followed by the verdict's text, with
+-- `VALID`
 abbrev pub CheckedIsValid : Type 0
 CheckedIsValid = (bytes : List ℕ) (claimed : Claimed) (answer : Reply) → AnswersOf check (input_of bytes) (judged claimed)
     → AnswersOf verify (input_of (bytes ++ answer_text (judged claimed))) answer → IsValidOrNoMemory answer
@@ -49,8 +50,8 @@ abbrev pub ShrunkIsChecked : Type 0
 ShrunkIsChecked = (bytes : List ℕ) (small : HistoryText) (claimed : Claimed) (answer : Reply) → AnswersOf shrink (input_of bytes) (shown small claimed)
     → AnswersOf check (input_of (text_of small)) answer → (answer ≡ judged claimed) ⊎ (answer ≡ memory_fault)
 
--- where `check` answers an input with a verdict, `draw` answers that input as it answers it followed by the verdict's text, or
--- memory runs out
+-- where `check` answers an input with a verdict, `draw` answers that input as it answers it followed by the verdict's
+-- text, or memory runs out
 abbrev pub DrawnAsChecked : DrawOptions → Type 0
 DrawnAsChecked options = (bytes : List ℕ) (claimed : Claimed) (a b : Reply) → AnswersOf check (input_of bytes) (judged claimed)
     → AnswersOf (draw options) (input_of bytes) a → AnswersOf (draw options) (input_of (bytes ++ answer_text (judged claimed))) b → SameOrNoMemory a b

@@ -19,15 +19,16 @@ pub record IsWhole (written : List ℕ) (input : Ahead) : Type 0 where
   pub ending : input.ending ≡ EndOfInput
 
 -- the text of a value stands at the front, and what comes after it is so
-pub record AfterText {A : Type 0} (Has : A → Type 0) (text_of : A → List ℕ) (P : A → List ℕ → Type 0) (bytes : List ℕ) : Type 0 where
+pub record AfterText {A : Type 0} (Has : A → Type 0) (text_of : A → List ℕ) (P : A → List ℕ → Type 0) (bytes : List ℕ)
+    : Type 0 where
   pub value : A
   pub rest : List ℕ
   pub has : Has value
   pub front : bytes ≡ text_of value ++ rest
   pub after : P value rest
 
--- the fault of input that should be the text of one of these values and then something else: that of the text, or of what comes
--- after it; out of memory says that a line without fault was there
+-- the fault of input that should be the text of one of these values and then something else: that of the text, or of
+-- what comes after it; out of memory says that a line without fault was there
 abbrev pub IsFaultOfTexts : {A : Type 0} → (A → Type 0) → (A → List ℕ) → (Ending → List ℕ → TextFault → Type 0) → (List ℕ → Type 0)
     → (A → Ending → List ℕ → TextFault → Type 0) → (A → List ℕ → Type 0) → Ahead → TextFault → Type 0
 IsFaultOfTexts Has text_of IsFirst LacksRoom IsNext LacksNext input fault =
@@ -82,7 +83,8 @@ pub record IsClaimOf (input : Ahead) (claim : ClaimOnText) : Type 0 where
   pub verdict : HasVerdictText claim.claimed
   pub whole : IsWhole (text_of claim.text ++ verdict_text claim.claimed) input
 
--- the fault of input that should be a history and a verdict: that of the first text, or else of the second, whose lines count on
+-- the fault of input that should be a history and a verdict: that of the first text, or else of the second, whose
+-- lines count on
 abbrev pub IsFaultOfClaimInput : Ahead → TextFault → Type 0
 IsFaultOfClaimInput input fault = IsFaultOfTexts HasText text_of (IsTextFault 0) NoRoomForText
     (λ text. IsVerdictTextFault (line_count text)) (λ _. NoRoomForVerdict) input fault
@@ -106,8 +108,10 @@ IsDrawableOf input (with_claim claim) = IsClaimOf input claim
 
 -- the fault of what comes after a history: that of a verdict, but input that is over has none
 abbrev pub IsFaultBehind : HistoryText → Ending → List ℕ → TextFault → Type 0
-IsFaultBehind text ending rest fault = IsVerdictTextFault (line_count text) ending rest fault × (¬ ((rest ≡ []) × (ending ≡ EndOfInput)))
+IsFaultBehind text ending rest fault =
+    IsVerdictTextFault (line_count text) ending rest fault × (¬ ((rest ≡ []) × (ending ≡ EndOfInput)))
 
 -- the fault of input that should be a history, and a verdict where anything follows
 abbrev pub IsFaultOfDrawableInput : Ahead → TextFault → Type 0
-IsFaultOfDrawableInput input fault = IsFaultOfTexts HasText text_of (IsTextFault 0) NoRoomForText IsFaultBehind (λ _. NoRoomForVerdict) input fault
+IsFaultOfDrawableInput input fault =
+    IsFaultOfTexts HasText text_of (IsTextFault 0) NoRoomForText IsFaultBehind (λ _. NoRoomForVerdict) input fault

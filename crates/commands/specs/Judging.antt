@@ -57,7 +57,8 @@ from_none events = record { initial = []; events = events }
 abbrev pub IsSound : HistoryView → Type 0
 IsSound history = IsCompleteFrom history.initial history.events
 
--- made so of the claim of the chosen verdict on a history, which is evidence: `YES` if and only if a linearization exists
+-- made so of the claim of the chosen verdict on a history, which is evidence: `YES` if and only if a linearization
+-- exists
 pub record IsOfVerdict {A : Type 0} (history : HistoryView) (made_of : Claimed → A) (made : A) : Type 0 where
   pub verdict : Verdict
   pub decided : IsDecided history.initial (operations_of history.events) verdict
@@ -94,8 +95,9 @@ Judges text answer = JudgesHistory (said_by text) answer
 abbrev pub IsGathered : HistoryView → BuilderView → Type 0
 IsGathered history builder = HasGathered history.initial history.events builder
 
--- of a chosen violation the initial values and the events are shown, with their own verdict. They are a complete history: values with
--- all their operations, and an empty answer; nothing can be left out of them, and no shorter cover exists
+-- of a chosen violation the initial values and the events are shown, with their own verdict. They are a complete
+-- history: values with all their operations, and an empty answer; nothing can be left out of them, and no shorter
+-- cover exists
 pub record IsShrunk (text : HistoryText) (answer : Reply) : Type 0 where
   pub violation : Violation
   pub chosen : IsChosenViolation text.initial (operations_of text.events) violation
@@ -112,7 +114,8 @@ pub record IsShrunk (text : HistoryText) (answer : Reply) : Type 0 where
 -- of a complete history: its verdict if that is `YES`, or what shows `NO`
 abbrev pub ShrinksSound : HistoryText → Reply → Type 0
 ShrinksSound text answer =
-    Whether (IsLinearizable text.initial (operations_of text.events)) (IsOfVerdict (said_by text) judged answer) (IsShrunk text answer)
+    Whether (IsLinearizable text.initial (operations_of text.events)) (IsOfVerdict (said_by text) judged answer)
+    (IsShrunk text answer)
 
 -- `shrink`: the first fault of the history, or its verdict if that is `YES`, or what shows `NO`
 abbrev pub Shrinks : HistoryText → Reply → Type 0
@@ -126,7 +129,8 @@ IsEvident claim = IsTrueClaim claim.text.initial (operations_of claim.text.event
 
 -- `verify`: the first fault of the history, or whether the claim is evidence
 abbrev pub Verifies : ClaimOnText → Reply → Type 0
-Verifies claim answer = FaultOr (said_by claim.text) (λ a. Whether (IsEvident claim) (a ≡ verified true) (a ≡ verified false)) answer
+Verifies claim answer =
+    FaultOr (said_by claim.text) (λ a. Whether (IsEvident claim) (a ≡ verified true) (a ≡ verified false)) answer
 
 -- ---- pictures
 
@@ -211,7 +215,8 @@ pub record IsPlayed (setting : Setting) (schedule : List Attempt) (answer : Repl
 -- what is answered of these steps in this setting, by whether the machine is done
 abbrev pub SimulatesIn : Setting → List Attempt → Reply → Type 0
 SimulatesIn setting schedule answer =
-    Whether (IsDone setting schedule) (IsPlayed setting schedule answer) (answer ≡ left_open (rejections setting schedule))
+    Whether (IsDone setting schedule) (IsPlayed setting schedule answer)
+    (answer ≡ left_open (rejections setting schedule))
 
 -- `sim`: the steps tried one after another, where no growth is refused
 abbrev pub Simulates : Schedule → Reply → Type 0
@@ -235,7 +240,7 @@ pub record IsOfFault (IsFaultOf : Ahead → TextFault → Type 0) (input : Ahead
 abbrev pub AnswersOrNoMemory : {A : Type 0} → (A → Reply → Type 0) → A → Reply → Type 0
 AnswersOrNoMemory OfValue value answer = OfValue value answer ⊎ (answer ≡ memory_fault)
 
--- what is answered of an input: the answer of what it says, or its fault. Out of memory is answered where the input says
--- something, or where a line without fault stands in it
+-- what is answered of an input: the answer of what it says, or its fault. Out of memory is answered where the input
+-- says something, or where a line without fault stands in it
 abbrev pub AnswersFor : {A : Type 0} → (Ahead → A → Type 0) → (Ahead → TextFault → Type 0) → (A → Reply → Type 0) → Ahead → Reply → Type 0
 AnswersFor IsInputOf IsFaultOf OfValue input answer = IsOfValue IsInputOf (AnswersOrNoMemory OfValue) input answer ⊎ IsOfFault IsFaultOf input answer

@@ -82,7 +82,8 @@ RunsOrFails may may_preload settings answer =
 -- what is answered of a queue that may answer so: too many operations are refused, and no others
 abbrev pub StressesQueue : (Question → Answer → Type 0) → (ℕ → Bool → Type 0) → Settings → Reply → Type 0
 StressesQueue may may_preload settings answer =
-    Whether (settings.threads * settings.operations ≤ MAX_OPERATIONS) (RunsOrFails may may_preload settings answer) (answer ≡ refused_limit)
+    Whether (settings.threads * settings.operations ≤ MAX_OPERATIONS) (RunsOrFails may may_preload settings answer)
+    (answer ≡ refused_limit)
 
 -- the name of the proved queue
 abbrev pub proved_name : List ℕ

@@ -189,7 +189,8 @@ fn say_how_to_keep<E: TextSink>(
     }
 }
 
-/// Says why a command that ended found nothing, or that its answer wasn't written, of a verdict nothing; and how a long history is kept.
+/// Says why a command that ended found nothing, or that its answer wasn't written, of a verdict nothing; and how a
+/// long history is kept.
 pub(crate) fn say_at_end<'b, 'a, S, E: TextSink>(
     alloc: Global,
     ended: &Ended<'b, 'a, S>,
@@ -223,8 +224,8 @@ fn command_with_file<'a, T: AsStr>(words: &'a [T]) -> Option<&'a str> {
     }
 }
 
-/// Says what is wrong with arguments that are no command, unless the terminal shows it as standard output; and how a file is read, if
-/// a command was given its name.
+/// Says what is wrong with arguments that are no command, unless the terminal shows it as standard output; and how a
+/// file is read, if a command was given its name.
 pub(crate) fn say_mistake<T: AsStr, E: TextSink>(
     alloc: Global,
     words: &[T],

@@ -78,7 +78,8 @@ fn drawn_if_few(
 fn draw_claim(alloc: Global, history: &History, claimed: &Claimed, options: DrawOptions) -> Outcome
     requires complete { IsSound history.now }
     requires few_values { HasFewValues history.now }
-    ensures found { (version : Version) → AnswersOrNoMemory (DrawsSound options) (claim_on (said_in version history.now) claimed.now) (answer_of result) }
+    ensures found { (version : Version)
+        → AnswersOrNoMemory (DrawsSound options) (claim_on (said_in version history.now) claimed.now) (answer_of result) }
     ensures places { NamesPlaces result }
 {
     let drawn = drawn_if_few(alloc, history, claimed, options)?;
@@ -92,7 +93,8 @@ fn draw_claim(alloc: Global, history: &History, claimed: &Claimed, options: Draw
 fn draw_verdict(alloc: Global, history: &History, options: DrawOptions) -> Outcome
     requires complete { IsSound history.now }
     requires few_values { HasFewValues history.now }
-    ensures found { (version : Version) → AnswersOrNoMemory (IsDrawnDecided options) (said_in version history.now) (answer_of result) }
+    ensures found { (version : Version)
+        → AnswersOrNoMemory (IsDrawnDecided options) (said_in version history.now) (answer_of result) }
     ensures places { NamesPlaces result }
 {
     let claimed = decided_claim(alloc, history)?;
@@ -122,7 +124,8 @@ fn draw_evidence(
     requires drawn { drawn.items ≡ drawn_operations history.now claimed.now options.around }
     requires few { length drawn.items ≤ MOST_DRAWN }
     requires evidence { IsTrueClaim history.now.initial (operations_of history.now.events) claimed.now }
-    ensures found { (version : Version) → AnswersOrNoMemory (DrawsSound options) (claim_on (said_in version history.now) claimed.now) (answer_of result) }
+    ensures found { (version : Version)
+        → AnswersOrNoMemory (DrawsSound options) (claim_on (said_in version history.now) claimed.now) (answer_of result) }
     ensures places { NamesPlaces result }
 {
     let scene = scene_of(alloc, history, claimed, drawn)?;

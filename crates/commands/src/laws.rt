@@ -26,8 +26,8 @@ pub fn honest_schedules_get_a_yes()
         → (events : List Event) × (order : List Operation) × (answer ≡ played (rejections setting schedule) events (Yes order)) }
 {}
 
-/// An input has one answer: two answers that the contract allows of a command that reads, on one input, are the same, or one of
-/// them says that memory ran out.
+/// An input has one answer: two answers that the contract allows of a command that reads, on one input, are the same,
+/// or one of them says that memory ran out.
 pub fn one_answer()
     ensures check { HasOneAnswer check }
     ensures shrink { HasOneAnswer shrink }
@@ -38,16 +38,17 @@ pub fn one_answer()
     ensures sim { HasOneAnswer sim }
 {}
 
-/// No false alarm of threads: where no queue of the shelf is called `proved`, what `stress` answers for that name shows no
-/// violation.
+/// No false alarm of threads: where no queue of the shelf is called `proved`, what `stress` answers for that name
+/// shows no violation.
 pub fn runs_of_the_proved_queue_are_linearizable()
     ensures { (settings : Settings) (answer : Reply) → settings.queue ≡ proved_name → StressesUnshelved settings answer → ShowsNoViolation answer }
 {}
 
-/// Every answer is evidence. `verify` answers an input, followed by the verdict that `check` writes of it, with `VALID`. What `shrink`
-/// writes of a history that is not linearizable is the text of a history and of its verdict: `verify` answers it with `VALID`, and
-/// `check` answers the history with that same verdict. `draw` decides a history as `check` does: it answers a history on its own as it
-/// answers the history followed by the verdict of `check`. Or memory runs out.
+/// Every answer is evidence. `verify` answers an input, followed by the verdict that `check` writes of it, with
+/// `VALID`. What `shrink` writes of a history that is not linearizable is the text of a history and of its verdict:
+/// `verify` answers it with `VALID`, and `check` answers the history with that same verdict. `draw` decides a history
+/// as `check` does: it answers a history on its own as it answers the history followed by the verdict of `check`. Or
+/// memory runs out.
 pub fn every_answer_is_evidence()
     ensures checked { CheckedIsValid }
     ensures shrunk { ShrunkIsValid }
@@ -55,8 +56,9 @@ pub fn every_answer_is_evidence()
     ensures drawn { (options : DrawOptions) → DrawnAsChecked options }
 {}
 
-/// The text of a history and what `convert` writes of it stand for one history: `check` answers both alike, and so does
-/// `stats`; `verify` answers both alike with a verdict after them; or memory runs out. A text of version 2 comes out as it is.
+/// The text of a history and what `convert` writes of it stand for one history: `check` answers both alike, and so
+/// does `stats`; `verify` answers both alike with a verdict after them; or memory runs out. A text of version 2 comes
+/// out as it is.
 pub fn conversion_keeps_answers()
     ensures same_history { ConvertedIsSameHistory }
     ensures kept { ConvertedIsKept }

@@ -161,8 +161,8 @@ fn plan_of<'a>(alloc: Global, options: &StressOptions<'a>) -> Result<(Plan, Vec<
 fn judge_run<R: Threads + Sync>(rt: &R, alloc: Global, recorded: &Recorded, count: usize) -> Outcome
     requires { recorded.now.initial ≡ first_values count }
     ensures found { AnswersOrNoMemory (IsShownRun count) recorded.now.lists (answer_of result) }
-    ensures linearizable { ((events : List Event) → IsMerged recorded.now.lists events → IsLinearizable (first_values count) (operations_of events))
-        → ShowsNoViolation (answer_of result) }
+    ensures linearizable { ((events : List Event) → IsMerged recorded.now.lists events
+        → IsLinearizable (first_values count) (operations_of events)) → ShowsNoViolation (answer_of result) }
     ensures places { NamesPlaces result }
 {
     let history = recorded.history(alloc)?;
