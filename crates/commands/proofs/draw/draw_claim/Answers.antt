@@ -1,6 +1,5 @@
 use Rattle.commands.proofs.Common.{ap, arith, claim_on, err_from_is_err_and, inl, inr, length, refl, said_in}
 use Rattle.commands.specs.Judging.{IsSmall}
-use Rattle.commands.proofs.OneAnswer.{few_values}
 use Rattle.commands.proofs.draw.draw_claim.Goals as goal
 
 pub returns-in_err-drawn-clause-found : goal.returns-in_err-drawn-clause-found
