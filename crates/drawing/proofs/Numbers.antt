@@ -8,7 +8,6 @@ use Rattle.drawing.proofs.Common.{MatchOption, nat_le, option_to_list, contains_
 use Rattle.drawing.proofs.Common.{one_deeper}
 use Rattle.std.proofs.lemmas.List.Folds.{find_at}
 use Rattle.std.proofs.lemmas.List.Quantifiers.{position-Some}
-use Rattle.std.proofs.lemmas.List.{length-map}
 use Rattle.verdicts.specs.declared.verifying.ClaimLine.TheVariants.{Initial}
 use Rattle.value_match.specs.Timeline.{initial_enqueue}
 use Rattle.verdicts.specs.Claims.{initial_enqueue_of, on_timeline, stands_for}
@@ -63,16 +62,6 @@ initial_numbers_are_of_lines lines j v i at = let h = place_if (Initial 0) lines
 -- each line of an initial value has a number
 pub initial_lines_have_numbers : InitialLinesHaveNumbers
 initial_lines_have_numbers lines j v among = place_of_one lines (stands_in (row.Initial j v)) (Initial v) among (eq-eqb v v refl)
-
--- ---- the order of a `YES`
-
-order_place : (operations : List Operation) (r : Row) → position_or_len (stands_in r) (map Op operations) ≡ position_or_len (λ o. stands_in r (Op o)) operations
-order_place [] r = refl
-order_place (x ∷ operations) r = ap (λ (n : ℕ). cond (not (stands_in r (Op x))) (1 + n) 0) (order_place operations r)
-
--- the place of an operation among the lines of an order is that in the order
-pub place_in_order : (operations : List Operation) (r : Row) → position (stands_in r) (map Op operations) ≡ position (λ o. stands_in r (Op o)) operations
-place_in_order operations r = rw (order_place operations r, length-map operations Op) refl
 
 -- ---- evidence
 

@@ -143,21 +143,13 @@ row_words columns scene r =
 abbrev pub strokes : Columns → ℕ → List Word
 strokes columns n = map (λ i. record { column = band_column columns i + 1; bytes = codes "|" }) (range_with_len 0 n)
 
--- the words in the line of the head of band i
-abbrev pub head_words : Columns → ℕ → Head → List Word
-head_words columns i head = strokes columns i ++ record { column = band_column columns i; bytes = head_text head } ∷ []
+-- a line of the first strokes, and of a word at a column
+abbrev pub under : Columns → ℕ → ℕ → List ℕ → List ℕ
+under columns bands column bytes = line (line_of (strokes columns bands ++ record { column = column; bytes = bytes } ∷ []))
 
 -- the line of the head of band i
 abbrev pub head_line : Columns → ℕ × Band → List ℕ
-head_line columns (i, band) = line (line_of (head_words columns i band.head))
-
--- the heads of the bands, each in a line of its own
-unfoldable pub head_lines : Columns → List Band → List ℕ
-head_lines columns bands = flat_map (head_line columns) (enumerate_from 0 bands)
-
--- the word above the lanes
-unfoldable pub thread_words : Columns → ℕ → List Word
-thread_words columns bands = strokes columns bands ++ record { column = columns.lanes; bytes = codes "thread" } ∷ []
+head_line columns (i, band) = under columns i (band_column columns i) (head_text band.head)
 
 -- the word above the order of a `YES`
 abbrev pub order_word : Claimed → List ℕ
@@ -174,22 +166,22 @@ abbrev pub lane_names : Columns → List ℕ → Bool → List ℕ → List Word
 lane_names columns all tens threads =
     map (λ thread. record { column = lane_column columns all thread; bytes = thread_digits (columns.lane == 1) tens thread }) threads
 
--- the line of their tens, where lanes are narrow
+-- the word above the tickets, that above the order of a `YES`, and the numbers of the threads; or the tens of these alone
+abbrev pub name_words : Columns → SceneView → Bool → List Word
+name_words columns scene tens =
+    (if tens then []
+    else record { column = columns.ticket - 6; bytes = codes "ticket" } ∷ record { column = columns.beside; bytes = order_word scene.claimed } ∷ [])
+    ++ (strokes columns (length scene.bands) ++ lane_names columns scene.threads tens scene.threads)
+
+-- the line of these tens, where lanes are narrow
 abbrev pub tens_line : Columns → SceneView → List ℕ
-tens_line columns scene =
-    if columns.lane == 1 then line (line_of (strokes columns (length scene.bands) ++ lane_names columns scene.threads true scene.threads)) else []
+tens_line columns scene = if columns.lane == 1 then line (line_of (name_words columns scene true)) else []
 
--- the word above the tickets, that above the order of a `YES`, and the numbers of the threads
-unfoldable pub name_words : Columns → SceneView → List Word
-name_words columns scene =
-    record { column = columns.ticket - 6; bytes = codes "ticket" } ∷ record { column = columns.beside; bytes = order_word scene.claimed }
-    ∷ (strokes columns (length scene.bands) ++ lane_names columns scene.threads false scene.threads)
-
--- the heads: those of the bands, and those of the tickets and the lanes
+-- the heads: those of the bands, the word above the lanes, and those of the tickets and the lanes
 unfoldable pub heads : Columns → SceneView → List ℕ
 heads columns scene =
-    head_lines columns scene.bands ++ (line (line_of (thread_words columns (length scene.bands)))
-    ++ (tens_line columns scene ++ line (line_of (name_words columns scene))))
+    flat_map (head_line columns) (enumerate_from 0 scene.bands) ++ (under columns (length scene.bands) columns.lanes (codes "thread")
+    ++ (tens_line columns scene ++ line (line_of (name_words columns scene false))))
 
 -- ---- the picture
 

@@ -36,12 +36,6 @@ fn standing_of(events: &[Event], operation: Operation) -> Standing
     }
 }
 
-fn stand_near(x: Standing, y: Standing, around: usize) -> bool
-    ensures { result ≡ stand_near around x y }
-{
-    y.call.saturating_sub(around) <= x.ret && x.call.saturating_sub(around) <= y.ret
-}
-
 /// Where the operations of lines stand among the events.
 fn standings_in(
     alloc: Global,
@@ -63,9 +57,10 @@ fn standings_in(
 fn is_near_any(listed: &[Standing], standing: Standing, around: usize) -> bool
     ensures { result ≡ list_any (stand_near around standing) listed.now }
 {
-    listed
-        .iter()
-        .any(|other| stand_near(standing, *other, around))
+    listed.iter().any(|other| {
+        other.call.saturating_sub(around) <= standing.ret
+            && standing.call.saturating_sub(around) <= other.ret
+    })
 }
 
 /// The operations near one of those of the lines.

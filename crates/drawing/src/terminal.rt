@@ -3,18 +3,16 @@ ghost use Rattle.std.specs.Prelude.{if◌then◌else◌, ◌==◌, ◌≡◌, �
 ghost use Rattle.std.specs.List.{flat_map, enumerate_from};
 ghost use Rattle.drawing.specs.Claim.{count_of_lines, shown_by};
 ghost use Rattle.text_lines.specs.Lines.{line};
-ghost use Rattle.drawing.specs.Layout.{digits, value_in, told, label, numbered, number_at, place_in, initial_label};
-ghost use Rattle.drawing.specs.Scene.{scene_on, ticket_words};
-ghost use Rattle.drawing.specs.Signs.{signs_of};
-ghost use Rattle.drawing.specs.declared.scene.Row.TheVariants.{Initial, Ticket};
+ghost use Rattle.drawing.specs.Layout.{kind_word, told, label, numbered, number_at};
+ghost use Rattle.drawing.specs.Scene.{scene_on};
 ghost use Rattle.drawing.specs.Inner.Words.{scene_in};
 ghost use Rattle.drawing.specs.Words.{placed, with_words, line_of};
 ghost use Rattle.drawing.specs.Terminal.{one_of, event_sign, effect_sign, lane_sign, lane_column, lane_words, band_words, beside_words, call_label};
-ghost use Rattle.drawing.specs.Terminal.{told_word, row_words, strokes, head_words, head_lines, thread_words, order_word, thread_digits};
-ghost use Rattle.drawing.specs.Terminal.{lane_names, tens_line, name_words, heads, heads_again, numbered_row, sign_text, sign_line};
-ghost use Rattle.drawing.specs.Terminal.{effect_meaning, legend, words, terminal_picture};
+ghost use Rattle.drawing.specs.Terminal.{told_word, row_words, strokes, under, head_line, order_word, thread_digits, lane_names, name_words};
+ghost use Rattle.drawing.specs.Terminal.{tens_line, heads, heads_again, numbered_row, sign_text, sign_line, effect_meaning};
+ghost use Rattle.drawing.specs.Terminal.{legend, words, terminal_picture};
 
-use crate::bands::{Head, form_at, head_words};
+use crate::bands::{form_at, head_words};
 use crate::captions::{headline, push_caption};
 use crate::claim::{count_of_lines, shown_by};
 use crate::columns::{MOST_DRAWN, ROWS_UNDER_HEADS, columns_of, digits, lane_place};
@@ -33,14 +31,15 @@ use verdicts::{ClaimLine, Claimed};
 /// What the forms in the lanes mean.
 pub(crate) const LANE_MEANINGS: &[u8] = b"[    call of an operation\n]    its return\n";
 
-fn push_valued(text: &mut Vec<u8>, word: &[u8], full: bool, value: u64) -> Added
-    ensures { OnOk result (text.new.items ≡ text.old.items ++ (word.now ++ value_in full value)) }
+/// The word of a kind of operation.
+pub fn kind_word(kind: OpKind) -> &'static [u8]
+    ensures { result.now ≡ kind_word kind }
 {
-    text.extend_from_slice(word)?;
-    if full {
-        push_number(text, value)
-    } else {
-        push_value(text, value)
+    match kind {
+        OpKind::Enq(_) => b"enq",
+        OpKind::Deq(_) => b"deq",
+        OpKind::Not(_) => b"not",
+        OpKind::Empty => b"empty",
     }
 }
 
@@ -48,11 +47,17 @@ fn push_valued(text: &mut Vec<u8>, word: &[u8], full: bool, value: u64) -> Added
 pub fn push_told(text: &mut Vec<u8>, full: bool, kind: OpKind) -> Added
     ensures { OnOk result (text.new.items ≡ text.old.items ++ told full kind) }
 {
+    text.extend_from_slice(kind_word(kind))?;
     match kind {
-        OpKind::Enq(value) => push_valued(text, b"enq ", full, value),
-        OpKind::Deq(value) => push_valued(text, b"deq ", full, value),
-        OpKind::Not(value) => push_valued(text, b"not ", full, value),
-        OpKind::Empty => text.extend_from_slice(b"empty"),
+        OpKind::Enq(value) | OpKind::Deq(value) | OpKind::Not(value) => {
+            text.extend_from_slice(b" ")?;
+            if full {
+                push_number(text, value)
+            } else {
+                push_value(text, value)
+            }
+        }
+        OpKind::Empty => Ok(()),
     }
 }
 
@@ -77,16 +82,11 @@ fn number_at(alloc: Global, place: Option<usize>) -> Result<Vec<u8>, AllocError>
 }
 
 /// Words after a number at the right of a column of this width; blanks, where there is no number.
-pub fn numbered(
-    alloc: Global,
-    wide: usize,
-    number: &[u8],
-    words: &[u8],
-) -> Result<Vec<u8>, AllocError>
+pub fn numbered(alloc: Global, wide: u8, number: &[u8], words: &[u8]) -> Result<Vec<u8>, AllocError>
     ensures { IfOk result (λ word. word.items ≡ numbered wide number.now words.now) }
 {
     let mut word = Vec::new(alloc);
-    word.resize(wide.saturating_sub(number.len()), b' ')?;
+    word.resize(usize::from(wide).saturating_sub(number.len()), b' ')?;
     word.extend_from_slice(number)?;
     word.extend_from_slice(b" ")?;
     word.extend_from_slice(words)?;
@@ -259,43 +259,26 @@ fn call_label(
     }
 }
 
-/// Adds the label of an initial value, after its number.
-fn place_initial(line: &mut Vec<u8>, sheet: &Sheet<'_>, index: usize, value: u64) -> Added
-    ensures { OnOk result (line.new.items ≡ placed line.old.items (told_word sheet.now.columns (scene_in sheet.now) (Initial index value))) }
-{
-    let claimed = sheet.scene.claimed;
-    let label = initial_label(sheet.alloc, value)?;
-    let number = number_at(
-        sheet.alloc,
-        place_in(shown_by(claimed), Row::Initial(index, value)),
-    )?;
-    let wide = digits(count_of_lines(claimed) as u64);
-    let word = numbered(sheet.alloc, wide, number.as_slice(), label.as_slice())?;
-    place(line, sheet.columns.lanes, word.as_slice())
-}
-
-/// Adds the label of what is called with this ticket.
-fn place_called(line: &mut Vec<u8>, sheet: &Sheet<'_>, ticket: u64) -> Added
-    ensures { OnOk result (line.new.items ≡ placed line.old.items (told_word sheet.now.columns (scene_in sheet.now) (Ticket ticket))) }
-{
-    let called = called_at(sheet.scene.operations.as_slice(), ticket);
-    let word = call_label(
-        sheet.alloc,
-        sheet.columns.lane == 1,
-        shown_by(sheet.scene.claimed),
-        called,
-    )?;
-    place(line, sheet.columns.label, word.as_slice())
-}
-
 /// Adds the words right of the bands or of the lanes.
 fn place_told(line: &mut Vec<u8>, sheet: &Sheet<'_>, row: Row) -> Added
     ensures { OnOk result (line.new.items ≡ placed line.old.items (told_word sheet.now.columns (scene_in sheet.now) row)) }
 {
+    let claimed = sheet.scene.claimed;
     match row {
         Row::Head => place(line, sheet.columns.lanes, b"in the queue first"),
-        Row::Initial(index, value) => place_initial(line, sheet, index, value),
-        Row::Ticket(ticket) => place_called(line, sheet, ticket),
+        Row::Initial(_, value) => {
+            let label = initial_label(sheet.alloc, value)?;
+            let number = number_at(sheet.alloc, place_in(shown_by(claimed), row))?;
+            let wide = digits(count_of_lines(claimed) as u64);
+            let word = numbered(sheet.alloc, wide, number.as_slice(), label.as_slice())?;
+            place(line, sheet.columns.lanes, word.as_slice())
+        }
+        Row::Ticket(ticket) => {
+            let called = called_at(sheet.scene.operations.as_slice(), ticket);
+            let narrow = sheet.columns.lane == 1;
+            let word = call_label(sheet.alloc, narrow, shown_by(claimed), called)?;
+            place(line, sheet.columns.label, word.as_slice())
+        }
         _ => Ok(()),
     }
 }
@@ -311,25 +294,37 @@ fn place_strokes(line: &mut Vec<u8>, sheet: &Sheet<'_>, bands: usize) -> Added
     Ok(())
 }
 
-/// Adds the line of the head of band i.
-fn push_head_line(text: &mut Vec<u8>, sheet: &Sheet<'_>, i: usize, head: Head) -> Added
-    requires { i ≤ length (scene_in sheet.now).bands }
-    ensures { OnOk result (text.new.items ≡ text.old.items ++ line (line_of (head_words sheet.now.columns i head))) }
+/// Adds a line of these strokes, and of a word at a column.
+fn push_under(
+    text: &mut Vec<u8>,
+    sheet: &Sheet<'_>,
+    bands: usize,
+    column: usize,
+    word: &[u8],
+) -> Added
+    requires { bands ≤ length (scene_in sheet.now).bands }
+    ensures { OnOk result (text.new.items ≡ text.old.items ++ under sheet.now.columns bands column word.now) }
 {
     let mut bytes = Vec::new(sheet.alloc);
-    place_strokes(&mut bytes, sheet, i)?;
-    let word = head_words(sheet.alloc, head)?;
-    place(&mut bytes, sheet.columns.beside + 5 * i, word.as_slice())?;
+    place_strokes(&mut bytes, sheet, bands)?;
+    place(&mut bytes, column, word)?;
     push_line(text, bytes.as_slice())
 }
 
-#[tactic(auto, unfolding(crate::specs::Terminal::head_lines))]
 fn push_band_heads(text: &mut Vec<u8>, sheet: &Sheet<'_>) -> Added
-    ensures { OnOk result (text.new.items ≡ text.old.items ++ head_lines sheet.now.columns (scene_in sheet.now).bands) }
+    ensures { OnOk result (text.new.items ≡ text.old.items
+        ++ flat_map (head_line sheet.now.columns) (enumerate_from 0 (scene_in sheet.now).bands)) }
 {
     let bands = sheet.scene.bands.as_slice();
     for (i, band) in bands.iter().enumerate() {
-        push_head_line(text, sheet, i, band.head)?;
+        let word = head_words(sheet.alloc, band.head)?;
+        push_under(
+            text,
+            sheet,
+            i,
+            sheet.columns.beside + 5 * i,
+            word.as_slice(),
+        )?;
     }
     Ok(())
 }
@@ -370,55 +365,34 @@ fn order_word(claimed: &Claimed) -> &'static [u8]
     }
 }
 
-/// Adds the line of the tens of the threads' numbers, where lanes are narrow.
-fn push_tens_line(text: &mut Vec<u8>, sheet: &Sheet<'_>) -> Added
-    ensures { OnOk result (text.new.items ≡ text.old.items ++ tens_line sheet.now.columns (scene_in sheet.now)) }
+/// Adds the line of the words above the tickets and the order, and of the threads' numbers; or of the tens of these alone.
+fn push_names(text: &mut Vec<u8>, sheet: &Sheet<'_>, tens: bool) -> Added
+    ensures { OnOk result (text.new.items ≡ text.old.items ++ line (line_of (name_words sheet.now.columns (scene_in sheet.now) tens))) }
 {
-    if sheet.columns.lane == 1 {
-        let mut bytes = Vec::new(sheet.alloc);
-        place_strokes(&mut bytes, sheet, sheet.scene.bands.len())?;
-        place_lane_names(&mut bytes, sheet, true)?;
-        push_line(text, bytes.as_slice())?;
+    let mut bytes = Vec::new(sheet.alloc);
+    if !tens {
+        let column = sheet.columns.ticket.saturating_sub(6);
+        place(&mut bytes, column, b"ticket")?;
+        place(
+            &mut bytes,
+            sheet.columns.beside,
+            order_word(sheet.scene.claimed),
+        )?;
     }
-    Ok(())
-}
-
-#[tactic(auto, unfolding(crate::specs::Terminal::name_words))]
-fn name_bytes(sheet: &Sheet<'_>) -> Result<Vec<u8>, AllocError>
-    ensures { IfOk result (λ bytes. bytes.items ≡ line_of
-        (name_words sheet.now.columns (scene_in sheet.now))) }
-{
-    let mut bytes = Vec::new(sheet.alloc);
-    let column = sheet.columns.ticket.saturating_sub(6);
-    place(&mut bytes, column, b"ticket")?;
-    place(
-        &mut bytes,
-        sheet.columns.beside,
-        order_word(sheet.scene.claimed),
-    )?;
     place_strokes(&mut bytes, sheet, sheet.scene.bands.len())?;
-    place_lane_names(&mut bytes, sheet, false)?;
-    Ok(bytes)
-}
-
-/// Adds the line of the word above the lanes.
-#[tactic(auto, unfolding(crate::specs::Terminal::thread_words))]
-fn push_thread_line(text: &mut Vec<u8>, sheet: &Sheet<'_>) -> Added
-    ensures { OnOk result (text.new.items ≡ text.old.items
-        ++ line (line_of (thread_words sheet.now.columns (length (scene_in sheet.now).bands)))) }
-{
-    let mut bytes = Vec::new(sheet.alloc);
-    place_strokes(&mut bytes, sheet, sheet.scene.bands.len())?;
-    place(&mut bytes, sheet.columns.lanes, b"thread")?;
+    place_lane_names(&mut bytes, sheet, tens)?;
     push_line(text, bytes.as_slice())
 }
 
-/// Adds the line of the words above the tickets and the order, and of the threads' numbers.
-fn push_name_line(text: &mut Vec<u8>, sheet: &Sheet<'_>) -> Added
-    ensures { OnOk result (text.new.items ≡ text.old.items ++ line (line_of (name_words sheet.now.columns (scene_in sheet.now)))) }
+/// Adds the line of the tens of the threads' numbers, where lanes are narrow.
+fn push_tens(text: &mut Vec<u8>, sheet: &Sheet<'_>) -> Added
+    ensures { OnOk result (text.new.items ≡ text.old.items ++ tens_line sheet.now.columns (scene_in sheet.now)) }
 {
-    let names = name_bytes(sheet)?;
-    push_line(text, names.as_slice())
+    if sheet.columns.lane == 1 {
+        push_names(text, sheet, true)
+    } else {
+        Ok(())
+    }
 }
 
 /// Adds the heads: those of the bands, and those of the tickets and the lanes.
@@ -427,9 +401,15 @@ fn push_heads(text: &mut Vec<u8>, sheet: &Sheet<'_>) -> Added
     ensures { OnOk result (text.new.items ≡ text.old.items ++ heads sheet.now.columns (scene_in sheet.now)) }
 {
     push_band_heads(text, sheet)?;
-    push_thread_line(text, sheet)?;
-    push_tens_line(text, sheet)?;
-    push_name_line(text, sheet)
+    push_under(
+        text,
+        sheet,
+        sheet.scene.bands.len(),
+        sheet.columns.lanes,
+        b"thread",
+    )?;
+    push_tens(text, sheet)?;
+    push_names(text, sheet, false)
 }
 
 /// Adds the heads once more, above each 40th row.
@@ -443,32 +423,16 @@ fn push_heads_again(text: &mut Vec<u8>, sheet: &Sheet<'_>, i: usize) -> Added
     }
 }
 
-/// Adds the words in the column of tickets.
-fn place_tickets(line: &mut Vec<u8>, sheet: &Sheet<'_>, row: Row) -> Added
-    ensures { OnOk result (line.new.items ≡ placed line.old.items
-        (record { column = sheet.now.columns.ticket - length (ticket_words row); bytes = ticket_words row })) }
-{
-    let words = ticket_words(sheet.alloc, row)?;
-    let column = sheet.columns.ticket.saturating_sub(words.len());
-    place(line, column, words.as_slice())
-}
-
-/// Adds the words beside the tickets.
-fn place_beside(line: &mut Vec<u8>, sheet: &Sheet<'_>, row: Row) -> Added
-    ensures { OnOk result (line.new.items ≡ placed line.old.items
-        (record { column = sheet.now.columns.beside; bytes = beside_words (scene_in sheet.now).claimed row })) }
-{
-    let words = beside_words(sheet.alloc, sheet.scene.claimed, row)?;
-    place(line, sheet.columns.beside, words.as_slice())
-}
-
 /// Adds the words in a row.
 #[tactic(auto, unfolding(crate::specs::Terminal::row_words))]
 fn place_row(line: &mut Vec<u8>, sheet: &Sheet<'_>, row: Row) -> Added
     ensures { OnOk result (line.new.items ≡ with_words line.old.items (row_words sheet.now.columns (scene_in sheet.now) row)) }
 {
-    place_tickets(line, sheet, row)?;
-    place_beside(line, sheet, row)?;
+    let tickets = ticket_words(sheet.alloc, row)?;
+    let column = sheet.columns.ticket.saturating_sub(tickets.len());
+    place(line, column, tickets.as_slice())?;
+    let beside = beside_words(sheet.alloc, sheet.scene.claimed, row)?;
+    place(line, sheet.columns.beside, beside.as_slice())?;
     place_bands(line, sheet, gap_of(row))?;
     place_lanes(line, sheet, row)?;
     place_told(line, sheet, row)
@@ -508,23 +472,6 @@ fn sign_text(sign: Sign) -> &'static [u8]
     }
 }
 
-/// Adds a sign, and what it means.
-fn push_sign(text: &mut Vec<u8>, sign: Sign) -> Added
-    ensures { OnOk result (text.new.items ≡ text.old.items ++ sign_line sign) }
-{
-    text.extend_from_slice(sign_text(sign))?;
-    push_line(text, meaning(sign))
-}
-
-fn push_signs(text: &mut Vec<u8>, signs: &[Sign]) -> Added
-    ensures { OnOk result (text.new.items ≡ text.old.items ++ flat_map sign_line signs.now) }
-{
-    for sign in signs {
-        push_sign(text, *sign)?;
-    }
-    Ok(())
-}
-
 fn effect_meaning(narrow: bool, claimed: &Claimed) -> &'static [u8]
     ensures { result.now ≡ effect_meaning narrow claimed.now }
 {
@@ -535,12 +482,12 @@ fn effect_meaning(narrow: bool, claimed: &Claimed) -> &'static [u8]
     }
 }
 
-/// Adds the signs of the picture, with what they mean.
-fn push_scene_signs(text: &mut Vec<u8>, sheet: &Sheet<'_>) -> Added
-    ensures { OnOk result (text.new.items ≡ text.old.items ++ flat_map sign_line (signs_of (scene_in sheet.now))) }
+/// Adds a sign, and what it means.
+fn push_sign(text: &mut Vec<u8>, sign: Sign) -> Added
+    ensures { OnOk result (text.new.items ≡ text.old.items ++ sign_line sign) }
 {
-    let signs = signs_of(sheet.alloc, sheet.scene)?;
-    push_signs(text, signs.as_slice())
+    text.extend_from_slice(sign_text(sign))?;
+    push_line(text, meaning(sign))
 }
 
 /// Adds how to read the picture.
@@ -550,7 +497,11 @@ fn push_legend(text: &mut Vec<u8>, sheet: &Sheet<'_>) -> Added
 {
     text.extend_from_slice(LANE_MEANINGS)?;
     text.extend_from_slice(effect_meaning(sheet.columns.lane == 1, sheet.scene.claimed))?;
-    push_scene_signs(text, sheet)
+    let signs = signs_of(sheet.alloc, sheet.scene)?;
+    for sign in signs.as_slice() {
+        push_sign(text, *sign)?;
+    }
+    Ok(())
 }
 
 /// Adds what stands above the rows: what the picture shows, and how to read it.

@@ -5,4 +5,4 @@ use Rattle.drawing.proofs.terminal.push_band_heads.Goals as goal
 pub loop-i-preserved : goal.loop-i-preserved
 loop-i-preserved c =
     flat_map_step _ _ _ (enumerated_more _ c.loop-i.i _ c.loop-i-test.true) (head_line c.args.sheet.now.columns) _ _ _ c.loop-i.invariant
-    c.in_ok-push_head_line.ensures
+    (rw (c.as_slice.ensures.value, c.in_ok-word.ensures) at c.in_ok-push_under.ensures)
