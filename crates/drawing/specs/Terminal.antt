@@ -193,10 +193,6 @@ heads_again i heads = if nat_lt 0 i && i % ROWS_UNDER_HEADS == 0 then heads else
 abbrev pub numbered_row : Columns → SceneView → ℕ × Row → List ℕ
 numbered_row columns scene (i, r) = heads_again i (heads columns scene) ++ line (line_of (row_words columns scene r))
 
--- the heads, and the rows
-unfoldable pub lines : Columns → SceneView → List ℕ
-lines columns scene = heads columns scene ++ flat_map (numbered_row columns scene) (enumerate_from 0 scene.rows)
-
 -- a sign in characters
 abbrev pub sign_text : Sign → List ℕ
 sign_text First = codes "init "
@@ -227,6 +223,7 @@ unfoldable pub words : Columns → SceneView → List ℕ
 words columns scene =
     line (headline scene.claimed) ++ (caption scene.claimed ++ (line [] ++ (legend columns scene ++ line [])))
 
--- the picture of a scene in lines of characters
+-- the picture of a scene in lines of characters: what stands above the rows, the heads, and the rows
 unfoldable pub terminal_picture : SceneView → List ℕ
-terminal_picture scene = words (columns_of scene) scene ++ lines (columns_of scene) scene
+terminal_picture scene =
+    words (columns_of scene) scene ++ (heads (columns_of scene) scene ++ flat_map (numbered_row (columns_of scene) scene) (enumerate_from 0 scene.rows))

@@ -1,6 +1,6 @@
 //! How to read a picture.
 ghost use Rattle.std.specs.Prelude.{◌≡◌, IfOk};
-ghost use Rattle.drawing.specs.Signs.{initial_signs, number_sign, band_signs, signs_of, meaning};
+ghost use Rattle.drawing.specs.Signs.{number_signs, band_signs, signs_of, meaning};
 ghost use Rattle.drawing.specs.Scene.{scene_on};
 
 use crate::drawn::is_any_away;
@@ -33,22 +33,14 @@ pub enum Sign {
     Away,
 }
 
-fn initial_signs(initial: &[u64]) -> &'static [Sign]
-    ensures { result.now ≡ initial_signs initial.now }
-{
-    match initial {
-        [] => &[],
-        [_, ..] => &[Sign::First],
-    }
-}
-
-fn number_sign(claimed: &Claimed, initial: &[u64]) -> Sign
-    ensures { result ≡ number_sign claimed.now initial.now }
+fn number_signs(claimed: &Claimed, initial: &[u64]) -> &'static [Sign]
+    ensures { result.now ≡ number_signs claimed.now initial.now }
 {
     match (claimed, initial) {
-        (Claimed::Yes(_), _) => Sign::InOrder,
-        (Claimed::No(_, _), []) => Sign::OfOperations,
-        (Claimed::No(_, _), [_, ..]) => Sign::OfValues,
+        (Claimed::Yes(_), []) => &[Sign::InOrder],
+        (Claimed::Yes(_), [_, ..]) => &[Sign::First, Sign::InOrder],
+        (Claimed::No(_, _), []) => &[Sign::OfOperations],
+        (Claimed::No(_, _), [_, ..]) => &[Sign::First, Sign::OfValues],
     }
 }
 
@@ -64,11 +56,11 @@ fn band_signs(claimed: &Claimed) -> &'static [Sign]
 }
 
 /// The signs of a picture, from top to bottom.
+#[tactic(auto, unfolding(crate::specs::Signs::signs_of))]
 pub fn signs_of(alloc: Global, scene: &Scene<'_>) -> Result<Vec<Sign>, AllocError>
     ensures { IfOk result (λ signs. signs.items ≡ signs_of (scene_on scene.now)) }
 {
-    let mut signs = Vec::from_slice(alloc, initial_signs(scene.initial))?;
-    signs.push(number_sign(scene.claimed, scene.initial))?;
+    let mut signs = Vec::from_slice(alloc, number_signs(scene.claimed, scene.initial))?;
     signs.extend_from_slice(band_signs(scene.claimed))?;
     if is_any_away(scene.claimed, scene.operations.as_slice()) {
         signs.push(Sign::Away)?;

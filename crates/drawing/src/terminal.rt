@@ -5,10 +5,11 @@ ghost use Rattle.drawing.specs.Claim.{count_of_lines, shown_by};
 ghost use Rattle.text_lines.specs.Lines.{line};
 ghost use Rattle.drawing.specs.Layout.{kind_word, told, label, numbered, number_at};
 ghost use Rattle.drawing.specs.Scene.{scene_on};
+ghost use Rattle.drawing.specs.Signs.{signs_of};
 ghost use Rattle.drawing.specs.Inner.Words.{scene_in};
 ghost use Rattle.drawing.specs.Words.{placed, with_words, line_of};
 ghost use Rattle.drawing.specs.Terminal.{one_of, event_sign, effect_sign, lane_sign, lane_column, lane_words, band_words, beside_words, call_label};
-ghost use Rattle.drawing.specs.Terminal.{told_word, row_words, strokes, under, head_line, order_word, thread_digits, lane_names, name_words};
+ghost use Rattle.drawing.specs.Terminal.{told_word, row_words, strokes, under, order_word, thread_digits, lane_names, name_words};
 ghost use Rattle.drawing.specs.Terminal.{tens_line, heads, heads_again, numbered_row, sign_text, sign_line, effect_meaning};
 ghost use Rattle.drawing.specs.Terminal.{legend, words, terminal_picture};
 
@@ -311,24 +312,6 @@ fn push_under(
     push_line(text, bytes.as_slice())
 }
 
-fn push_band_heads(text: &mut Vec<u8>, sheet: &Sheet<'_>) -> Added
-    ensures { OnOk result (text.new.items ≡ text.old.items
-        ++ flat_map (head_line sheet.now.columns) (enumerate_from 0 (scene_in sheet.now).bands)) }
-{
-    let bands = sheet.scene.bands.as_slice();
-    for (i, band) in bands.iter().enumerate() {
-        let word = head_words(sheet.alloc, band.head)?;
-        push_under(
-            text,
-            sheet,
-            i,
-            sheet.columns.beside + 5 * i,
-            word.as_slice(),
-        )?;
-    }
-    Ok(())
-}
-
 /// What stands of a thread's number in a line above its lane: all of it, or where lanes are narrow its tens or its units.
 fn thread_digits(alloc: Global, narrow: bool, tens: bool, thread: u8) -> Result<Vec<u8>, AllocError>
     ensures { IfOk result (λ word. word.items ≡ thread_digits narrow tens thread) }
@@ -400,7 +383,16 @@ fn push_tens(text: &mut Vec<u8>, sheet: &Sheet<'_>) -> Added
 fn push_heads(text: &mut Vec<u8>, sheet: &Sheet<'_>) -> Added
     ensures { OnOk result (text.new.items ≡ text.old.items ++ heads sheet.now.columns (scene_in sheet.now)) }
 {
-    push_band_heads(text, sheet)?;
+    for (i, band) in sheet.scene.bands.as_slice().iter().enumerate() {
+        let word = head_words(sheet.alloc, band.head)?;
+        push_under(
+            text,
+            sheet,
+            i,
+            sheet.columns.beside + 5 * i,
+            word.as_slice(),
+        )?;
+    }
     push_under(
         text,
         sheet,
@@ -448,17 +440,6 @@ fn push_numbered(text: &mut Vec<u8>, sheet: &Sheet<'_>, i: usize, row: Row) -> A
     push_line(text, bytes.as_slice())
 }
 
-fn push_each_row(text: &mut Vec<u8>, sheet: &Sheet<'_>) -> Added
-    ensures { OnOk result (text.new.items ≡ text.old.items
-        ++ flat_map (numbered_row sheet.now.columns (scene_in sheet.now)) (enumerate_from 0 (scene_in sheet.now).rows)) }
-{
-    let rows = sheet.scene.rows.as_slice();
-    for (i, row) in rows.iter().enumerate() {
-        push_numbered(text, sheet, i, *row)?;
-    }
-    Ok(())
-}
-
 fn sign_text(sign: Sign) -> &'static [u8]
     ensures { result.now ≡ sign_text sign }
 {
@@ -490,6 +471,17 @@ fn push_sign(text: &mut Vec<u8>, sign: Sign) -> Added
     push_line(text, meaning(sign))
 }
 
+/// Adds the signs of the picture, with what they mean.
+fn push_signs(text: &mut Vec<u8>, sheet: &Sheet<'_>) -> Added
+    ensures { OnOk result (text.new.items ≡ text.old.items ++ flat_map sign_line (signs_of (scene_in sheet.now))) }
+{
+    let signs = signs_of(sheet.alloc, sheet.scene)?;
+    for sign in signs.as_slice() {
+        push_sign(text, *sign)?;
+    }
+    Ok(())
+}
+
 /// Adds how to read the picture.
 #[tactic(auto, unfolding(crate::specs::Terminal::legend))]
 fn push_legend(text: &mut Vec<u8>, sheet: &Sheet<'_>) -> Added
@@ -497,11 +489,7 @@ fn push_legend(text: &mut Vec<u8>, sheet: &Sheet<'_>) -> Added
 {
     text.extend_from_slice(LANE_MEANINGS)?;
     text.extend_from_slice(effect_meaning(sheet.columns.lane == 1, sheet.scene.claimed))?;
-    let signs = signs_of(sheet.alloc, sheet.scene)?;
-    for sign in signs.as_slice() {
-        push_sign(text, *sign)?;
-    }
-    Ok(())
+    push_signs(text, sheet)
 }
 
 /// Adds what stands above the rows: what the picture shows, and how to read it.
@@ -535,7 +523,7 @@ fn push_words(text: &mut Vec<u8>, sheet: &Sheet<'_>) -> Added
 /// The claim need not be evidence: what stands in the picture follows its lines. Time O(n t n) for n operations of t threads, and
 /// O(k m) for k initial values and m lines; memory for the text, of O(n t + k m) bytes. `AllocError` comes only where a growth was
 /// refused.
-#[tactic(auto, unfolding(crate::specs::Terminal::terminal_picture, crate::specs::Terminal::lines))]
+#[tactic(auto, unfolding(crate::specs::Terminal::terminal_picture))]
 pub fn terminal_picture(alloc: Global, scene: &Scene<'_>) -> Result<Vec<u8>, AllocError>
     // The claim has few enough lines to be drawn.
     requires { count_of_lines scene.now.claimed.now ≤ MOST_DRAWN }
@@ -549,6 +537,8 @@ pub fn terminal_picture(alloc: Global, scene: &Scene<'_>) -> Result<Vec<u8>, All
     let mut text = Vec::new(alloc);
     push_words(&mut text, &sheet)?;
     push_heads(&mut text, &sheet)?;
-    push_each_row(&mut text, &sheet)?;
+    for (i, row) in scene.rows.as_slice().iter().enumerate() {
+        push_numbered(&mut text, &sheet, i, *row)?;
+    }
     Ok(text)
 }

@@ -1,6 +1,6 @@
 use Rattle.drawing.proofs.Common.{head_line}
 use Rattle.drawing.proofs.Loops.{enumerated_more, flat_map_step}
-use Rattle.drawing.proofs.terminal.push_band_heads.Goals as goal
+use Rattle.drawing.proofs.terminal.push_heads.Goals as goal
 
 pub loop-i-preserved : goal.loop-i-preserved
 loop-i-preserved c =

@@ -1,7 +1,7 @@
 use Rattle.drawing.proofs.Common.{sign_line}
 use Rattle.drawing.proofs.Loops.{flat_map_step}
 use Rattle.std.proofs.lemmas.List.{take_more}
-use Rattle.drawing.proofs.terminal.push_legend.Goals as goal
+use Rattle.drawing.proofs.terminal.push_signs.Goals as goal
 
 pub loop-sign-preserved : goal.loop-sign-preserved
 loop-sign-preserved c =
