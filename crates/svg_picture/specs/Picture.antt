@@ -10,7 +10,7 @@ use Rattle.drawing.specs.Claim.{count_of_lines, shown_by}
 use Rattle.drawing.specs.declared.bands.Band.{Band}
 use Rattle.drawing.specs.declared.bands.Head.{Head as BandHead}
 use Rattle.drawing.specs.declared.bands.Head.TheVariants as band_head
-use Rattle.drawing.specs.Layout.{digits, told, label, numbered, initial_label, label_width, place_in, place_of}
+use Rattle.drawing.specs.Layout.{digits, kind_word, told, label, numbered, initial_label, label_width, place_in, place_of}
 use Rattle.drawing.specs.Bands.{head_text}
 use Rattle.drawing.specs.Captions.{headline, caption}
 use Rattle.drawing.specs.Drawn.{is_away}
@@ -25,7 +25,7 @@ use Rattle.svg_picture.specs.declared.sheet.Measures.{Measures}
 use Rattle.svg_picture.specs.Markup.{Content, Nothing, Words, Element, Svg, Title, Desc, Defs, Pattern, Group, each, group, document}
 use Rattle.svg_picture.specs.Layout.{Page, shown, left, number_x, bar_width, thread_x, band_x, width, legend_y, top, row_y, call_y, ret_y, bottom, height}
 use Rattle.svg_picture.specs.Layout.{line_count, parts, longest}
-use Rattle.svg_picture.specs.Words.{kind_word, corner, form_class}
+use Rattle.svg_picture.specs.Words.{corner, form_class}
 use Rattle.svg_picture.specs.declared.words.TheConstants.{READING}
 use Rattle.svg_picture.specs.Elements.{text_at, rect, stroke, lines_at, samples, hatch, style_element}
 
@@ -78,14 +78,12 @@ bar_of page o = record {
   place = place_in (shown_by page.scene.claimed) (Ticket o.call);
 }
 
--- the bar of an operation at this place of the claim
-abbrev pub placed_bar : Page → Operation → Option ℕ → Content
-placed_bar page o place =
-    marked_bar page.measures (mark page.scene.claimed (is_away page.scene.claimed o) place) (bar_words o place) (label o.kind) (bar_of page o)
-
 -- the bar of an operation
 unfoldable pub bar : Page → Operation → Content
-bar page o = placed_bar page o (place_of page.scene.claimed (Ticket o.call))
+bar page o =
+    let claimed = page.scene.claimed in
+    let place = place_of claimed (Ticket o.call) in
+    marked_bar page.measures (mark claimed (is_away claimed o) place) (bar_words o place) (label o.kind) (bar_of page o)
 
 -- the bars of the operations
 unfoldable pub bars : Page → Content
@@ -153,18 +151,12 @@ bands page = each (numbered_band page) (enumerate_from 0 page.scene.bands)
 unfoldable pub initial_words : ℕ → Option ℕ → List ℕ
 initial_words v place = concat (codes "init " ∷ decimal v ∷ codes ", in the queue first" ∷ number_words place ∷ [])
 
--- where its bar stands, in line with the first lane, in the row from this height on
-abbrev pub initial_bar : Measures → ℕ → ℕ → Option ℕ → Bar
-initial_bar m y v place = record { x = left m; y = y + 2; height = 16; base = y + 14; kind = kind.Enq v; place = place }
-
--- an initial value at this place of the lines that show a `NO`
-abbrev pub initial_at : Page → ℕ → ℕ → Option ℕ → Content
-initial_at page y v place =
-    marked_bar page.measures (mark page.scene.claimed false place) (initial_words v place) (initial_label v) (initial_bar page.measures y v place)
-
--- an initial value in its row
+-- an initial value in its row from this height on: its bar in line with the first lane
 unfoldable pub placed_initial : Page → ℕ → Row → ℕ → Content
-placed_initial page y r v = initial_at page y v (place_in (shown_by page.scene.claimed) r)
+placed_initial page y r v =
+    let place = place_in (shown_by page.scene.claimed) r in
+    let b : Bar = record { x = left page.measures; y = y + 2; height = 16; base = y + 14; kind = kind.Enq v; place = place } in
+    marked_bar page.measures (mark page.scene.claimed false place) (initial_words v place) (initial_label v) b
 
 -- ---- rows
 
@@ -207,14 +199,11 @@ row_parts page r =
 unfoldable pub rows : Page → Content
 rows page = each (row_parts page) page.scene.rows
 
--- the words above and below the tickets
-unfoldable pub ticket_names : Measures → Content
-ticket_names m = group (in_tickets m (top m - 8) (codes "ticket") ∷ in_tickets m (bottom m - 6) (codes "end") ∷ [])
-
--- the word above the order of a `YES`
-unfoldable pub order_name : Measures → Claimed → Content
-order_name m (Yes order) = text_at 7 (codes "dim") (shown m) (top m - 8) (codes "order")
-order_name m (No kind lines) = Nothing
+-- the words above and below the tickets, and above the order of a `YES`
+unfoldable pub names : Measures → Content
+names m =
+    group (in_tickets m (top m - 8) (codes "ticket") ∷ in_tickets m (bottom m - 6) (codes "end")
+    ∷ (if m.is_yes then text_at 7 (codes "dim") (shown m) (top m - 8) (codes "order") else Nothing) ∷ [])
 
 -- ---- lanes
 
@@ -267,16 +256,16 @@ sign_at y s = group (sign s y ∷ text_at 7 (codes "dim") 41 (y + 12) (meaning s
 abbrev pub numbered_sign : Measures → ℕ × Sign → Content
 numbered_sign m (i, s) = sign_at (legend_y m + 63 + 20 * i) s
 
--- the signs, each in a line
-unfoldable pub signs : Measures → List Sign → Content
-signs m list = each (numbered_sign m) (enumerate_from 0 list)
+-- the signs of the picture, each in a line
+unfoldable pub signs : Page → Content
+signs page = each (numbered_sign page.measures) (enumerate_from 0 (signs_of page.scene))
 
 -- the words above: the headline, the caption, and how to read the picture
 unfoldable pub heading : Page → Content
 heading page =
     group (text_at 9 (codes "head") 6 26 (headline page.scene.claimed) ∷ lines_at 8 (codes "say") 46 (caption page.scene.claimed)
     ∷ samples (legend_y page.measures) ∷ lines_at 7 (codes "dim") (legend_y page.measures + 35) READING.now
-    ∷ signs page.measures (signs_of page.scene) ∷ [])
+    ∷ signs page ∷ [])
 
 -- the words for those who don't see the picture, and its style
 unfoldable pub about : Claimed → Content
@@ -291,8 +280,8 @@ view_box m = concat (codes "0 0 " ∷ decimal (width m) ∷ codes " " ∷ decima
 -- what stands between the tags of the picture: above and under the lanes, and in them
 unfoldable pub inside : Page → Content
 inside page =
-    group (about page.scene.claimed ∷ background page.measures ∷ heading page ∷ ticket_names page.measures
-    ∷ order_name page.measures page.scene.claimed ∷ threads page ∷ bands page ∷ bars page ∷ rows page ∷ [])
+    group (about page.scene.claimed ∷ background page.measures ∷ heading page ∷ names page.measures
+    ∷ threads page ∷ bands page ∷ bars page ∷ rows page ∷ [])
 
 -- the picture on a page
 unfoldable pub page_content : Page → Content

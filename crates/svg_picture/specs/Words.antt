@@ -5,13 +5,6 @@ use Rattle.history_merge.specs.declared.operation.OpKind.TheVariants as kind
 use Rattle.drawing.specs.declared.bands.Head.{Head}
 use Rattle.drawing.specs.Bands.{form_words}
 
--- the word of a kind of operation, which is its class too
-abbrev pub kind_word : OpKind → List ℕ
-kind_word (kind.Enq v) = codes "enq"
-kind_word (kind.Deq v) = codes "deq"
-kind_word (kind.Not v) = codes "not"
-kind_word kind.Empty = codes "empty"
-
 -- how round the corners of a bar are: dequeues are round
 abbrev pub corner : OpKind → ℕ
 corner (kind.Enq v) = 0

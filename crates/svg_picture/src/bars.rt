@@ -4,14 +4,15 @@ ghost use Rattle.svg_picture.specs.Markup.{text_of};
 ghost use Rattle.svg_picture.specs.Layout.{page_on};
 ghost use Rattle.svg_picture.specs.Picture.{mark, number_words, bar_words, pill, bar_number, marked_bar, bar, bars};
 
-use crate::elements::{Rect, push_rect, push_text_at};
+use crate::elements::{push_rect, push_text_at};
 use crate::layout::{bar_width, call_y, number_x, ret_y, row_y, thread_x};
 use crate::markup::Attribute::Words;
 use crate::markup::{push_element, push_end, push_number, push_start};
 use crate::sheet::{Measures, Sheet};
-use crate::words::{corner, kind_word};
+use crate::words::corner;
 use drawing::{
-    Added, MOST_DRAWN, Row, digits, is_away, label_of, place_in, place_of, push_told, shown_by,
+    Added, MOST_DRAWN, Row, digits, is_away, kind_word, label_of, place_in, place_of, push_told,
+    shown_by,
 };
 use history_merge::{OpKind, Operation};
 use itoa::Buffer;
@@ -71,13 +72,8 @@ pub(crate) fn push_pill(text: &mut Vec<u8>, x: u128, y: u128, number: u64) -> Ad
     requires y { y ≤ 2 ^ 92 }
     ensures { OnOk result (text.new.items ≡ text.old.items ++ text_of (pill x y number)) }
 {
-    let area = Rect {
-        x,
-        y,
-        width: 10 + 7 * digits(number) as u128,
-        height: 16,
-    };
-    push_rect(text, b"pill", 8, area)?;
+    let wide = 10 + 7 * u128::from(digits(number));
+    push_rect(text, b"pill", 8, (x, y), (wide, 16))?;
     let mut buffer = Buffer::new();
     let words = buffer.format(number).as_bytes();
     push_text_at(text, 7, b"pick", x + 5, y + 12, words)
@@ -125,13 +121,8 @@ pub(crate) fn push_marked_bar(
 {
     push_start(text, b"g", &[Words(b"class", class)])?;
     push_element(text, b"title", &[], title)?;
-    let area = Rect {
-        x: bar.x + 3,
-        y: bar.y,
-        width: bar_width(m),
-        height: bar.height,
-    };
-    push_rect(text, kind_word(bar.kind), corner(bar.kind), area)?;
+    let (at, size) = ((bar.x + 3, bar.y), (bar_width(m), bar.height));
+    push_rect(text, kind_word(bar.kind), corner(bar.kind), at, size)?;
     push_text_at(text, 7, b"label", bar.x + 9, bar.base, label)?;
     push_bar_number(text, m, bar.x, bar.base.saturating_sub(12), bar.place)?;
     push_end(text, b"g")

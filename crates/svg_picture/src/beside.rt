@@ -5,7 +5,7 @@ ghost use Rattle.svg_picture.specs.Layout.{page_on, call_y, ret_y};
 ghost use Rattle.svg_picture.specs.Words.{form_class};
 ghost use Rattle.svg_picture.specs.Picture.{is_time, edge_y, guide, formed_band, head_y, band_at, bands};
 
-use crate::elements::{Rect, push_rect, push_stroke, push_text_at};
+use crate::elements::{push_rect, push_stroke, push_text_at};
 use crate::layout::{band_x, bottom, call_y, left, ret_y, top};
 use crate::sheet::{Measures, Sheet};
 use crate::words::form_class;
@@ -63,16 +63,10 @@ fn push_formed_band(text: &mut Vec<u8>, sheet: &Sheet<'_>, x: u128, y: u128, ban
             let time = is_time(band.head);
             let first = edge_y(sheet, time, top(sheet.measures), band.first);
             let last = edge_y(sheet, !time, bottom(sheet.measures), band.last);
-            let area = Rect {
-                x,
-                y: first,
-                width: 28,
-                height: last.saturating_sub(first),
-            };
             push_guide(text, sheet.measures, class, x + 28, first, band.first)?;
             push_guide(text, sheet.measures, class, x + 28, last, band.last)?;
             push_stroke(text, b"lead", (x, y), (x, first))?;
-            push_rect(text, class, 0, area)
+            push_rect(text, class, 0, (x, first), (28, last.saturating_sub(first)))
         }
     }
 }

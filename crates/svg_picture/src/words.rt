@@ -2,23 +2,11 @@
 ghost use Rattle.std.specs.Prelude.{◌≡◌, ◌++◌, OnOk};
 ghost use Rattle.svg_picture.specs.Elements.{style_element};
 ghost use Rattle.svg_picture.specs.Markup.{text_of};
-ghost use Rattle.svg_picture.specs.Words.{kind_word, corner, form_class};
+ghost use Rattle.svg_picture.specs.Words.{corner, form_class};
 
 use crate::markup::{push_end, push_plain, push_start};
 use drawing::{Added, Head, form_words};
 use history_merge::OpKind;
-
-/// The word of a kind of operation, which is its class too.
-pub(crate) fn kind_word(kind: OpKind) -> &'static [u8]
-    ensures { result.now ≡ kind_word kind }
-{
-    match kind {
-        OpKind::Enq(_) => b"enq",
-        OpKind::Deq(_) => b"deq",
-        OpKind::Not(_) => b"not",
-        OpKind::Empty => b"empty",
-    }
-}
 
 /// How round the corners of a bar are.
 pub(crate) fn corner(kind: OpKind) -> u128
