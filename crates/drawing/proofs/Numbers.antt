@@ -13,7 +13,7 @@ use Rattle.value_match.specs.Timeline.{initial_enqueue}
 use Rattle.verdicts.specs.Claims.{initial_enqueue_of, on_timeline, stands_for}
 use Rattle.drawing.specs.Laws.{NumbersAreOfLines, LinesHaveNumbers, InitialNumbersAreOfLines, InitialLinesHaveNumbers}
 use Rattle.drawing.specs.Laws.{LinesAreOfHistory}
-use Rattle.drawing.proofs.Bars.{found}
+use Rattle.drawing.proofs.Nearness.{found}
 use Rattle.std.proofs.lemmas.List.Elements.{All-contains, All-from_recursion}
 use Rattle.std.specs.List.{AllByRecursion}
 use Rattle.event_records.specs.declared.limits.TheConstants.{MAX_TICKET}

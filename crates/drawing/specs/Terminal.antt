@@ -67,9 +67,11 @@ lane_column columns threads thread = columns.lanes + lane_place columns.lane (la
 abbrev pub one_of : Bool → List ℕ → List ℕ → List ℕ
 one_of away round square = if away then round else square
 
--- what stands in a lane in the row of an event: a call with its number, a return, or that an operation is under way
-abbrev pub event_sign : List ClaimLine → Bool → ℕ → Operation → List ℕ
-event_sign shown away ticket o =
+-- what stands in a lane in the row of an event: a call with its number where lanes have room for it, a return, or that an operation is under way
+abbrev pub event_sign : Columns → SceneView → ℕ → Operation → List ℕ
+event_sign columns scene ticket o =
+    let away = is_away scene.claimed o in
+    let shown = if columns.lane == 1 then [] else shown_by scene.claimed in
     if o.call == ticket then one_of away (codes "(") (codes "[") ++ number_at (place_in shown (row.Ticket o.call))
     else (if o.ret == ticket then one_of away (codes ")") (codes "]") else one_of away (codes ":") (codes "|"))
 
@@ -77,19 +79,20 @@ event_sign shown away ticket o =
 abbrev pub effect_sign : List ℕ → Operation → ℕ → Operation → List ℕ
 effect_sign here effect point o = if o.call == effect.call then here else (if o.ret == point then [] else codes "|")
 
--- what stands in a lane in a row, where this operation is under way: numbers where lanes have room for them
-abbrev pub lane_sign : Bool → Claimed → Row → Option Operation → List ℕ
-lane_sign narrow claimed (row.Ticket ticket) (Some o) = event_sign (if narrow then [] else shown_by claimed) (is_away claimed o) ticket o
-lane_sign narrow claimed (row.LeftOut count last) (Some o) = one_of (is_away claimed o) (codes ":") (codes "|")
-lane_sign narrow claimed (row.Effect effect number point) (Some o) = effect_sign (if narrow then codes "*" else decimal number) effect point o
-lane_sign narrow claimed r under = []
+-- what stands in a lane in a row, where this operation is under way
+abbrev pub lane_sign : Columns → SceneView → Row → Option Operation → List ℕ
+lane_sign columns scene (row.Ticket ticket) (Some o) = event_sign columns scene ticket o
+lane_sign columns scene (row.LeftOut count last) (Some o) = one_of (is_away scene.claimed o) (codes ":") (codes "|")
+lane_sign columns scene (row.Effect effect number point) (Some o) =
+    effect_sign (if columns.lane == 1 then codes "*" else decimal number) effect point o
+lane_sign columns scene r under = []
 
 -- the words in the lanes in a row
 abbrev pub lane_words : Columns → SceneView → Row → List Word
 lane_words columns scene r =
     map (λ thread. record {
       column = lane_column columns scene.threads thread;
-      bytes = lane_sign (columns.lane == 1) scene.claimed r (under_way scene.operations thread (unwrap_or (gap_of r) 0));
+      bytes = lane_sign columns scene r (under_way scene.operations thread (unwrap_or (gap_of r) 0));
     }) scene.threads
 
 -- ---- rows
@@ -112,10 +115,11 @@ beside_words claimed (row.Effect effect number point) = numbered (digits (count_
 beside_words claimed r = way_in claimed r
 
 -- the label of what is called, where something is; after its number, where lanes have no room for that
-abbrev pub call_label : Bool → List ClaimLine → Option Operation → List ℕ
-call_label narrow shown None = []
-call_label narrow shown (Some o) =
-    if narrow then numbered (digits (length shown)) (number_at (place_in shown (row.Ticket o.call))) (label o.kind) else label o.kind
+abbrev pub call_label : Columns → SceneView → Option Operation → List ℕ
+call_label columns scene None = []
+call_label columns scene (Some o) =
+    let shown = shown_by scene.claimed in
+    if columns.lane == 1 then numbered (digits (length shown)) (number_at (place_in shown (row.Ticket o.call))) (label o.kind) else label o.kind
 
 -- the words right of the bands or of the lanes: the head of the initial values, such a value with its number, or a label
 abbrev pub told_word : Columns → SceneView → Row → Word
@@ -126,7 +130,7 @@ told_word columns scene (row.Initial place v) = record {
 }
 told_word columns scene (row.Ticket ticket) = record {
   column = columns.label;
-  bytes = call_label (columns.lane == 1) (shown_by scene.claimed) (called_at scene.operations ticket);
+  bytes = call_label columns scene (called_at scene.operations ticket);
 }
 told_word columns scene r = record { column = columns.label; bytes = [] }
 

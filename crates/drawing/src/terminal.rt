@@ -102,25 +102,25 @@ fn one_of(away: bool, round: &'static [u8], square: &'static [u8]) -> &'static [
 }
 
 /// A call with its number, a return, or that an operation is under way.
-fn event_sign(
-    alloc: Global,
-    shown: &[ClaimLine],
-    away: bool,
-    ticket: u64,
-    operation: Operation,
-) -> Result<Vec<u8>, AllocError>
-    requires { length shown.now ≤ MOST_DRAWN }
-    ensures { IfOk result (λ word. word.items ≡ event_sign shown.now away ticket operation) }
+fn event_sign(sheet: &Sheet<'_>, ticket: u64, operation: Operation) -> Result<Vec<u8>, AllocError>
+    ensures { IfOk result (λ word. word.items ≡ event_sign sheet.now.columns (scene_in sheet.now) ticket operation) }
 {
+    let away = is_away(sheet.scene.claimed, operation);
     if operation.call == ticket {
-        let number = number_at(alloc, place_in(shown, Row::Ticket(operation.call)))?;
-        let mut word = Vec::from_slice(alloc, one_of(away, b"(", b"["))?;
+        let narrow = sheet.columns.lane == 1;
+        let shown = if narrow {
+            &[]
+        } else {
+            shown_by(sheet.scene.claimed)
+        };
+        let number = number_at(sheet.alloc, place_in(shown, Row::Ticket(operation.call)))?;
+        let mut word = Vec::from_slice(sheet.alloc, one_of(away, b"(", b"["))?;
         word.extend_from_slice(number.as_slice())?;
         Ok(word)
     } else if operation.ret == ticket {
-        Vec::from_slice(alloc, one_of(away, b")", b"]"))
+        Vec::from_slice(sheet.alloc, one_of(away, b")", b"]"))
     } else {
-        Vec::from_slice(alloc, one_of(away, b":", b"|"))
+        Vec::from_slice(sheet.alloc, one_of(away, b":", b"|"))
     }
 }
 
@@ -144,35 +144,23 @@ fn effect_sign(
 }
 
 /// What stands in a lane in a row, where this operation is under way.
-fn lane_sign(
-    alloc: Global,
-    narrow: bool,
-    claimed: &Claimed,
-    row: Row,
-    under: Option<Operation>,
-) -> Result<Vec<u8>, AllocError>
-    requires { count_of_lines claimed.now ≤ MOST_DRAWN }
-    ensures { IfOk result (λ word. word.items ≡ lane_sign narrow claimed.now row under) }
+fn lane_sign(sheet: &Sheet<'_>, row: Row, under: Option<Operation>) -> Result<Vec<u8>, AllocError>
+    ensures { IfOk result (λ word. word.items ≡ lane_sign sheet.now.columns (scene_in sheet.now) row under) }
 {
     match (row, under) {
-        (Row::Ticket(ticket), Some(operation)) => {
-            let shown = if narrow { &[] } else { shown_by(claimed) };
-            let away = is_away(claimed, operation);
-            event_sign(alloc, shown, away, ticket, operation)
-        }
+        (Row::Ticket(ticket), Some(operation)) => event_sign(sheet, ticket, operation),
         (Row::LeftOut(_, _), Some(operation)) => {
-            Vec::from_slice(alloc, one_of(is_away(claimed, operation), b":", b"|"))
+            let away = is_away(sheet.scene.claimed, operation);
+            Vec::from_slice(sheet.alloc, one_of(away, b":", b"|"))
         }
         (Row::Effect(effect, number, point), Some(operation)) => {
+            let narrow = sheet.columns.lane == 1;
             let mut buffer = Buffer::new();
-            let here = if narrow {
-                b"*"
-            } else {
-                buffer.format(number).as_bytes()
-            };
-            effect_sign(alloc, here, effect, point, operation)
+            let number = buffer.format(number).as_bytes();
+            let here = if narrow { b"*" } else { number };
+            effect_sign(sheet.alloc, here, effect, point, operation)
         }
-        _ => Ok(Vec::new(alloc)),
+        _ => Ok(Vec::new(sheet.alloc)),
     }
 }
 
@@ -190,11 +178,10 @@ fn place_lanes(line: &mut Vec<u8>, sheet: &Sheet<'_>, row: Row) -> Added
 {
     let operations = sheet.scene.operations.as_slice();
     let threads = sheet.scene.threads.as_slice();
-    let narrow = sheet.columns.lane == 1;
     let ticket = gap_of(row).unwrap_or(0);
     for thread in threads {
         let operation = under_way(operations, *thread, ticket);
-        let word = lane_sign(sheet.alloc, narrow, sheet.scene.claimed, row, operation)?;
+        let word = lane_sign(sheet, row, operation)?;
         place(line, lane_column(sheet, *thread), word.as_slice())?;
     }
     Ok(())
@@ -220,43 +207,28 @@ fn beside_words(alloc: Global, claimed: &Claimed, row: Row) -> Result<Vec<u8>, A
             let mut buffer = Buffer::new();
             let label = label_of(alloc, effect.kind)?;
             let number = buffer.format(number).as_bytes();
-            numbered(
-                alloc,
-                digits(count_of_lines(claimed) as u64),
-                number,
-                label.as_slice(),
-            )
+            let wide = digits(count_of_lines(claimed) as u64);
+            numbered(alloc, wide, number, label.as_slice())
         }
         _ => Vec::from_slice(alloc, way_in(claimed, row)),
     }
 }
 
 /// The label of what is called, where something is; after its number, where lanes have no room for that.
-fn call_label(
-    alloc: Global,
-    narrow: bool,
-    shown: &[ClaimLine],
-    called: Option<Operation>,
-) -> Result<Vec<u8>, AllocError>
-    requires { length shown.now ≤ MOST_DRAWN }
-    ensures { IfOk result (λ word. word.items ≡ call_label narrow shown.now called) }
+fn call_label(sheet: &Sheet<'_>, called: Option<Operation>) -> Result<Vec<u8>, AllocError>
+    ensures { IfOk result (λ word. word.items ≡ call_label sheet.now.columns (scene_in sheet.now) called) }
 {
-    match called {
-        None => Ok(Vec::new(alloc)),
-        Some(operation) => {
-            let label = label_of(alloc, operation.kind)?;
-            if narrow {
-                let number = number_at(alloc, place_in(shown, Row::Ticket(operation.call)))?;
-                numbered(
-                    alloc,
-                    digits(shown.len() as u64),
-                    number.as_slice(),
-                    label.as_slice(),
-                )
-            } else {
-                Ok(label)
-            }
-        }
+    let Some(operation) = called else {
+        return Ok(Vec::new(sheet.alloc));
+    };
+    let label = label_of(sheet.alloc, operation.kind)?;
+    if sheet.columns.lane == 1 {
+        let shown = shown_by(sheet.scene.claimed);
+        let number = number_at(sheet.alloc, place_in(shown, Row::Ticket(operation.call)))?;
+        let wide = digits(shown.len() as u64);
+        numbered(sheet.alloc, wide, number.as_slice(), label.as_slice())
+    } else {
+        Ok(label)
     }
 }
 
@@ -276,8 +248,7 @@ fn place_told(line: &mut Vec<u8>, sheet: &Sheet<'_>, row: Row) -> Added
         }
         Row::Ticket(ticket) => {
             let called = called_at(sheet.scene.operations.as_slice(), ticket);
-            let narrow = sheet.columns.lane == 1;
-            let word = call_label(sheet.alloc, narrow, shown_by(claimed), called)?;
+            let word = call_label(sheet, called)?;
             place(line, sheet.columns.label, word.as_slice())
         }
         _ => Ok(()),
