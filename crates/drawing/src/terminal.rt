@@ -105,14 +105,11 @@ fn one_of(away: bool, round: &'static [u8], square: &'static [u8]) -> &'static [
 fn event_sign(sheet: &Sheet<'_>, ticket: u64, operation: Operation) -> Result<Vec<u8>, AllocError>
     ensures { IfOk result (λ word. word.items ≡ event_sign sheet.now.columns (scene_in sheet.now) ticket operation) }
 {
-    let away = is_away(sheet.scene.claimed, operation);
+    let claimed = sheet.scene.claimed;
+    let away = is_away(claimed, operation);
     if operation.call == ticket {
         let narrow = sheet.columns.lane == 1;
-        let shown = if narrow {
-            &[]
-        } else {
-            shown_by(sheet.scene.claimed)
-        };
+        let shown = if narrow { &[] } else { shown_by(claimed) };
         let number = number_at(sheet.alloc, place_in(shown, Row::Ticket(operation.call)))?;
         let mut word = Vec::from_slice(sheet.alloc, one_of(away, b"(", b"["))?;
         word.extend_from_slice(number.as_slice())?;

@@ -3,6 +3,7 @@ use Rattle.std.specs.Prelude.{ℕ, ◌+◌, ◌-◌, ◌*◌, not, Bool, true, f
 use Rattle.std.specs.Prelude.{List, [], ◌∷◌, ◌++◌, length, map, codes, decimal}
 use Rattle.std.specs.List.{concat, enumerate_from}
 use Rattle.history_merge.specs.declared.operation.Operation.{Operation}
+use Rattle.history_merge.specs.declared.operation.OpKind.{OpKind}
 use Rattle.history_merge.specs.declared.operation.OpKind.TheVariants as kind
 use Rattle.verdicts.specs.declared.verifying.Claimed.{Claimed}
 use Rattle.verdicts.specs.declared.verifying.Claimed.TheVariants.{Yes, No}
@@ -11,7 +12,7 @@ use Rattle.drawing.specs.declared.bands.Band.{Band}
 use Rattle.drawing.specs.declared.bands.Head.{Head as BandHead}
 use Rattle.drawing.specs.declared.bands.Head.TheVariants as band_head
 use Rattle.drawing.specs.Layout.{digits, kind_word, told, label, numbered, initial_label, label_width, place_in, place_of}
-use Rattle.drawing.specs.Bands.{head_text}
+use Rattle.drawing.specs.Bands.{form_words, head_text}
 use Rattle.drawing.specs.Captions.{headline, caption}
 use Rattle.drawing.specs.Drawn.{is_away}
 use Rattle.drawing.specs.Scene.{SceneView, ticket_words, ticket_width, way_in}
@@ -22,12 +23,25 @@ use Rattle.drawing.specs.declared.signs.Sign.{Sign}
 use Rattle.drawing.specs.declared.signs.Sign.TheVariants.{First, InOrder, OfOperations, OfValues, Present, Absent, Away}
 use Rattle.svg_picture.specs.declared.bars.Bar.{Bar}
 use Rattle.svg_picture.specs.declared.sheet.Measures.{Measures}
-use Rattle.svg_picture.specs.Markup.{Content, Nothing, Words, Element, Svg, Title, Desc, Defs, Pattern, Group, each, group, document}
+use Rattle.svg_picture.specs.Markup.{Content, Nothing, Words, Element, Svg, Title, Desc, Defs, Pattern, Group, each, group, document, text_of}
 use Rattle.svg_picture.specs.Layout.{Page, shown, left, number_x, bar_width, thread_x, band_x, width, legend_y, top, row_y, call_y, ret_y, bottom, height}
 use Rattle.svg_picture.specs.Layout.{line_count, parts, longest}
-use Rattle.svg_picture.specs.Words.{corner, form_class}
 use Rattle.svg_picture.specs.declared.words.TheConstants.{READING}
+use Rattle.svg_picture.specs.declared.html.TheConstants.{PAGE_HEAD, PAGE_FOOT}
 use Rattle.svg_picture.specs.Elements.{text_at, rect, stroke, lines_at, samples, hatch, style_element}
+
+-- ---- what characters don't have
+
+-- how round the corners of a bar are: dequeues are round
+abbrev pub corner : OpKind → ℕ
+corner (kind.Enq v) = 0
+corner (kind.Deq v) = 9
+corner (kind.Not v) = 0
+corner kind.Empty = 9
+
+-- the class of a band, by its form; nothing where there is no band
+abbrev pub form_class : BandHead → List ℕ
+form_class head = form_words head (codes "sure") (codes "none") (codes "time")
 
 -- ---- what is claimed of an operation
 
@@ -116,34 +130,27 @@ unfoldable pub guide : Measures → List ℕ → ℕ → ℕ → Option ℕ → 
 guide m class x y None = Nothing
 guide m class x y (Some ticket) = stroke class x y (left m) y
 
--- the band between its edges, with its dotted lines, and a thin line from its head
-unfoldable pub drawn_band : Page → List ℕ → ℕ → ℕ → Band → Content
-drawn_band page class x y band =
+-- the band between its edges, with its dotted lines, and a thin line from its head; nothing where its head has no form
+unfoldable pub formed_band : Page → List ℕ → ℕ → ℕ → Band → Content
+formed_band page [] x y band = Nothing
+formed_band page (b ∷ bytes) x y band =
+    let class = b ∷ bytes in
     group (guide page.measures class (x + 28) (first_y page band) band.first ∷ guide page.measures class (x + 28) (last_y page band) band.last
     ∷ stroke (codes "lead") x y x (first_y page band) ∷ rect class 0 x (first_y page band) 28 (last_y page band - first_y page band) ∷ [])
-
--- the band, where its head has a form
-abbrev pub formed_band : Page → List ℕ → ℕ → ℕ → Band → Content
-formed_band page [] x y band = Nothing
-formed_band page (b ∷ class) x y band = drawn_band page (b ∷ class) x y band
 
 -- the heads stand one above another, so that each has the room to its right, and above the names of the lanes
 abbrev pub head_y : Measures → ℕ → ℕ
 head_y m i = top m - (28 + 20 * (m.heads - (i + 1)))
 
 -- band i with its head
-unfoldable pub band_at : Page → ℕ → Band → Content
-band_at page i band =
+unfoldable pub band_at : Page → ℕ × Band → Content
+band_at page (i, band) =
     group (text_at 7 (codes "name") (band_x page.measures i) (head_y page.measures i) (head_text band.head)
     ∷ formed_band page (form_class band.head) (band_x page.measures i + 3) (head_y page.measures i + 4) band ∷ [])
 
--- band i with its head, as it is numbered
-abbrev pub numbered_band : Page → ℕ × Band → Content
-numbered_band page (i, band) = band_at page i band
-
 -- the bands of a `NO`
 unfoldable pub bands : Page → Content
-bands page = each (numbered_band page) (enumerate_from 0 page.scene.bands)
+bands page = each (band_at page) (enumerate_from 0 page.scene.bands)
 
 -- ---- initial values
 
@@ -207,15 +214,12 @@ names m =
 
 -- ---- lanes
 
--- the name of a thread
-unfoldable pub thread_name : ℕ → List ℕ
-thread_name thread = codes "thread " ++ decimal thread
-
 -- the name of a thread above its lane and below it
 unfoldable pub lane_names : Page → ℕ → Content
 lane_names page thread =
-    group (text_at 7 (codes "name") (thread_x page thread + 3) (top page.measures - 8) (thread_name thread)
-    ∷ text_at 7 (codes "name") (thread_x page thread + 3) (bottom page.measures + 14) (thread_name thread) ∷ [])
+    let name = codes "thread " ++ decimal thread in
+    group (text_at 7 (codes "name") (thread_x page thread + 3) (top page.measures - 8) name
+    ∷ text_at 7 (codes "name") (thread_x page thread + 3) (bottom page.measures + 14) name ∷ [])
 
 -- the names of the threads
 unfoldable pub threads : Page → Content
@@ -225,14 +229,10 @@ threads page = each (lane_names page) page.scene.threads
 unfoldable pub row_pattern : Measures → Content
 row_pattern m = Element (Pattern (codes "rows") (top m) (width m) 40) (rect (codes "row") 0 0 0 (width m) 20)
 
--- the patterns of hatched bands and of rows
-unfoldable pub patterns : Measures → Content
-patterns m = Element Defs (group (hatch ∷ row_pattern m ∷ []))
-
--- the background, and the rows
+-- the background with the patterns of hatched bands and of rows, and the rows
 unfoldable pub background : Measures → Content
 background m =
-    group (patterns m ∷ rect (codes "page") 0 0 0 (width m) (height m)
+    group (Element Defs (group (hatch ∷ row_pattern m ∷ [])) ∷ rect (codes "page") 0 0 0 (width m) (height m)
     ∷ rect (codes "rows") 0 0 (top m) (width m) (bottom m - top m) ∷ [])
 
 -- ---- the whole
@@ -248,17 +248,15 @@ sign Absent y = rect (codes "none") 0 6 (y + 1) 28 14
 sign Away y = rect (codes "far") 0 6 (y + 1) 28 14
 sign others y = rect (codes "time") 0 6 (y + 1) 28 14
 
--- a sign, and what it means
-unfoldable pub sign_at : ℕ → Sign → Content
-sign_at y s = group (sign s y ∷ text_at 7 (codes "dim") 41 (y + 12) (meaning s) ∷ [])
-
--- the same, as it is numbered
-abbrev pub numbered_sign : Measures → ℕ × Sign → Content
-numbered_sign m (i, s) = sign_at (legend_y m + 63 + 20 * i) s
+-- sign i, and what it means
+unfoldable pub sign_at : Measures → ℕ × Sign → Content
+sign_at m (i, s) =
+    let y = legend_y m + 63 + 20 * i in
+    group (sign s y ∷ text_at 7 (codes "dim") 41 (y + 12) (meaning s) ∷ [])
 
 -- the signs of the picture, each in a line
 unfoldable pub signs : Page → Content
-signs page = each (numbered_sign page.measures) (enumerate_from 0 (signs_of page.scene))
+signs page = each (sign_at page.measures) (enumerate_from 0 (signs_of page.scene))
 
 -- the words above: the headline, the caption, and how to read the picture
 unfoldable pub heading : Page → Content
@@ -317,3 +315,17 @@ page_of scene = record { measures = measures_of scene; scene = scene }
 -- the picture of a scene as a document
 unfoldable pub svg_picture : SceneView → List ℕ
 svg_picture scene = document (page_content (page_of scene))
+
+-- ---- a page for a browser
+
+-- what stands before the picture
+unfoldable pub page_head : List ℕ
+page_head = PAGE_HEAD.now
+
+-- what stands after it: the end, and a script
+unfoldable pub page_foot : List ℕ
+page_foot = PAGE_FOOT.now
+
+-- the page of a scene: its fixed head, the picture by its definition, and its fixed foot
+unfoldable pub html_picture : SceneView → List ℕ
+html_picture scene = page_head ++ (text_of (page_content (page_of scene)) ++ page_foot)

@@ -2,8 +2,7 @@
 ghost use Rattle.std.specs.Prelude.{◌≡◌, ◌++◌, ◌≤◌, ◌^◌, OnOk, IsTrue, false};
 ghost use Rattle.svg_picture.specs.Markup.{text_of};
 ghost use Rattle.svg_picture.specs.Layout.{page_on, call_y, ret_y};
-ghost use Rattle.svg_picture.specs.Words.{form_class};
-ghost use Rattle.svg_picture.specs.Picture.{is_time, edge_y, guide, formed_band, head_y, band_at, bands};
+ghost use Rattle.svg_picture.specs.Picture.{form_class, is_time, edge_y, guide, formed_band, head_y, band_at, bands};
 
 use crate::elements::{push_rect, push_stroke, push_text_at};
 use crate::layout::{band_x, bottom, call_y, left, ret_y, top};
@@ -50,7 +49,7 @@ fn push_guide(
 }
 
 /// Adds a band with its dotted lines, where its head has a form.
-#[tactic(auto, unfolding(crate::specs::Picture::drawn_band))]
+#[tactic(auto, unfolding(crate::specs::Picture::formed_band))]
 fn push_formed_band(text: &mut Vec<u8>, sheet: &Sheet<'_>, x: u128, y: u128, band: Band) -> Added
     requires { x ≤ 2 ^ 92 }
     ensures { OnOk result (text.new.items ≡ text.old.items
@@ -81,7 +80,7 @@ fn head_y(m: Measures, i: usize) -> u128
 
 #[tactic(auto, unfolding(crate::specs::Picture::band_at))]
 fn push_band_at(text: &mut Vec<u8>, sheet: &Sheet<'_>, i: usize, band: Band) -> Added
-    ensures { OnOk result (text.new.items ≡ text.old.items ++ text_of (band_at (page_on sheet.now) i band)) }
+    ensures { OnOk result (text.new.items ≡ text.old.items ++ text_of (band_at (page_on sheet.now) (i, band))) }
 {
     let x = band_x(sheet.measures, i);
     let y = head_y(sheet.measures, i);

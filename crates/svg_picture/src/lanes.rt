@@ -2,7 +2,7 @@
 ghost use Rattle.std.specs.Prelude.{◌≡◌, ◌++◌, OnOk, IfOk};
 ghost use Rattle.svg_picture.specs.Markup.{text_of};
 ghost use Rattle.svg_picture.specs.Layout.{page_on};
-ghost use Rattle.svg_picture.specs.Picture.{thread_name, lane_names, threads, row_pattern, patterns, background};
+ghost use Rattle.svg_picture.specs.Picture.{lane_names, threads, row_pattern, background};
 
 use crate::elements::{push_hatch, push_pattern, push_rect, push_text_at};
 use crate::layout::{bottom, height, thread_x, top, width};
@@ -11,7 +11,7 @@ use crate::sheet::{Measures, Sheet};
 use drawing::Added;
 use std::alloc::{AllocError, Global};
 
-#[tactic(auto, unfolding(crate::specs::Picture::lane_names, crate::specs::Picture::thread_name))]
+#[tactic(auto, unfolding(crate::specs::Picture::lane_names))]
 fn push_lane_names(text: &mut Vec<u8>, sheet: &Sheet<'_>, thread: u8) -> Added
     ensures { OnOk result (text.new.items ≡ text.old.items ++ text_of (lane_names (page_on sheet.now) thread)) }
 {
@@ -45,7 +45,7 @@ fn push_row_pattern(text: &mut Vec<u8>, m: Measures) -> Added
 }
 
 /// Adds the background, and the rows.
-#[tactic(auto, unfolding(crate::specs::Picture::background, crate::specs::Picture::patterns))]
+#[tactic(auto, unfolding(crate::specs::Picture::background))]
 pub(crate) fn push_background(text: &mut Vec<u8>, m: Measures) -> Added
     ensures { OnOk result (text.new.items ≡ text.old.items ++ text_of (background m)) }
 {

@@ -7,7 +7,7 @@ ghost use Rattle.svg_picture.specs.Picture.{sign, sign_at, signs};
 use crate::bars::push_pill;
 use crate::elements::{push_rect, push_text_at};
 use crate::layout::legend_y;
-use crate::sheet::Sheet;
+use crate::sheet::{Measures, Sheet};
 use drawing::{Added, Sign, meaning, signs_of};
 
 /// Adds a sign from this height on.
@@ -25,12 +25,12 @@ fn push_sign(text: &mut Vec<u8>, drawn: Sign, y: u128) -> Added
     }
 }
 
-/// Adds a sign, and what it means.
+/// Adds sign i, and what it means.
 #[tactic(auto, unfolding(crate::specs::Picture::sign_at))]
-fn push_sign_at(text: &mut Vec<u8>, y: u128, sign: Sign) -> Added
-    requires { y ≤ 2 ^ 91 }
-    ensures { OnOk result (text.new.items ≡ text.old.items ++ text_of (sign_at y sign)) }
+fn push_sign_at(text: &mut Vec<u8>, m: Measures, i: usize, sign: Sign) -> Added
+    ensures { OnOk result (text.new.items ≡ text.old.items ++ text_of (sign_at m (i, sign))) }
 {
+    let y = legend_y(m) + 63 + 20 * i as u128;
     push_sign(text, sign, y)?;
     push_text_at(text, 7, b"dim", 41, y + 12, meaning(sign))
 }
@@ -40,10 +40,9 @@ fn push_sign_at(text: &mut Vec<u8>, y: u128, sign: Sign) -> Added
 pub(crate) fn push_signs(text: &mut Vec<u8>, sheet: &Sheet<'_>) -> Added
     ensures { OnOk result (text.new.items ≡ text.old.items ++ text_of (signs (page_on sheet.now))) }
 {
-    let y = legend_y(sheet.measures) + 63;
     let signs = signs_of(sheet.alloc, sheet.scene)?;
     for (i, sign) in signs.as_slice().iter().enumerate() {
-        push_sign_at(text, y + 20 * i as u128, *sign)?;
+        push_sign_at(text, sheet.measures, i, *sign)?;
     }
     Ok(())
 }

@@ -2,7 +2,7 @@
 ghost use Rattle.std.specs.Prelude.{◌≡◌, ◌++◌, OnOk};
 ghost use Rattle.svg_picture.specs.Elements.{style_element};
 ghost use Rattle.svg_picture.specs.Markup.{text_of};
-ghost use Rattle.svg_picture.specs.Words.{corner, form_class};
+ghost use Rattle.svg_picture.specs.Picture.{corner, form_class};
 
 use crate::markup::{push_end, push_plain, push_start};
 use drawing::{Added, Head, form_words};
