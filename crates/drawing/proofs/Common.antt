@@ -34,7 +34,6 @@ pub use Rattle.drawing.specs.Drawn.{drawn_operations, events_before, is_near_any
 pub use Rattle.drawing.specs.Drawn.{stand_near, standing_of}
 pub use Rattle.drawing.specs.Inner.Words.{piece_text, scene_in}
 pub use Rattle.drawing.specs.Layout.{greatest_call, has_operations, is_under_way, point, stands_in, under_way}
-unfoldable pub use Rattle.drawing.specs.Layout.{threads_below}
 pub use Rattle.drawing.specs.Scene.{effect_if, effect_row_if, event_rows, has_row, initial_row, initial_rows}
 pub use Rattle.drawing.specs.Scene.{lanes_before, left_out_rows, row_time, row_turn, rows_after, stands_above}
 unfoldable pub use Rattle.drawing.specs.Scene.{effect_rows, row_number, rows_of, scene_of}

@@ -60,13 +60,9 @@ initial_label v = initial_text (name_of v)
 abbrev pub has_operations : List Operation → ℕ → Bool
 has_operations operations thread = list_any (λ o. nat_eq o.thread thread) operations
 
--- the threads below n that have operations, the least first
-unfoldable pub threads_below : List Operation → ℕ → List ℕ
-threads_below operations n = filter (has_operations operations) (range_with_len 0 n)
-
 -- the threads that have operations, the least first
-abbrev pub threads_of : List Operation → List ℕ
-threads_of operations = threads_below operations (MAX_THREAD + 1)
+unfoldable pub threads_of : List Operation → List ℕ
+threads_of operations = filter (has_operations operations) (range_with_len 0 (MAX_THREAD + 1))
 
 -- ---- labels
 

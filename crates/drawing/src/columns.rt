@@ -67,18 +67,13 @@ fn has_operations(operations: &[Operation], thread: u8) -> bool
 }
 
 /// The threads that have operations, the least first.
-#[tactic(auto, using(crate::proofs::Loops::threads_yes, crate::proofs::Loops::threads_no, crate::proofs::Loops::threads_none))]
 pub(crate) fn threads_of(alloc: Global, operations: &[Operation]) -> Result<Vec<u8>, AllocError>
     ensures threads { IfOk result (λ threads. threads.items ≡ threads_of operations.now) }
     ensures few { IfOk result (λ threads. vec_len threads ≤ MAX_THREADS) }
 {
-    let mut threads = Vec::new(alloc);
-    for thread in 0..MAX_THREAD + 1 {
-        if has_operations(operations, thread) {
-            threads.push(thread)?;
-        }
-    }
-    Ok(threads)
+    (0..MAX_THREAD + 1)
+        .filter(|thread| has_operations(operations, *thread))
+        .collect(alloc)
 }
 
 fn label_len(kind: OpKind) -> u8
