@@ -1,7 +1,7 @@
 -- What a loop adds with one more element.
 use Rattle.drawing.proofs.Common.{[], ◌++◌, ◌+◌, ◌<◌, ◌∙◌, ◌∷◌, ◌≡◌, ap, arith, Bool, cond}
 use Rattle.drawing.proofs.Common.{drop, enumerate_from, false, find, flat_map, fold-append, fold_more, get_or}
-use Rattle.drawing.proofs.Common.{length, length-take-le, List, map, map-id, max, range_with_len, refl, Some, sym, take}
+use Rattle.drawing.proofs.Common.{length, length-take-le, List, map, map-id, max, range_with_len, Some, sym, take}
 use Rattle.drawing.proofs.Common.{zero-add, ℕ, greatest_call, Operation, placed, point, with_words, Word}
 use Rattle.std.proofs.lemmas.List.{map-append, take_more, at_drop_more, flat_map_more}
 use Rattle.std.proofs.lemmas.List.FromFn.{map-range_with_len_more}

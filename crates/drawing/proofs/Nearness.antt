@@ -1,5 +1,5 @@
 -- Which operations are drawn: those that overlap one of a `NO`, and with no distance no others; and the bars in the lanes are these.
-use Rattle.drawing.proofs.Common.{[], ◌-◌, ◌<◌, ◌||◌, ◌∙◌, ◌∷◌, ◌≡◌, ◌≤◌, ap, arith, Bool, cases_lt}
+use Rattle.drawing.proofs.Common.{[], ◌<◌, ◌||◌, ◌∙◌, ◌∷◌, ◌≡◌, ◌≤◌, ap, arith, Bool, cases_lt}
 use Rattle.drawing.proofs.Common.{cond, Contains, Contains-append_left, Contains-append_right, count_by, false}
 use Rattle.drawing.proofs.Common.{flat_map, get_or, inl, inr, IsPartitionedBy-ltb, length, List, list_any}
 use Rattle.drawing.proofs.Common.{map, nat_lt, nat_tests, None, Option, refl, slice_get, slice_get-get_or, Some, subst}

@@ -1,8 +1,8 @@
 -- The numbers of a claim, and its lines of evidence, which are operations and initial values of the history.
 use Rattle.drawing.proofs.Common.{[], ◌+◌, ◌∙◌, ◌∷◌, ◌≡◌, ap, Bool, cond, Contains, eq-eqb, eqb-true, get_or, List}
-use Rattle.drawing.proofs.Common.{lt-ltb, map, nat_eq, None, not, Option, option_map, position, position_or_len, refl}
+use Rattle.drawing.proofs.Common.{lt-ltb, map, nat_eq, None, Option, option_map, position, position_or_len, refl}
 use Rattle.drawing.proofs.Common.{slice_get, slice_get-get_or, slice_get_within, Some, subst, sym, true, ℕ, ClaimLine}
-use Rattle.drawing.proofs.Common.{contains_at, Op, Operation, operations_are_complete, operations_of, Row, same_call}
+use Rattle.drawing.proofs.Common.{contains_at, Op, Operation, operations_are_complete, operations_of, same_call}
 use Rattle.drawing.proofs.Common.{stands_in, ◌&&◌, ◌*◌, arith, cond_some, ◌++◌, flat_map, inl, inr, length}
 use Rattle.drawing.proofs.Common.{MatchOption, nat_le, option_to_list, contains_cons, timeline, later_by, not_in_none}
 use Rattle.drawing.proofs.Common.{one_deeper}

@@ -5,7 +5,7 @@ ghost use Rattle.svg_picture.specs.Layout.{page_on};
 ghost use Rattle.svg_picture.specs.Picture.{mark, number_words, bar_words, pill, bar_number, marked_bar, bar, bars};
 
 use crate::elements::{push_rect, push_text_at};
-use crate::layout::{bar_width, call_y, number_x, ret_y, row_y, thread_x};
+use crate::layout::{bar_width, number_x, row_y, thread_x};
 use crate::markup::Attribute::Words;
 use crate::markup::{push_element, push_end, push_number, push_start};
 use crate::sheet::{Measures, Sheet};
@@ -139,23 +139,18 @@ fn push_bar(text: &mut Vec<u8>, sheet: &Sheet<'_>, operation: Operation) -> Adde
     let class = mark(claimed, is_away(claimed, operation), place);
     let title = bar_words(sheet.alloc, operation, place)?;
     let label = label_of(sheet.alloc, operation.kind)?;
-    let y = call_y(sheet, operation.call);
+    let top = row_y(sheet, row);
+    let bottom = row_y(sheet, Row::Ticket(operation.ret)) + 17;
     let bar = Bar {
         x: thread_x(sheet, operation.thread),
-        y,
-        height: ret_y(sheet, operation.ret).saturating_sub(y),
-        base: row_y(sheet, row) + 24,
+        y: top + 3,
+        height: bottom.saturating_sub(top + 3),
+        base: top + 24,
         kind: operation.kind,
         place: place_in(shown_by(claimed), row),
     };
-    push_marked_bar(
-        text,
-        sheet.measures,
-        class,
-        title.as_slice(),
-        label.as_slice(),
-        bar,
-    )
+    let (m, title, label) = (sheet.measures, title.as_slice(), label.as_slice());
+    push_marked_bar(text, m, class, title, label, bar)
 }
 
 /// Adds the bars of the operations.

@@ -46,14 +46,8 @@ fn push_initial(text: &mut Vec<u8>, sheet: &Sheet<'_>, y: u128, row: Row, value:
         kind: OpKind::Enq(value),
         place,
     };
-    push_marked_bar(
-        text,
-        sheet.measures,
-        class,
-        title.as_slice(),
-        label.as_slice(),
-        bar,
-    )
+    let (m, title, label) = (sheet.measures, title.as_slice(), label.as_slice());
+    push_marked_bar(text, m, class, title, label, bar)
 }
 
 /// Adds a word in the place of the first band, with a dotted line from it to the lanes.
