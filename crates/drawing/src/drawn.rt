@@ -1,8 +1,7 @@
 //! Which operations of a history are drawn.
-ghost use Rattle.std.specs.Prelude.{◌≡◌, ◌++◌, IfOk, OnOk, filter, map};
+ghost use Rattle.std.specs.Prelude.{◌≡◌, IfOk, filter, map};
 ghost use Rattle.std.specs.List.{list_any};
 ghost use Rattle.event_records.specs.Turns.{TicketsRise};
-ghost use Rattle.history_merge.specs.Operations.{operations_of};
 ghost use Rattle.drawing.specs.Drawn.{events_before, standing_of, stand_near, is_near_any, operations_in, drawn_operations, overlaps_line};
 ghost use Rattle.drawing.specs.Drawn.{is_away};
 

@@ -1,5 +1,5 @@
 //! The scene of a picture, which characters and SVG draw alike: rows from top to bottom, and lanes side by side.
-ghost use Rattle.std.specs.Prelude.{if◌then◌else◌, codes, ◌≡◌, ◌==◌, ◌++◌, ◌≤◌, ◌+◌, ◌^◌, OnOk, IfOk, length, vec_len};
+ghost use Rattle.std.specs.Prelude.{if◌then◌else◌, codes, ◌≡◌, ◌==◌, ◌++◌, ◌≤◌, ◌+◌, OnOk, IfOk, length};
 ghost use Rattle.drawing.specs.Scene.{scene_on, initial_rows, effect_row_if, effect_rows, has_row, left_out_rows, rows_after, rows_of, scene_of};
 ghost use Rattle.drawing.specs.Scene.{gap_of, row_turn, stands_above, row_number, ticket_words, ticket_width, lanes_before, way_in};
 

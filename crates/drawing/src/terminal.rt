@@ -1,6 +1,6 @@
 //! A picture as lines of characters.
-ghost use Rattle.std.specs.Prelude.{if◌then◌else◌, ◌==◌, ◌≡◌, ◌≤◌, ◌-◌, ◌++◌, [], IfOk, IfSome, OnOk, length, unwrap_or, codes, decimal};
-ghost use Rattle.std.specs.List.{flat_map, enumerate_from};
+ghost use Rattle.std.specs.Prelude.{if◌then◌else◌, ◌==◌, ◌≡◌, ◌≤◌, ◌-◌, ◌++◌, [], IfOk, IfSome, OnOk, length, unwrap_or};
+ghost use Rattle.std.specs.List.{flat_map};
 ghost use Rattle.drawing.specs.Claim.{count_of_lines, shown_by};
 ghost use Rattle.text_lines.specs.Lines.{line};
 ghost use Rattle.drawing.specs.Layout.{kind_word, told, label, numbered, number_at};
@@ -27,7 +27,7 @@ use crate::signs::{Sign, meaning, signs_of};
 use history_merge::{OpKind, Operation};
 use itoa::Buffer;
 use std::alloc::{AllocError, Global};
-use verdicts::{ClaimLine, Claimed};
+use verdicts::Claimed;
 
 /// What the forms in the lanes mean.
 pub(crate) const LANE_MEANINGS: &[u8] = b"[    call of an operation\n]    its return\n";

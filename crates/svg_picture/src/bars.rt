@@ -1,5 +1,5 @@
 //! The bars of the operations.
-ghost use Rattle.std.specs.Prelude.{◌≡◌, ◌++◌, ◌≤◌, ◌^◌, OnOk, IfOk, IfSome, decimal};
+ghost use Rattle.std.specs.Prelude.{◌≡◌, ◌++◌, ◌≤◌, ◌^◌, OnOk, IfOk, IfSome};
 ghost use Rattle.svg_picture.specs.Markup.{text_of};
 ghost use Rattle.svg_picture.specs.Layout.{page_on};
 ghost use Rattle.svg_picture.specs.Picture.{mark, number_words, bar_words, pill, bar_number, marked_bar, bar, bars};

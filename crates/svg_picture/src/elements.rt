@@ -1,6 +1,6 @@
 //! The elements of a picture.
 ghost use Rattle.std.specs.Prelude.{◌≡◌, ◌+◌, ◌*◌, ◌++◌, ◌≤◌, ◌^◌, OnOk, codes, length};
-ghost use Rattle.svg_picture.specs.Markup.{text_of, named, start_tag, tag_attributes, Pattern};
+ghost use Rattle.svg_picture.specs.Markup.{text_of, start_tag, tag_attributes, Pattern};
 ghost use Rattle.svg_picture.specs.Elements.{text_at, rect, stroke, line_at, lines_at, sample, samples, hatch};
 
 use crate::lines::split_line;

@@ -1,5 +1,5 @@
 //! Lanes, and the background.
-ghost use Rattle.std.specs.Prelude.{◌≡◌, ◌++◌, OnOk, IfOk};
+ghost use Rattle.std.specs.Prelude.{◌≡◌, ◌++◌, OnOk};
 ghost use Rattle.svg_picture.specs.Markup.{text_of};
 ghost use Rattle.svg_picture.specs.Layout.{page_on};
 ghost use Rattle.svg_picture.specs.Picture.{lane_names, threads, row_pattern, background};
@@ -9,7 +9,6 @@ use crate::layout::{bottom, height, thread_x, top, width};
 use crate::markup::{push_end, push_number, push_start};
 use crate::sheet::{Measures, Sheet};
 use drawing::Added;
-use std::alloc::{AllocError, Global};
 
 #[tactic(auto, unfolding(crate::specs::Picture::lane_names))]
 fn push_lane_names(text: &mut Vec<u8>, sheet: &Sheet<'_>, thread: u8) -> Added
