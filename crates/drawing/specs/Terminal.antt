@@ -228,4 +228,5 @@ words columns scene =
 -- the picture of a scene in lines of characters: what stands above the rows, the heads, and the rows
 unfoldable pub terminal_picture : SceneView → List ℕ
 terminal_picture scene =
-    words (columns_of scene) scene ++ (heads (columns_of scene) scene ++ flat_map (numbered_row (columns_of scene) scene) (enumerate_from 0 scene.rows))
+    words (columns_of scene) scene
+    ++ (heads (columns_of scene) scene ++ flat_map (numbered_row (columns_of scene) scene) (enumerate_from 0 scene.rows))

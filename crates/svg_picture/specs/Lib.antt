@@ -2,4 +2,5 @@ pub mod Markup
 pub mod Layout
 pub mod Elements
 pub mod Picture
+pub mod Html
 pub mod Laws

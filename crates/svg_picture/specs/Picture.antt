@@ -23,11 +23,10 @@ use Rattle.drawing.specs.declared.signs.Sign.{Sign}
 use Rattle.drawing.specs.declared.signs.Sign.TheVariants.{First, InOrder, OfOperations, OfValues, Present, Absent, Away}
 use Rattle.svg_picture.specs.declared.bars.Bar.{Bar}
 use Rattle.svg_picture.specs.declared.sheet.Measures.{Measures}
-use Rattle.svg_picture.specs.Markup.{Content, Nothing, Words, Element, Svg, Title, Desc, Defs, Pattern, Group, each, group, document, text_of}
+use Rattle.svg_picture.specs.Markup.{Content, Nothing, Words, Element, Svg, Title, Desc, Defs, Pattern, Group, each, group, document}
 use Rattle.svg_picture.specs.Layout.{Page, shown, left, number_x, bar_width, thread_x, band_x, width, legend_y, top, row_y, call_y, ret_y, bottom, height}
 use Rattle.svg_picture.specs.Layout.{line_count, parts, longest}
 use Rattle.svg_picture.specs.declared.words.TheConstants.{READING}
-use Rattle.svg_picture.specs.declared.html.TheConstants.{PAGE_HEAD, PAGE_FOOT}
 use Rattle.svg_picture.specs.Elements.{text_at, rect, stroke, lines_at, samples, hatch, style_element}
 
 -- ---- what characters don't have
@@ -315,17 +314,3 @@ page_of scene = record { measures = measures_of scene; scene = scene }
 -- the picture of a scene as a document
 unfoldable pub svg_picture : SceneView → List ℕ
 svg_picture scene = document (page_content (page_of scene))
-
--- ---- a page for a browser
-
--- what stands before the picture
-unfoldable pub page_head : List ℕ
-page_head = PAGE_HEAD.now
-
--- what stands after it: the end, and a script
-unfoldable pub page_foot : List ℕ
-page_foot = PAGE_FOOT.now
-
--- the page of a scene: its fixed head, the picture by its definition, and its fixed foot
-unfoldable pub html_picture : SceneView → List ℕ
-html_picture scene = page_head ++ (text_of (page_content (page_of scene)) ++ page_foot)

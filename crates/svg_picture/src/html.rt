@@ -2,7 +2,7 @@
 ghost use Rattle.std.specs.Prelude.{◌≡◌, ◌≤◌, IfOk};
 ghost use Rattle.drawing.specs.Claim.{count_of_lines};
 ghost use Rattle.drawing.specs.Scene.{scene_on};
-ghost use Rattle.svg_picture.specs.Picture.{page_head, page_foot, html_picture};
+ghost use Rattle.svg_picture.specs.Html.{page_head, page_foot, html_picture};
 
 use crate::picture::push_picture;
 use drawing::{MOST_DRAWN, Scene};
@@ -43,7 +43,7 @@ g[data-how=after] rect:not(.pill),.after{fill:#e3daf5;stroke:#5b3f9e;background:
 </aside>\n\
 <main>\n";
 
-#[tactic(auto, unfolding(crate::specs::Picture::page_head))]
+#[tactic(auto, unfolding(crate::specs::Html::page_head))]
 fn page_head() -> &'static [u8]
     ensures { result.now ≡ page_head }
 {
@@ -99,7 +99,7 @@ by('fit').setAttribute('aria-pressed', fit); }); document.querySelector('aside')
 </body>\n\
 </html>\n";
 
-#[tactic(auto, unfolding(crate::specs::Picture::page_foot))]
+#[tactic(auto, unfolding(crate::specs::Html::page_foot))]
 fn page_foot() -> &'static [u8]
     ensures { result.now ≡ page_foot }
 {
@@ -110,7 +110,7 @@ fn page_foot() -> &'static [u8]
 /// [`svg_picture`](crate::svg_picture), and a fixed foot with a script. Without scripts it is the picture.
 ///
 /// Time and memory are those of the picture. `AllocError` comes only where a growth was refused.
-#[tactic(auto, unfolding(crate::specs::Picture::html_picture))]
+#[tactic(auto, unfolding(crate::specs::Html::html_picture))]
 pub fn html_picture(alloc: Global, scene: &Scene<'_>) -> Result<Vec<u8>, AllocError>
     // The claim has few enough lines to be drawn.
     requires { count_of_lines scene.now.claimed.now ≤ MOST_DRAWN }
