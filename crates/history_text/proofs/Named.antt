@@ -1,10 +1,10 @@
 -- The lines at some places.
-use Rattle.history_text.proofs.Common.{[], ◌++◌, ◌+◌, ◌<◌, ◌∙◌, ◌∷◌, ◌≡◌, ap, append-nil, ap₂, arith, Bool, cons_option}
-use Rattle.history_text.proofs.Common.{filter_map, flat_map, flat_map-append, get_or, IsErrAnd, length, List, None}
-use Rattle.history_text.proofs.Common.{Option, option_map, option_to_list, refl, Result, slice_get, Some, subst, sym}
-use Rattle.history_text.proofs.Common.{take, ℕ, Asked, claim_line, one_more_put, Op, Operation, operation_line}
-use Rattle.history_text.proofs.Common.{operation_text, puts_then, PutsText, stops_at_next, stops_before, TakesFront}
-use Rattle.history_text.proofs.Common.{TakesSome}
+use Rattle.std.proofs.Common.{MatchOption}
+use Rattle.history_text.proofs.Common.{maybe_place, lines_text, [], ◌++◌, ◌+◌, ◌∙◌, ◌∷◌, ◌≡◌, ap, append-nil, ap₂}
+use Rattle.history_text.proofs.Common.{arith, Bool, cons_option, filter_map, flat_map, flat_map-append, IsErrAnd, List}
+use Rattle.history_text.proofs.Common.{None, Option, option_map, option_to_list, refl, Result, slice_get, Some, subst}
+use Rattle.history_text.proofs.Common.{sym, ℕ, Asked, claim_line, Op, Operation, operation_line, operation_text}
+use Rattle.history_text.proofs.Common.{puts_then, PutsText, stops_before, TakesFront, TakesSome}
 
 module _ {S : Type 0} (contents : S → Option (List ℕ)) (has_refused : S → Bool) (transition : S → Asked → S → Type 0) where
   -- the lines of the first places went out in part
@@ -23,37 +23,19 @@ module _ {S : Type 0} (contents : S → Option (List ℕ)) (has_refused : S → 
       subst (λ (t : List ℕ). PutsText contents has_refused transition kept rest t a c r) (sym (flat_map-append f xs ys))
       (puts_then contents has_refused transition r kept mid rest (flat_map f xs) (flat_map f ys) a b c h k)
 
-  -- ---- places for each of a list
-
-  module _ {X P : Type 0} (f : P → List ℕ) (g : X → List P) where
-    -- the lines for each of a list are those of all its places
-    lines_for_each : (xs : List X) → flat_map (λ x. flat_map f (g x)) xs ≡ flat_map f (flat_map g xs)
-    lines_for_each [] = refl
-    lines_for_each (x ∷ xs) = ap (λ (r : List ℕ). flat_map f (g x) ++ r) (lines_for_each xs) ∙ sym (flat_map-append f (g x) (flat_map g xs))
-
-    -- the lines of one more step are put
-    pub step_is_put : (xs : List X) (i : ℕ) (x : X) (kept mid rest : List ℕ) (a b c : S) → i < length xs → x ≡ get_or xs i x
-        → TakesSome contents has_refused transition kept mid (flat_map f (flat_map g (take i xs))) a b
-        → TakesSome contents has_refused transition mid rest (flat_map f (g x)) b c
-        → TakesSome contents has_refused transition kept rest (flat_map f (flat_map g (take (i + 1) xs))) a c
-    step_is_put xs i x kept mid rest a b c within is before now =
-        subst (λ (t : List ℕ). TakesSome contents has_refused transition kept rest t a c) (lines_for_each (take (i + 1) xs))
-        (one_more_put contents has_refused transition (λ x. flat_map f (g x)) xs i x kept mid rest a b c within
-        (subst (λ (t : List ℕ). TakesSome contents has_refused transition kept mid t a b) (sym (lines_for_each (take i xs))) before)
-        (subst (λ (y : X). TakesSome contents has_refused transition mid rest (flat_map f (g y)) b c) is now))
-
-    -- the lines of one step went out in part
-    pub step_stops : {T E : Type 0} (Q : E → Type 0) (r : Result T E) (xs : List X) (i : ℕ) (x : X) (kept mid rest : List ℕ) (a b c : S) → i < length xs
-        → x ≡ get_or xs i x → TakesSome contents has_refused transition kept mid (flat_map f (flat_map g (take i xs))) a b → IsErrAnd r Q
-        → TakesFront contents has_refused transition (mid ++ flat_map f (g x)) b c
-        → PutsText contents has_refused transition kept rest (flat_map f (flat_map g xs)) a c r
-    step_stops Q r xs i x kept mid rest a b c within is before failed now =
-        subst (λ (t : List ℕ). PutsText contents has_refused transition kept rest t a c r) (lines_for_each xs)
-        (stops_at_next contents has_refused transition (λ x. flat_map f (g x)) Q r xs i x kept mid rest a b c within
-        (subst (λ (t : List ℕ). TakesSome contents has_refused transition kept mid t a b) (sym (lines_for_each (take i xs))) before) failed
-        (subst (λ (y : X). TakesFront contents has_refused transition (mid ++ flat_map f (g y)) b c) is now))
+-- the lines for each of a list are those of all its places
+pub lines_for_each : {X P : Type 0} (f : P → List ℕ) (g : X → List P) (xs : List X) → flat_map (λ x. flat_map f (g x)) xs ≡ flat_map f (flat_map g xs)
+lines_for_each f g [] = refl
+lines_for_each f g (x ∷ xs) = ap (λ (r : List ℕ). flat_map f (g x) ++ r) (lines_for_each f g xs) ∙ sym (flat_map-append f (g x) (flat_map g xs))
 
 -- ---- what is claimed
+
+-- the line of an operation that may be missing
+pub last_text : (initial : List ℕ) (operations : List Operation) (last : Option ℕ) (places : List ℕ)
+    → MatchOption last (places ≡ []) (λ place. places ≡ place ∷ [])
+    → flat_map (operation_text operations) places ≡ lines_text initial operations (maybe_place last)
+last_text initial operations None places is = rw is refl
+last_text initial operations (Some place) places is = rw is refl
 
 one_more : {X : Type 0} (text : X → List ℕ) (here : Option X) (rest : List X) → flat_map text (cons_option here rest)
     ≡ flat_map text (option_to_list here) ++ flat_map text rest

@@ -114,21 +114,6 @@ impl<'a> WritesLine<LinePlace> for PlaceLines<'a> {
     }
 }
 
-fn put_maybe<W: TextSink>(
-    lines: &PlaceLines,
-    place: Option<OpId>,
-    kept: &mut WriteBuffer,
-    writer: &mut W,
-) -> Result<(), WriteFault>
-    ensures { PutsText W.contents W.has_refused W.transition kept.old kept.new
-        (lines_text lines.now.initial.now lines.now.operations.now (maybe_place place)) writer.old writer.new result }
-{
-    match place {
-        Some(place) => put_each(lines, &[LinePlace::Op(place)], kept, writer),
-        None => Ok(()),
-    }
-}
-
 /// Puts the lines of the operations at the first places, and then that of the last one if there is one.
 fn put_with_last<W: TextSink>(
     lines: &PlaceLines,
@@ -141,7 +126,7 @@ fn put_with_last<W: TextSink>(
         (lines_text lines.now.initial.now lines.now.operations.now (first.now ++ maybe_place last)) writer.old writer.new result }
 {
     put_each(lines, first, kept, writer)?;
-    put_maybe(lines, last, kept, writer)
+    put_each(lines, last.as_slice(), kept, writer)
 }
 
 fn put_cover<W: TextSink>(
@@ -151,7 +136,7 @@ fn put_cover<W: TextSink>(
     writer: &mut W,
 ) -> Result<(), WriteFault>
     ensures { PutsText W.contents W.has_refused W.transition kept.old kept.new
-        (lines_text lines.now.initial.now lines.now.operations.now (flat_map places_of_step steps.now)) writer.old writer.new result }
+        (flat_map (λ step. lines_text lines.now.initial.now lines.now.operations.now (places_of_step step)) steps.now) writer.old writer.new result }
 {
     for step in steps {
         put_with_last(
@@ -163,20 +148,6 @@ fn put_cover<W: TextSink>(
         )?;
     }
     Ok(())
-}
-
-fn put_witness<W: TextSink>(
-    lines: &PlaceLines,
-    empty: OpId,
-    cover: &[CoverStep],
-    kept: &mut WriteBuffer,
-    writer: &mut W,
-) -> Result<(), WriteFault>
-    ensures { PutsText W.contents W.has_refused W.transition kept.old kept.new
-        (lines_text lines.now.initial.now lines.now.operations.now (place.Op empty ∷ flat_map places_of_step cover.now)) writer.old writer.new result }
-{
-    put_each(lines, &[LinePlace::Op(empty)], kept, writer)?;
-    put_cover(lines, cover, kept, writer)
 }
 
 /// Returns the first line of a `NO`.
@@ -230,7 +201,8 @@ fn put_violation<W: TextSink>(
             writer,
         ),
         Violation::Witness { empty, cover } => {
-            put_witness(lines, *empty, cover.as_slice(), kept, writer)
+            put_each(lines, &[LinePlace::Op(*empty)], kept, writer)?;
+            put_cover(lines, cover.as_slice(), kept, writer)
         }
     }
 }

@@ -1,18 +1,17 @@
 -- What the steps of a reader take of its input.
-use Rattle.std.specs.Prelude.{◌≡◌, ℕ, ◌<◌, ⊤, Bool, true, false, List, [], ◌∷◌, ◌++◌, length, Option, Some, None, Err, IfSome}
+use Rattle.std.specs.Prelude.{◌≡◌, ℕ, ◌<◌, ◌≤◌, ⊤, Bool, true, false, List, [], length, Option, Some, None, Err, IfSome}
 use Rattle.std.specs.declared.result.Result.{Result}
 use Rattle.text_lines.specs.declared.fault.TextFault.{TextFault}
-use Rattle.text_lines.specs.declared.fault.TextFault.TheVariants.{Memory}
-use Rattle.history_text.specs.declared.reader.FrontLine.{FrontLine}
-use Rattle.history_text.specs.declared.reader.FrontLine.TheVariants as at_front
+use Rattle.text_lines.specs.declared.fault.TextFault.TheVariants.{Memory, Read}
+use Rattle.event_records.specs.declared.limits.TheConstants.{MAX_INITIAL}
 use Rattle.history_text.specs.declared.source_end.SourceEnd.{SourceEnd}
 use Rattle.history_text.specs.declared.source_end.SourceEnd.TheVariants as end
 use Rattle.text_lines.specs.Input.{Ahead, Ending, EndOfInput, Failure, Takes, IsOver}
-use Rattle.text_lines.specs.Lines.{line, end_line, longest_line, is_line_feed, front_of, header_fault, Front, Whole, TooLong}
+use Rattle.text_lines.specs.Lines.{line, end_line, front_of, header_fault, fault_at, Front, Whole, TooLong, Unfinished, Nothing}
 use Rattle.text_lines.specs.Inner.Lines.{IsPartOfLine}
-use Rattle.text_lines.specs.Lines.{Unfinished, Nothing, fault_at}
 use Rattle.history_text.specs.Items.{Format, line_of, lines_of, item_at_front, LineFault, ItemFault, NoRoom, FaultAmong, NoRoomAmong}
-use Rattle.history_text.specs.Versions.{value_format, NoVersionFault, AfterCount, InitialFault}
+use Rattle.history_text.specs.Versions.{count_fields, count_in, NoVersionFault}
+use Rattle.history_text.specs.Schedules.{setting_fields, setting_in, IsSetting}
 use Rattle.history_text.specs.Claims.{FirstLineFault}
 use Rattle.history_text.specs.Reading.{HasFirstFault}
 
@@ -22,17 +21,21 @@ IsSeen end.NotSeen ahead = ⊤
 IsSeen end.Over ahead = IsOver EndOfInput ahead
 IsSeen end.Failed ahead = IsOver Failure ahead
 
--- the bytes that a line took, by how it stands
-abbrev pub TakesLine : Option Ahead → Option Ahead → FrontLine → Type 0
-TakesLine old new (at_front.Whole bytes) = Takes old new (line bytes) × IsPartOfLine bytes
-TakesLine old new at_front.TooLong = (given : List ℕ) × (b : ℕ) × Takes old new (given ++ b ∷ []) × IsPartOfLine given × (length given ≡ longest_line)
-    × (is_line_feed b ≡ false)
-TakesLine old new at_front.Unfinished = (given : List ℕ) × Takes old new given × IsPartOfLine given × IsOver EndOfInput new × (0 < length given)
-TakesLine old new at_front.Nothing = Takes old new [] × IsOver EndOfInput new
+-- the bytes that a line took, or none at the end of the input
+abbrev pub TakesLine : Option Ahead → Option Ahead → Option (List ℕ) → Type 0
+TakesLine old new (Some bytes) = Takes old new (line bytes) × IsPartOfLine bytes
+TakesLine old new None = Takes old new [] × IsOver EndOfInput new
 
--- a read failed within a line
-abbrev pub StopsInLine : Option Ahead → Option Ahead → Type 0
-StopsInLine old new = (given : List ℕ) × Takes old new given × IsPartOfLine given × IsOver Failure new
+-- a line begins at the front and isn't whole, or the source fails there, and this is the fault; that of a line that is too long is given
+abbrev pub BrokenLineFault : TextFault → Ending → TextFault → Front → Type 0
+BrokenLineFault long ending fault (Whole bytes rest) = ⊥
+BrokenLineFault long ending fault TooLong = fault ≡ long
+BrokenLineFault long ending fault Unfinished = fault ≡ fault_at ending
+BrokenLineFault long ending fault Nothing = (ending ≡ Failure) × (fault ≡ Read)
+
+-- the next line is such a one, and has this fault
+abbrev pub HasBrokenLine : TextFault → Option Ahead → TextFault → Type 0
+HasBrokenLine long old fault = IfSome old (λ a. BrokenLineFault long a.ending fault (front_of a.bytes))
 
 -- no whole line stands at the front, and this is the fault; that of a line that is too long is given
 abbrev pub NoLineFault : TextFault → Ending → TextFault → Front → Type 0
@@ -68,6 +71,20 @@ pub record IsSpelled {A : Type 0} (format : Format A) (fields : List (List ℕ))
   pub text : fields ≡ format.fields item
   pub line : format.HasLine item
 
+-- the line that counts the initial values, as an item that stands once
+abbrev pub count_format : Format ℕ
+count_format = record { fields = count_fields; HasLine = λ k. k ≤ MAX_INITIAL; most = 1; is_counted = false; read = count_in }
+
+-- the line of a setting, as an item that stands once
+abbrev pub setting_format : Format (ℕ × ℕ)
+setting_format = record {
+  fields = λ s. setting_fields s.0 s.1;
+  HasLine = λ s. IsSetting s.0 s.1;
+  most = 1;
+  is_counted = false;
+  read = setting_in;
+}
+
 -- the bytes are those of an item's line, after k others, or of the last line
 abbrev pub IsItemLine : {A : Type 0} → Format A → ℕ → List ℕ → Option A → Type 0
 IsItemLine format k bytes (Some item) = (line bytes ≡ line_of format item) × format.HasLine item × (k < format.most)
@@ -98,10 +115,6 @@ HasItemsFault format n old fault = HasFirstFault (λ ending bytes f. ItemFault f
 -- the first fault of the lines of this many items from line n on
 abbrev pub HasFaultAmong : {A : Type 0} → Format A → ℕ → ℕ → Option Ahead → TextFault → Type 0
 HasFaultAmong format k n old fault = HasFirstFault (λ ending bytes f. FaultAmong format k n ending f bytes) (NoRoomAmong format k) old fault
-
--- the first fault of the line that counts the initial values, line n, and of theirs
-abbrev pub HasInitialFault : ℕ → Option Ahead → TextFault → Type 0
-HasInitialFault n old fault = HasFirstFault (λ ending bytes f. InitialFault n ending f bytes) (AfterCount (NoRoomAmong value_format)) old fault
 
 -- a fault of the input, and not of the reader's memory
 abbrev pub IsOfInput : TextFault → Type 0

@@ -1,11 +1,15 @@
 use Rattle.history_text.proofs.Common.{err_from_is_err_and, sym, fields_of, operation_forms, operation_of}
-use Rattle.history_text.proofs.FormLines.{read_as, read_faulty}
-use Rattle.history_text.proofs.ClaimLines.{operation_said}
+use Rattle.history_text.proofs.FormLines.{read_as, read_faulty, said_spelled}
+use Rattle.history_text.proofs.ClaimLines.{operation_spells}
 use Rattle.history_text.proofs.operation_line.read_operation.Goals as goal
 
 pub operation_of-requires : goal.operation_of-requires
 operation_of-requires c =
-    (operation_said c.args.line (fields_of c.args.bytes.now) (c.in_ok-kind.kind, c.in_ok-kind.numbers) (sym c.in_ok-kind.ensures.value)).line.thread
+    (said_spelled operation_spells c.args.line (fields_of c.args.bytes.now) (c.in_ok-kind.kind, c.in_ok-kind.numbers) (sym c.in_ok-kind.ensures.value)).line.thread
+
+pub returns-clause-spelled : goal.returns-clause-spelled
+returns-clause-spelled c = rw c.operation_of.ensures
+    (said_spelled operation_spells c.args.line (fields_of c.args.bytes.now) (c.in_ok-kind.kind, c.in_ok-kind.numbers) (sym c.in_ok-kind.ensures.value))
 
 pub returns-clause-value : goal.returns-clause-value
 returns-clause-value c =
