@@ -49,10 +49,9 @@ pub use Rattle.history_text.specs.Claims.{operation_of, valued_operation}
 pub use Rattle.history_text.specs.Histories.{event_format, event_forms, event_in, event_line, event_of, HasEventLine}
 pub use Rattle.history_text.specs.Histories.{HasHistoryText, HasValueInRange, lines_to_end, plain_event, valued_event}
 pub use Rattle.history_text.specs.Histories.{what_fields}
-pub use Rattle.history_text.specs.Inner.Taking.{HasFirstLineFault, HasHeaderFault, HasItemFault, HasItemsFault}
-pub use Rattle.history_text.specs.Inner.Taking.{HasLineFault, HasNoVersion, IsItemLine, IsOfInput, IsSpelled, TakesEnd}
-pub use Rattle.history_text.specs.Inner.Taking.{TakesItem, count_format, setting_format}
-pub use Rattle.history_text.specs.Inner.Verdicts.{line_text, lines_text, operation_text}
+pub use Rattle.history_text.specs.Inner.Taking.{HasItemsFault, IsItemLine, IsOfInput, IsSpelled, TakesEnd, TakesItem}
+pub use Rattle.history_text.specs.Inner.Taking.{count_format, setting_format}
+pub use Rattle.history_text.specs.Inner.Verdicts.{line_text, lines_text}
 pub use Rattle.history_text.specs.Items.{a_value, FaultAmong, Format, HaveLines, item_at_front, item_at_nothing}
 pub use Rattle.history_text.specs.Items.{item_in, ItemFault, line_at_front, line_of, LineFault, lines_of, NoRoom}
 pub use Rattle.history_text.specs.Items.{NoRoomAmong, read_by}

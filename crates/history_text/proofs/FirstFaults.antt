@@ -2,14 +2,15 @@
 use Rattle.history_text.proofs.Common.{[], ◌++◌, ◌+◌, ◌<◌, ◌∙◌, ◌∷◌, ◌≡◌, AllByRecursion, ap, append-nil, arith, Err}
 use Rattle.history_text.proofs.Common.{false, flat_map, flat_map-append, IfSome, inr, is_err, length, length-append}
 use Rattle.history_text.proofs.Common.{List, None, Ok, OnOk, Option, refl, Result, Some, subst, sym, ℕ, Ahead, Ending}
-use Rattle.history_text.proofs.Common.{Format, front_of, HasFirstFault, HasItemFault, HasItemsFault, HaveLines}
-use Rattle.history_text.proofs.Common.{IsOfInput, item_at_front, ItemFault, line_of, lines_of, Memory, NoRoom, Takes}
-use Rattle.history_text.proofs.Common.{Takes-append, TextFault, ◌≤◌, NoRoomAmong, FirstLineFault, HasFirstLineFault}
-use Rattle.history_text.proofs.Common.{IsNoFirstLine, IsPartOfLine, Line, line, false_from_ne_true, append_assoc}
-use Rattle.history_text.proofs.Common.{bytes_eq, count_before_events, event_format, HasHeaderFault, HasNoVersion}
-use Rattle.history_text.proofs.Common.{HasTextFault, HaveValueLines, Header, header_fault, header_of, IsTextFault}
-use Rattle.history_text.proofs.Common.{lines_before_events, lines_of_initial, NoRoomForText, One, text_is, Two}
-use Rattle.history_text.proofs.Common.{Version}
+use Rattle.history_text.proofs.Common.{Format, front_of, HasFirstFault, HasItemsFault, HaveLines, IsOfInput}
+use Rattle.history_text.proofs.Common.{item_at_front, ItemFault, line_of, lines_of, Memory, NoRoom, Takes}
+use Rattle.history_text.proofs.Common.{Takes-append, TextFault, ◌≤◌, NoRoomAmong, FirstLineFault, IsNoFirstLine}
+use Rattle.history_text.proofs.Common.{IsPartOfLine, Line, line, false_from_ne_true, append_assoc, bytes_eq}
+use Rattle.history_text.proofs.Common.{count_before_events, event_format, HasTextFault, HaveValueLines, Header}
+use Rattle.history_text.proofs.Common.{header_fault, header_of, IsTextFault, lines_before_events, lines_of_initial}
+use Rattle.history_text.proofs.Common.{NoRoomForText, One, text_is, Two, Version}
+use Rattle.history_text.specs.Inner.Taking.{FaultAtFront}
+use Rattle.history_text.specs.Versions.{NoVersionFault}
 use Rattle.text_lines.specs.Faults.{MemoryOr}
 use Rattle.text_lines.proofs.MemoryOrNot.{is_memory, known_fault, follows}
 use Rattle.history_text.proofs.Faults.{at_line}
@@ -51,7 +52,7 @@ later_fault P Q L M n m old mid front fault same taken step room h =
 
 -- the line after some items has the first fault
 pub item_is_first : {A : Type 0} (format : Format A) (n m : ℕ) (items : List A) (k : ℕ) (old mid : Option Ahead) (fault : TextFault) → IsOfInput fault
-    → HaveLines format items → Takes old mid (lines_of format items) → k ≡ length items → m ≡ n + length items → HasItemFault format m k mid fault
+    → HaveLines format items → Takes old mid (lines_of format items) → k ≡ length items → m ≡ n + length items → FaultAtFront (λ end fault front. item_at_front format m k end front ≡ Err fault) mid fault
     → HasItemsFault format n old fault
 item_is_first format n m items k old mid fault of_input right taken k_is m_is h =
     line_fault (λ i e r f. item_at_front format i k e (front_of r) ≡ Err f) (λ e b f. ItemFault format n e f b) (NoRoom format) (n + length items) m
@@ -118,19 +119,20 @@ on_ok (Err e) P ok h = cc
 
 -- a line that answers nothing is none
 pub other_line : (n m : ℕ) (old new : Option Ahead) (bytes : List ℕ) → m ≡ n → Takes old new (line bytes) → IsPartOfLine bytes → IsNoFirstLine bytes
-    → HasFirstLineFault n old (Line m)
+    → FaultAtFront (FirstLineFault n) old (Line m)
 other_line n m old new bytes same taken part other =
     at_line (λ end front. FirstLineFault n end (Line m) front) old new bytes taken part (λ end rest. (other, ap Line same))
 
 -- ---- histories of either version: the first line
 
-no_version : (old : Option Ahead) (fault : TextFault) → ((version : Version) → HasHeaderFault (header_of version) old fault) → HasNoVersion old fault
+no_version : (old : Option Ahead) (fault : TextFault) → ((version : Version) → IfSome old (λ a. header_fault (header_of version) a.ending (front_of a.bytes) ≡ Some fault))
+    → FaultAtFront NoVersionFault old fault
 no_version None fault h = tt
 no_version (Some a) fault h = h
 
 -- another line is that of none
 pub other_version : (old new : Option Ahead) (bytes : List ℕ) → Takes old new (line bytes) → IsPartOfLine bytes
-    → ((version : Version) → bytes ≡ header_of version → ⊥) → HasNoVersion old Header
+    → ((version : Version) → bytes ≡ header_of version → ⊥) → FaultAtFront NoVersionFault old Header
 other_version old new bytes taken part other = no_version old Header (λ version.
     let differ : bytes_eq bytes (header_of version) ≡ false = false_from_ne_true _ (λ same. other version (text_is bytes (header_of version) same)) in
     at_line (λ end front. header_fault (header_of version) end front ≡ Some Header) old new bytes taken part (λ end rest. rw differ refl))

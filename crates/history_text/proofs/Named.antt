@@ -1,10 +1,12 @@
 -- The lines at some places.
 use Rattle.std.proofs.Common.{MatchOption}
-use Rattle.history_text.proofs.Common.{maybe_place, lines_text, [], ◌++◌, ◌+◌, ◌∙◌, ◌∷◌, ◌≡◌, ap, append-nil, ap₂}
-use Rattle.history_text.proofs.Common.{arith, Bool, cons_option, filter_map, flat_map, flat_map-append, IsErrAnd, List}
-use Rattle.history_text.proofs.Common.{None, Option, option_map, option_to_list, refl, Result, slice_get, Some, subst}
-use Rattle.history_text.proofs.Common.{sym, ℕ, Asked, claim_line, Op, Operation, operation_line, operation_text}
-use Rattle.history_text.proofs.Common.{puts_then, PutsText, stops_before, TakesFront, TakesSome}
+use Rattle.verdicts.specs.declared.shown.LinePlace.{LinePlace}
+use Rattle.verdicts.specs.declared.shown.LinePlace.TheVariants as place
+use Rattle.history_text.proofs.Common.{maybe_place, [], ◌++◌, ◌+◌, ◌∙◌, ◌∷◌, ◌≡◌, ap, append-nil, ap₂, arith, Bool}
+use Rattle.history_text.proofs.Common.{cons_option, filter_map, flat_map, flat_map-append, IsErrAnd, List, None}
+use Rattle.history_text.proofs.Common.{Option, option_map, option_to_list, refl, Result, slice_get, Some, subst, sym}
+use Rattle.history_text.proofs.Common.{ℕ, Asked, claim_line, Op, Operation, operation_line, line_text, puts_then}
+use Rattle.history_text.proofs.Common.{PutsText, stops_before, TakesFront, TakesSome}
 
 module _ {S : Type 0} (contents : S → Option (List ℕ)) (has_refused : S → Bool) (transition : S → Asked → S → Type 0) where
   -- the lines of the first places went out in part
@@ -31,11 +33,10 @@ lines_for_each f g (x ∷ xs) = ap (λ (r : List ℕ). flat_map f (g x) ++ r) (l
 -- ---- what is claimed
 
 -- the line of an operation that may be missing
-pub last_text : (initial : List ℕ) (operations : List Operation) (last : Option ℕ) (places : List ℕ)
-    → MatchOption last (places ≡ []) (λ place. places ≡ place ∷ [])
-    → flat_map (operation_text operations) places ≡ lines_text initial operations (maybe_place last)
-last_text initial operations None places is = rw is refl
-last_text initial operations (Some place) places is = rw is refl
+pub last_text : (f : LinePlace → List ℕ) (last : Option ℕ) (places : List ℕ) → MatchOption last (places ≡ []) (λ p. places ≡ p ∷ [])
+    → flat_map (λ p. f (place.Op p)) places ≡ flat_map f (maybe_place last)
+last_text f None places is = rw is refl
+last_text f (Some p) places is = rw is refl
 
 one_more : {X : Type 0} (text : X → List ℕ) (here : Option X) (rest : List X) → flat_map text (cons_option here rest)
     ≡ flat_map text (option_to_list here) ++ flat_map text rest
@@ -53,8 +54,8 @@ operation_or_none : (here : Option Operation) → flat_map operation_line (optio
 operation_or_none here = grind arith
 
 -- the lines of the operations of a `YES`
-pub order_is : (operations : List Operation) (places : List ℕ)
-    → flat_map operation_line (filter_map (slice_get operations) places) ≡ flat_map (operation_text operations) places
-order_is operations [] = refl
-order_is operations (p ∷ places) = one_more operation_line (slice_get operations p) _
-    ∙ ap₂ (λ (x y : List ℕ). x ++ y) (operation_or_none (slice_get operations p)) (order_is operations places)
+pub order_is : (initial : List ℕ) (operations : List Operation) (places : List ℕ) → flat_map operation_line (filter_map (slice_get operations) places)
+    ≡ flat_map (λ p. line_text initial operations (place.Op p)) places
+order_is initial operations [] = refl
+order_is initial operations (p ∷ places) = one_more operation_line (slice_get operations p) _
+    ∙ ap₂ (λ (x y : List ℕ). x ++ y) (operation_or_none (slice_get operations p)) (order_is initial operations places)

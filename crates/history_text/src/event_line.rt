@@ -128,12 +128,8 @@ impl Item for Event {
 
     ghost few = { lit≤ tt };
 
-    fn most() -> usize {
-        MAX_EVENTS
-    }
-
-    fn is_counted() -> bool {
-        true
+    fn limits() -> (usize, bool) {
+        (MAX_EVENTS, true)
     }
 
     fn from_line(line: u64, bytes: &[u8]) -> Result<Event, TextFault> {

@@ -106,12 +106,8 @@ impl Item for Operation {
 
     ghost few = { lit≤ tt };
 
-    fn most() -> usize {
-        MAX_CLAIM_LINES as usize
-    }
-
-    fn is_counted() -> bool {
-        false
+    fn limits() -> (usize, bool) {
+        (MAX_CLAIM_LINES as usize, false)
     }
 
     fn from_line(line: u64, bytes: &[u8]) -> Result<Operation, TextFault> {
@@ -134,12 +130,8 @@ impl Item for ClaimLine {
         Ok(ClaimLine::Op(operation))
     }
 
-    fn most() -> usize {
-        MAX_CLAIM_LINES as usize
-    }
-
-    fn is_counted() -> bool {
-        false
+    fn limits() -> (usize, bool) {
+        (MAX_CLAIM_LINES as usize, false)
     }
 
     ghost few = { lit≤ tt };

@@ -5,18 +5,17 @@ ghost use Rattle.event_records.specs.declared.limits.TheConstants.{MAX_INITIAL};
 ghost use Rattle.verdicts.specs.declared.verifying.Claimed.{Claimed};
 ghost use Rattle.history_text.specs.declared.schedule.Schedule.{Schedule};
 ghost use Rattle.text_lines.specs.Input.{EndOfInput, Failure, Takes, IsOver};
-ghost use Rattle.text_lines.specs.Lines.{line, spaced};
-ghost use Rattle.history_text.specs.Items.{line_of, lines_of, HaveLines};
-ghost use Rattle.history_text.specs.Versions.{value_format, count_fields, count_in as judged_count, lines_of_initial, header_of};
+ghost use Rattle.text_lines.specs.Lines.{header_fault, line};
+ghost use Rattle.history_text.specs.Items.{item_at_front, line_at_front, line_of, lines_of, HaveLines};
+ghost use Rattle.history_text.specs.Versions.{header_of, NoVersionFault};
 ghost use Rattle.history_text.specs.Versions.{lines_before_events, count_before_events, text_of, line_count, HaveValueLines, HasText, HistoryText, IsReadAs};
-ghost use Rattle.history_text.specs.Schedules.{schedule_text, setting_fields, setting_in as judged_setting, HasScheduleText, IsSetting};
+ghost use Rattle.history_text.specs.Schedules.{schedule_text, HasScheduleText};
 ghost use Rattle.history_text.specs.Verdicts.{verdict_text};
-ghost use Rattle.history_text.specs.Claims.{claim_length, HasVerdictText, first_line};
+ghost use Rattle.history_text.specs.Claims.{claim_length, HasVerdictText, first_line, FirstLineFault};
 ghost use Rattle.history_text.specs.Reading.{HasTextFault, HasScheduleTextFault, HasVerdictTextFault, HasEndFault, IsOverIf};
 ghost use Rattle.history_text.specs.Reading.{BeginsWith, IsAll};
-ghost use Rattle.history_text.specs.Inner.Taking.{TakesLine, HasBrokenLine, TakesItem, TakesItems, HasNoLine, HasHeaderFault, HasNoVersion};
-ghost use Rattle.history_text.specs.Inner.Taking.{HasLineFault, HasFirstLineFault, HasItemFault, HasItemsFault, HasFaultAmong};
-ghost use Rattle.history_text.specs.Inner.Taking.{IsOfInput};
+ghost use Rattle.history_text.specs.Inner.Taking.{TakesLine, FaultAtFront, BrokenLineFault, NoLineFault, TakesItem, TakesItems};
+ghost use Rattle.history_text.specs.Inner.Taking.{HasItemsFault, HasFaultAmong, IsOfInput};
 ghost use Rattle.text_lines.specs.Inner.Lines.{IsPartOfLine};
 
 use crate::collecting::Collects;
@@ -125,7 +124,7 @@ impl<R: TextSource> TextReader<R> {
         requires lines { self.old.lines + 1 < 2 ^ 64 }
         requires of_input { IsOfInput too_long }
         ensures ok { IfOk result (TakesLine self.old.left self.new.left) }
-        ensures fault { IfErr result (HasBrokenLine too_long self.old.left) }
+        ensures fault { IfErr result (FaultAtFront (BrokenLineFault too_long) self.old.left) }
         ensures of_input { IfErr result IsOfInput }
         ensures lines { self.new.lines ≡ self.old.lines + 1 }
     {
@@ -152,7 +151,7 @@ impl<R: TextSource> TextReader<R> {
         requires lines { self.old.lines + 1 < 2 ^ 64 }
         requires of_input { IsOfInput too_long }
         ensures ok { IfOk result (λ bytes. Takes self.old.left self.new.left (line bytes) × IsPartOfLine bytes) }
-        ensures fault { IfErr result (HasNoLine too_long self.old.left) }
+        ensures fault { IfErr result (FaultAtFront (NoLineFault too_long) self.old.left) }
         ensures of_input { IfErr result IsOfInput }
         ensures lines { self.new.lines ≡ self.old.lines + 1 }
     {
@@ -166,7 +165,7 @@ impl<R: TextSource> TextReader<R> {
     fn header_line(&mut self, expected: &[u8]) -> Result<(), TextFault>
         requires { self.old.lines + 1 < 2 ^ 64 }
         ensures ok { OnOk result (Takes self.old.left self.new.left (line expected.now)) }
-        ensures fault { IfErr result (HasHeaderFault expected.now self.old.left) }
+        ensures fault { IfErr result (FaultAtFront (λ ending fault front. header_fault expected.now ending front ≡ Some fault) self.old.left) }
         ensures of_input { IfErr result IsOfInput }
         ensures lines { self.new.lines ≡ self.old.lines + 1 }
     {
@@ -182,7 +181,7 @@ impl<R: TextSource> TextReader<R> {
     fn version(&mut self) -> Result<Version, TextFault>
         requires { self.old.lines + 1 < 2 ^ 64 }
         ensures ok { IfOk result (λ version. Takes self.old.left self.new.left (line (header_of version))) }
-        ensures fault { IfErr result (HasNoVersion self.old.left) }
+        ensures fault { IfErr result (FaultAtFront NoVersionFault self.old.left) }
         ensures of_input { IfErr result IsOfInput }
         ensures lines { self.new.lines ≡ self.old.lines + 1 }
     {
@@ -201,7 +200,8 @@ impl<R: TextSource> TextReader<R> {
         ensures lines { IfSome result (λ _. self.new.lines ≡ self.old.lines + 1) }
         ensures none { IfNone result (self.new ≡ self.old) }
     {
-        if count >= T::most() {
+        let (most, _) = T::limits();
+        if count >= most {
             return None;
         }
         let (item, len) = T::at_front(&self.buffer[self.at..])?;
@@ -238,14 +238,15 @@ impl<R: TextSource> TextReader<R> {
     fn item_by_line<T: Item>(&mut self, count: usize) -> Result<Option<T>, TextFault>
         requires { self.old.lines + 1 < 2 ^ 64 }
         ensures ok { IfOk result (TakesItem T.format self.old.left self.new.left count) }
-        ensures fault { IfErr result (HasItemFault T.format (self.old.lines + 1) count self.old.left) }
+        ensures fault { IfErr result (FaultAtFront (λ ending fault front. item_at_front T.format (self.old.lines + 1) count ending front ≡ Err fault) self.old.left) }
         ensures of_input { IfErr result IsOfInput }
         ensures lines { self.new.lines ≡ self.old.lines + 1 }
     {
         if let Some(line) = self.next_line(TextFault::Line(self.lines + 1))? {
             return item_in(self.lines, count, line.as_slice());
         }
-        if T::is_counted() {
+        let (_, is_counted) = T::limits();
+        if is_counted {
             return Err(TextFault::Cut);
         }
         Ok(None)
@@ -255,7 +256,7 @@ impl<R: TextSource> TextReader<R> {
     fn required_item<T: Item>(&mut self) -> Result<T, TextFault>
         requires { self.old.lines + 1 < 2 ^ 64 }
         ensures ok { IfOk result (λ item. Takes self.old.left self.new.left (line_of T.format item) × T.format.HasLine item) }
-        ensures fault { IfErr result (HasLineFault T.format.read (self.old.lines + 1) self.old.left) }
+        ensures fault { IfErr result (FaultAtFront (λ ending fault front. line_at_front T.format.read (self.old.lines + 1) ending front ≡ Err fault) self.old.left) }
         ensures of_input { IfErr result IsOfInput }
         ensures lines { self.new.lines ≡ self.old.lines + 1 }
     {
@@ -382,7 +383,7 @@ impl<R: TextSource> TextReader<R> {
     fn answer(&mut self) -> Result<Option<ViolationKind>, TextFault>
         requires { self.old.lines + 1 < 2 ^ 64 }
         ensures ok { IfOk result (λ answer. Takes self.old.left self.new.left (line (first_line answer))) }
-        ensures fault { IfErr result (HasFirstLineFault (self.old.lines + 1) self.old.left) }
+        ensures fault { IfErr result (FaultAtFront (FirstLineFault (self.old.lines + 1)) self.old.left) }
         ensures of_input { IfErr result IsOfInput }
         ensures lines { self.new.lines ≡ self.old.lines + 1 }
     {

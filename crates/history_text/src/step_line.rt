@@ -82,14 +82,10 @@ fn step_of(step: Step, numbers: &NumberFields) -> Step
 impl Item for Step {
     ghost format = { step_format };
 
-    fn is_counted() -> bool {
-        true
-    }
-
     ghost few = { lit≤ tt };
 
-    fn most() -> usize {
-        MAX_STEPS
+    fn limits() -> (usize, bool) {
+        (MAX_STEPS, true)
     }
 
     fn from_line(line: u64, bytes: &[u8]) -> Result<Step, TextFault> {
@@ -118,14 +114,10 @@ const SETTING_FORMS: [((), &[Field]); 1] = [(
 impl Item for (usize, usize) {
     ghost format = { setting_format };
 
-    fn is_counted() -> bool {
-        false
-    }
-
     ghost few = { lit≤ tt };
 
-    fn most() -> usize {
-        1
+    fn limits() -> (usize, bool) {
+        (1, false)
     }
 
     fn from_line(line: u64, bytes: &[u8]) -> Result<(usize, usize), TextFault> {

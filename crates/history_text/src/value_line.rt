@@ -58,12 +58,8 @@ impl Item for usize {
 
     ghost few = { lit≤ tt };
 
-    fn most() -> usize {
-        1
-    }
-
-    fn is_counted() -> bool {
-        false
+    fn limits() -> (usize, bool) {
+        (1, false)
     }
 }
 
@@ -87,11 +83,7 @@ impl Item for u64 {
 
     ghost few = { lit≤ tt };
 
-    fn most() -> usize {
-        MAX_INITIAL
-    }
-
-    fn is_counted() -> bool {
-        false
+    fn limits() -> (usize, bool) {
+        (MAX_INITIAL, false)
     }
 }

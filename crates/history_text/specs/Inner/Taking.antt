@@ -21,6 +21,10 @@ IsSeen end.NotSeen ahead = ⊤
 IsSeen end.Over ahead = IsOver EndOfInput ahead
 IsSeen end.Failed ahead = IsOver Failure ahead
 
+-- what is ahead begins so that it has this fault
+abbrev pub FaultAtFront : (Ending → TextFault → Front → Type 0) → Option Ahead → TextFault → Type 0
+FaultAtFront IsFault old fault = IfSome old (λ a. IsFault a.ending fault (front_of a.bytes))
+
 -- the bytes that a line took, or none at the end of the input
 abbrev pub TakesLine : Option Ahead → Option Ahead → Option (List ℕ) → Type 0
 TakesLine old new (Some bytes) = Takes old new (line bytes) × IsPartOfLine bytes
@@ -33,36 +37,12 @@ BrokenLineFault long ending fault TooLong = fault ≡ long
 BrokenLineFault long ending fault Unfinished = fault ≡ fault_at ending
 BrokenLineFault long ending fault Nothing = (ending ≡ Failure) × (fault ≡ Read)
 
--- the next line is such a one, and has this fault
-abbrev pub HasBrokenLine : TextFault → Option Ahead → TextFault → Type 0
-HasBrokenLine long old fault = IfSome old (λ a. BrokenLineFault long a.ending fault (front_of a.bytes))
-
 -- no whole line stands at the front, and this is the fault; that of a line that is too long is given
 abbrev pub NoLineFault : TextFault → Ending → TextFault → Front → Type 0
 NoLineFault long ending fault (Whole bytes rest) = ⊥
 NoLineFault long ending fault TooLong = fault ≡ long
 NoLineFault long ending fault Unfinished = fault ≡ fault_at ending
 NoLineFault long ending fault Nothing = fault ≡ fault_at ending
-
--- the next line isn't whole, and has this fault
-abbrev pub HasNoLine : TextFault → Option Ahead → TextFault → Type 0
-HasNoLine long old fault = IfSome old (λ a. NoLineFault long a.ending fault (front_of a.bytes))
-
--- the first line isn't as expected
-abbrev pub HasHeaderFault : List ℕ → Option Ahead → TextFault → Type 0
-HasHeaderFault expected old fault = IfSome old (λ a. header_fault expected a.ending (front_of a.bytes) ≡ Some fault)
-
--- the first line is that of no version
-abbrev pub HasNoVersion : Option Ahead → TextFault → Type 0
-HasNoVersion old fault = IfSome old (λ a. NoVersionFault a.ending fault (front_of a.bytes))
-
--- line n, which is to be read so, has this fault
-abbrev pub HasLineFault : {A : Type 0} → (ℕ → List (List ℕ) → Result A TextFault) → ℕ → Option Ahead → TextFault → Type 0
-HasLineFault read n old fault = IfSome old (λ a. LineFault read n a.ending fault a.bytes)
-
--- line n isn't the first of a verdict, and has this fault
-abbrev pub HasFirstLineFault : ℕ → Option Ahead → TextFault → Type 0
-HasFirstLineFault n old fault = IfSome old (λ a. FirstLineFault n a.ending fault (front_of a.bytes))
 
 -- ---- items
 
@@ -103,10 +83,6 @@ TakesItem format old new k None = TakesEnd format.is_counted old new k
 -- what the lines of items take, and what comes after them
 abbrev pub TakesItems : {A : Type 0} → Format A → Option Ahead → Option Ahead → List A → Type 0
 TakesItems format old new items = (after : Option Ahead) × Takes old after (lines_of format items) × TakesEnd format.is_counted after new (length items)
-
--- line n, which comes after k items, has this fault
-abbrev pub HasItemFault : {A : Type 0} → Format A → ℕ → ℕ → Option Ahead → TextFault → Type 0
-HasItemFault format n k old fault = IfSome old (λ a. item_at_front format n k a.ending (front_of a.bytes) ≡ Err fault)
 
 -- the first fault of the lines of items from line n on
 abbrev pub HasItemsFault : {A : Type 0} → Format A → ℕ → Option Ahead → TextFault → Type 0

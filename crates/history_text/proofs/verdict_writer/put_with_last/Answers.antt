@@ -11,4 +11,4 @@ returns g c = others_then _ _ _ (line_text c.args.lines.now.initial.now c.args.l
     (maybe_place c.args.last) _ _ _ _ _ _ c.in_ok-put_each.ensures.text
     (subst (λ t. PutsText g.W.TextSink.contents g.W.TextSink.has_refused g.W.TextSink.transition c.put_each.new.kept c.put_each-2.new.kept t
     c.put_each.new.writer c.put_each-2.new.writer c.put_each-2.result)
-    (last_text c.args.lines.now.initial.now c.args.lines.now.operations.now c.args.last c.as_slice.result.now c.as_slice.ensures) c.put_each-2.ensures.text)
+    (last_text (line_text c.args.lines.now.initial.now c.args.lines.now.operations.now) c.args.last c.as_slice.result.now c.as_slice.ensures) c.put_each-2.ensures.text)

@@ -18,9 +18,9 @@ pub returns-then-is_counted-clause-fault : goal.returns-then-is_counted-clause-f
 returns-then-is_counted-clause-fault g c =
     let stop = rw c.in_default.is at c.in_ok-line.ensures.ok in
     at_nothing (λ end front. item_at_front g.T.Item.format (c.args.self.now.lines + 1) c.args.count end front ≡ Err Cut) _ _ stop.0 stop.1
-    (nothing_is_cut g.T.Item.format.is_counted (sym c.is_counted.ensures ∙ c.if-is_counted.true))
+    (nothing_is_cut g.T.Item.format.is_counted (sym c.limits-is_counted.ensures.is_counted ∙ c.if-is_counted.true))
 
 pub returns-clause-ok : goal.returns-clause-ok
 returns-clause-ok g c =
     let stop = rw c.in_default.is at c.in_ok-line.ensures.ok in
-    items_end g.T.Item.format.is_counted _ _ c.args.count (sym c.is_counted.ensures ∙ c.if-is_counted.false) stop.0 stop.1
+    items_end g.T.Item.format.is_counted _ _ c.args.count (sym c.limits-is_counted.ensures.is_counted ∙ c.if-is_counted.false) stop.0 stop.1

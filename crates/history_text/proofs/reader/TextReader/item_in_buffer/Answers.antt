@@ -13,4 +13,4 @@ returns-clause-item g c =
     let ahead = g.R.TextSource.ahead reader.source in
     let taken = takes_from_buffer reader.buffer reader.at reader.filled c.in_ok-item.len _ text ahead c.if-len-self.false fits all found.0 in
     let left : Option Ahead = with_front (part reader.buffer (reader.at + c.in_ok-item.len) reader.filled) ahead in
-    (subst (λ (l : Option Ahead). Takes l left text) (ap (λ (i : Input). i.left) c.self.view_is) taken, found.1, omega (arith, c.if-count-most.false, c.most.ensures))
+    (subst (λ (l : Option Ahead). Takes l left text) (ap (λ (i : Input). i.left) c.self.view_is) taken, found.1, omega (arith, c.if-count-most.false, c.limits-most.ensures.most))
