@@ -87,8 +87,7 @@ later_found (Some kind) n ending fault bytes h = then_err _ _ _
 
 found : (lines : ℕ) (ending : Ending) (bytes : List ℕ) (fault : TextFault) → IsVerdictTextFault lines ending bytes fault
     → verdict_in lines ending bytes ≡ Err fault
-found lines ending bytes fault (inl h) =
-    then_err _ _ _ (no_answer (lines + 1) ending fault (front_of bytes) h)
+found lines ending bytes fault (inl h) = then_err _ _ _ (no_answer _ ending fault _ h)
 found lines ending bytes fault (inr (answer, (rest, is, h))) =
     ap (verdict_in lines ending) is ∙ answer_then answer lines ending rest ∙ later_found answer (lines + 2) ending fault rest h
 

@@ -8,5 +8,4 @@ event_of-requires c =
     (said_spelled event_spells c.args.line (fields_of c.args.bytes.now) (c.in_ok-what.what, c.in_ok-what.numbers) (sym c.in_ok-what.ensures.value)).line.thread
 
 pub returns-clause-spelled : goal.returns-clause-spelled
-returns-clause-spelled c = rw c.event_of.ensures
-    (said_spelled event_spells c.args.line (fields_of c.args.bytes.now) (c.in_ok-what.what, c.in_ok-what.numbers) (sym c.in_ok-what.ensures.value))
+returns-clause-spelled c = rw c.event_of.ensures (said_spelled event_spells _ _ _ (sym c.in_ok-what.ensures.value))

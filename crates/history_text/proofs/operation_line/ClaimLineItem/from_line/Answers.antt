@@ -1,4 +1,4 @@
-use Rattle.history_text.proofs.Common.{◌∙◌, sym, fields_of, initial_forms, initial_of}
+use Rattle.history_text.proofs.Common.{fields_of, ◌∙◌, sym, initial_forms, initial_of}
 use Rattle.history_text.proofs.FormLines.{read_as, said_spelled}
 use Rattle.history_text.proofs.ClaimLines.{initial_spells}
 use Rattle.history_text.proofs.operation_line.ClaimLineItem.from_line.Goals as goal
@@ -6,8 +6,7 @@ use Rattle.history_text.proofs.operation_line.ClaimLineItem.from_line.Goals as g
 pub returns-then-is_initial-clause-value : goal.returns-then-is_initial-clause-value
 returns-then-is_initial-clause-value c =
     rw (c.at.ensures, sym c.is_initial.ensures ∙ c.if-is_initial.true)
-    (read_as initial_forms initial_of c.args.line (fields_of c.args.bytes.now) tt c.in_ok-numbers.numbers c.in_ok-numbers.ensures.value)
+    (read_as initial_forms initial_of c.args.line (fields_of c.args.bytes.now) tt _ c.in_ok-numbers.ensures.value)
 
 pub returns-then-is_initial-clause-spelled : goal.returns-then-is_initial-clause-spelled
-returns-then-is_initial-clause-spelled c = rw c.at.ensures
-    (said_spelled initial_spells c.args.line _ (tt, c.in_ok-numbers.numbers) (sym c.in_ok-numbers.ensures.value))
+returns-then-is_initial-clause-spelled c = rw c.at.ensures (said_spelled initial_spells _ _ _ (sym c.in_ok-numbers.ensures.value))

@@ -9,5 +9,4 @@ step_of-requires c =
     record { thread = thread_is_few c.in_ok-step.step _ _ is.line; has_line = is.line }
 
 pub returns-clause-spelled : goal.returns-clause-spelled
-returns-clause-spelled c = rw c.step_of.ensures
-    (said_spelled step_spells c.args.line (fields_of c.args.bytes.now) (c.in_ok-step.step, c.in_ok-step.numbers) (sym c.in_ok-step.ensures.value))
+returns-clause-spelled c = rw c.step_of.ensures (said_spelled step_spells _ _ _ (sym c.in_ok-step.ensures.value))

@@ -4,5 +4,4 @@ use Rattle.history_text.proofs.StepLines.{setting_spells}
 use Rattle.history_text.proofs.step_line.Tuple2UsizeUsizeItem.from_line.Goals as goal
 
 pub returns-clause-spelled : goal.returns-clause-spelled
-returns-clause-spelled c = rw (c.at.ensures, c.at-2.ensures)
-    (said_spelled setting_spells c.args.line _ (tt, c.in_ok-numbers.numbers) (sym c.in_ok-numbers.ensures.value))
+returns-clause-spelled c = rw (c.at.ensures, c.at-2.ensures) (said_spelled setting_spells _ _ _ (sym c.in_ok-numbers.ensures.value))
