@@ -342,7 +342,7 @@ impl<R: TextSource> TextReader<R> {
         let initial = match version {
             Version::One => Vec::new(alloc),
             Version::Two => {
-                let count = self.required_item()?;
+                let count: usize = self.required_item()?;
                 self.required_items(alloc, count)?
             }
         };
