@@ -42,7 +42,8 @@ value_says v range =
 -- the line of a count says that count
 pub count_says : (k : ℕ) → k ≤ MAX_INITIAL → Says count_in (line (spaced (count_fields k))) k
 count_says k few =
-    line_read count_in (count_fields k) k (row_back count_forms number_of tt (Word (codes "initial") ∷ Number 0 MAX_INITIAL ∷ []) (k ∷ []) refl refl (λ n. refl) (omega arith, few, tt))
+    line_read count_in (count_fields k) k
+    (row_back count_forms number_of tt (Word (codes "initial") ∷ Number 0 MAX_INITIAL ∷ []) (k ∷ []) refl refl (λ n. refl) (omega arith, few, tt))
 
 -- ---- events
 

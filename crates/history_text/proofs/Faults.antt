@@ -86,7 +86,8 @@ items_taken format k old new bytes (Err fault) taken spelled = tt
 
 -- a line with a fault is that of the next item
 pub items_faulty : {A : Type 0} (format : Format A) (n k : ℕ) (old new : Option Ahead) (bytes : List ℕ) (r : Result (Option A) TextFault)
-    → Takes old new (line bytes) → IsPartOfLine bytes → r ≡ item_in format n k bytes → IfErr r (FaultAtFront (λ end fault front. item_at_front format n k end front ≡ Err fault) old)
+    → Takes old new (line bytes) → IsPartOfLine bytes → r ≡ item_in format n k bytes
+    → IfErr r (FaultAtFront (λ end fault front. item_at_front format n k end front ≡ Err fault) old)
 items_faulty format n k old new bytes (Ok item) taken part e = tt
 items_faulty format n k old new bytes (Err fault) taken part e =
     at_line (λ end front. item_at_front format n k end front ≡ Err fault) old new bytes taken part (λ end rest. rw (← e) refl)
@@ -95,7 +96,8 @@ items_faulty format n k old new bytes (Err fault) taken part e =
 
 -- a line whose fields have a fault has it
 pub line_faulty : {A : Type 0} (read : ℕ → List (List ℕ) → Result A TextFault) (n : ℕ) (old new : Option Ahead) (bytes : List ℕ) (r : Result A TextFault)
-    → Takes old new (line bytes) → IsPartOfLine bytes → r ≡ read n (fields_of bytes) → IfErr r (FaultAtFront (λ end fault front. line_at_front read n end front ≡ Err fault) old)
+    → Takes old new (line bytes) → IsPartOfLine bytes → r ≡ read n (fields_of bytes)
+    → IfErr r (FaultAtFront (λ end fault front. line_at_front read n end front ≡ Err fault) old)
 line_faulty read n old new bytes (Ok said) taken part e = tt
 line_faulty read n old new bytes (Err fault) taken part e =
     at_line (λ end front. line_at_front read n end front ≡ Err fault) old new bytes taken part (λ end rest. rw (← e) refl)

@@ -52,7 +52,8 @@ later_fault P Q L M n m old mid front fault same taken step room h =
 
 -- the line after some items has the first fault
 pub item_is_first : {A : Type 0} (format : Format A) (n m : ℕ) (items : List A) (k : ℕ) (old mid : Option Ahead) (fault : TextFault) → IsOfInput fault
-    → HaveLines format items → Takes old mid (lines_of format items) → k ≡ length items → m ≡ n + length items → FaultAtFront (λ end fault front. item_at_front format m k end front ≡ Err fault) mid fault
+    → HaveLines format items → Takes old mid (lines_of format items) → k ≡ length items → m ≡ n + length items
+    → FaultAtFront (λ end fault front. item_at_front format m k end front ≡ Err fault) mid fault
     → HasItemsFault format n old fault
 item_is_first format n m items k old mid fault of_input right taken k_is m_is h =
     line_fault (λ i e r f. item_at_front format i k e (front_of r) ≡ Err f) (λ e b f. ItemFault format n e f b) (NoRoom format) (n + length items) m

@@ -41,7 +41,8 @@ pub returns-then-is_err-clause-fault : goal.returns-then-is_err-clause-fault
 returns-then-is_err-clause-fault g c =
     let known = c.loop-item.invariant in
     let next = next_is g (goal.at.returns-then-is_err-clause-fault g c).After-add in
-    no_room g.T.Item.format known.items c.match-item_in_buffer.item _ _ _ known.right known.taken (omega (arith, known.count, next.taken.2)) next.taken.1 next.taken.0
+    no_room g.T.Item.format known.items c.match-item_in_buffer.item _ _ _ known.right known.taken
+    (omega (arith, known.count, next.taken.2)) next.taken.1 next.taken.0
 
 pub loop-item-preserved : goal.loop-item-preserved
 loop-item-preserved g c =
