@@ -6,9 +6,8 @@ use Rattle.text_lines.specs.declared.fault.TextFault.{TextFault}
 use Rattle.text_lines.specs.declared.fault.TextFault.TheVariants as text
 use Rattle.text_lines.specs.Faults as text_names
 use Rattle.text_lines.specs.Lines.{line}
-use Rattle.history_text.specs.Versions.{HistoryText}
+use Rattle.history_text.specs.Versions.{HistoryText, text_of}
 use Rattle.history_text.specs.Histories.{history_text}
-use Rattle.history_text.specs.Versions.{text_of}
 use Rattle.history_text.specs.Claims.{first_line}
 use Rattle.history_text.specs.Verdicts.{verdict_text}
 use Rattle.history_merge.specs.declared.fault.HistoryFault.{HistoryFault}

@@ -1,24 +1,41 @@
--- What one command writes, and what another answers of it: every answer is evidence.
+-- An input has one answer. What one command writes, another answers alike: every answer is evidence, and what
+-- `convert` writes stands for the history that it read.
 use Rattle.std.specs.Prelude.{◌≡◌, ℕ, List, ◌++◌, ◌⊎◌, true}
-use Rattle.history_text.specs.Versions.{HistoryText}
-use Rattle.verdicts.specs.declared.verifying.Claimed.{Claimed}
 use Rattle.text_lines.specs.Input.{Ahead, EndOfInput}
+use Rattle.history_text.specs.Claims.{HasVerdictText}
+use Rattle.history_text.specs.Verdicts.{verdict_text}
+use Rattle.history_text.specs.Versions.{HistoryText, text_of}
+use Rattle.history_text.specs.declared.version.Version.TheVariants.{Two}
+use Rattle.verdicts.specs.declared.verifying.Claimed.{Claimed}
+use Rattle.command_words.specs.Commands.{check, shrink, verify, draw, convert, stats, Request}
 use Rattle.command_words.specs.declared.options.DrawOptions.{DrawOptions}
-use Rattle.command_words.specs.Commands.{check, shrink, verify, draw}
-use Rattle.history_text.specs.Versions.{text_of}
-use Rattle.commands.specs.Answers.{Reply, judged, shown, verified, memory_fault, answer_text}
+use Rattle.commands.specs.Answers.{Reply, judged, shown, verified, memory_fault, answer_text, converted}
+use Rattle.commands.specs.Inputs.{IsHistoryOf}
+use Rattle.commands.specs.Judging.{said_by}
 use Rattle.commands.specs.Running.{AnswersOf}
-use Rattle.commands.specs.OneAnswer.{SameOrNoMemory}
 
 -- an input of these bytes and nothing more
 abbrev pub input_of : List ℕ → Ahead
 input_of bytes = record { bytes = bytes; ending = EndOfInput }
 
+-- ---- one answer
+
+-- the answers are equal, or memory ran out in one of the runs
+abbrev pub SameOrNoMemory : Reply → Reply → Type 0
+SameOrNoMemory a b = (a ≡ b) ⊎ ((a ≡ memory_fault) ⊎ (b ≡ memory_fault))
+
+-- two answers that a command may give of one input are the same, out of memory aside
+abbrev pub HasOneAnswer : Request → Type 0
+HasOneAnswer request = (input : Ahead) (a b : Reply) → AnswersOf request input a → AnswersOf request input b → SameOrNoMemory a b
+
+-- ---- evidence
+
 -- the verdict is evidence, or memory ran out
 abbrev pub IsValidOrNoMemory : Reply → Type 0
 IsValidOrNoMemory answer = (answer ≡ verified true) ⊎ (answer ≡ memory_fault)
 
--- where `check` answers an input with a verdict, `verify` answers that input, followed by the verdict's text, with `VALID`
+-- where `check` answers an input with a verdict, `verify` answers that input, followed by the verdict's text, with
+-- `VALID`
 abbrev pub CheckedIsValid : Type 0
 CheckedIsValid = (bytes : List ℕ) (claimed : Claimed) (answer : Reply) → AnswersOf check (input_of bytes) (judged claimed)
     → AnswersOf verify (input_of (bytes ++ answer_text (judged claimed))) answer → IsValidOrNoMemory answer
@@ -33,8 +50,36 @@ abbrev pub ShrunkIsChecked : Type 0
 ShrunkIsChecked = (bytes : List ℕ) (small : HistoryText) (claimed : Claimed) (answer : Reply) → AnswersOf shrink (input_of bytes) (shown small claimed)
     → AnswersOf check (input_of (text_of small)) answer → (answer ≡ judged claimed) ⊎ (answer ≡ memory_fault)
 
--- where `check` answers an input with a verdict, `draw` answers that input as it answers it followed by the verdict's text, or
--- memory runs out
+-- where `check` answers an input with a verdict, `draw` answers that input as it answers it followed by the verdict's
+-- text, or memory runs out
 abbrev pub DrawnAsChecked : DrawOptions → Type 0
 DrawnAsChecked options = (bytes : List ℕ) (claimed : Claimed) (a b : Reply) → AnswersOf check (input_of bytes) (judged claimed)
     → AnswersOf (draw options) (input_of bytes) a → AnswersOf (draw options) (input_of (bytes ++ answer_text (judged claimed))) b → SameOrNoMemory a b
+
+-- ---- conversions
+
+-- where `convert` answers a text with another, both say one history, and the other is the text of it in version 2
+abbrev pub ConvertedIsSameHistory : Type 0
+ConvertedIsSameHistory = (bytes : List ℕ) (text to : HistoryText) → IsHistoryOf (input_of bytes) text → AnswersOf convert (input_of bytes) (converted to)
+    → (said_by to ≡ said_by text) × (to.version ≡ Two) × IsHistoryOf (input_of (text_of to)) to
+
+-- a text of version 2 comes out as it is: so what was converted is converted to the same bytes
+abbrev pub ConvertedIsKept : Type 0
+ConvertedIsKept = (bytes : List ℕ) (text to : HistoryText) → IsHistoryOf (input_of bytes) text → text.version ≡ Two
+    → AnswersOf convert (input_of bytes) (converted to) → text_of to ≡ bytes
+
+-- `check` answers a text and its conversion alike, or memory runs out
+abbrev pub ConvertedIsChecked : Type 0
+ConvertedIsChecked = (bytes : List ℕ) (to : HistoryText) (a b : Reply) → AnswersOf convert (input_of bytes) (converted to)
+    → AnswersOf check (input_of bytes) a → AnswersOf check (input_of (text_of to)) b → SameOrNoMemory a b
+
+-- so does `stats`
+abbrev pub ConvertedIsCounted : Type 0
+ConvertedIsCounted = (bytes : List ℕ) (to : HistoryText) (a b : Reply) → AnswersOf convert (input_of bytes) (converted to)
+    → AnswersOf stats (input_of bytes) a → AnswersOf stats (input_of (text_of to)) b → SameOrNoMemory a b
+
+-- `verify` answers a claim alike behind a text and behind its conversion, or memory runs out
+abbrev pub ConvertedIsVerified : Type 0
+ConvertedIsVerified = (bytes : List ℕ) (to : HistoryText) (claimed : Claimed) (a b : Reply) → HasVerdictText claimed
+    → AnswersOf convert (input_of bytes) (converted to) → AnswersOf verify (input_of (bytes ++ verdict_text claimed)) a
+    → AnswersOf verify (input_of (text_of to ++ verdict_text claimed)) b → SameOrNoMemory a b

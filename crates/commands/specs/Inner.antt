@@ -1,4 +1,2 @@
 -- Relations that serve the contracts of private functions: no public promise names one.
 pub mod Running
-pub mod Drawing
-pub mod Stressing

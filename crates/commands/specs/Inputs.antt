@@ -1,16 +1,15 @@
 -- Inputs that should be one text, or one after another.
-use Rattle.std.specs.Prelude.{◌≡◌, ℕ, List, ◌∷◌, ◌++◌, ◌⊎◌, Option, Some, None}
+use Rattle.std.specs.Prelude.{◌≡◌, ℕ, List, [], ◌++◌, ◌⊎◌, Option, Some, None}
 use Rattle.verdicts.specs.declared.verifying.Claimed.{Claimed}
 use Rattle.text_lines.specs.declared.fault.TextFault.{TextFault}
-use Rattle.text_lines.specs.declared.fault.TextFault.TheVariants as text
 use Rattle.text_lines.specs.Faults.{MemoryOr}
 use Rattle.history_text.specs.declared.schedule.Schedule.{Schedule}
-use Rattle.history_text.specs.Versions.{HistoryText}
-use Rattle.history_text.specs.Versions.{text_of, line_count, HasText, IsTextFault, NoRoomForText}
+use Rattle.history_text.specs.Versions.{HistoryText, text_of, line_count, HasText, IsTextFault, NoRoomForText}
 use Rattle.history_text.specs.Schedules.{schedule_text, HasScheduleText, IsScheduleTextFault, NoRoomForSchedule}
 use Rattle.history_text.specs.Verdicts.{verdict_text}
 use Rattle.history_text.specs.Claims.{HasVerdictText, IsVerdictTextFault, NoRoomForVerdict}
-use Rattle.text_lines.specs.Input.{Ahead, Ending, EndOfInput, Failure}
+use Rattle.history_text.specs.Reading.{HasEndFault}
+use Rattle.text_lines.specs.Input.{Ahead, Ending, EndOfInput}
 
 -- ---- one text
 
@@ -19,29 +18,33 @@ pub record IsWhole (written : List ℕ) (input : Ahead) : Type 0 where
   pub bytes : input.bytes ≡ written
   pub ending : input.ending ≡ EndOfInput
 
--- this text stands at the front, and at least one more byte
-pub record GoesOnAfter (written : List ℕ) (input : Ahead) : Type 0 where
-  pub byte : ℕ
-  pub more : List ℕ
-  pub bytes : input.bytes ≡ written ++ byte ∷ more
+-- the text of a value stands at the front, and what comes after it is so
+pub record AfterText {A : Type 0} (Has : A → Type 0) (text_of : A → List ℕ) (P : A → List ℕ → Type 0) (bytes : List ℕ)
+    : Type 0 where
+  pub value : A
+  pub rest : List ℕ
+  pub has : Has value
+  pub front : bytes ≡ text_of value ++ rest
+  pub after : P value rest
 
--- a read fails just after this text
-pub record FailsAfter (written : List ℕ) (input : Ahead) : Type 0 where
-  pub bytes : input.bytes ≡ written
-  pub ending : input.ending ≡ Failure
+-- the fault of input that should be the text of one of these values and then something else: that of the text, or of
+-- what comes after it; out of memory says that a line without fault was there
+abbrev pub IsFaultOfTexts : {A : Type 0} → (A → Type 0) → (A → List ℕ) → (Ending → List ℕ → TextFault → Type 0) → (List ℕ → Type 0)
+    → (A → Ending → List ℕ → TextFault → Type 0) → (A → List ℕ → Type 0) → Ahead → TextFault → Type 0
+IsFaultOfTexts Has text_of IsFirst LacksRoom IsNext LacksNext input fault =
+    MemoryOr (LacksRoom input.bytes ⊎ AfterText Has text_of LacksNext input.bytes)
+    (λ f. IsFirst input.ending input.bytes f ⊎ AfterText Has text_of (λ value rest. IsNext value input.ending rest f) input.bytes)
+    fault
 
--- the fault of input in which something comes after a whole text: another byte, or a read that fails
-abbrev pub IsFaultAfter : List ℕ → Ahead → TextFault → Type 0
-IsFaultAfter written input fault = ((fault ≡ text.Trailing) × GoesOnAfter written input) ⊎ ((fault ≡ text.Read) × FailsAfter written input)
+-- the fault of input that should be over: another byte, or a read that fails
+abbrev pub IsFaultOfEnd : Ending → List ℕ → TextFault → Type 0
+IsFaultOfEnd ending rest fault = HasEndFault (Some (record { bytes = rest; ending = ending })) fault
 
--- the fault of input that should be the text of one of these values: that of the text, or of what comes after it;
--- out of memory says that a line without fault was there
+-- the fault of input that should be the text of one of these values and nothing more
 abbrev pub IsFaultOfOneText : {A : Type 0} → (A → Type 0) → (A → List ℕ) → (Ending → List ℕ → TextFault → Type 0) → (List ℕ → Type 0) → Ahead
     → TextFault → Type 0
-IsFaultOfOneText {A} HasText text_of IsTextFault LacksRoom input fault =
-    MemoryOr (LacksRoom input.bytes)
-    (λ f. IsTextFault input.ending input.bytes f ⊎ ((value : A) × HasText value × IsFaultAfter (text_of value) input f))
-    fault
+IsFaultOfOneText Has text_of IsFirst LacksRoom input fault =
+    IsFaultOfTexts Has text_of IsFirst LacksRoom (λ _. IsFaultOfEnd) (λ _ _. ⊥) input fault
 
 -- ---- histories
 
@@ -70,26 +73,21 @@ pub record ClaimOnText : Type 0 where
   pub text : HistoryText
   pub claimed : Claimed
 
+-- a claim on a text
+abbrev pub claim_on : HistoryText → Claimed → ClaimOnText
+claim_on text claimed = record { text = text; claimed = claimed }
+
 -- the input is this text, then that of the verdict, and nothing more
 pub record IsClaimOf (input : Ahead) (claim : ClaimOnText) : Type 0 where
   pub history : HasText claim.text
   pub verdict : HasVerdictText claim.claimed
   pub whole : IsWhole (text_of claim.text ++ verdict_text claim.claimed) input
 
--- the text of a history stands at the front, and what comes after its lines is so
-pub record AfterHistory (P : ℕ → List ℕ → Type 0) (bytes : List ℕ) : Type 0 where
-  pub text : HistoryText
-  pub rest : List ℕ
-  pub history : HasText text
-  pub front : bytes ≡ text_of text ++ rest
-  pub after : P (line_count text) rest
-
--- the fault of input that should be a history and a verdict: that of the first text, or else of the second, whose lines count on
+-- the fault of input that should be a history and a verdict: that of the first text, or else of the second, whose
+-- lines count on
 abbrev pub IsFaultOfClaimInput : Ahead → TextFault → Type 0
-IsFaultOfClaimInput input fault =
-    MemoryOr (NoRoomForText input.bytes ⊎ AfterHistory (λ lines rest. NoRoomForVerdict rest) input.bytes)
-    (λ f. IsTextFault 0 input.ending input.bytes f ⊎ AfterHistory (λ lines rest. IsVerdictTextFault lines input.ending rest f) input.bytes)
-    fault
+IsFaultOfClaimInput input fault = IsFaultOfTexts HasText text_of (IsTextFault 0) NoRoomForText
+    (λ text. IsVerdictTextFault (line_count text)) (λ _. NoRoomForVerdict) input fault
 
 -- ---- a history, and a verdict on it where anything follows
 
@@ -101,14 +99,19 @@ pub data Drawable : Type 0 where
 -- this text, with the claim where there is one
 abbrev pub drawable : HistoryText → Option Claimed → Drawable
 drawable text None = alone text
-drawable text (Some claimed) = with_claim (record { text = text; claimed = claimed })
+drawable text (Some claimed) = with_claim (claim_on text claimed)
 
 -- the input is the text of the history, then that of the verdict where there is one, and nothing more
 abbrev pub IsDrawableOf : Ahead → Drawable → Type 0
 IsDrawableOf input (alone text) = IsHistoryOf input text
 IsDrawableOf input (with_claim claim) = IsClaimOf input claim
 
--- the fault of input that should be a history, and a verdict where anything follows: that of a history and a verdict; but the text
--- of a history on its own has none beside out of memory
+-- the fault of what comes after a history: that of a verdict, but input that is over has none
+abbrev pub IsFaultBehind : HistoryText → Ending → List ℕ → TextFault → Type 0
+IsFaultBehind text ending rest fault =
+    IsVerdictTextFault (line_count text) ending rest fault × (¬ ((rest ≡ []) × (ending ≡ EndOfInput)))
+
+-- the fault of input that should be a history, and a verdict where anything follows
 abbrev pub IsFaultOfDrawableInput : Ahead → TextFault → Type 0
-IsFaultOfDrawableInput input fault = IsFaultOfClaimInput input fault × ((history : HistoryText) → IsHistoryOf input history → fault ≡ text.Memory)
+IsFaultOfDrawableInput input fault =
+    IsFaultOfTexts HasText text_of (IsTextFault 0) NoRoomForText IsFaultBehind (λ _. NoRoomForVerdict) input fault

@@ -1,5 +1,5 @@
 -- What the commands that read answer of what they read.
-use Rattle.std.specs.Prelude.{◌≡◌, ◌≢◌, ◌≤◌, Bool, false, IsTrue, List, [], length, ◌⊎◌, ◌↔◌, ℕ}
+use Rattle.std.specs.Prelude.{◌≡◌, ◌≢◌, ◌≤◌, false, true, List, [], length, ◌⊎◌, ℕ}
 use Rattle.event_records.specs.declared.event.Event.{Event}
 use Rattle.history_merge.specs.declared.fault.HistoryFault.{HistoryFault}
 use Rattle.history_merge.specs.declared.fault.HistoryFault.TheVariants.{Memory}
@@ -22,11 +22,10 @@ use Rattle.verdicts.specs.declared.verdict.Verdict.{Verdict}
 use Rattle.verdicts.specs.Claims.{IsTrueClaim}
 use Rattle.verdicts.specs.Claiming.{claim_of}
 use Rattle.value_match.specs.Outcome.{IsChosenViolation}
-use Rattle.verdicts.specs.Verdicts.{IsEvidence, IsExact, IsVerdict}
+use Rattle.verdicts.specs.Decided.{IsDecided}
 use Rattle.verdicts.specs.Selection.{KeepsViolation, StaysChosen, IsMinimal, HasShortestCover, ArePartOf, contents_of}
-use Rattle.history_text.specs.Versions.{HistoryText}
+use Rattle.history_text.specs.Versions.{HistoryText, said_in}
 use Rattle.history_text.specs.declared.version.Version.TheVariants.{Two}
-use Rattle.history_text.specs.Versions.{said_in}
 use Rattle.command_words.specs.declared.options.DrawOptions.{DrawOptions}
 use Rattle.command_words.specs.declared.options.PictureForm.{PictureForm}
 use Rattle.command_words.specs.declared.options.PictureForm.TheVariants.{Html, Svg, Terminal}
@@ -40,7 +39,7 @@ use Rattle.drawing.specs.declared.columns.TheConstants.{MOST_DRAWN}
 use Rattle.text_lines.specs.declared.fault.TextFault.{TextFault}
 use Rattle.history_text.specs.declared.schedule.Schedule.{Schedule}
 use Rattle.text_lines.specs.Input.{Ahead}
-use Rattle.commands.specs.Inputs.{ClaimOnText, Drawable, alone, with_claim}
+use Rattle.commands.specs.Inputs.{ClaimOnText, Drawable, alone, claim_on, with_claim}
 use Rattle.commands.specs.Answers.{Reply, judged, shown, left_open, played, verified, converted, counted, drawn, refused_size, memory_fault, answer_of_text_fault}
 use Rattle.commands.specs.Answers.{answer_of_history_fault}
 
@@ -58,13 +57,16 @@ from_none events = record { initial = []; events = events }
 abbrev pub IsSound : HistoryView → Type 0
 IsSound history = IsCompleteFrom history.initial history.events
 
--- the claim of the chosen verdict on a history, which is evidence: `YES` if and only if a linearization exists
-pub record IsVerdictClaim (history : HistoryView) (claimed : Claimed) : Type 0 where
+-- made so of the claim of the chosen verdict on a history, which is evidence: `YES` if and only if a linearization
+-- exists
+pub record IsOfVerdict {A : Type 0} (history : HistoryView) (made_of : Claimed → A) (made : A) : Type 0 where
   pub verdict : Verdict
-  pub chosen : IsVerdict history.initial (operations_of history.events) verdict
-  pub evidence : IsEvidence history.initial (operations_of history.events) verdict
-  pub exact : IsExact history.initial (operations_of history.events) verdict
-  pub claim : claimed ≡ claim_of history.initial (operations_of history.events) verdict
+  pub decided : IsDecided history.initial (operations_of history.events) verdict
+  pub is : made ≡ made_of (claim_of history.initial (operations_of history.events) verdict)
+
+-- the claim of its verdict
+abbrev pub IsVerdictClaim : HistoryView → Claimed → Type 0
+IsVerdictClaim history claimed = IsOfVerdict history (λ claim. claim) claimed
 
 -- it is no complete history, and this is its first fault
 pub record IsFaulty (history : HistoryView) (answer : Reply) : Type 0 where
@@ -73,16 +75,17 @@ pub record IsFaulty (history : HistoryView) (answer : Reply) : Type 0 where
   pub known : fault ≢ Memory
   pub is : answer ≡ answer_of_history_fault fault
 
--- it is a complete history, and this is its verdict
-pub record IsJudged (history : HistoryView) (answer : Reply) : Type 0 where
-  pub complete : IsSound history
-  pub claimed : Claimed
-  pub right : IsVerdictClaim history claimed
-  pub is : answer ≡ judged claimed
+-- the first fault of a history; or what is answered of it where it is complete
+abbrev pub FaultOr : HistoryView → (Reply → Type 0) → Reply → Type 0
+FaultOr history OfSound answer = IsFaulty history answer ⊎ (IsSound history × OfSound answer)
+
+-- one thing where P holds, and another where it doesn't
+abbrev pub Whether : Type 0 → Type 0 → Type 0 → Type 0
+Whether P Then Else = (P × Then) ⊎ ((¬ P) × Else)
 
 -- the first fault of a history, or its verdict
 abbrev pub JudgesHistory : HistoryView → Reply → Type 0
-JudgesHistory history answer = IsFaulty history answer ⊎ IsJudged history answer
+JudgesHistory history answer = FaultOr history (IsOfVerdict history judged) answer
 
 -- `check`: the first fault of the history that a text says, or its verdict
 abbrev pub Judges : HistoryText → Reply → Type 0
@@ -92,12 +95,10 @@ Judges text answer = JudgesHistory (said_by text) answer
 abbrev pub IsGathered : HistoryView → BuilderView → Type 0
 IsGathered history builder = HasGathered history.initial history.events builder
 
--- it is a complete history that isn't linearizable; of the chosen violation the initial values and the events are shown, with their own
--- verdict. They are a complete history: values with all their operations, and an empty answer; nothing can be left out of them, and no
--- shorter cover exists
+-- of a chosen violation the initial values and the events are shown, with their own verdict. They are a complete
+-- history: values with all their operations, and an empty answer; nothing can be left out of them, and no shorter
+-- cover exists
 pub record IsShrunk (text : HistoryText) (answer : Reply) : Type 0 where
-  pub complete : IsSound (said_by text)
-  pub not_linearizable : ¬ (IsLinearizable text.initial (operations_of text.events))
   pub violation : Violation
   pub chosen : IsChosenViolation text.initial (operations_of text.events) violation
   pub small : HistoryView
@@ -108,27 +109,28 @@ pub record IsShrunk (text : HistoryText) (answer : Reply) : Type 0 where
   pub same : StaysChosen (said_by text) violation small
   pub minimal : IsMinimal (contents_of small)
   pub shortest : HasShortestCover (said_by text) violation
-  pub claimed : Claimed
-  pub right : IsVerdictClaim small claimed
-  pub is : answer ≡ shown (said_in text.version small) claimed
+  pub answered : IsOfVerdict small (shown (said_in text.version small)) answer
+
+-- of a complete history: its verdict if that is `YES`, or what shows `NO`
+abbrev pub ShrinksSound : HistoryText → Reply → Type 0
+ShrinksSound text answer =
+    Whether (IsLinearizable text.initial (operations_of text.events)) (IsOfVerdict (said_by text) judged answer)
+    (IsShrunk text answer)
 
 -- `shrink`: the first fault of the history, or its verdict if that is `YES`, or what shows `NO`
 abbrev pub Shrinks : HistoryText → Reply → Type 0
-Shrinks text answer = IsFaulty (said_by text) answer
-    ⊎ ((IsLinearizable text.initial (operations_of text.events) × IsJudged (said_by text) answer) ⊎ IsShrunk text answer)
+Shrinks text answer = FaultOr (said_by text) (ShrinksSound text) answer
 
 -- ---- claims
 
--- it is a complete history, and this is whether the claim is evidence in it
-pub record IsVerified (claim : ClaimOnText) (answer : Reply) : Type 0 where
-  pub complete : IsSound (said_by claim.text)
-  pub valid : Bool
-  pub right : IsTrue valid ↔ IsTrueClaim claim.text.initial (operations_of claim.text.events) claim.claimed
-  pub is : answer ≡ verified valid
+-- the claim is evidence in the history
+abbrev pub IsEvident : ClaimOnText → Type 0
+IsEvident claim = IsTrueClaim claim.text.initial (operations_of claim.text.events) claim.claimed
 
 -- `verify`: the first fault of the history, or whether the claim is evidence
 abbrev pub Verifies : ClaimOnText → Reply → Type 0
-Verifies claim answer = IsFaulty (said_by claim.text) answer ⊎ IsVerified claim answer
+Verifies claim answer =
+    FaultOr (said_by claim.text) (λ a. Whether (IsEvident claim) (a ≡ verified true) (a ≡ verified false)) answer
 
 -- ---- pictures
 
@@ -142,19 +144,6 @@ pub record IsSmall (options : DrawOptions) (claim : ClaimOnText) : Type 0 where
   pub few_lines : count_of_lines claim.claimed ≤ MOST_DRAWN
   pub few_operations : length (drawn_operations (said_by claim.text) claim.claimed options.around) ≤ MOST_DRAWN
 
--- it is a complete history, and too much of it is to be drawn
-pub record IsTooLarge (options : DrawOptions) (claim : ClaimOnText) (answer : Reply) : Type 0 where
-  pub complete : IsSound (said_by claim.text)
-  pub large : ¬ (IsSmall options claim)
-  pub is : answer ≡ refused_size
-
--- it is a complete history, and the claim is no evidence in it
-pub record IsRefuted (options : DrawOptions) (claim : ClaimOnText) (answer : Reply) : Type 0 where
-  pub complete : IsSound (said_by claim.text)
-  pub small : IsSmall options claim
-  pub untrue : ¬ (IsTrueClaim claim.text.initial (operations_of claim.text.events) claim.claimed)
-  pub is : answer ≡ verified false
-
 -- the picture of a scene, in a form
 abbrev pub picture_in : PictureForm → SceneView → List ℕ
 picture_in Svg scene = svg_picture scene
@@ -165,33 +154,27 @@ picture_in Terminal scene = terminal_picture scene
 abbrev pub picture_of : DrawOptions → HistoryView → Claimed → List ℕ
 picture_of options history claimed = picture_in options.form (scene_of history claimed (drawn_operations history claimed options.around))
 
--- it is a complete history, the claim is evidence in it, and this is the picture of both
-pub record IsDrawn (options : DrawOptions) (claim : ClaimOnText) (answer : Reply) : Type 0 where
-  pub complete : IsSound (said_by claim.text)
-  pub small : IsSmall options claim
-  pub evidence : IsTrueClaim claim.text.initial (operations_of claim.text.events) claim.claimed
-  pub is : answer ≡ drawn (picture_of options (said_by claim.text) claim.claimed)
+-- of a complete history: the picture with the claim, where they are small and the claim is evidence
+abbrev pub DrawsSound : DrawOptions → ClaimOnText → Reply → Type 0
+DrawsSound options claim answer = Whether (IsSmall options claim)
+    (Whether (IsEvident claim) (answer ≡ drawn (picture_of options (said_by claim.text) claim.claimed)) (answer ≡ verified false))
+    (answer ≡ refused_size)
 
 -- the first fault of the history, or the picture with the claim, where they are small and the claim is evidence
 abbrev pub DrawsClaim : DrawOptions → ClaimOnText → Reply → Type 0
-DrawsClaim options claim answer =
-    IsFaulty (said_by claim.text) answer ⊎ (IsTooLarge options claim answer ⊎ (IsRefuted options claim answer ⊎ IsDrawn options claim answer))
+DrawsClaim options claim answer = FaultOr (said_by claim.text) (DrawsSound options claim) answer
 
--- it is a complete history with too many initial values to be drawn, whatever is claimed of it
-pub record IsTooLargeAlone (text : HistoryText) (answer : Reply) : Type 0 where
-  pub complete : IsSound (said_by text)
-  pub large : ¬ (HasFewValues (said_by text))
-  pub is : answer ≡ refused_size
-
--- this is the picture of a complete history and the claim of its verdict, or too much of it is to be drawn
+-- this is answered of a history with the claim of its verdict, which is evidence
 pub record IsDrawnDecided (options : DrawOptions) (text : HistoryText) (answer : Reply) : Type 0 where
   pub claimed : Claimed
   pub right : IsVerdictClaim (said_by text) claimed
-  pub answered : IsTooLarge options (record { text = text; claimed = claimed }) answer ⊎ IsDrawn options (record { text = text; claimed = claimed }) answer
+  pub evident : IsEvident (claim_on text claimed)
+  pub answered : DrawsSound options (claim_on text claimed) answer
 
--- the first fault of the history, or the picture with the claim of its verdict, where they are small
+-- the first fault of the history; or the picture with the claim of its verdict, where they are small
 abbrev pub DrawsAlone : DrawOptions → HistoryText → Reply → Type 0
-DrawsAlone options text answer = IsFaulty (said_by text) answer ⊎ (IsTooLargeAlone text answer ⊎ IsDrawnDecided options text answer)
+DrawsAlone options text answer =
+    FaultOr (said_by text) (λ a. Whether (HasFewValues (said_by text)) (IsDrawnDecided options text a) (a ≡ refused_size)) answer
 
 -- `draw`: what is answered of a history with a claim; and of a history on its own, which is decided
 abbrev pub Draws : DrawOptions → Drawable → Reply → Type 0
@@ -204,48 +187,36 @@ Draws options (with_claim claim) answer = DrawsClaim options claim answer
 abbrev pub in_version_2 : HistoryText → HistoryText
 in_version_2 text = said_in Two (said_by text)
 
--- it is a complete history, and this is its text of version 2
-pub record IsConverted (text : HistoryText) (answer : Reply) : Type 0 where
-  pub complete : IsSound (said_by text)
-  pub is : answer ≡ converted (in_version_2 text)
-
 -- `convert`: the first fault of the history, or its text of version 2
 abbrev pub Converts : HistoryText → Reply → Type 0
-Converts text answer = IsFaulty (said_by text) answer ⊎ IsConverted text answer
+Converts text answer = FaultOr (said_by text) (λ a. a ≡ converted (in_version_2 text)) answer
 
 -- ---- statistics
 
--- it is a complete history, and these are its statistics
-pub record IsCounted (text : HistoryText) (answer : Reply) : Type 0 where
-  pub complete : IsSound (said_by text)
+-- these are the statistics of a history
+pub record IsCounted (history : HistoryView) (answer : Reply) : Type 0 where
   pub statistics : Statistics
-  pub right : AreStatisticsOf (said_by text) statistics
+  pub right : AreStatisticsOf history statistics
   pub is : answer ≡ counted statistics
 
 -- `stats`: the first fault of the history, or its statistics
 abbrev pub Counts : HistoryText → Reply → Type 0
-Counts text answer = IsFaulty (said_by text) answer ⊎ IsCounted text answer
+Counts text answer = FaultOr (said_by text) (IsCounted (said_by text)) answer
 
 -- ---- schedules
 
--- the machine isn't done
-pub record IsLeftOpen (setting : Setting) (schedule : List Attempt) (answer : Reply) : Type 0 where
-  pub undone : ¬ (IsDone setting schedule)
-  pub is : answer ≡ left_open (rejections setting schedule)
-
--- the machine is done, and these are the collected events by ticket, with their verdict
+-- these are the collected events by ticket, with their verdict
 pub record IsPlayed (setting : Setting) (schedule : List Attempt) (answer : Reply) : Type 0 where
-  pub done : IsDone setting schedule
   pub events : List Event
   pub merged : IsMerged (collected_lists setting schedule) events
   pub complete : IsCompleteHistory events
-  pub claimed : Claimed
-  pub right : IsVerdictClaim (record { initial = setting.initial; events = events }) claimed
-  pub is : answer ≡ played (rejections setting schedule) events claimed
+  pub answered : IsOfVerdict (record { initial = setting.initial; events = events }) (played (rejections setting schedule) events) answer
 
--- what is answered of these steps in this setting
+-- what is answered of these steps in this setting, by whether the machine is done
 abbrev pub SimulatesIn : Setting → List Attempt → Reply → Type 0
-SimulatesIn setting schedule answer = IsLeftOpen setting schedule answer ⊎ IsPlayed setting schedule answer
+SimulatesIn setting schedule answer =
+    Whether (IsDone setting schedule) (IsPlayed setting schedule answer)
+    (answer ≡ left_open (rejections setting schedule))
 
 -- `sim`: the steps tried one after another, where no growth is refused
 abbrev pub Simulates : Schedule → Reply → Type 0
@@ -269,7 +240,7 @@ pub record IsOfFault (IsFaultOf : Ahead → TextFault → Type 0) (input : Ahead
 abbrev pub AnswersOrNoMemory : {A : Type 0} → (A → Reply → Type 0) → A → Reply → Type 0
 AnswersOrNoMemory OfValue value answer = OfValue value answer ⊎ (answer ≡ memory_fault)
 
--- what is answered of an input: the answer of what it says, or its fault. Out of memory is answered where the input says
--- something, or where a line without fault stands in it
+-- what is answered of an input: the answer of what it says, or its fault. Out of memory is answered where the input
+-- says something, or where a line without fault stands in it
 abbrev pub AnswersFor : {A : Type 0} → (Ahead → A → Type 0) → (Ahead → TextFault → Type 0) → (A → Reply → Type 0) → Ahead → Reply → Type 0
 AnswersFor IsInputOf IsFaultOf OfValue input answer = IsOfValue IsInputOf (AnswersOrNoMemory OfValue) input answer ⊎ IsOfFault IsFaultOf input answer

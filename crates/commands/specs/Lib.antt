@@ -5,7 +5,5 @@ pub mod Outcomes
 pub mod Running
 pub mod Stressing
 pub mod Evidence
-pub mod Conversions
 pub mod Shelf
-pub mod OneAnswer
 pub mod Inner

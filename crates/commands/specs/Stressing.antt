@@ -1,5 +1,5 @@
 -- What `stress` answers: it reads nothing, and runs the first queue of a name.
-use Rattle.std.specs.Prelude.{◌≡◌, ◌≢◌, ℕ, ◌*◌, ◌==◌, ◌<◌, ◌≤◌, if◌then◌else◌, Bool, List, ◌∷◌, ◌++◌, All, ◌⊎◌, codes}
+use Rattle.std.specs.Prelude.{◌≡◌, ◌≢◌, ℕ, ◌*◌, ◌==◌, ◌≤◌, if◌then◌else◌, Bool, List, ◌∷◌, ◌++◌, All, ◌⊎◌, codes}
 use Rattle.std.specs.List.{range_with_len}
 use Rattle.event_records.specs.declared.event.Event.{Event}
 use Rattle.event_records.specs.declared.kind.Kind.{Kind}
@@ -18,12 +18,11 @@ use Rattle.stress_run.specs.declared.faults.RunFault.TheVariants.{Limit, Preload
 use Rattle.stress_run.specs.Operations.{IsRun}
 use Rattle.stress_run.specs.Failed.{IsFaultOfRun}
 use Rattle.stress_run.specs.Preloaded.{AreTaken, IsFirstRefused}
-use Rattle.verdicts.specs.declared.verifying.Claimed.{Claimed}
 use Rattle.command_words.specs.Options.{Settings}
 use Rattle.commands.specs.declared.stress.TheConstants.{TRIES}
 use Rattle.queue_interface.specs.Answers.{AnswersInKind, TakesOrRefuses}
 use Rattle.commands.specs.Answers.{Reply, ShowsNoViolation, shown, refused_queue, refused_limit, memory_fault, run_fault}
-use Rattle.commands.specs.Judging.{IsVerdictClaim}
+use Rattle.commands.specs.Judging.{IsOfVerdict, Whether}
 
 -- x is the first element of the list that this name fits
 pub record IsFirstNamed {X : Type 0} (name_of : X → List ℕ) (name : List ℕ) (xs : List X) (x : X) : Type 0 where
@@ -45,6 +44,13 @@ run_history count events = record { initial = first_values count; events = event
 abbrev pub run_version : ℕ → Version
 run_version count = if count == 0 then One else Two
 
+-- the lists of a run by ticket, whose queue held this many values first, with their verdict
+pub record IsShownRun (count : ℕ) (lists : List (List Event)) (answer : Reply) : Type 0 where
+  pub events : List Event
+  pub merged : IsMerged lists events
+  pub complete : IsCompleteFrom (first_values count) events
+  pub answered : IsOfVerdict (run_history count events) (shown (said_in (run_version count) (run_history count events))) answer
+
 -- a run of the seed's plan on a queue that may answer so and took the first values: its lists by ticket, with their verdict
 pub record IsRecordedRun (may : Question → Answer → Type 0) (may_preload : ℕ → Bool → Type 0) (settings : Settings) (answer : Reply) : Type 0 where
   pub preloaded : AreTaken may_preload (first_values settings.initial)
@@ -55,12 +61,7 @@ pub record IsRecordedRun (may : Question → Answer → Type 0) (may_preload : �
   pub run : IsRun may plan lists total
   pub recorded : AreRecorded lists
   pub replays : Replays settings.ring (first_values settings.initial) lists
-  pub events : List Event
-  pub merged : IsMerged lists events
-  pub complete : IsCompleteFrom (first_values settings.initial) events
-  pub claimed : Claimed
-  pub right : IsVerdictClaim (run_history settings.initial events) claimed
-  pub is : answer ≡ shown (said_in (run_version settings.initial) (run_history settings.initial events)) claimed
+  pub answered : IsShownRun settings.initial lists answer
 
 -- no history: a fault that a run of the seed's plan may have, on a queue that may answer so, with rings and tries of these sizes; the place
 -- that it names is that of the first value which the queue refused
@@ -81,8 +82,8 @@ RunsOrFails may may_preload settings answer =
 -- what is answered of a queue that may answer so: too many operations are refused, and no others
 abbrev pub StressesQueue : (Question → Answer → Type 0) → (ℕ → Bool → Type 0) → Settings → Reply → Type 0
 StressesQueue may may_preload settings answer =
-    ((MAX_OPERATIONS < settings.threads * settings.operations) × (answer ≡ refused_limit))
-    ⊎ ((settings.threads * settings.operations ≤ MAX_OPERATIONS) × RunsOrFails may may_preload settings answer)
+    Whether (settings.threads * settings.operations ≤ MAX_OPERATIONS) (RunsOrFails may may_preload settings answer)
+    (answer ≡ refused_limit)
 
 -- the name of the proved queue
 abbrev pub proved_name : List ℕ
@@ -90,9 +91,8 @@ proved_name = codes "proved"
 
 -- of a name that no queue of the shelf has: the proved queue's run shows no violation, and any other name is refused
 abbrev pub StressesUnshelved : Settings → Reply → Type 0
-StressesUnshelved settings answer =
-    ((settings.queue ≡ proved_name) × StressesQueue AnswersInKind TakesOrRefuses settings answer × ShowsNoViolation answer)
-    ⊎ ((settings.queue ≢ proved_name) × (answer ≡ refused_queue))
+StressesUnshelved settings answer = Whether (settings.queue ≡ proved_name)
+    (StressesQueue AnswersInKind TakesOrRefuses settings answer × ShowsNoViolation answer) (answer ≡ refused_queue)
 
 -- `stress` on a shelf of queues with names: the first of the name is run
 abbrev pub Stresses : {X : Type 0} → (X → List ℕ) → (X → Question → Answer → Type 0) → (X → ℕ → Bool → Type 0) → List X → Settings → Reply → Type 0

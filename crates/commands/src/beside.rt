@@ -95,17 +95,19 @@ pub(crate) fn greet<E: TextSink>(
     }
 }
 
-/// The fault that has this status; none if the answer wasn't written.
-fn fault_told(outcome: &Outcome, status: u8) -> Option<Fault> {
-    match outcome {
-        Err(fault) if fault.status() == status => Some(*fault),
-        _ => None,
-    }
-}
-
-/// What a message says of a fault of `stress`, on a shelf of queues with these names.
-fn complaint_of_run<'a>(fault: Fault, task: &Task<'a>, names: &'a [&'a str]) -> Complaint<'a> {
+/// What a message says of a fault, if this much of the input is kept, on a shelf of queues with these names.
+fn complaint_of<'a>(
+    fault: Fault,
+    task: &Task<'a>,
+    given: Given<'a>,
+    names: &'a [&'a str],
+) -> Complaint<'a> {
     match (fault, task) {
+        (Fault::Text(fault), _) => Complaint::Text(fault, given),
+        (Fault::History(incomplete), _) => {
+            Complaint::History(incomplete.fault, incomplete.clash, given)
+        }
+        (Fault::Size, _) => Complaint::Size,
         (Fault::Queue, Task::Stress(options)) => Complaint::Queue {
             name: options.queue,
             names,
@@ -116,23 +118,6 @@ fn complaint_of_run<'a>(fault: Fault, task: &Task<'a>, names: &'a [&'a str]) -> 
         },
         (Fault::Run(fault), _) => Complaint::Run(fault),
         _ => Complaint::Memory,
-    }
-}
-
-/// What a message says of a fault, if this much of the input is kept.
-fn complaint_of<'a>(
-    fault: Fault,
-    task: &Task<'a>,
-    given: Given<'a>,
-    names: &'a [&'a str],
-) -> Complaint<'a> {
-    match fault {
-        Fault::Text(fault) => Complaint::Text(fault, given),
-        Fault::History(incomplete) => {
-            Complaint::History(incomplete.fault, incomplete.clash, given)
-        }
-        Fault::Size => Complaint::Size,
-        _ => complaint_of_run(fault, task, names),
     }
 }
 
@@ -156,15 +141,6 @@ fn names_on<'a>(alloc: Global, shelf: &[NamedQueue<'a>]) -> Result<Vec<&'a str>,
     Ok(names)
 }
 
-/// What is kept of its input, and what that was to be.
-fn given_to<'b, 'a, S>(ended: &Ended<'b, 'a, S>) -> Given<'b> {
-    Given {
-        reads: reads_of(name_of(&ended.order.task)).unwrap_or(Reads::History),
-        front: ended.kept.front(),
-        is_whole: ended.kept.is_whole(),
-    }
-}
-
 /// The message about a command that ended with a status which is no verdict's.
 fn message_of<'b, 'a, S>(
     alloc: Global,
@@ -173,28 +149,19 @@ fn message_of<'b, 'a, S>(
 ) -> Result<String, AllocError>
     ensures { IfOk result (λ made. IsMessage (string_bytes made)) }
 {
-    let Some(fault) = fault_told(ended.outcome, status) else {
-        return sentence(alloc, &Complaint::Write);
+    let fault = match ended.outcome {
+        Err(fault) if fault.status() == status => *fault,
+        _ => return sentence(alloc, &Complaint::Write),
     };
     let names = names_on(alloc, ended.shelf)?;
-    let complaint = complaint_of(fault, &ended.order.task, given_to(ended), names.as_slice());
+    let task = &ended.order.task;
+    let given = Given {
+        reads: reads_of(name_of(task)).unwrap_or(Reads::History),
+        front: ended.kept.front(),
+        is_whole: ended.kept.is_whole(),
+    };
+    let complaint = complaint_of(fault, task, given, names.as_slice());
     sentence(alloc, &complaint)
-}
-
-/// Says why a command found nothing, or that its answer wasn't written; of a verdict nothing.
-fn say_why<'b, 'a, S, E: TextSink>(
-    alloc: Global,
-    ended: &Ended<'b, 'a, S>,
-    status: u8,
-    errors: &mut E,
-)
-    ensures silent { status ≤ 1 → errors.new ≡ errors.old }
-    ensures said { 2 ≤ status → E.has_refused errors.old ≡ false
-        → SaysMessage (E.contents errors.old) (E.contents errors.new) (E.has_refused errors.new) }
-{
-    if status > 1 {
-        tell_made(&message_of(alloc, ended, status), errors);
-    }
 }
 
 /// Says to one who sits at the output how a long history is kept.
@@ -222,7 +189,8 @@ fn say_how_to_keep<E: TextSink>(
     }
 }
 
-/// Says what is to be said of a command that ended.
+/// Says why a command that ended found nothing, or that its answer wasn't written, of a verdict nothing; and how a
+/// long history is kept.
 pub(crate) fn say_at_end<'b, 'a, S, E: TextSink>(
     alloc: Global,
     ended: &Ended<'b, 'a, S>,
@@ -234,7 +202,9 @@ pub(crate) fn say_at_end<'b, 'a, S, E: TextSink>(
     ensures said { terminals.output ≡ false → 2 ≤ status → E.has_refused errors.old ≡ false
         → SaysMessage (E.contents errors.old) (E.contents errors.new) (E.has_refused errors.new) }
 {
-    say_why(alloc, ended, status, errors);
+    if status > 1 {
+        tell_made(&message_of(alloc, ended, status), errors);
+    }
     say_how_to_keep(alloc, ended.order, ended.outcome, terminals, errors);
 }
 
@@ -254,8 +224,8 @@ fn command_with_file<'a, T: AsStr>(words: &'a [T]) -> Option<&'a str> {
     }
 }
 
-/// Says what is wrong with arguments that are no command, unless the terminal shows it as standard output; and how a file is read, if
-/// a command was given its name.
+/// Says what is wrong with arguments that are no command, unless the terminal shows it as standard output; and how a
+/// file is read, if a command was given its name.
 pub(crate) fn say_mistake<T: AsStr, E: TextSink>(
     alloc: Global,
     words: &[T],
@@ -268,27 +238,17 @@ pub(crate) fn say_mistake<T: AsStr, E: TextSink>(
     ensures said { 2 < status → E.has_refused errors.old ≡ false
         → SaysMessage (E.contents errors.old) (E.contents errors.new) (E.has_refused errors.new) }
 {
-    if status <= 1 {
-        return;
+    match status {
+        0 | 1 => {}
+        2 => say_mistaken_words(alloc, words, error, terminals, errors),
+        _ => {
+            let complaint = match error.kind() {
+                ErrorKind::OutOfMemory => Complaint::Memory,
+                _ => Complaint::Write,
+            };
+            tell_made(&sentence(alloc, &complaint), errors);
+        }
     }
-    if status == 2 {
-        say_mistaken_words(alloc, words, error, terminals, errors);
-    } else {
-        say_unexplained(alloc, error, errors);
-    }
-}
-
-/// Says why the words couldn't be explained: memory ran out, or the writer refused.
-fn say_unexplained<E: TextSink>(alloc: Global, error: &Error, errors: &mut E)
-    ensures { E.has_refused errors.old ≡ false
-        → SaysMessage (E.contents errors.old) (E.contents errors.new) (E.has_refused errors.new) }
-{
-    let complaint = if error.kind() == ErrorKind::OutOfMemory {
-        Complaint::Memory
-    } else {
-        Complaint::Write
-    };
-    tell_made(&sentence(alloc, &complaint), errors);
 }
 
 /// Says what is wrong with the words, unless the terminal shows it as standard output.

@@ -4,23 +4,19 @@ ghost use Rattle.command_words.specs.Commands.{Request, stress, is_quiet_in, req
 ghost use Rattle.command_words.specs.Options.{Settings};
 ghost use Rattle.commands.specs.Judging.{AnswersOrNoMemory};
 ghost use Rattle.commands.specs.Outcomes.{answer_of, NamesPlaces};
-ghost use Rattle.commands.specs.Running.{AnswersOf, PrintsOneOf, PrintsSaid, ExplainsUse, SaysMessage, WritesAndFlushes, usage_status};
+ghost use Rattle.commands.specs.Running.{AnswersOf, PrintsOneOf, ExplainsUse, SaysMessage, WritesAndFlushes, usage_status};
 ghost use Rattle.commands.specs.Inner.Running.{Explains};
 ghost use Rattle.commands.specs.Stressing.{Stresses};
 ghost use Rattle.clap.specs.Values.{kind_of};
 
 use crate::beside::{Ended, Terminals, greet, say_at_end, say_mistake};
-use crate::check::check;
-use crate::convert::convert;
 use crate::draw::draw;
+use crate::histories::{check, convert, shrink, stats, verify};
 use crate::outcome::Outcome;
 use crate::pipes::{Muted, Piped};
 use crate::print::{print_memory, print_outcome, print_text};
-use crate::shrink::shrink;
 use crate::sim::sim;
-use crate::stats::stats;
 use crate::stress::{NamedQueue, stress};
-use crate::verify::verify;
 use clap::Error;
 use clap::error::ErrorKind;
 use command_words::{Order, Task, order_in};
@@ -112,10 +108,12 @@ where
     E: TextSink,
     requires fresh { W.has_refused writer.old ≡ false }
     requires ranges { IsInRange (request_of order.now.task) }
-    ensures reads { IfSome (S.ahead reader) (λ input. PrintsOneOf order.now.is_quiet (AnswersOf (request_of order.now.task) input)
+    ensures reads { IfSome (S.ahead reader) (λ input. PrintsOneOf order.now.is_quiet
+        (AnswersOrNoMemory (AnswersOf (request_of order.now.task)) input)
         (W.contents writer.old) (W.contents writer.new) (W.has_refused writer.new) result) }
     ensures stresses { (settings : Settings) → request_of order.now.task ≡ stress settings
-        → PrintsOneOf order.now.is_quiet (Stresses (λ s. s.name.now) (λ s. may s.queue) (λ s. may_preload s.queue) shelf.now settings)
+        → PrintsOneOf order.now.is_quiet
+        (AnswersOrNoMemory (Stresses (λ s. s.name.now) (λ s. may s.queue) (λ s. may_preload s.queue) shelf.now) settings)
         (W.contents writer.old) (W.contents writer.new) (W.has_refused writer.new) result }
     ensures asked { WritesAndFlushes W.transition (W.has_refused writer.new) writer.old writer.new }
     ensures passed_on { W.has_refused writer.new ≡ false → W.holds_back writer.new ≡ false }
@@ -126,37 +124,15 @@ where
     greet(rt.alloc(), &order.task, terminals, errors);
     let mut kept = FrontKept::new(rt.alloc(), reader);
     let outcome = outcome_of(rt, order.task, &mut kept, shelf);
+    let status = print_outcome(&outcome, order.is_quiet, writer);
     let ended = Ended {
         order,
         outcome: &outcome,
         kept: &kept,
         shelf,
     };
-    let status = end_order(rt.alloc(), &ended, terminals, writer, errors);
+    say_at_end(rt.alloc(), &ended, status, terminals, errors);
     drop(outcome);
-    status
-}
-
-/// Prints what a command found, says what is to be said of that, and returns the status.
-fn end_order<'b, 'a, S, W: TextSink, E: TextSink>(
-    alloc: Global,
-    ended: &Ended<'b, 'a, S>,
-    terminals: Terminals,
-    writer: &mut W,
-    errors: &mut E,
-) -> u8
-    requires fresh { W.has_refused writer.old ≡ false }
-    requires places { NamesPlaces ended.now.outcome.now }
-    ensures printed { PrintsSaid ended.now.order.now.is_quiet (W.contents writer.old) (W.contents writer.new) (W.has_refused writer.new) result
-        (answer_of ended.now.outcome.now) }
-    ensures asked { WritesAndFlushes W.transition (W.has_refused writer.new) writer.old writer.new }
-    ensures passed_on { W.has_refused writer.new ≡ false → W.holds_back writer.new ≡ false }
-    ensures silent { terminals.output ≡ false → result ≤ 1 → errors.new ≡ errors.old }
-    ensures said { terminals.output ≡ false → 2 ≤ result → E.has_refused errors.old ≡ false
-        → SaysMessage (E.contents errors.old) (E.contents errors.new) (E.has_refused errors.new) }
-{
-    let status = print_outcome(ended.outcome, ended.order.is_quiet, writer);
-    say_at_end(alloc, ended, status, terminals, errors);
     status
 }
 

@@ -7,11 +7,10 @@ ghost use Rattle.drawing.specs.Drawn.{drawn_operations};
 ghost use Rattle.drawing.specs.Scene.{scene_on, scene_of};
 ghost use Rattle.history_text.specs.declared.version.Version.{Version};
 ghost use Rattle.history_text.specs.Versions.{said_in};
-ghost use Rattle.commands.specs.Inputs.{IsDrawableOf, IsFaultOfDrawableInput, drawable};
-ghost use Rattle.commands.specs.Judging.{Draws, DrawsAlone, DrawsClaim, HasFewValues, IsDrawn, IsSmall, IsSound, AnswersFor, AnswersOrNoMemory};
+ghost use Rattle.commands.specs.Inputs.{IsDrawableOf, IsFaultOfDrawableInput, claim_on, drawable};
+ghost use Rattle.commands.specs.Judging.{AnswersFor, AnswersOrNoMemory, Draws, DrawsSound, HasFewValues, IsDrawnDecided, IsSound};
 ghost use Rattle.commands.specs.Judging.{IsVerdictClaim, picture_in};
-ghost use Rattle.commands.specs.Inner.Drawing.{IsUndrawn};
-ghost use Rattle.commands.specs.Outcomes.{answer_of, NamesPlaces};
+ghost use Rattle.commands.specs.Outcomes.{answer_of, answer_of_fault, NamesPlaces};
 
 use crate::input::{drawable_of, history_of};
 use crate::outcome::{Fault, Outcome, Report};
@@ -57,17 +56,18 @@ fn drawn_if_few(
     alloc: Global,
     history: &History,
     claimed: &Claimed,
-    around: Option<usize>,
+    options: DrawOptions,
 ) -> Result<Vec<Operation>, Fault>
-    ensures drawn { IfOk result (λ drawn. drawn.items ≡ drawn_operations history.now claimed.now around) }
+    ensures drawn { IfOk result (λ drawn. drawn.items ≡ drawn_operations history.now claimed.now options.around) }
     ensures few { IfOk result (λ drawn. length drawn.items ≤ MOST_DRAWN) }
     ensures few_lines { IfOk result (λ drawn. count_of_lines claimed.now ≤ MOST_DRAWN) }
-    ensures large { IfErr result (IsUndrawn history.now claimed.now around) }
+    ensures large { (version : Version) → IfErr result (λ fault.
+        AnswersOrNoMemory (DrawsSound options) (claim_on (said_in version history.now) claimed.now) (answer_of_fault fault)) }
 {
     if count_of_lines(claimed) > MOST_DRAWN {
         return Err(Fault::Size);
     }
-    let drawn = drawn_operations(alloc, history, claimed, around)?;
+    let drawn = drawn_operations(alloc, history, claimed, options.around)?;
     if drawn.len() > MOST_DRAWN {
         return Err(Fault::Size);
     }
@@ -79,10 +79,10 @@ fn draw_claim(alloc: Global, history: &History, claimed: &Claimed, options: Draw
     requires complete { IsSound history.now }
     requires few_values { HasFewValues history.now }
     ensures found { (version : Version)
-        → AnswersOrNoMemory (DrawsClaim options) (record { text = said_in version history.now; claimed = claimed.now }) (answer_of result) }
+        → AnswersOrNoMemory (DrawsSound options) (claim_on (said_in version history.now) claimed.now) (answer_of result) }
     ensures places { NamesPlaces result }
 {
-    let drawn = drawn_if_few(alloc, history, claimed, options.around)?;
+    let drawn = drawn_if_few(alloc, history, claimed, options)?;
     if !verdicts::verify(alloc, history, claimed)? {
         return Ok(Report::Verified(false));
     }
@@ -93,11 +93,12 @@ fn draw_claim(alloc: Global, history: &History, claimed: &Claimed, options: Draw
 fn draw_verdict(alloc: Global, history: &History, options: DrawOptions) -> Outcome
     requires complete { IsSound history.now }
     requires few_values { HasFewValues history.now }
-    ensures found { (version : Version) → AnswersOrNoMemory (DrawsAlone options) (said_in version history.now) (answer_of result) }
+    ensures found { (version : Version)
+        → AnswersOrNoMemory (IsDrawnDecided options) (said_in version history.now) (answer_of result) }
     ensures places { NamesPlaces result }
 {
     let claimed = decided_claim(alloc, history)?;
-    let drawn = drawn_if_few(alloc, history, &claimed, options.around)?;
+    let drawn = drawn_if_few(alloc, history, &claimed, options)?;
     draw_evidence(alloc, history, &claimed, drawn, options)
 }
 
@@ -124,7 +125,7 @@ fn draw_evidence(
     requires few { length drawn.items ≤ MOST_DRAWN }
     requires evidence { IsTrueClaim history.now.initial (operations_of history.now.events) claimed.now }
     ensures found { (version : Version)
-        → AnswersOrNoMemory (IsDrawn options) (record { text = said_in version history.now; claimed = claimed.now }) (answer_of result) }
+        → AnswersOrNoMemory (DrawsSound options) (claim_on (said_in version history.now) claimed.now) (answer_of result) }
     ensures places { NamesPlaces result }
 {
     let scene = scene_of(alloc, history, claimed, drawn)?;

@@ -120,7 +120,8 @@ pub(crate) fn schedule_of<S: TextSource + Drop>(
     ensures setting { IfOk result (λ schedule. IsSetting schedule.threads schedule.ring) }
     ensures fault { IfErr result (λ fault. IfSome (S.ahead reader) (λ input. IsFaultOfScheduleInput input fault)) }
 {
-    let mut texts = TextReader::new(reader);
-    let schedule = read_schedule(alloc, &mut texts)?;
-    at_end(&mut texts).map(|()| schedule)
+    let mut text = TextReader::new(reader);
+    let schedule = read_schedule(alloc, &mut text)?;
+    at_end(&mut text)?;
+    Ok(schedule)
 }

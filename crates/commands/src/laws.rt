@@ -1,5 +1,5 @@
 //! What holds of the program's answers. These functions do nothing; the law is what each of them ensures.
-ghost use Rattle.std.specs.Prelude.{◌≡◌, ◌≤◌, ◌⊎◌, List};
+ghost use Rattle.std.specs.Prelude.{◌≡◌, ◌≤◌, List};
 ghost use Rattle.history_merge.specs.declared.operation.Operation.{Operation};
 ghost use Rattle.event_records.specs.declared.event.Event.{Event};
 ghost use Rattle.event_records.specs.declared.limits.TheConstants.{MAX_THREADS};
@@ -13,19 +13,21 @@ ghost use Rattle.command_words.specs.declared.options.DrawOptions.{DrawOptions};
 ghost use Rattle.command_words.specs.Commands.{check, shrink, verify, draw, convert, stats, sim};
 ghost use Rattle.command_words.specs.Options.{Settings};
 ghost use Rattle.commands.specs.Answers.{Reply, ShowsNoViolation, played};
+ghost use Rattle.commands.specs.Evidence.{CheckedIsValid, ConvertedIsChecked, ConvertedIsCounted, ConvertedIsKept, ConvertedIsSameHistory};
+ghost use Rattle.commands.specs.Evidence.{ConvertedIsVerified, DrawnAsChecked, HasOneAnswer, ShrunkIsChecked, ShrunkIsValid};
 ghost use Rattle.commands.specs.Judging.{SimulatesIn};
-ghost use Rattle.commands.specs.OneAnswer.{HasOneAnswer};
 ghost use Rattle.commands.specs.Stressing.{StressesUnshelved, proved_name};
 
 /// No false alarm: the answer to an honest schedule that is done is `YES`.
+#[tactic(auto, using(crate::proofs::Runs::honest_gets_a_yes))]
 pub fn honest_schedules_get_a_yes()
     ensures { (setting : Setting) (schedule : List Attempt) (answer : Reply)
         → setting.threads ≤ MAX_THREADS → IsHonest setting schedule → IsDone setting schedule → SimulatesIn setting schedule answer
         → (events : List Event) × (order : List Operation) × (answer ≡ played (rejections setting schedule) events (Yes order)) }
 {}
 
-/// An input has one answer: two answers that the contract allows of a command that reads, on one input, are the same, or one of
-/// them says that memory ran out.
+/// An input has one answer: two answers that the contract allows of a command that reads, on one input, are the same,
+/// or one of them says that memory ran out.
 pub fn one_answer()
     ensures check { HasOneAnswer check }
     ensures shrink { HasOneAnswer shrink }
@@ -36,8 +38,31 @@ pub fn one_answer()
     ensures sim { HasOneAnswer sim }
 {}
 
-/// No false alarm of threads: where no queue of the shelf is called `proved`, what `stress` answers for that name shows no
-/// violation.
+/// No false alarm of threads: where no queue of the shelf is called `proved`, what `stress` answers for that name
+/// shows no violation.
 pub fn runs_of_the_proved_queue_are_linearizable()
     ensures { (settings : Settings) (answer : Reply) → settings.queue ≡ proved_name → StressesUnshelved settings answer → ShowsNoViolation answer }
+{}
+
+/// Every answer is evidence. `verify` answers an input, followed by the verdict that `check` writes of it, with
+/// `VALID`. What `shrink` writes of a history that is not linearizable is the text of a history and of its verdict:
+/// `verify` answers it with `VALID`, and `check` answers the history with that same verdict. `draw` decides a history
+/// as `check` does: it answers a history on its own as it answers the history followed by the verdict of `check`. Or
+/// memory runs out.
+pub fn every_answer_is_evidence()
+    ensures checked { CheckedIsValid }
+    ensures shrunk { ShrunkIsValid }
+    ensures checked_again { ShrunkIsChecked }
+    ensures drawn { (options : DrawOptions) → DrawnAsChecked options }
+{}
+
+/// The text of a history and what `convert` writes of it stand for one history: `check` answers both alike, and so
+/// does `stats`; `verify` answers both alike with a verdict after them; or memory runs out. A text of version 2 comes
+/// out as it is.
+pub fn conversion_keeps_answers()
+    ensures same_history { ConvertedIsSameHistory }
+    ensures kept { ConvertedIsKept }
+    ensures checked { ConvertedIsChecked }
+    ensures counted { ConvertedIsCounted }
+    ensures verified { ConvertedIsVerified }
 {}

@@ -10,7 +10,7 @@ ghost use Rattle.commands.specs.Running.{Prints, PrintsAnswer, PrintsSaid, Write
 
 use crate::faults::write_fault;
 use crate::outcome::{Fault, Outcome, Report};
-use crate::show::{write_left_open, write_played, write_shown};
+use crate::show::{write_rejections, write_shown};
 use history_stats::write_statistics;
 use history_text::{TextSink, Version, WriteFault, write_history, write_piece, write_verdict};
 use value_match::Violation;
@@ -29,9 +29,13 @@ pub(crate) fn write_outcome<W: TextSink>(
         Ok(Report::Shown(version, history, verdict)) => {
             return write_shown(*version, history, verdict, writer);
         }
-        Ok(Report::LeftOpen(rejections)) => return write_left_open(rejections, writer),
+        Ok(Report::LeftOpen(rejections)) => {
+            write_rejections(rejections.as_slice(), writer)?;
+            return write_piece(b"OPEN\n", writer);
+        }
         Ok(Report::Played(rejections, history, verdict)) => {
-            return write_played(rejections, history, verdict, writer);
+            write_rejections(rejections.as_slice(), writer)?;
+            return write_shown(Version::One, history, verdict, writer);
         }
         Ok(Report::Converted(history)) => return write_history(Version::Two, history, writer),
         Ok(Report::Verified(true)) => return write_piece(b"VALID\n", writer),

@@ -1,5 +1,5 @@
 //! The built-in queues, each under its name.
-ghost use Rattle.std.specs.Prelude.{◌≡◌, ◌++◌, IfOk, OnOk, map, take, drop};
+ghost use Rattle.std.specs.Prelude.{◌≡◌, IfOk, map};
 ghost use Rattle.commands.specs.Shelf.{name_of, built_in_names};
 
 use event_records::{AnsweredDeq, AnsweredEnq, AskDeq, AskEnq};
@@ -46,6 +46,23 @@ impl<R: Wait + Drop> BuiltIn<R> {
     }
 }
 
+/// What a queue answers, of whichever kind it is.
+macro_rules! on_queue {
+    ($built_in:expr, $queue:ident => $answer:expr) => {
+        match $built_in {
+            BuiltIn::Locked($queue) => $answer,
+            BuiltIn::TwoLock($queue) => $answer,
+            BuiltIn::Array($queue) => $answer,
+            BuiltIn::Seg($queue) => $answer,
+            BuiltIn::Lifo($queue) => $answer,
+            BuiltIn::Doubling($queue) => $answer,
+            BuiltIn::Inventing($queue) => $answer,
+            BuiltIn::Shy($queue) => $answer,
+            BuiltIn::Losing($queue) => $answer,
+        }
+    };
+}
+
 impl<R: Wait + Drop + Send + Sync> TestQueue for BuiltIn<R> {
     ghost use Rattle.queue_interface.specs.Answers.{AnswersInKind, TakesOrRefuses};
 
@@ -54,45 +71,15 @@ impl<R: Wait + Drop + Send + Sync> TestQueue for BuiltIn<R> {
     ghost may_preload = { λ _. TakesOrRefuses };
 
     fn enqueue(&self, ask: AskEnq) -> AnsweredEnq {
-        match self {
-            BuiltIn::Locked(queue) => queue.enqueue(ask),
-            BuiltIn::TwoLock(queue) => queue.enqueue(ask),
-            BuiltIn::Array(queue) => queue.enqueue(ask),
-            BuiltIn::Seg(queue) => queue.enqueue(ask),
-            BuiltIn::Lifo(queue) => queue.enqueue(ask),
-            BuiltIn::Doubling(queue) => queue.enqueue(ask),
-            BuiltIn::Inventing(queue) => queue.enqueue(ask),
-            BuiltIn::Shy(queue) => queue.enqueue(ask),
-            BuiltIn::Losing(queue) => queue.enqueue(ask),
-        }
+        on_queue!(self, queue => queue.enqueue(ask))
     }
 
     fn dequeue(&self, ask: AskDeq) -> AnsweredDeq {
-        match self {
-            BuiltIn::Locked(queue) => queue.dequeue(ask),
-            BuiltIn::TwoLock(queue) => queue.dequeue(ask),
-            BuiltIn::Array(queue) => queue.dequeue(ask),
-            BuiltIn::Seg(queue) => queue.dequeue(ask),
-            BuiltIn::Lifo(queue) => queue.dequeue(ask),
-            BuiltIn::Doubling(queue) => queue.dequeue(ask),
-            BuiltIn::Inventing(queue) => queue.dequeue(ask),
-            BuiltIn::Shy(queue) => queue.dequeue(ask),
-            BuiltIn::Losing(queue) => queue.dequeue(ask),
-        }
+        on_queue!(self, queue => queue.dequeue(ask))
     }
 
     fn preload(&self, value: u64) -> bool {
-        match self {
-            BuiltIn::Locked(queue) => queue.preload(value),
-            BuiltIn::TwoLock(queue) => queue.preload(value),
-            BuiltIn::Array(queue) => queue.preload(value),
-            BuiltIn::Seg(queue) => queue.preload(value),
-            BuiltIn::Lifo(queue) => queue.preload(value),
-            BuiltIn::Doubling(queue) => queue.preload(value),
-            BuiltIn::Inventing(queue) => queue.preload(value),
-            BuiltIn::Shy(queue) => queue.preload(value),
-            BuiltIn::Losing(queue) => queue.preload(value),
-        }
+        on_queue!(self, queue => queue.preload(value))
     }
 }
 
@@ -101,38 +88,14 @@ pub fn built_ins<R: Wait + Drop + Copy>(rt: R, alloc: Global) -> Result<Vec<Buil
     ensures { IfOk result (λ queues. map name_of queues.items ≡ built_in_names) }
 {
     let mut queues = Vec::new(alloc);
-    push_right(rt, alloc, &mut queues)?;
-    push_wrong(rt, alloc, &mut queues)?;
-    Ok(queues)
-}
-
-/// Appends those that keep the order.
-fn push_right<R: Wait + Drop + Copy>(
-    rt: R,
-    alloc: Global,
-    queues: &mut Vec<BuiltIn<R>>,
-) -> Result<(), AllocError>
-    ensures { OnOk result (map name_of queues.new.items ≡ map name_of queues.old.items ++ take 4 built_in_names) }
-{
     queues.push(BuiltIn::Locked(LockedQueue::new(alloc, rt)))?;
     queues.push(BuiltIn::TwoLock(TwoLockQueue::new(alloc, rt)))?;
     queues.push(BuiltIn::Array(ArrayBack::new(alloc, rt, ARRAY_CAPACITY)?))?;
     queues.push(BuiltIn::Seg(SegBack::new(alloc, rt)?))?;
-    Ok(())
-}
-
-/// Appends those that are wrong.
-fn push_wrong<R: Wait + Drop + Copy>(
-    rt: R,
-    alloc: Global,
-    queues: &mut Vec<BuiltIn<R>>,
-) -> Result<(), AllocError>
-    ensures { OnOk result (map name_of queues.new.items ≡ map name_of queues.old.items ++ drop 4 built_in_names) }
-{
     queues.push(BuiltIn::Lifo(Lifo::new(alloc, rt)))?;
     queues.push(BuiltIn::Doubling(Doubling::new(alloc, rt)))?;
     queues.push(BuiltIn::Inventing(Inventing::new(alloc, rt)))?;
     queues.push(BuiltIn::Shy(Shy::new(alloc, rt)))?;
     queues.push(BuiltIn::Losing(Losing::new(alloc, rt)))?;
-    Ok(())
+    Ok(queues)
 }

@@ -1,8 +1,6 @@
 //! How histories with their verdicts, and refused steps, are printed.
-ghost use Rattle.std.specs.Prelude.{◌≡◌, ◌++◌, [], codes};
+ghost use Rattle.std.specs.Prelude.{◌≡◌, ◌++◌, []};
 ghost use Rattle.history_merge.specs.Operations.{operations_of};
-ghost use Rattle.history_text.specs.Histories.{history_text};
-ghost use Rattle.text_lines.specs.Lines.{line};
 ghost use Rattle.history_text.specs.declared.version.Version.TheVariants.{One};
 ghost use Rattle.history_text.specs.Versions.{said_in, text_of};
 ghost use Rattle.history_text.specs.Verdicts.{verdict_text};
@@ -12,7 +10,7 @@ ghost use Rattle.verdicts.specs.Claiming.{IsWithin, claim_of};
 
 use history_merge::History;
 use history_text::{TextSink, Version, WriteFault, write_history, write_piece, write_verdict};
-use simulation::{Rejection, Rejections};
+use simulation::Rejection;
 use text_lines::WriteBuffer;
 use verdicts::Verdict;
 
@@ -33,36 +31,11 @@ pub(crate) fn write_shown<W: TextSink>(
     write_verdict(history, verdict, writer)
 }
 
-/// Writes refused steps, and that the machine isn't done.
-pub(crate) fn write_left_open<W: TextSink>(
-    rejections: &Rejections,
-    writer: &mut W,
-) -> Result<(), WriteFault>
-    ensures { Writes W.contents W.has_refused W.transition (rejection_lines rejections.now ++ line (codes "OPEN")) writer.old writer.new result }
-{
-    write_rejections(rejections.as_slice(), writer)?;
-    write_piece(b"OPEN\n", writer)
-}
-
-/// Writes refused steps, then a history and the verdict on it.
-pub(crate) fn write_played<W: TextSink>(
-    rejections: &Rejections,
-    history: &History,
-    verdict: &Verdict,
-    writer: &mut W,
-) -> Result<(), WriteFault>
-    requires places { IsWithin history.now.initial (operations_of history.now.events) verdict.now }
-    requires none { history.now.initial ≡ [] }
-    ensures { Writes W.contents W.has_refused W.transition
-        (rejection_lines rejections.now ++ (history_text history.now.events
-        ++ verdict_text (claim_of history.now.initial (operations_of history.now.events) verdict.now))) writer.old writer.new result }
-{
-    write_rejections(rejections.as_slice(), writer)?;
-    write_shown(Version::One, history, verdict, writer)
-}
-
 /// Writes a line for each refused step.
-fn write_rejections<W: TextSink>(rejections: &[Rejection], writer: &mut W) -> Result<(), WriteFault>
+pub(crate) fn write_rejections<W: TextSink>(
+    rejections: &[Rejection],
+    writer: &mut W,
+) -> Result<(), WriteFault>
     ensures { Writes W.contents W.has_refused W.transition (rejection_lines rejections.now) writer.old writer.new result }
 {
     let mut kept = WriteBuffer::new();

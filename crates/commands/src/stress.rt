@@ -1,17 +1,20 @@
 //! `stress`: a recorded run of a queue, and its verdict.
-ghost use Rattle.std.specs.Prelude.{◌≡◌, ◌≢◌, ◌≤◌, ◌*◌, IfOk, IfSome, IfNone, All};
+ghost use Rattle.std.specs.Prelude.{◌≡◌, ◌≢◌, ◌≤◌, ◌*◌, IfOk, IfSome, IfNone, List, All};
+ghost use Rattle.event_records.specs.declared.event.Event.{Event};
 ghost use Rattle.event_records.specs.declared.limits.TheConstants.{MAX_OPERATIONS, MAX_STRESS_INITIAL};
+ghost use Rattle.history_merge.specs.Legal.{IsLinearizable};
+ghost use Rattle.history_merge.specs.Merge.{IsMerged};
+ghost use Rattle.history_merge.specs.Operations.{operations_of};
 ghost use Rattle.workloads.specs.Seeds.{IsSeeded};
+ghost use Rattle.queue_interface.specs.Answers.{AnswersInKind, TakesOrRefuses};
 ghost use Rattle.command_words.specs.Options.{settings_of, IsWithinRanges};
 ghost use Rattle.commands.specs.Answers.{ShowsNoViolation};
 ghost use Rattle.commands.specs.Judging.{AnswersOrNoMemory};
 ghost use Rattle.commands.specs.Outcomes.{answer_of, NamesPlaces};
-ghost use Rattle.commands.specs.Inner.Stressing.{IsShownRun, IsLinearizableRun};
-ghost use Rattle.commands.specs.Stressing.{IsFirstNamed, RunsOrFails, Stresses, StressesQueue, first_values, run_version};
+ghost use Rattle.commands.specs.Stressing.{IsFirstNamed, IsShownRun, RunsOrFails, Stresses, StressesQueue, StressesUnshelved, first_values, run_version};
 
-use crate::check::PIECES;
+use crate::histories::PIECES;
 use crate::outcome::{Fault, Outcome, Report};
-use crate::proved::stress_unshelved;
 use command_words::StressOptions;
 use event_records::{LEAST_INITIAL_NAME, MAX_OPERATIONS};
 use history_text::Version;
@@ -19,7 +22,7 @@ use queue_interface::TestQueue;
 use std::alloc::{AllocError, Global};
 use std::sync::Wait;
 use std::thread::Threads;
-use stress_run::{Recorded, run_from};
+use stress_run::{Recorded, run_from, run_proved};
 use verdicts::decide_par;
 use workloads::Plan;
 
@@ -66,7 +69,24 @@ fn find<'b, 'a>(shelf: &'b [NamedQueue<'a>], name: &str) -> Option<&'b NamedQueu
     None
 }
 
-/// What a run of this queue gives.
+/// What `stress` finds of a name that no queue of the shelf has: a run of the proved queue if that is the name.
+fn stress_unshelved<'a, R: Threads + Wait + Sync>(
+    rt: &R,
+    alloc: Global,
+    options: &StressOptions<'a>,
+) -> Outcome
+    requires { IsWithinRanges (settings_of options.now) }
+    ensures found { StressesUnshelved (settings_of options.now) (answer_of result) }
+    ensures places { NamesPlaces result }
+{
+    if options.queue == "proved" {
+        stress_proved(rt, alloc, options)
+    } else {
+        Err(Fault::Queue)
+    }
+}
+
+/// What a run of this queue of the shelf gives.
 fn stress_shelved<'a, R: Threads + Sync>(
     rt: &R,
     alloc: Global,
@@ -96,14 +116,31 @@ fn run_plan<'a, R: Threads + Sync>(
     ensures places { NamesPlaces result }
 {
     let (plan, initial) = plan_of(alloc, options)?;
-    run_planned(rt, alloc, queue, &initial, &plan, options)
+    let recorded = run_from(rt, alloc, queue, &initial, &plan, options.ring, TRIES)?;
+    judge_run(rt, alloc, &recorded, options.initial)
+}
+
+/// What a run of the proved queue gives.
+fn stress_proved<'a, R: Threads + Wait + Sync>(
+    rt: &R,
+    alloc: Global,
+    options: &StressOptions<'a>,
+) -> Outcome
+    requires { IsWithinRanges (settings_of options.now) }
+    ensures found { StressesQueue AnswersInKind TakesOrRefuses (settings_of options.now) (answer_of result) }
+    ensures linearizable { ShowsNoViolation (answer_of result) }
+    ensures places { NamesPlaces result }
+{
+    if options.threads as u64 * options.operations as u64 > MAX_OPERATIONS {
+        return Err(Fault::Limit);
+    }
+    let (plan, initial) = plan_of(alloc, options)?;
+    let recorded = run_proved(rt, alloc, &initial, &plan, options.ring, TRIES)?;
+    judge_run(rt, alloc, &recorded, options.initial)
 }
 
 /// The seed's plan, and the values that the queue is to hold first.
-pub(crate) fn plan_of<'a>(
-    alloc: Global,
-    options: &StressOptions<'a>,
-) -> Result<(Plan, Vec<u64>), AllocError>
+fn plan_of<'a>(alloc: Global, options: &StressOptions<'a>) -> Result<(Plan, Vec<u64>), AllocError>
     requires ranges { IsWithinRanges (settings_of options.now) }
     requires few { options.now.threads * options.now.operations ≤ MAX_OPERATIONS }
     ensures seeded { IfOk result (λ made. IsSeeded options.now.seed options.now.threads options.now.operations options.now.percent made.0) }
@@ -120,35 +157,12 @@ pub(crate) fn plan_of<'a>(
     Ok((plan, initial))
 }
 
-/// A run of the seed's plan on this queue, which is to hold these values first, and the verdict on what it recorded.
-fn run_planned<'a, R: Threads + Sync>(
-    rt: &R,
-    alloc: Global,
-    queue: &dyn TestQueue,
-    initial: &[u64],
-    plan: &Plan,
-    options: &StressOptions<'a>,
-) -> Outcome
-    requires ranges { IsWithinRanges (settings_of options.now) }
-    requires seeded { IsSeeded options.now.seed options.now.threads options.now.operations options.now.percent plan.now }
-    requires first { initial.now ≡ first_values options.now.initial }
-    ensures found { RunsOrFails (may queue.now) (may_preload queue.now) (settings_of options.now) (answer_of result) }
-    ensures places { NamesPlaces result }
-{
-    let recorded = run_from(rt, alloc, queue, initial, plan, options.ring, TRIES)?;
-    judge_run(rt, alloc, &recorded, options.initial)
-}
-
 /// The verdict on what was recorded of a run, whose queue held this many values first.
-pub(crate) fn judge_run<R: Threads + Sync>(
-    rt: &R,
-    alloc: Global,
-    recorded: &Recorded,
-    count: usize,
-) -> Outcome
+fn judge_run<R: Threads + Sync>(rt: &R, alloc: Global, recorded: &Recorded, count: usize) -> Outcome
     requires { recorded.now.initial ≡ first_values count }
     ensures found { AnswersOrNoMemory (IsShownRun count) recorded.now.lists (answer_of result) }
-    ensures linearizable { IsLinearizableRun count recorded.now.lists → ShowsNoViolation (answer_of result) }
+    ensures linearizable { ((events : List Event) → IsMerged recorded.now.lists events
+        → IsLinearizable (first_values count) (operations_of events)) → ShowsNoViolation (answer_of result) }
     ensures places { NamesPlaces result }
 {
     let history = recorded.history(alloc)?;
@@ -157,7 +171,7 @@ pub(crate) fn judge_run<R: Threads + Sync>(
 }
 
 /// Values for a queue, this many, which are names of initial values.
-pub(crate) fn first_values(alloc: Global, count: usize) -> Result<Vec<u64>, AllocError>
+fn first_values(alloc: Global, count: usize) -> Result<Vec<u64>, AllocError>
     requires { count ≤ MAX_STRESS_INITIAL }
     ensures { IfOk result (λ values. values.items ≡ first_values count) }
 {
@@ -165,7 +179,7 @@ pub(crate) fn first_values(alloc: Global, count: usize) -> Result<Vec<u64>, Allo
 }
 
 /// The version in which the history of a run is written.
-pub(crate) fn run_version(count: usize) -> Version
+fn run_version(count: usize) -> Version
     ensures { result ≡ run_version count }
 {
     if count == 0 {

@@ -9,12 +9,10 @@ ghost use Rattle.commands.specs.Outcomes.{answer_of, NamesPlaces};
 ghost use Rattle.commands.specs.Running.{AnswersOf};
 
 use crate::draw::draw;
+use crate::histories::{shrink, stats, verify};
 use crate::input::given_history;
 use crate::outcome::{Outcome, Report};
 use crate::print::write_outcome;
-use crate::shrink::shrink;
-use crate::stats::stats;
-use crate::verify::verify;
 use command_words::DrawOptions;
 use history_merge::HistoryBuilder;
 use history_text::{MemorySource, Watched};

@@ -1,6 +1,8 @@
--- How many elements pass a test, where another test lets more of them pass.
-use Rattle.drawing.proofs.Common.{[], ◌+◌, ◌∷◌, ◌≡◌, ◌≤◌, ap, arith, Bool, cond, Contains, count_by, false, inl}
-use Rattle.drawing.proofs.Common.{inr, List, sum_by-cons, true, ℕ, contains_cons, not_in_none}
+-- How many elements pass a test, where another test lets more of them pass; so lanes of different threads stand apart.
+use Rattle.drawing.proofs.Common.{[], ◌+◌, ◌<◌, ◌∷◌, ◌≡◌, ◌≤◌, ap, arith, Bool, cond, Contains, count_by, false, inl}
+use Rattle.drawing.proofs.Common.{inr, List, mul-le-mul_left, nat_lt, nat_tests, sum_by-cons, true, ℕ, contains_cons, not_in_none}
+use Rattle.drawing.proofs.Common.{lane_place, lanes_before}
+use Rattle.drawing.specs.Laws.{LanesAreApart}
 
 module _ {X : Type 0} (p q : X → Bool) (more : (x : X) → p x ≡ true → q x ≡ true) where
   abbrev one : (X → Bool) → X → ℕ
@@ -18,3 +20,22 @@ module _ {X : Type 0} (p q : X → Bool) (more : (x : X) → p x ≡ true → q 
     | inl here ↦ grind (arith, sum_by-cons (one p) y ys, sum_by-cons (one q) y ys, ap p here, ap q here, fewer ys)
     | inr there ↦ grind (arith, sum_by-cons (one p) y ys, sum_by-cons (one q) y ys, more y, one_fewer ys x there fails passes)
   ]
+
+-- ---- lanes
+
+-- a higher thread has more lanes before it
+pub more_before : (threads : List ℕ) (thread higher : ℕ) → Contains threads thread → thread < higher
+    → lanes_before threads thread + 1 ≤ lanes_before threads higher
+more_before threads thread higher among less =
+    one_fewer (λ t. nat_lt t thread) (λ t. nat_lt t higher) (λ x lower. grind (arith, nat_tests)) threads thread among
+    (grind (arith, nat_tests)) (grind (arith, nat_tests))
+
+-- a lane ends before those with more lanes to their left begin
+place_rises : (lane m n : ℕ) → m + 1 ≤ n → lane_place lane m + lane ≤ lane_place lane n
+place_rises lane m n more = let far = mul-le-mul_left lane more in grind (arith, nat_tests)
+
+-- lanes of different threads stand apart
+pub lanes_are_apart : LanesAreApart
+lanes_are_apart threads columns thread higher among less =
+    let far = place_rises columns.lane _ _ (more_before threads thread higher among less) in
+    omega arith

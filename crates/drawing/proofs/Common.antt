@@ -1,16 +1,15 @@
 -- The names that most proofs of this crate cite, passed on from one place. Declares nothing.
 pub use Rattle.std.proofs.Common.{[], ◌%◌, ◌&&◌, ◌*◌, ◌++◌, ◌+◌, ◌-◌, ◌/◌, ◌<◌}
 pub use Rattle.std.proofs.Common.{◌==◌, ◌^◌, ◌||◌, ◌∙◌, ◌∷◌, ◌≡◌, ◌≤◌}
-pub use Rattle.std.proofs.Common.{◌⊎◌, add-one, ap, append-nil, append_assoc, arith, Bool, codes, cond, Contains}
-pub use Rattle.std.proofs.Common.{count_by, decimal, drop, eq-eqb, eqb-true, Err, false, filter, find, flat_map, fold}
+pub use Rattle.std.proofs.Common.{◌⊎◌, add-one, ap, append_assoc, arith, Bool, codes, cond, Contains}
+pub use Rattle.std.proofs.Common.{count_by, decimal, drop, eq-eqb, eqb-true, false, filter, find, flat_map, fold}
 pub use Rattle.std.proofs.Common.{get_or, inl, inr, length, length-take-le, List, lt-ltb, map, map-id, MatchOption, max}
-pub use Rattle.std.proofs.Common.{mul-le-mul_left, nat_eq, nat_le, nat_lt, None, not, Ok, Option, option_map}
+pub use Rattle.std.proofs.Common.{mul-le-mul_left, nat_eq, nat_le, nat_lt, None, Option, option_map}
 pub use Rattle.std.proofs.Common.{option_to_list, position, refl, rules, slice_get, Some, subst, suc, sum_by, sym, take}
-pub use Rattle.std.proofs.Common.{take_all, true, vec_len, zero, zero-add, ℕ}
+pub use Rattle.std.proofs.Common.{take_all, true, zero, zero-add, ℕ}
 pub use Rattle.std.proofs.lemmas.Bool.{cases_lt, cond_both}
 pub use Rattle.std.proofs.lemmas.Bool.Decides.{nat_tests}
-pub use Rattle.std.proofs.lemmas.List.Elements.{Contains-append_cases, Contains-append_left, Contains-append_right}
-pub use Rattle.std.proofs.lemmas.List.Elements.{filter_more}
+pub use Rattle.std.proofs.lemmas.List.Elements.{Contains-append_left, Contains-append_right}
 pub use Rattle.std.proofs.lemmas.List.Sorted.{Contains-permutation, IsPartitionedBy-ltb, IsPartitionPoint-from_clause}
 pub use Rattle.std.proofs.lemmas.List.Sorted.{IsPermutation-sym}
 pub use Rattle.std.proofs.lemmas.List.Sums.{fold-append, fold_more, sum_by-append, sum_by-cons}
@@ -19,7 +18,7 @@ pub use Rattle.std.specs.List.{enumerate_from, list_any, position_or_len, range_
 pub use Rattle.event_records.specs.declared.event.Event.{Event}
 pub use Rattle.history_merge.specs.Complete.{AreComplete, IsCompleteHistory}
 pub use Rattle.history_merge.specs.Initial.{timeline, HistoryView, later_by}
-pub use Rattle.history_merge.specs.Operations.{Did, NoneDid, operations_of, Precedes}
+pub use Rattle.history_merge.specs.Operations.{operations_of, Precedes}
 pub use Rattle.history_merge.specs.declared.operation.Operation.{Operation}
 pub use Rattle.history_merge.proofs.Distinct.{contains_at, contains_cons, found_first, IsTraced, not_in_none, one_at}
 pub use Rattle.history_merge.proofs.Distinct.{operation_within, operations_are_complete, pairs_at, returns_at_no_call}
@@ -32,12 +31,9 @@ pub use Rattle.verdicts.specs.declared.verifying.Claimed.TheVariants.{No, Yes}
 pub use Rattle.drawing.specs.Drawn.{drawn_operations, events_before, is_near_any, operation_in, operations_in}
 pub use Rattle.drawing.specs.Drawn.{stand_near, standing_of}
 pub use Rattle.drawing.specs.Inner.Words.{piece_text, scene_in}
-pub use Rattle.drawing.specs.Layout.{greatest_call, has_operations, initial_width, is_under_way, label_width, point}
-pub use Rattle.drawing.specs.Layout.{stands_in, under_way}
-unfoldable pub use Rattle.drawing.specs.Layout.{threads_below}
+pub use Rattle.drawing.specs.Layout.{greatest_call, has_operations, is_under_way, point, stands_in, under_way}
 pub use Rattle.drawing.specs.Scene.{effect_if, effect_row_if, event_rows, has_row, initial_row, initial_rows}
-pub use Rattle.drawing.specs.Scene.{lanes_before, left_out_rows, row_time, row_turn, rows_after, stands_above}
-pub use Rattle.drawing.specs.Scene.{ticket_width}
+pub use Rattle.drawing.specs.Scene.{lanes_before, left_out_rows, rows_after, stands_above}
 unfoldable pub use Rattle.drawing.specs.Scene.{effect_rows, row_number, rows_of, scene_of}
 pub use Rattle.drawing.specs.Terminal.{band_column, band_word, band_words, head_line, lane_column, lane_names}
 pub use Rattle.drawing.specs.Terminal.{lane_place, lane_sign, numbered_row, sign_line, strokes, thread_digits}

@@ -1,11 +1,9 @@
 -- What a loop adds with one more element.
-use Rattle.drawing.proofs.Common.{[], ◌++◌, ◌+◌, ◌<◌, ◌∙◌, ◌∷◌, ◌≡◌, ap, append-nil, arith, Bool, cond}
+use Rattle.drawing.proofs.Common.{[], ◌++◌, ◌+◌, ◌<◌, ◌∙◌, ◌∷◌, ◌≡◌, ap, arith, Bool, cond}
 use Rattle.drawing.proofs.Common.{drop, enumerate_from, false, find, flat_map, fold-append, fold_more, get_or}
-use Rattle.drawing.proofs.Common.{length, length-take-le, List, map, map-id, max, range_with_len, refl, Some, sym, take}
-use Rattle.drawing.proofs.Common.{true, zero-add, ℕ, greatest_call, has_operations, Operation, placed, point}
-use Rattle.drawing.proofs.Common.{threads_below, with_words, Word}
+use Rattle.drawing.proofs.Common.{length, length-take-le, List, map, map-id, max, range_with_len, Some, sym, take}
+use Rattle.drawing.proofs.Common.{zero-add, ℕ, greatest_call, Operation, placed, point, with_words, Word}
 use Rattle.std.proofs.lemmas.List.{map-append, take_more, at_drop_more, flat_map_more}
-use Rattle.std.proofs.lemmas.List.Elements.{filter-append}
 use Rattle.std.proofs.lemmas.List.FromFn.{map-range_with_len_more}
 
 -- what isn't found up to an element that fails is not found up to the next one
@@ -17,21 +15,6 @@ passed_over p xs i d within before fails =
 -- one number more
 pub range_more : (n : ℕ) → range_with_len 0 (n + 1) ≡ range_with_len 0 n ++ n ∷ []
 range_more n = sym (map-id _) ∙ map-range_with_len_more (λ k. k) 0 n n (zero-add n) ∙ ap (λ (ks : List ℕ). ks ++ n ∷ []) (map-id _)
-
--- a thread with operations is one more
-pub threads_yes : (operations : List Operation) (n : ℕ) → has_operations operations n ≡ true → threads_below operations (n + 1) ≡ threads_below operations n ++ n ∷ []
-unfolding threads_below
-threads_yes operations n h = rw (range_more n, filter-append, h) refl
-
--- a thread without operations is none more
-pub threads_no : (operations : List Operation) (n : ℕ) → has_operations operations n ≡ false → threads_below operations (n + 1) ≡ threads_below operations n
-unfolding threads_below
-threads_no operations n h = rw (range_more n, filter-append, h) (append-nil _)
-
--- there is no thread below 0
-pub threads_none : (operations : List Operation) → threads_below operations 0 ≡ []
-unfolding threads_below
-threads_none operations = refl
 
 -- the point of the next operation of an order
 pub point_more : (order : List Operation) (i : ℕ) (d : Operation) (greatest v : ℕ) → i < length order → greatest ≡ greatest_call (take i order)

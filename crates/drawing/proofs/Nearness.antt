@@ -1,18 +1,20 @@
--- Which operations are drawn: those that overlap one of a `NO`, and with no distance no others.
-use Rattle.drawing.proofs.Common.{[], ap, arith, Bool, cases_lt, Claimed, ClaimLine, cond, Contains}
-use Rattle.drawing.proofs.Common.{Contains-append_left, Contains-append_right, contains_at, contains_cons, count_by}
-use Rattle.drawing.proofs.Common.{drawn_operations, Event, events_before, false, flat_map, get_or, HistoryView, inl}
-use Rattle.drawing.proofs.Common.{inr, is_near_any, IsPartitionedBy-ltb, length, List, list_any, map, nat_lt}
-use Rattle.drawing.proofs.Common.{nat_tests, No, None, not_in_none, one_at, one_deeper, Op, Operation, operation_in}
-use Rattle.drawing.proofs.Common.{operation_within, operations_in, operations_of, Option, pairs_at, passed_filter}
-use Rattle.drawing.proofs.Common.{passes_filter, refl, slice_get, slice_get-get_or, Some, stand_near, standing_of}
-use Rattle.drawing.proofs.Common.{subst, suc, sum_by-cons, sym, traced, true, Yes, zero, ℕ, ◌<◌, ◌||◌, ◌∙◌, ◌∷◌, ◌≡◌}
-use Rattle.drawing.proofs.Common.{◌≤◌}
+-- Which operations are drawn: those that overlap one of a `NO`, and with no distance no others; and the bars in the lanes are these.
+use Rattle.drawing.proofs.Common.{[], ap, AreComplete, arith, Bool, cases_lt, Claimed, ClaimLine, cond, cond_both}
+use Rattle.drawing.proofs.Common.{Contains, Contains-append_left, Contains-append_right, contains_at, contains_cons}
+use Rattle.drawing.proofs.Common.{count_by, drawn_operations, eq-eqb, Event, events_before, false, find, flat_map}
+use Rattle.drawing.proofs.Common.{found_first, get_or, HistoryView, inl, inr, is_near_any, is_under_way}
+use Rattle.drawing.proofs.Common.{IsCompleteHistory, IsPartitionedBy-ltb, IsTraced, length, List, list_any, map}
+use Rattle.drawing.proofs.Common.{nat_lt, nat_tests, No, None, not_in_none, one_at, one_deeper, Op, Operation}
+use Rattle.drawing.proofs.Common.{operation_in, operation_within, operations_are_complete, operations_in}
+use Rattle.drawing.proofs.Common.{operations_of, Option, pairs_at, passed_filter, passes_filter, refl}
+use Rattle.drawing.proofs.Common.{returns_at_no_call, same_call, slice_get, slice_get-get_or, Some, stand_near}
+use Rattle.drawing.proofs.Common.{standing_of, subst, suc, sum_by-cons, sym, traced, true, Yes, zero, ℕ, ◌<◌, ◌||◌}
+use Rattle.drawing.proofs.Common.{◌∙◌, ◌∷◌, ◌≡◌, ◌≤◌}
 use Rattle.std.proofs.lemmas.List.Folds.{Any-from_list_any, list_any-from_Any}
 use Rattle.std.specs.List.Sorted.{IsPartitionedBy}
 use Rattle.event_records.specs.Turns.{TicketsRise}
 use Rattle.verdicts.specs.declared.verifying.ClaimLine.TheVariants.{Initial}
-use Rattle.drawing.specs.Laws.{OverlappingAreDrawn, NoOthersAreDrawn, LinesAreDrawn}
+use Rattle.drawing.specs.Laws.{OverlappingAreDrawn, NoOthersAreDrawn, LinesAreDrawn, BarsAreOfOperations, NoOtherBars}
 use Rattle.drawing.proofs.Below.{fewer, one_fewer}
 
 -- ---- lists
@@ -133,3 +135,72 @@ pub lines_are_drawn : LinesAreDrawn
 lines_are_drawn history kind lines around complete all_among o listed =
     let rises = (operation_within history.events o complete (all_among o listed)).0 in
     overlapping_are_drawn history kind lines around o o (all_among o listed) listed (λ less. absurd (omega arith)) (λ less. absurd (omega arith))
+
+-- ---- bars
+
+-- where an element passes, one is found
+pub found : {X : Type 0} (p : X → Bool) (xs : List X) (x : X) → Contains xs x → p x ≡ true → (r : X) × (find p xs ≡ Some r)
+found p [] x among passes = absurd (not_in_none x among)
+found p (y ∷ ys) x among passes = cond_both (p y) (Some y) (find p ys) (λ f. (r : _) × (f ≡ Some r)) (λ is. (y, refl)) (λ is. elim (contains_cons y ys x among) [
+  | inl here ↦ let clash : false ≡ true = sym is ∙ ap p here ∙ passes in cc
+  | inr there ↦ found p ys x there passes
+])
+
+-- what stands in a lane is the bar of an operation of its thread
+pub no_other_bars : NoOtherBars
+no_other_bars operations thread ticket o is =
+    let first = found_first (is_under_way thread ticket) operations o is in
+    let passes = first.passes in
+    record {
+      among = contains_at operations first.place o first.at;
+      own = grind (arith, nat_tests);
+      called = grind (arith, nat_tests);
+      returns = grind (arith, nat_tests);
+    }
+
+-- ---- one operation at a time
+
+module _ (events : List Event) (complete : IsCompleteHistory events) where
+  all : AreComplete (operations_of events)
+  all = operations_are_complete events complete
+
+  -- an operation of a thread that is called after another is so after its return
+  not_both : (x y : Operation) (tx : IsTraced events x) (ty : IsTraced events y) (c : ℕ) → Contains (operations_of events) x
+      → Contains (operations_of events) y → x.thread ≡ y.thread → tx.called_at < ty.called_at → y.call ≤ c → c ≤ x.ret → ⊥
+  not_both x y tx ty c in_x in_y threads below from to = elim (cases_lt ty.called_at tx.returned_at) [
+    | inl less ↦
+        let apart = tx.none_between ty.called_at ty.call below less ty.at_call in
+        let same : ty.call.thread ≡ tx.call.thread = sym ty.made.same_thread ∙ sym threads ∙ tx.made.same_thread in
+        let clash : true ≡ false = sym (eq-eqb ty.call.thread tx.call.thread same) ∙ apart in
+        cc
+    | inr above ↦
+        let no_later = no_earlier_ticket events complete.tickets_rise _ _ tx.answer ty.call tx.at_return ty.at_call above in
+        returns_at_no_call events x y complete in_x in_y (omega (arith, tx.made.returned, ty.made.called))
+  ]
+
+  -- one operation of a thread at most is under way at a ticket
+  one_bar : (x y : Operation) (c : ℕ) → Contains (operations_of events) x → Contains (operations_of events) y → x.thread ≡ y.thread → x.call ≤ c
+      → c ≤ x.ret → y.call ≤ c → c ≤ y.ret → x ≡ y
+  one_bar x y c in_x in_y threads x_from x_to y_from y_to =
+      let tx = traced events x in_x in
+      let ty = traced events y in_y in
+      elim (cases_lt tx.called_at ty.called_at) [
+        | inl below ↦ absurd (not_both x y tx ty c in_x in_y threads below y_from x_to)
+        | inr above ↦ elim (cases_lt ty.called_at tx.called_at) [
+          | inl less ↦ absurd (not_both y x ty tx c in_y in_x (sym threads) less x_from y_to)
+          | inr not_less ↦
+              let here : tx.called_at ≡ ty.called_at = omega arith in
+              let one = one_at events ty.called_at tx.call ty.call (subst (λ i. slice_get events i ≡ Some tx.call) here tx.at_call) ty.at_call in
+              same_call (operations_of events) x y all in_x in_y (tx.made.called ∙ ap (λ e. e.ticket) one ∙ sym ty.made.called)
+        ]
+      ]
+
+-- each operation has its bar
+pub bars_are_of_operations : BarsAreOfOperations
+bars_are_of_operations history claimed around o ticket complete among called returns =
+    let drawn = drawn_operations history claimed around in
+    let some = found (is_under_way o.thread ticket) drawn o among (grind (arith, nat_tests)) in
+    let bar = no_other_bars drawn o.thread ticket some.0 some.1 in
+    let same = one_bar history.events complete some.0 o ticket (among_operations history claimed around some.0 bar.among)
+    (among_operations history claimed around o among) bar.own bar.called bar.returns called returns in
+    some.1 ∙ ap (λ x. Some x) same

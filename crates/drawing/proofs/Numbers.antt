@@ -1,20 +1,19 @@
 -- The numbers of a claim, and its lines of evidence, which are operations and initial values of the history.
 use Rattle.drawing.proofs.Common.{[], ap, arith, Bool, ClaimLine, cond, cond_some, Contains, contains_at}
 use Rattle.drawing.proofs.Common.{contains_cons, eq-eqb, eqb-true, flat_map, get_or, inl, inr, later_by, length, List}
-use Rattle.drawing.proofs.Common.{lt-ltb, map, MatchOption, nat_eq, nat_le, None, not, not_in_none, one_deeper, Op}
+use Rattle.drawing.proofs.Common.{lt-ltb, map, MatchOption, nat_eq, nat_le, None, not_in_none, one_deeper, Op}
 use Rattle.drawing.proofs.Common.{Operation, operations_are_complete, operations_of, Option, option_map}
-use Rattle.drawing.proofs.Common.{option_to_list, position, position_or_len, refl, Row, same_call, slice_get}
+use Rattle.drawing.proofs.Common.{option_to_list, position, position_or_len, refl, same_call, slice_get}
 use Rattle.drawing.proofs.Common.{slice_get-get_or, slice_get_within, Some, stands_in, subst, sym, timeline, true, ℕ}
 use Rattle.drawing.proofs.Common.{◌&&◌, ◌++◌, ◌+◌, ◌∙◌, ◌∷◌, ◌≡◌}
 use Rattle.std.proofs.lemmas.List.Folds.{find_at}
 use Rattle.std.proofs.lemmas.List.Quantifiers.{position-Some}
-use Rattle.std.proofs.lemmas.List.{length-map}
 use Rattle.verdicts.specs.declared.verifying.ClaimLine.TheVariants.{Initial}
 use Rattle.value_match.specs.Timeline.{initial_enqueue}
 use Rattle.verdicts.specs.Claims.{initial_enqueue_of, on_timeline, stands_for}
 use Rattle.drawing.specs.Laws.{NumbersAreOfLines, LinesHaveNumbers, InitialNumbersAreOfLines, InitialLinesHaveNumbers}
 use Rattle.drawing.specs.Laws.{LinesAreOfHistory}
-use Rattle.drawing.proofs.Bars.{found}
+use Rattle.drawing.proofs.Nearness.{found}
 use Rattle.std.proofs.lemmas.List.Elements.{All-contains, All-from_recursion}
 use Rattle.std.specs.List.{AllByRecursion}
 use Rattle.event_records.specs.declared.limits.TheConstants.{MAX_TICKET, ORIGIN}
@@ -63,16 +62,6 @@ initial_numbers_are_of_lines lines j v i at = let h = place_if (Initial 0) lines
 -- each line of an initial value has a number
 pub initial_lines_have_numbers : InitialLinesHaveNumbers
 initial_lines_have_numbers lines j v among = place_of_one lines (stands_in (row.Initial j v)) (Initial v) among (eq-eqb v v refl)
-
--- ---- the order of a `YES`
-
-order_place : (operations : List Operation) (r : Row) → position_or_len (stands_in r) (map Op operations) ≡ position_or_len (λ o. stands_in r (Op o)) operations
-order_place [] r = refl
-order_place (x ∷ operations) r = ap (λ (n : ℕ). cond (not (stands_in r (Op x))) (1 + n) 0) (order_place operations r)
-
--- the place of an operation among the lines of an order is that in the order
-pub place_in_order : (operations : List Operation) (r : Row) → position (stands_in r) (map Op operations) ≡ position (λ o. stands_in r (Op o)) operations
-place_in_order operations r = rw (order_place operations r, length-map operations Op) refl
 
 -- ---- evidence
 

@@ -1,11 +1,12 @@
 -- Bands beside the lanes of a `NO`: when a value definitely was in the queue, or was not, and the time that contradicts it.
-use Rattle.std.specs.Prelude.{ℕ, ◌&&◌, if◌then◌else◌, Bool, true, false, nat_lt, nat_le, Option, Some, None, List, [], ◌∷◌, ◌++◌, codes}
+use Rattle.std.specs.Prelude.{ℕ, ◌+◌, ◌&&◌, ◌||◌, not, is_some, if◌then◌else◌, Bool, nat_lt, nat_le, Option, Some, None, List, [], ◌∷◌, ◌++◌, codes}
 use Rattle.std.specs.List.{concat}
 use Rattle.history_merge.specs.declared.operation.OpKind.{OpKind}
 use Rattle.history_merge.specs.declared.operation.OpKind.TheVariants as kind
 use Rattle.verdicts.specs.declared.verifying.ClaimLine.{ClaimLine}
 use Rattle.verdicts.specs.declared.verifying.Claimed.{Claimed}
 use Rattle.verdicts.specs.declared.verifying.Claimed.TheVariants.{Yes, No}
+use Rattle.verdicts.specs.declared.verifying.ViolationKind.{ViolationKind}
 use Rattle.verdicts.specs.declared.verifying.ViolationKind.TheVariants.{VFresh, VRepeat, VOrd, VWit}
 use Rattle.drawing.specs.Claim.{line_kind, line_call, line_return}
 use Rattle.drawing.specs.Names.{value_text}
@@ -54,35 +55,27 @@ cover_bands [] = []
 cover_bands (enq ∷ []) = sure_until enq None ∷ []
 cover_bands (enq ∷ deq ∷ rest) = sure_until enq (line_call deq) ∷ cover_bands rest
 
--- when the value of a dequeue definitely was not in the queue, before any call of its enqueue, and when it was dequeued
-abbrev pub fresh_bands : List ClaimLine → List Band
-fresh_bands [] = []
-fresh_bands (deq ∷ rest) =
-    time_of (NotIn (line_value deq)) None (enqueue_call rest) ∷ time_of (Dequeued (line_value deq)) (line_call deq) (line_return deq) ∷ []
-
--- when a definitely was in the queue, and when b went in and out
-abbrev pub order_bands : List ClaimLine → List Band
-order_bands (enq_a ∷ enq_b ∷ deq_b ∷ rest) =
+-- when a, whose enqueue is first, definitely was in the queue, and when b of the lines after it went in and out
+abbrev pub order_bands : ClaimLine → List ClaimLine → List Band
+order_bands enq_a (enq_b ∷ deq_b ∷ rest) =
     sure_until enq_a (first_call rest) ∷ time_of (InAndOut (line_value enq_b)) (line_call enq_b) (line_return deq_b) ∷ []
-order_bands _ = []
+order_bands enq_a _ = []
 
--- when the values of the cover definitely were in the queue, and when it was said to be empty
-abbrev pub witness_bands : List ClaimLine → List Band
-witness_bands [] = []
-witness_bands (empty ∷ cover) = cover_bands cover ++ time_of SaidEmpty (line_call empty) (line_return empty) ∷ []
-
--- a value that was dequeued twice: a column for its words, with no band
-abbrev pub repeat_bands : List ClaimLine → List Band
-repeat_bands [] = []
-repeat_bands (enq ∷ rest) = time_of (InOrOut (line_value enq)) None None ∷ []
+-- the bands of a `NO` of this kind. Of a value that was not there: when it definitely was not in the queue, before any call of its enqueue,
+-- and when it was dequeued; of one that was dequeued twice: a column for its words, with no band; of an empty answer: when the values of
+-- the cover definitely were in the queue, and when it was said to be empty
+abbrev pub bands_by : List ClaimLine → ViolationKind → List Band
+bands_by [] kind = []
+bands_by (deq ∷ rest) VFresh =
+    time_of (NotIn (line_value deq)) None (enqueue_call rest) ∷ time_of (Dequeued (line_value deq)) (line_call deq) (line_return deq) ∷ []
+bands_by (enq ∷ rest) VRepeat = time_of (InOrOut (line_value enq)) None None ∷ []
+bands_by (enq_a ∷ later) VOrd = order_bands enq_a later
+bands_by (empty ∷ cover) VWit = cover_bands cover ++ time_of SaidEmpty (line_call empty) (line_return empty) ∷ []
 
 -- the bands of a claim, left to right
 abbrev pub bands_of : Claimed → List Band
 bands_of (Yes order) = []
-bands_of (No VFresh lines) = fresh_bands lines
-bands_of (No VRepeat lines) = repeat_bands lines
-bands_of (No VOrd lines) = order_bands lines
-bands_of (No VWit lines) = witness_bands lines
+bands_of (No kind lines) = bands_by lines kind
 
 -- the words above a band
 abbrev pub head_text : Head → List ℕ
@@ -103,19 +96,15 @@ form_words (InAndOut v) sure absent time = time
 form_words SaidEmpty sure absent time = time
 form_words (InOrOut v) sure absent time = []
 
--- the band has begun at this gap: that just after a ticket, or none for that before all tickets
-abbrev pub has_begun : Option ℕ → Option ℕ → Bool
-has_begun None gap = true
-has_begun (Some first) None = false
-has_begun (Some first) (Some ticket) = nat_le first ticket
+-- the time of a gap: that just after a ticket, or 0 for that before all tickets
+abbrev pub gap_time : Option ℕ → ℕ
+gap_time None = 0
+gap_time (Some ticket) = ticket + 1
 
--- the band goes on at this gap
-abbrev pub goes_on : Option ℕ → Option ℕ → Bool
-goes_on None gap = true
-goes_on (Some last) None = true
-goes_on (Some last) (Some ticket) = nat_lt ticket last
+-- the band holds this gap: it has begun, and goes on
+abbrev pub holds : Band → Option ℕ → Bool
+holds band gap = nat_le (gap_time band.first) (gap_time gap) && (not (is_some band.last) || nat_lt (gap_time gap) (gap_time band.last))
 
 -- the form of a band in a row that stands for this gap; nothing where the band doesn't hold it
 abbrev pub form_at : Band → Option ℕ → List ℕ
-form_at band gap =
-    if has_begun band.first gap && goes_on band.last gap then form_words band.head (codes "###") (codes "xxx") (codes ":::") else []
+form_at band gap = if holds band gap then form_words band.head (codes "###") (codes "xxx") (codes ":::") else []

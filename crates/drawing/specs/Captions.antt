@@ -7,6 +7,7 @@ use Rattle.verdicts.specs.declared.verifying.ClaimLine.{ClaimLine}
 use Rattle.verdicts.specs.declared.verifying.ClaimLine.TheVariants.{Op, Initial}
 use Rattle.verdicts.specs.declared.verifying.Claimed.{Claimed}
 use Rattle.verdicts.specs.declared.verifying.Claimed.TheVariants.{Yes, No}
+use Rattle.verdicts.specs.declared.verifying.ViolationKind.{ViolationKind}
 use Rattle.verdicts.specs.declared.verifying.ViolationKind.TheVariants.{VFresh, VRepeat, VOrd, VWit}
 use Rattle.text_lines.specs.Lines.{line}
 use Rattle.drawing.specs.Claim.{line_kind, line_call, line_return}
@@ -36,20 +37,10 @@ abbrev pub fresh_words : List ClaimLine → List ℕ
 fresh_words [] = line (codes " was dequeued (1), but nobody ever enqueued it.")
 fresh_words (enq ∷ rest) = fresh_reason (line_kind enq)
 
--- the caption of a value that was not there
-abbrev pub fresh_caption : List ClaimLine → List ℕ
-fresh_caption [] = []
-fresh_caption (deq ∷ rest) = concat (line_text deq ∷ fresh_words rest ∷ [])
-
 -- how a value came in that was dequeued twice
 abbrev pub repeat_words : ClaimLine → List ℕ
 repeat_words (Op enq) = line (codes " was enqueued once (1), but dequeued twice (2 and 3).")
 repeat_words (Initial v) = line (codes " was in the queue first (1), but dequeued twice (2 and 3).")
-
--- the caption of a value that was dequeued twice
-abbrev pub repeat_caption : List ClaimLine → List ℕ
-repeat_caption [] = []
-repeat_caption (enq ∷ rest) = concat (line_text enq ∷ repeat_words enq ∷ [])
 
 -- how a came in before b
 abbrev pub before_words : ClaimLine → List ℕ
@@ -61,11 +52,11 @@ unfoldable pub overtaking_caption : ClaimLine → ClaimLine → List ℕ → Lis
 overtaking_caption a b between end =
     concat (line_text a ∷ before_words a ∷ line_text b ∷ line (codes " (2),") ∷ codes "but " ∷ line_text b ∷ between ∷ line_text a ∷ end ∷ [])
 
--- the caption of values that were dequeued against the order of their enqueues
-abbrev pub order_caption : List ClaimLine → List ℕ
-order_caption (a ∷ b ∷ deq_b ∷ []) = overtaking_caption a b (codes " was dequeued (3) and ") (line (codes " never was."))
-order_caption (a ∷ b ∷ deq_b ∷ deq_a ∷ rest) = overtaking_caption a b (codes " was dequeued (3) before ") (line (codes " (4)."))
-order_caption _ = []
+-- that the values of a and of the lines after it were dequeued against the order of their enqueues
+abbrev pub order_caption : ClaimLine → List ClaimLine → List ℕ
+order_caption a (b ∷ deq_b ∷ []) = overtaking_caption a b (codes " was dequeued (3) and ") (line (codes " never was."))
+order_caption a (b ∷ deq_b ∷ deq_a ∷ rest) = overtaking_caption a b (codes " was dequeued (3) before ") (line (codes " (4)."))
+order_caption a _ = []
 
 -- a moment: that of a ticket, or the one before all tickets
 abbrev pub moment_text : Option ℕ → List ℕ
@@ -91,15 +82,15 @@ cover_caption number (enq ∷ deq ∷ rest) = one_of_cover number enq deq ++ cov
 unfoldable pub witness_words : List ℕ
 witness_words = WITNESS_WORDS.now
 
--- the caption of an empty answer
-abbrev pub witness_caption : List ClaimLine → List ℕ
-witness_caption [] = []
-witness_caption (empty ∷ cover) = witness_words ++ cover_caption 2 cover
+-- what these lines of a `NO` say
+abbrev pub lines_caption : List ClaimLine → ViolationKind → List ℕ
+lines_caption [] kind = []
+lines_caption (deq ∷ rest) VFresh = concat (line_text deq ∷ fresh_words rest ∷ [])
+lines_caption (enq ∷ rest) VRepeat = concat (line_text enq ∷ repeat_words enq ∷ [])
+lines_caption (a ∷ later) VOrd = order_caption a later
+lines_caption (empty ∷ cover) VWit = witness_words ++ cover_caption 2 cover
 
 -- what a claim says, in sentences
 unfoldable pub caption : Claimed → List ℕ
 caption (Yes order) = YES_CAPTION.now
-caption (No VFresh lines) = fresh_caption lines
-caption (No VRepeat lines) = repeat_caption lines
-caption (No VOrd lines) = order_caption lines
-caption (No VWit lines) = witness_caption lines
+caption (No kind lines) = lines_caption lines kind

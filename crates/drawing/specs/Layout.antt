@@ -1,5 +1,5 @@
 -- What stands in a picture: labels, threads, tickets, the operations in rows, numbers and points of effect.
-use Rattle.std.specs.Prelude.{ℕ, ◌+◌, ◌-◌, ◌++◌, codes, max, ◌&&◌, if◌then◌else◌, nat_le, nat_eq, Bool, false, Option, Some, None, List, [], filter, find}
+use Rattle.std.specs.Prelude.{ℕ, ◌+◌, ◌-◌, ◌++◌, codes, max, ◌&&◌, if◌then◌else◌, nat_le, nat_eq, Bool, false, Option, Some, None, List, [], filter, find, map}
 use Rattle.std.specs.Prelude.{length, take, decimal, replicate, fold}
 use Rattle.std.specs.List.{list_any, range_with_len, position}
 use Rattle.event_records.specs.declared.limits.TheConstants.{MAX_THREAD}
@@ -24,12 +24,23 @@ digits n = length (decimal n)
 abbrev pub value_in : Bool → ℕ → List ℕ
 value_in full v = if full then decimal v else value_text v
 
+-- the word of a kind of operation
+abbrev pub kind_word : OpKind → List ℕ
+kind_word (kind.Enq v) = codes "enq"
+kind_word (kind.Deq v) = codes "deq"
+kind_word (kind.Not v) = codes "not"
+kind_word kind.Empty = codes "empty"
+
+-- a blank and the value of an operation, in full, or by its name; nothing where it has none
+abbrev pub value_after : Bool → OpKind → List ℕ
+value_after full (kind.Enq v) = codes " " ++ value_in full v
+value_after full (kind.Deq v) = codes " " ++ value_in full v
+value_after full (kind.Not v) = codes " " ++ value_in full v
+value_after full kind.Empty = []
+
 -- what an operation did, and its value in full, or by its name
 abbrev pub told : Bool → OpKind → List ℕ
-told full (kind.Enq v) = codes "enq " ++ value_in full v
-told full (kind.Deq v) = codes "deq " ++ value_in full v
-told full (kind.Not v) = codes "not " ++ value_in full v
-told full kind.Empty = codes "empty"
+told full kind = kind_word kind ++ value_after full kind
 
 -- what an operation did, and its value by its name
 abbrev pub label : OpKind → List ℕ
@@ -49,23 +60,16 @@ initial_label v = initial_text (name_of v)
 abbrev pub has_operations : List Operation → ℕ → Bool
 has_operations operations thread = list_any (λ o. nat_eq o.thread thread) operations
 
--- the threads below n that have operations, the least first
-unfoldable pub threads_below : List Operation → ℕ → List ℕ
-threads_below operations n = filter (has_operations operations) (range_with_len 0 n)
-
 -- the threads that have operations, the least first
-abbrev pub threads_of : List Operation → List ℕ
-threads_of operations = threads_below operations (MAX_THREAD + 1)
+unfoldable pub threads_of : List Operation → List ℕ
+threads_of operations = filter (has_operations operations) (range_with_len 0 (MAX_THREAD + 1))
 
 -- ---- labels
 
--- the length of the longest label of initial values, or of `empty`
-abbrev pub initial_width : List ℕ → ℕ
-initial_width initial = fold (λ widest v. max widest (length (initial_label v))) 5 initial
-
 -- the length of the longest label of initial values and operations, or of `empty`
 abbrev pub label_width : List ℕ → List Operation → ℕ
-label_width initial operations = fold (λ widest o. max widest (length (label o.kind))) (initial_width initial) operations
+label_width initial operations =
+    fold (λ widest len. max widest len) 5 (map (λ v. length (initial_label v)) initial ++ map (λ o. length (label o.kind)) operations)
 
 -- ---- operations in rows
 

@@ -1,19 +1,18 @@
 -- The scene of a picture, which characters and pixels draw alike: its rows from top to bottom, and its lanes side by side.
 use Rattle.std.specs.Prelude.{ℕ, ◌+◌, ◌==◌, ◌&&◌, ◌||◌, if◌then◌else◌, max, fold, length, decimal, nat_lt, nat_eq, Bool, true, false, Option}
-use Rattle.std.specs.Prelude.{Some, None, List, [], ◌∷◌, ◌++◌, count_by, codes}
+use Rattle.std.specs.Prelude.{Some, None, List, [], ◌∷◌, ◌++◌, count_by, codes, option_map}
 use Rattle.std.specs.List.{concat, find, flat_map, enumerate_from, list_any}
 use Rattle.event_records.specs.declared.event.Event.{Event}
 use Rattle.history_merge.specs.Initial.{HistoryView}
 use Rattle.history_merge.specs.declared.operation.Operation.{Operation}
 use Rattle.history_merge.specs.declared.operation.OpKind.{OpKind}
 use Rattle.history_merge.specs.declared.operation.OpKind.TheVariants as kind
-use Rattle.verdicts.specs.declared.verifying.ClaimLine.{ClaimLine}
 use Rattle.verdicts.specs.declared.verifying.Claimed.{Claimed}
 use Rattle.verdicts.specs.declared.verifying.Claimed.TheVariants.{No}
 use Rattle.verdicts.specs.declared.verifying.ViolationKind.TheVariants.{VRepeat}
 use Rattle.drawing.specs.Claim.{order_of, line_kind}
 use Rattle.drawing.specs.Layout.{threads_of, point, stands_in}
-use Rattle.drawing.specs.Bands.{bands_of}
+use Rattle.drawing.specs.Bands.{bands_of, gap_time}
 use Rattle.drawing.specs.declared.bands.Band.{Band}
 use Rattle.drawing.specs.declared.scene.Row.{Row}
 use Rattle.drawing.specs.declared.scene.Row.TheVariants.{Head, Initial, Ticket, LeftOut, Effect}
@@ -107,14 +106,9 @@ gap_of (Ticket ticket) = Some ticket
 gap_of (LeftOut count last) = Some last
 gap_of (Effect o number point) = Some point
 
--- the time of a gap: 0 before all tickets
-abbrev pub time_of : Option ℕ → ℕ
-time_of None = 0
-time_of (Some ticket) = ticket + 1
-
 -- the time of a row
 abbrev pub row_time : Row → ℕ
-row_time r = time_of (gap_of r)
+row_time r = gap_time (gap_of r)
 
 -- its turn among the rows of that time
 abbrev pub row_turn : Row → ℕ
@@ -145,19 +139,15 @@ ticket_words r = []
 abbrev pub ticket_width : List Row → ℕ
 ticket_width rows = fold (λ widest r. max widest (length (ticket_words r))) 6 rows
 
--- whether a value goes in or out
-abbrev pub way : OpKind → List ℕ
-way (kind.Enq v) = codes "in"
-way _ = codes "out"
-
--- whether the value of a line does
-abbrev pub way_of : Option ClaimLine → List ℕ
-way_of None = []
-way_of (Some line) = way (line_kind line)
+-- whether the value of a line goes in or out, by what it says that was done
+abbrev pub way : Option OpKind → List ℕ
+way None = []
+way (Some (kind.Enq v)) = codes "in"
+way (Some _) = codes "out"
 
 -- the word of the line in a row, where its value was dequeued twice
 abbrev pub way_in : Claimed → Row → List ℕ
-way_in (No VRepeat lines) r = way_of (find (stands_in r) lines)
+way_in (No VRepeat lines) r = way (option_map line_kind (find (stands_in r) lines))
 way_in _ r = []
 
 -- ---- lanes

@@ -10,16 +10,12 @@ use Rattle.drawing.specs.declared.signs.Sign.TheVariants.{First, InOrder, OfOper
 use Rattle.drawing.specs.Drawn.{is_away}
 use Rattle.drawing.specs.Scene.{SceneView}
 
--- the sign of initial values, where there are some
-abbrev pub initial_signs : List ℕ → List Sign
-initial_signs [] = []
-initial_signs (v ∷ initial) = First ∷ []
-
--- the sign of numbers
-abbrev pub number_sign : Claimed → List ℕ → Sign
-number_sign (Yes order) initial = InOrder
-number_sign (No kind lines) [] = OfOperations
-number_sign (No kind lines) (v ∷ initial) = OfValues
+-- the sign of initial values, where there are some, and that of numbers
+abbrev pub number_signs : Claimed → List ℕ → List Sign
+number_signs (Yes order) [] = InOrder ∷ []
+number_signs (Yes order) (v ∷ initial) = First ∷ InOrder ∷ []
+number_signs (No kind lines) [] = OfOperations ∷ []
+number_signs (No kind lines) (v ∷ initial) = First ∷ OfValues ∷ []
 
 -- the signs of the bands
 abbrev pub band_signs : Claimed → List Sign
@@ -34,8 +30,8 @@ abbrev pub away_signs : Claimed → List Operation → List Sign
 away_signs claimed operations = if list_any (is_away claimed) operations then Away ∷ [] else []
 
 -- the signs of a picture
-abbrev pub signs_of : SceneView → List Sign
-signs_of scene = initial_signs scene.initial ++ (number_sign scene.claimed scene.initial ∷ (band_signs scene.claimed ++ away_signs scene.claimed scene.operations))
+unfoldable pub signs_of : SceneView → List Sign
+signs_of scene = number_signs scene.claimed scene.initial ++ (band_signs scene.claimed ++ away_signs scene.claimed scene.operations)
 
 -- what a sign means
 abbrev pub meaning : Sign → List ℕ

@@ -4,14 +4,12 @@ use Rattle.std.specs.Prelude.{false, if◌then◌else◌, Option, Some, None, Li
 use Rattle.std.specs.Prelude.{length, codes, decimal, unwrap_or}
 use Rattle.std.specs.List.{flat_map, range_with_len, enumerate_from}
 use Rattle.history_merge.specs.declared.operation.Operation.{Operation}
-use Rattle.verdicts.specs.declared.verifying.ClaimLine.{ClaimLine}
 use Rattle.verdicts.specs.declared.verifying.Claimed.{Claimed}
 use Rattle.verdicts.specs.declared.verifying.Claimed.TheVariants.{Yes, No}
 use Rattle.text_lines.specs.Lines.{line}
 use Rattle.drawing.specs.Claim.{count_of_lines, shown_by}
 use Rattle.drawing.specs.declared.columns.Columns.{Columns}
 use Rattle.drawing.specs.declared.bands.Band.{Band}
-use Rattle.drawing.specs.declared.bands.Head.{Head}
 use Rattle.drawing.specs.Layout.{digits, label, numbered, initial_label, label_width, under_way, called_at, place_in, number_at}
 use Rattle.drawing.specs.Bands.{head_text, form_at}
 use Rattle.drawing.specs.Drawn.{is_away}
@@ -67,9 +65,11 @@ lane_column columns threads thread = columns.lanes + lane_place columns.lane (la
 abbrev pub one_of : Bool → List ℕ → List ℕ → List ℕ
 one_of away round square = if away then round else square
 
--- what stands in a lane in the row of an event: a call with its number, a return, or that an operation is under way
-abbrev pub event_sign : List ClaimLine → Bool → ℕ → Operation → List ℕ
-event_sign shown away ticket o =
+-- what stands in a lane in the row of an event: a call with its number where lanes have room for it, a return, or that an operation is under way
+abbrev pub event_sign : Columns → SceneView → ℕ → Operation → List ℕ
+event_sign columns scene ticket o =
+    let away = is_away scene.claimed o in
+    let shown = if columns.lane == 1 then [] else shown_by scene.claimed in
     if o.call == ticket then one_of away (codes "(") (codes "[") ++ number_at (place_in shown (row.Ticket o.call))
     else (if o.ret == ticket then one_of away (codes ")") (codes "]") else one_of away (codes ":") (codes "|"))
 
@@ -77,19 +77,20 @@ event_sign shown away ticket o =
 abbrev pub effect_sign : List ℕ → Operation → ℕ → Operation → List ℕ
 effect_sign here effect point o = if o.call == effect.call then here else (if o.ret == point then [] else codes "|")
 
--- what stands in a lane in a row, where this operation is under way: numbers where lanes have room for them
-abbrev pub lane_sign : Bool → Claimed → Row → Option Operation → List ℕ
-lane_sign narrow claimed (row.Ticket ticket) (Some o) = event_sign (if narrow then [] else shown_by claimed) (is_away claimed o) ticket o
-lane_sign narrow claimed (row.LeftOut count last) (Some o) = one_of (is_away claimed o) (codes ":") (codes "|")
-lane_sign narrow claimed (row.Effect effect number point) (Some o) = effect_sign (if narrow then codes "*" else decimal number) effect point o
-lane_sign narrow claimed r under = []
+-- what stands in a lane in a row, where this operation is under way
+abbrev pub lane_sign : Columns → SceneView → Row → Option Operation → List ℕ
+lane_sign columns scene (row.Ticket ticket) (Some o) = event_sign columns scene ticket o
+lane_sign columns scene (row.LeftOut count last) (Some o) = one_of (is_away scene.claimed o) (codes ":") (codes "|")
+lane_sign columns scene (row.Effect effect number point) (Some o) =
+    effect_sign (if columns.lane == 1 then codes "*" else decimal number) effect point o
+lane_sign columns scene r under = []
 
 -- the words in the lanes in a row
 abbrev pub lane_words : Columns → SceneView → Row → List Word
 lane_words columns scene r =
     map (λ thread. record {
       column = lane_column columns scene.threads thread;
-      bytes = lane_sign (columns.lane == 1) scene.claimed r (under_way scene.operations thread (unwrap_or (gap_of r) 0));
+      bytes = lane_sign columns scene r (under_way scene.operations thread (unwrap_or (gap_of r) 0));
     }) scene.threads
 
 -- ---- rows
@@ -112,10 +113,11 @@ beside_words claimed (row.Effect effect number point) = numbered (digits (count_
 beside_words claimed r = way_in claimed r
 
 -- the label of what is called, where something is; after its number, where lanes have no room for that
-abbrev pub call_label : Bool → List ClaimLine → Option Operation → List ℕ
-call_label narrow shown None = []
-call_label narrow shown (Some o) =
-    if narrow then numbered (digits (length shown)) (number_at (place_in shown (row.Ticket o.call))) (label o.kind) else label o.kind
+abbrev pub call_label : Columns → SceneView → Option Operation → List ℕ
+call_label columns scene None = []
+call_label columns scene (Some o) =
+    let shown = shown_by scene.claimed in
+    if columns.lane == 1 then numbered (digits (length shown)) (number_at (place_in shown (row.Ticket o.call))) (label o.kind) else label o.kind
 
 -- the words right of the bands or of the lanes: the head of the initial values, such a value with its number, or a label
 abbrev pub told_word : Columns → SceneView → Row → Word
@@ -126,7 +128,7 @@ told_word columns scene (row.Initial place v) = record {
 }
 told_word columns scene (row.Ticket ticket) = record {
   column = columns.label;
-  bytes = call_label (columns.lane == 1) (shown_by scene.claimed) (called_at scene.operations ticket);
+  bytes = call_label columns scene (called_at scene.operations ticket);
 }
 told_word columns scene r = record { column = columns.label; bytes = [] }
 
@@ -143,21 +145,13 @@ row_words columns scene r =
 abbrev pub strokes : Columns → ℕ → List Word
 strokes columns n = map (λ i. record { column = band_column columns i + 1; bytes = codes "|" }) (range_with_len 0 n)
 
--- the words in the line of the head of band i
-abbrev pub head_words : Columns → ℕ → Head → List Word
-head_words columns i head = strokes columns i ++ record { column = band_column columns i; bytes = head_text head } ∷ []
+-- a line of the first strokes, and of a word at a column
+abbrev pub under : Columns → ℕ → ℕ → List ℕ → List ℕ
+under columns bands column bytes = line (line_of (strokes columns bands ++ record { column = column; bytes = bytes } ∷ []))
 
 -- the line of the head of band i
 abbrev pub head_line : Columns → ℕ × Band → List ℕ
-head_line columns (i, band) = line (line_of (head_words columns i band.head))
-
--- the heads of the bands, each in a line of its own
-unfoldable pub head_lines : Columns → List Band → List ℕ
-head_lines columns bands = flat_map (head_line columns) (enumerate_from 0 bands)
-
--- the word above the lanes
-unfoldable pub thread_words : Columns → ℕ → List Word
-thread_words columns bands = strokes columns bands ++ record { column = columns.lanes; bytes = codes "thread" } ∷ []
+head_line columns (i, band) = under columns i (band_column columns i) (head_text band.head)
 
 -- the word above the order of a `YES`
 abbrev pub order_word : Claimed → List ℕ
@@ -174,22 +168,22 @@ abbrev pub lane_names : Columns → List ℕ → Bool → List ℕ → List Word
 lane_names columns all tens threads =
     map (λ thread. record { column = lane_column columns all thread; bytes = thread_digits (columns.lane == 1) tens thread }) threads
 
--- the line of their tens, where lanes are narrow
+-- the word above the tickets, that above the order of a `YES`, and the numbers of the threads; or the tens of these alone
+abbrev pub name_words : Columns → SceneView → Bool → List Word
+name_words columns scene tens =
+    (if tens then []
+    else record { column = columns.ticket - 6; bytes = codes "ticket" } ∷ record { column = columns.beside; bytes = order_word scene.claimed } ∷ [])
+    ++ (strokes columns (length scene.bands) ++ lane_names columns scene.threads tens scene.threads)
+
+-- the line of these tens, where lanes are narrow
 abbrev pub tens_line : Columns → SceneView → List ℕ
-tens_line columns scene =
-    if columns.lane == 1 then line (line_of (strokes columns (length scene.bands) ++ lane_names columns scene.threads true scene.threads)) else []
+tens_line columns scene = if columns.lane == 1 then line (line_of (name_words columns scene true)) else []
 
--- the word above the tickets, that above the order of a `YES`, and the numbers of the threads
-unfoldable pub name_words : Columns → SceneView → List Word
-name_words columns scene =
-    record { column = columns.ticket - 6; bytes = codes "ticket" } ∷ record { column = columns.beside; bytes = order_word scene.claimed }
-    ∷ (strokes columns (length scene.bands) ++ lane_names columns scene.threads false scene.threads)
-
--- the heads: those of the bands, and those of the tickets and the lanes
+-- the heads: those of the bands, the word above the lanes, and those of the tickets and the lanes
 unfoldable pub heads : Columns → SceneView → List ℕ
 heads columns scene =
-    head_lines columns scene.bands ++ (line (line_of (thread_words columns (length scene.bands)))
-    ++ (tens_line columns scene ++ line (line_of (name_words columns scene))))
+    flat_map (head_line columns) (enumerate_from 0 scene.bands) ++ (under columns (length scene.bands) columns.lanes (codes "thread")
+    ++ (tens_line columns scene ++ line (line_of (name_words columns scene false))))
 
 -- ---- the picture
 
@@ -200,10 +194,6 @@ heads_again i heads = if nat_lt 0 i && i % ROWS_UNDER_HEADS == 0 then heads else
 -- row i, under heads of its own if it is a 40th one
 abbrev pub numbered_row : Columns → SceneView → ℕ × Row → List ℕ
 numbered_row columns scene (i, r) = heads_again i (heads columns scene) ++ line (line_of (row_words columns scene r))
-
--- the heads, and the rows
-unfoldable pub lines : Columns → SceneView → List ℕ
-lines columns scene = heads columns scene ++ flat_map (numbered_row columns scene) (enumerate_from 0 scene.rows)
 
 -- a sign in characters
 abbrev pub sign_text : Sign → List ℕ
@@ -235,6 +225,8 @@ unfoldable pub words : Columns → SceneView → List ℕ
 words columns scene =
     line (headline scene.claimed) ++ (caption scene.claimed ++ (line [] ++ (legend columns scene ++ line [])))
 
--- the picture of a scene in lines of characters
+-- the picture of a scene in lines of characters: what stands above the rows, the heads, and the rows
 unfoldable pub terminal_picture : SceneView → List ℕ
-terminal_picture scene = words (columns_of scene) scene ++ lines (columns_of scene) scene
+terminal_picture scene =
+    words (columns_of scene) scene
+    ++ (heads (columns_of scene) scene ++ flat_map (numbered_row (columns_of scene) scene) (enumerate_from 0 scene.rows))

@@ -1,13 +1,13 @@
 //! Bands beside the lanes of a `NO`.
 ghost use Rattle.std.specs.Prelude.{◌≡◌, ◌++◌, ◌∷◌, ◌+◌, ◌≤◌, [], OnOk, IfOk, length, vec_len};
-ghost use Rattle.drawing.specs.Claim.{count_of_lines, line_call, line_kind, line_return};
+ghost use Rattle.drawing.specs.Claim.{count_of_lines, line_call, line_return};
 ghost use Rattle.drawing.specs.Names.{value_text};
 ghost use Rattle.std.specs.List.{concat};
-ghost use Rattle.drawing.specs.Bands.{line_value, sure_until, time_of, enqueue_call, first_call, cover_bands, fresh_bands};
-ghost use Rattle.drawing.specs.Bands.{order_bands, witness_bands, repeat_bands, bands_of, head_text, form_words, has_begun, goes_on, form_at};
+ghost use Rattle.drawing.specs.Bands.{line_value, sure_until, time_of, enqueue_call, first_call, cover_bands, order_bands};
+ghost use Rattle.drawing.specs.Bands.{bands_by, bands_of, head_text, form_words, gap_time, form_at};
 
 use crate::claim::{line_call, line_kind, line_return};
-use crate::line::{Added, Piece, push_all, push_two};
+use crate::line::{Added, Piece, push_all};
 use history_merge::OpKind;
 use std::alloc::{AllocError, Global};
 use verdicts::{ClaimLine, Claimed, ViolationKind};
@@ -86,30 +86,15 @@ fn first_call(lines: &[ClaimLine]) -> Option<u64>
     }
 }
 
-fn push_fresh_bands(bands: &mut Vec<Band>, lines: &[ClaimLine]) -> Added
-    ensures bands { OnOk result (bands.new.items ≡ bands.old.items ++ fresh_bands lines.now) }
+fn push_order_bands(bands: &mut Vec<Band>, enq_a: ClaimLine, later: &[ClaimLine]) -> Added
+    ensures bands { OnOk result (bands.new.items ≡ bands.old.items ++ order_bands enq_a later.now) }
     ensures few { OnOk result (vec_len bands.new ≤ vec_len bands.old + 2) }
 {
-    match lines {
-        [] => Ok(()),
-        [deq, rest @ ..] => {
-            let value = line_value(*deq);
-            let absent = time_of(Head::NotIn(value), None, enqueue_call(rest));
-            let time = time_of(Head::Dequeued(value), line_call(*deq), line_return(*deq));
-            push_two(bands, absent, time)
-        }
-    }
-}
-
-fn push_order_bands(bands: &mut Vec<Band>, lines: &[ClaimLine]) -> Added
-    ensures bands { OnOk result (bands.new.items ≡ bands.old.items ++ order_bands lines.now) }
-    ensures few { OnOk result (vec_len bands.new ≤ vec_len bands.old + 2) }
-{
-    match lines {
-        [enq_a, enq_b, deq_b, rest @ ..] => {
+    match later {
+        [enq_b, deq_b, rest @ ..] => {
             let head = Head::InAndOut(line_value(*enq_b));
             let time = time_of(head, line_call(*enq_b), line_return(*deq_b));
-            push_two(bands, sure_until(*enq_a, first_call(rest)), time)
+            bands.extend_from_slice(&[sure_until(enq_a, first_call(rest)), time])
         }
         _ => Ok(()),
     }
@@ -121,10 +106,7 @@ fn push_cover_bands(bands: &mut Vec<Band>, lines: &[ClaimLine]) -> Added
 {
     match lines {
         [] => Ok(()),
-        [enq] => {
-            bands.push(sure_until(*enq, None))?;
-            Ok(())
-        }
+        [enq] => bands.extend_from_slice(&[sure_until(*enq, None)]),
         [enq, deq, rest @ ..] => {
             bands.push(sure_until(*enq, line_call(*deq)))?;
             push_cover_bands(bands, rest)
@@ -132,29 +114,30 @@ fn push_cover_bands(bands: &mut Vec<Band>, lines: &[ClaimLine]) -> Added
     }
 }
 
-fn push_witness_bands(bands: &mut Vec<Band>, lines: &[ClaimLine]) -> Added
-    ensures bands { OnOk result (bands.new.items ≡ bands.old.items ++ witness_bands lines.now) }
-    ensures few { OnOk result (vec_len bands.new ≤ vec_len bands.old + length lines.now + 1) }
+/// Adds the bands of a `NO` of this kind with these lines.
+fn push_bands(bands: &mut Vec<Band>, kind: ViolationKind, lines: &[ClaimLine]) -> Added
+    ensures bands { OnOk result (bands.new.items ≡ bands.old.items ++ bands_by lines.now kind) }
+    ensures few { OnOk result (vec_len bands.new ≤ vec_len bands.old + (length lines.now + 2)) }
 {
     match lines {
         [] => Ok(()),
-        [empty, cover @ ..] => {
-            push_cover_bands(bands, cover)?;
-            bands.push(time_of(Head::SaidEmpty, line_call(*empty), line_return(*empty)))?;
-            Ok(())
-        }
-    }
-}
-
-fn push_repeat_bands(bands: &mut Vec<Band>, lines: &[ClaimLine]) -> Added
-    ensures bands { OnOk result (bands.new.items ≡ bands.old.items ++ repeat_bands lines.now) }
-    ensures few { OnOk result (vec_len bands.new ≤ vec_len bands.old + 1) }
-{
-    match lines {
-        [] => Ok(()),
-        [enq, ..] => {
-            bands.push(time_of(Head::InOrOut(line_value(*enq)), None, None))?;
-            Ok(())
+        [first, rest @ ..] => {
+            let value = line_value(*first);
+            let (call, ret) = (line_call(*first), line_return(*first));
+            match kind {
+                ViolationKind::VFresh => {
+                    let absent = time_of(Head::NotIn(value), None, enqueue_call(rest));
+                    bands.extend_from_slice(&[absent, time_of(Head::Dequeued(value), call, ret)])
+                }
+                ViolationKind::VRepeat => {
+                    bands.extend_from_slice(&[time_of(Head::InOrOut(value), None, None)])
+                }
+                ViolationKind::VOrd => push_order_bands(bands, *first, rest),
+                ViolationKind::VWit => {
+                    push_cover_bands(bands, rest)?;
+                    bands.extend_from_slice(&[time_of(Head::SaidEmpty, call, ret)])
+                }
+            }
         }
     }
 }
@@ -165,17 +148,8 @@ pub(crate) fn bands_of(alloc: Global, claimed: &Claimed) -> Result<Vec<Band>, Al
     ensures few { IfOk result (λ bands. vec_len bands ≤ count_of_lines claimed.now + 2) }
 {
     let mut bands = Vec::new(alloc);
-    match claimed {
-        Claimed::Yes(_) => {}
-        Claimed::No(kind, lines) => {
-            let lines = lines.as_slice();
-            match kind {
-                ViolationKind::VFresh => push_fresh_bands(&mut bands, lines)?,
-                ViolationKind::VRepeat => push_repeat_bands(&mut bands, lines)?,
-                ViolationKind::VOrd => push_order_bands(&mut bands, lines)?,
-                ViolationKind::VWit => push_witness_bands(&mut bands, lines)?,
-            }
-        }
+    if let Claimed::No(kind, lines) = claimed {
+        push_bands(&mut bands, *kind, lines.as_slice())?;
     }
     Ok(bands)
 }
@@ -228,24 +202,13 @@ pub fn form_words(
     }
 }
 
-fn has_begun(first: Option<u64>, gap: Option<u64>) -> bool
-    ensures { result ≡ has_begun first gap }
+/// The time of a gap: 0 for that before all tickets.
+pub(crate) fn gap_time(gap: Option<u64>) -> u128
+    ensures { result ≡ gap_time gap }
 {
-    match first {
-        None => true,
-        Some(first) => match gap {
-            None => false,
-            Some(ticket) => first <= ticket,
-        },
-    }
-}
-
-fn goes_on(last: Option<u64>, gap: Option<u64>) -> bool
-    ensures { result ≡ goes_on last gap }
-{
-    match (last, gap) {
-        (None, _) | (Some(_), None) => true,
-        (Some(last), Some(ticket)) => ticket < last,
+    match gap {
+        None => 0,
+        Some(ticket) => u128::from(ticket) + 1,
     }
 }
 
@@ -253,7 +216,9 @@ fn goes_on(last: Option<u64>, gap: Option<u64>) -> bool
 pub(crate) fn form_at(band: Band, gap: Option<u64>) -> &'static [u8]
     ensures { result.now ≡ form_at band gap }
 {
-    if has_begun(band.first, gap) && goes_on(band.last, gap) {
+    let time = gap_time(gap);
+    let goes_on = band.last.is_none() || time < gap_time(band.last);
+    if gap_time(band.first) <= time && goes_on {
         form_words(band.head, b"###", b"xxx", b":::")
     } else {
         b""

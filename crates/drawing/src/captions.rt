@@ -1,9 +1,8 @@
 //! The words of a picture.
 ghost use Rattle.std.specs.Prelude.{◌≡◌, ◌++◌, ◌+◌, ◌≤◌, OnOk, length};
 ghost use Rattle.drawing.specs.Claim.{count_of_lines};
-ghost use Rattle.drawing.specs.Captions.{headline, fresh_reason, fresh_words, fresh_caption, repeat_words, repeat_caption, before_words};
-ghost use Rattle.drawing.specs.Captions.{overtaking_caption, order_caption, cover_from, one_of_cover, cover_caption};
-ghost use Rattle.drawing.specs.Captions.{witness_words, witness_caption, caption};
+ghost use Rattle.drawing.specs.Captions.{headline, fresh_words, repeat_words, before_words, overtaking_caption, order_caption};
+ghost use Rattle.drawing.specs.Captions.{cover_from, one_of_cover, cover_caption, witness_words, caption};
 
 use crate::bands::{line_value, push_named};
 use crate::claim::{line_call, line_kind, line_return};
@@ -37,30 +36,17 @@ pub fn headline(claimed: &Claimed) -> &'static [u8]
     }
 }
 
-fn fresh_reason(kind: OpKind) -> &'static [u8]
-    ensures { result.now ≡ fresh_reason kind }
-{
-    match kind {
-        OpKind::Enq(_) => b" was dequeued (1), but its enqueue (2) was called only afterwards.\n",
-        _ => b" was dequeued (1), but its enqueue (2) was not taken.\n",
-    }
-}
-
 fn fresh_words(lines: &[ClaimLine]) -> &'static [u8]
     ensures { result.now ≡ fresh_words lines.now }
 {
     match lines {
         [] => b" was dequeued (1), but nobody ever enqueued it.\n",
-        [enq, ..] => fresh_reason(line_kind(*enq)),
-    }
-}
-
-fn push_fresh_caption(text: &mut Vec<u8>, lines: &[ClaimLine]) -> Added
-    ensures { OnOk result (text.new.items ≡ text.old.items ++ fresh_caption lines.now) }
-{
-    match lines {
-        [] => Ok(()),
-        [deq, rest @ ..] => push_named(text, line_value(*deq), fresh_words(rest)),
+        [enq, ..] => match line_kind(*enq) {
+            OpKind::Enq(_) => {
+                b" was dequeued (1), but its enqueue (2) was called only afterwards.\n"
+            }
+            _ => b" was dequeued (1), but its enqueue (2) was not taken.\n",
+        },
     }
 }
 
@@ -70,15 +56,6 @@ fn repeat_words(enq: ClaimLine) -> &'static [u8]
     match enq {
         ClaimLine::Op(_) => b" was enqueued once (1), but dequeued twice (2 and 3).\n",
         ClaimLine::Initial(_) => { b" was in the queue first (1), but dequeued twice (2 and 3).\n" }
-    }
-}
-
-fn push_repeat_caption(text: &mut Vec<u8>, lines: &[ClaimLine]) -> Added
-    ensures { OnOk result (text.new.items ≡ text.old.items ++ repeat_caption lines.now) }
-{
-    match lines {
-        [] => Ok(()),
-        [enq, ..] => push_named(text, line_value(*enq), repeat_words(*enq)),
     }
 }
 
@@ -117,19 +94,15 @@ fn push_overtaking_caption<'x>(
     )
 }
 
-fn push_order_caption(text: &mut Vec<u8>, lines: &[ClaimLine]) -> Added
-    ensures { OnOk result (text.new.items ≡ text.old.items ++ order_caption lines.now) }
+fn push_order_caption(text: &mut Vec<u8>, a: ClaimLine, later: &[ClaimLine]) -> Added
+    ensures { OnOk result (text.new.items ≡ text.old.items ++ order_caption a later.now) }
 {
-    match lines {
-        [a, b, _] => push_overtaking_caption(
-            text,
-            *a,
-            *b,
-            b" was dequeued (3) and ",
-            b" never was.\n",
-        ),
-        [a, b, _, _, ..] => {
-            push_overtaking_caption(text, *a, *b, b" was dequeued (3) before ", b" (4).\n")
+    match later {
+        [b, _] => {
+            push_overtaking_caption(text, a, *b, b" was dequeued (3) and ", b" never was.\n")
+        }
+        [b, _, _, ..] => {
+            push_overtaking_caption(text, a, *b, b" was dequeued (3) before ", b" (4).\n")
         }
         _ => Ok(()),
     }
@@ -194,35 +167,29 @@ fn witness_words() -> &'static [u8]
     WITNESS_WORDS
 }
 
-fn push_witness_caption(text: &mut Vec<u8>, lines: &[ClaimLine]) -> Added
-    requires { length lines.now ≤ MOST_DRAWN }
-    ensures { OnOk result (text.new.items ≡ text.old.items ++ witness_caption lines.now) }
-{
-    match lines {
-        [] => Ok(()),
-        [_, cover @ ..] => {
-            text.extend_from_slice(witness_words())?;
-            push_cover_caption(text, 2, cover)
-        }
-    }
-}
-
 /// Adds what a claim says, in sentences, each line with its line feed.
-#[tactic(auto, unfolding(crate::specs::Captions::caption))]
+#[tactic(auto, using(crate::proofs::Chains::covers), unfolding(crate::specs::Captions::caption))]
 pub fn push_caption(text: &mut Vec<u8>, claimed: &Claimed) -> Added
     requires { count_of_lines claimed.now ≤ MOST_DRAWN }
     ensures { OnOk result (text.new.items ≡ text.old.items ++ caption claimed.now) }
 {
     match claimed {
         Claimed::Yes(_) => text.extend_from_slice(YES_CAPTION),
-        Claimed::No(kind, lines) => {
-            let lines = lines.as_slice();
-            match kind {
-                ViolationKind::VFresh => push_fresh_caption(text, lines),
-                ViolationKind::VRepeat => push_repeat_caption(text, lines),
-                ViolationKind::VOrd => push_order_caption(text, lines),
-                ViolationKind::VWit => push_witness_caption(text, lines),
-            }
-        }
+        Claimed::No(kind, lines) => match lines.as_slice() {
+            [] => Ok(()),
+            [first, rest @ ..] => match kind {
+                ViolationKind::VFresh => push_named(text, line_value(*first), fresh_words(rest)),
+                ViolationKind::VRepeat => push_named(
+                    text,
+                    line_value(*first),
+                    repeat_words(*first),
+                ),
+                ViolationKind::VOrd => push_order_caption(text, *first, rest),
+                ViolationKind::VWit => {
+                    text.extend_from_slice(witness_words())?;
+                    push_cover_caption(text, 2, rest)
+                }
+            },
+        },
     }
 }

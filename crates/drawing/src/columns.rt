@@ -1,6 +1,6 @@
 //! Columns, and what they make room for.
 ghost use Rattle.std.specs.Prelude.{◌≡◌, ◌+◌, ◌*◌, ◌≤◌, IfOk, length, vec_len};
-ghost use Rattle.drawing.specs.Layout.{digits, label, has_operations, threads_of, initial_width, label_width};
+ghost use Rattle.drawing.specs.Layout.{digits, label, has_operations, threads_of, label_width};
 ghost use Rattle.drawing.specs.Terminal.{room_beside, lane_width, lane_place, columns_of};
 ghost use Rattle.drawing.specs.Scene.{scene_on};
 ghost use Rattle.drawing.specs.Claim.{count_of_lines};
@@ -31,8 +31,8 @@ pub(crate) fn events_of(alloc: Global, history: &History) -> Result<Vec<Event>, 
 /// The most lanes that have room for a number: where there are more, a lane is one character wide.
 pub(crate) const WIDE_LANES: usize = 16;
 
-/// The greatest column where lanes begin.
-pub(crate) const MAX_LANES: usize = 47 + 5 * (MOST_DRAWN + 2);
+/// No lanes begin right of this column.
+pub(crate) const MAX_LANES: usize = 257 + 5 * (MOST_DRAWN + 2);
 
 /// Where the columns of a picture of characters stand, from 0.
 #[derive(Clone, Copy)]
@@ -50,12 +50,12 @@ pub struct Columns {
 }
 
 /// How many digits a number has.
-pub fn digits(number: u64) -> usize
+pub fn digits(number: u64) -> u8
     ensures value { result ≡ digits number }
     ensures few { result ≤ 20 }
 {
     let mut buffer = Buffer::new();
-    buffer.format(number).as_bytes().len()
+    buffer.format(number).as_bytes().len() as u8
 }
 
 fn has_operations(operations: &[Operation], thread: u8) -> bool
@@ -67,23 +67,17 @@ fn has_operations(operations: &[Operation], thread: u8) -> bool
 }
 
 /// The threads that have operations, the least first.
-#[tactic(auto, using(crate::proofs::Loops::threads_yes, crate::proofs::Loops::threads_no, crate::proofs::Loops::threads_none))]
 pub(crate) fn threads_of(alloc: Global, operations: &[Operation]) -> Result<Vec<u8>, AllocError>
     ensures threads { IfOk result (λ threads. threads.items ≡ threads_of operations.now) }
     ensures few { IfOk result (λ threads. vec_len threads ≤ MAX_THREADS) }
 {
-    let mut threads = Vec::new(alloc);
-    for thread in 0..MAX_THREAD + 1 {
-        if has_operations(operations, thread) {
-            threads.push(thread)?;
-        }
-    }
-    Ok(threads)
+    (0..MAX_THREAD + 1)
+        .filter(|thread| has_operations(operations, *thread))
+        .collect(alloc)
 }
 
-fn label_len(kind: OpKind) -> usize
-    ensures value { result ≡ length (label kind) }
-    ensures few { result ≤ 46 }
+fn label_len(kind: OpKind) -> u8
+    ensures { result ≡ length (label kind) }
 {
     match kind {
         OpKind::Enq(value) | OpKind::Deq(value) | OpKind::Not(value) => 4 + value_len(value),
@@ -91,38 +85,25 @@ fn label_len(kind: OpKind) -> usize
     }
 }
 
-fn initial_width(initial: &[u64]) -> usize
-    ensures value { result ≡ initial_width initial.now }
-    ensures few { result ≤ 46 }
-{
-    let mut widest = 5;
-    for value in initial {
-        widest = widest.max(initial_label_len(*value));
-    }
-    widest
-}
-
 /// The length of the longest label of these initial values and operations, or of `empty`.
-pub fn label_width(initial: &[u64], operations: &[Operation]) -> usize
-    ensures value { result ≡ label_width initial.now operations.now }
-    ensures few { result ≤ 46 }
+pub fn label_width(initial: &[u64], operations: &[Operation]) -> u8
+    ensures { result ≡ label_width initial.now operations.now }
 {
-    let mut widest = initial_width(initial);
-    for operation in operations {
-        widest = widest.max(label_len(operation.kind));
-    }
-    widest
+    let initial = initial.iter().map(|value| initial_label_len(*value));
+    let labels = operations.iter().map(|operation| label_len(operation.kind));
+    initial.chain(labels).fold(5, |widest, len| widest.max(len))
 }
 
 /// How much room the order of a `YES` takes, or this many bands of a `NO`.
-fn room_beside(claimed: &Claimed, widest_label: usize, bands: usize) -> usize
-    requires label { widest_label ≤ 46 }
-    requires bands { bands ≤ MOST_DRAWN + 2 }
+fn room_beside(claimed: &Claimed, widest_label: u8, bands: usize) -> usize
+    requires { bands ≤ MOST_DRAWN + 2 }
     ensures value { result ≡ room_beside claimed.now widest_label bands }
     ensures few { result ≤ 5 * (MOST_DRAWN + 2) }
 {
     match claimed {
-        Claimed::Yes(order) => digits(order.as_slice().len() as u64) + widest_label + 3,
+        Claimed::Yes(order) => {
+            usize::from(digits(order.as_slice().len() as u64)) + usize::from(widest_label) + 3
+        }
         Claimed::No(_, _) => 5 * bands,
     }
 }
@@ -135,7 +116,7 @@ fn lane_width(lanes: usize, lines: usize) -> usize
     if lanes > WIDE_LANES {
         1
     } else {
-        digits(lines as u64).max(2) + 2
+        usize::from(digits(lines as u64).max(2) + 2)
     }
 }
 
@@ -157,13 +138,11 @@ pub(crate) fn lane_place(lane: usize, before: usize) -> usize
 pub(crate) fn columns_of(scene: &Scene<'_>) -> Columns
     requires { count_of_lines scene.now.claimed.now ≤ MOST_DRAWN }
     ensures columns { result ≡ columns_of (scene_on scene.now) }
-    ensures ticket { result.ticket ≤ 35 }
-    ensures beside { result.beside ≤ 37 }
+    ensures beside { result.beside ≤ result.lanes }
     ensures lanes { result.lanes ≤ MAX_LANES }
     ensures lane { result.lane ≤ 22 }
-    ensures wide { 6 ≤ result.ticket }
 {
-    let ticket = ticket_width(scene.rows.as_slice());
+    let ticket = usize::from(ticket_width(scene.rows.as_slice()));
     let widest_label = label_width(scene.initial, scene.operations.as_slice());
     let room = room_beside(scene.claimed, widest_label, scene.bands.len());
     let lanes = scene.threads.len();

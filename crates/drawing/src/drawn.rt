@@ -1,8 +1,7 @@
 //! Which operations of a history are drawn.
-ghost use Rattle.std.specs.Prelude.{◌≡◌, ◌++◌, IfOk, OnOk, filter, map};
+ghost use Rattle.std.specs.Prelude.{◌≡◌, IfOk, filter, map};
 ghost use Rattle.std.specs.List.{list_any};
 ghost use Rattle.event_records.specs.Turns.{TicketsRise};
-ghost use Rattle.history_merge.specs.Operations.{operations_of};
 ghost use Rattle.drawing.specs.Drawn.{events_before, standing_of, stand_near, is_near_any, operations_in, drawn_operations, overlaps_line};
 ghost use Rattle.drawing.specs.Drawn.{is_away};
 
@@ -36,12 +35,6 @@ fn standing_of(events: &[Event], operation: Operation) -> Standing
     }
 }
 
-fn stand_near(x: Standing, y: Standing, around: usize) -> bool
-    ensures { result ≡ stand_near around x y }
-{
-    y.call.saturating_sub(around) <= x.ret && x.call.saturating_sub(around) <= y.ret
-}
-
 /// Where the operations of lines stand among the events.
 fn standings_in(
     alloc: Global,
@@ -63,9 +56,10 @@ fn standings_in(
 fn is_near_any(listed: &[Standing], standing: Standing, around: usize) -> bool
     ensures { result ≡ list_any (stand_near around standing) listed.now }
 {
-    listed
-        .iter()
-        .any(|other| stand_near(standing, *other, around))
+    listed.iter().any(|other| {
+        other.call.saturating_sub(around) <= standing.ret
+            && standing.call.saturating_sub(around) <= other.ret
+    })
 }
 
 /// The operations near one of those of the lines.

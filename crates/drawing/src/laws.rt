@@ -14,7 +14,7 @@ pub fn what_matters_is_drawn()
 
 /// The bars in the lanes are the operations that are drawn, each in the lane of its thread, from its call to its return. The laws are the
 /// contract; the body is empty.
-#[tactic(auto, using(crate::proofs::Bars::bars_are_of_operations, crate::proofs::Bars::no_other_bars))]
+#[tactic(auto, using(crate::proofs::Nearness::bars_are_of_operations, crate::proofs::Nearness::no_other_bars))]
 pub fn bars_are_the_operations()
     ensures each { BarsAreOfOperations }
     ensures none_else { NoOtherBars }

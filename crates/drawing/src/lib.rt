@@ -31,4 +31,4 @@ pub use names::initial_label;
 pub use scene::{Row, lanes_before, row_number, scene_of, ticket_width, ticket_words, way_in};
 pub use sheet::Scene;
 pub use signs::{Sign, meaning, signs_of};
-pub use terminal::{label_of, numbered, push_told, terminal_picture};
+pub use terminal::{kind_word, label_of, numbered, push_told, terminal_picture};

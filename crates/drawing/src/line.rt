@@ -1,5 +1,5 @@
 //! Text made of pieces, and lines of words that stand at columns.
-ghost use Rattle.std.specs.Prelude.{◌≡◌, ◌++◌, ◌∷◌, ◌+◌, ◌≤◌, [], OnOk, decimal, vec_len};
+ghost use Rattle.std.specs.Prelude.{◌≡◌, ◌++◌, OnOk, decimal};
 ghost use Rattle.std.specs.List.{flat_map};
 ghost use Rattle.text_lines.specs.Lines.{line};
 ghost use Rattle.drawing.specs.Words.{placed};
@@ -37,16 +37,6 @@ pub(crate) fn place(line: &mut Vec<u8>, column: usize, word: &[u8]) -> Added
             line.extend_from_slice(word)
         }
     }
-}
-
-/// Adds two items.
-pub(crate) fn push_two<T: Copy>(items: &mut Vec<T>, first: T, second: T) -> Added
-    ensures items { OnOk result (items.new.items ≡ items.old.items ++ (first ∷ second ∷ [])) }
-    ensures few { OnOk result (vec_len items.new ≤ vec_len items.old + 2) }
-{
-    items.push(first)?;
-    items.push(second)?;
-    Ok(())
 }
 
 /// Adds the digits of a number.

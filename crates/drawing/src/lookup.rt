@@ -1,41 +1,25 @@
 //! Which operation is in a row, and its number in the claim.
-ghost use Rattle.std.specs.Prelude.{◌≡◌, ◌<◌, IfSome, length};
-ghost use Rattle.std.specs.List.{find, position};
-ghost use Rattle.drawing.specs.Layout.{is_under_way, under_way, called_at, stands_in, place_in, place_of};
+ghost use Rattle.std.specs.Prelude.{◌≡◌, ◌<◌, IfSome, length, map};
+ghost use Rattle.std.specs.List.{find};
+ghost use Rattle.drawing.specs.Layout.{under_way, called_at, stands_in, place_in, place_of};
 ghost use Rattle.drawing.specs.Claim.{count_of_lines};
 
 use crate::scene::Row;
 use history_merge::Operation;
 use verdicts::{ClaimLine, Claimed};
 
-fn is_under_way(operation: Operation, thread: u8, ticket: u64) -> bool
-    ensures { result ≡ is_under_way thread ticket operation }
-{
-    operation.thread == thread && (operation.call <= ticket && ticket <= operation.ret)
-}
-
 /// The operation of this thread that has been called by this ticket and has not returned before it.
 pub(crate) fn under_way(operations: &[Operation], thread: u8, ticket: u64) -> Option<Operation>
     ensures { result ≡ under_way operations.now thread ticket }
 {
-    for operation in operations {
-        if is_under_way(*operation, thread, ticket) {
-            return Some(*operation);
-        }
-    }
-    None
+    operations.iter().copied().find(|o| o.thread == thread && (o.call <= ticket && ticket <= o.ret))
 }
 
 /// The operation that is called at this ticket.
 pub(crate) fn called_at(operations: &[Operation], ticket: u64) -> Option<Operation>
     ensures { result ≡ called_at operations.now ticket }
 {
-    for operation in operations {
-        if operation.call == ticket {
-            return Some(*operation);
-        }
-    }
-    None
+    operations.iter().copied().find(|o| o.call == ticket)
 }
 
 /// Whether a line of a claim stands in a row: an operation in that of its call, an initial value in its own.
@@ -53,12 +37,7 @@ fn stands_in(row: Row, line: ClaimLine) -> bool
 pub(crate) fn line_in(lines: &[ClaimLine], row: Row) -> Option<ClaimLine>
     ensures { result ≡ find (stands_in row) lines.now }
 {
-    for line in lines {
-        if stands_in(row, *line) {
-            return Some(*line);
-        }
-    }
-    None
+    lines.iter().copied().find(|line| stands_in(row, *line))
 }
 
 /// The place of the line in a row among these lines, from 0.
@@ -70,12 +49,11 @@ pub fn place_in(lines: &[ClaimLine], row: Row) -> Option<usize>
 }
 
 fn place_in_order(order: &[Operation], row: Row) -> Option<usize>
-    ensures value { result ≡ position (λ o. stands_in row (ClaimLine.Op o)) order.now }
+    ensures value { result ≡ place_in (map ClaimLine.Op order.now) row }
     ensures within { IfSome result (λ place. place < length order.now) }
 {
-    order
-        .iter()
-        .position(|listed| stands_in(row, ClaimLine::Op(*listed)))
+    let mut lines = order.iter().map(|listed| ClaimLine::Op(*listed));
+    lines.position(|line| stands_in(row, line))
 }
 
 /// The place of the line in a row in a claim, from 0.

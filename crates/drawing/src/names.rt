@@ -74,7 +74,7 @@ pub fn initial_label(alloc: Global, value: u64) -> Result<Vec<u8>, AllocError>
 }
 
 /// How many characters the name of a value has.
-pub(crate) fn value_len(value: u64) -> usize
+pub(crate) fn value_len(value: u64) -> u8
     ensures value { result ≡ length (value_text value) }
     ensures few { result ≤ 41 }
 {
@@ -86,9 +86,8 @@ pub(crate) fn value_len(value: u64) -> usize
 }
 
 /// How many characters the label of an initial value has.
-pub(crate) fn initial_label_len(value: u64) -> usize
-    ensures value { result ≡ length (initial_label value) }
-    ensures few { result ≤ 46 }
+pub(crate) fn initial_label_len(value: u64) -> u8
+    ensures { result ≡ length (initial_label value) }
 {
     match name_of(value) {
         Name::OfInitial(_) => value_len(value),

@@ -1,11 +1,9 @@
 //! The scene of a picture, which characters and SVG draw alike: rows from top to bottom, and lanes side by side.
-ghost use Rattle.std.specs.Prelude.{if◌then◌else◌, codes, ◌≡◌, ◌==◌, ◌++◌, ◌≤◌, ◌+◌, ◌^◌, OnOk, IfOk, length, vec_len};
-ghost use Rattle.std.specs.List.{flat_map, enumerate_from};
-ghost use Rattle.drawing.specs.Scene.{scene_on, initial_row, initial_rows, effect_row_if, effect_rows, event_rows, has_row, left_out_rows};
-ghost use Rattle.drawing.specs.Scene.{rows_after, rows_of, scene_of, gap_of, row_time, row_turn, stands_above, row_number};
-ghost use Rattle.drawing.specs.Scene.{ticket_words, ticket_width, lanes_before, way_of, way_in};
+ghost use Rattle.std.specs.Prelude.{if◌then◌else◌, codes, ◌≡◌, ◌==◌, ◌++◌, ◌≤◌, ◌+◌, OnOk, IfOk, length};
+ghost use Rattle.drawing.specs.Scene.{scene_on, initial_rows, effect_row_if, effect_rows, has_row, left_out_rows, rows_after, rows_of, scene_of};
+ghost use Rattle.drawing.specs.Scene.{gap_of, row_turn, stands_above, row_number, ticket_words, ticket_width, lanes_before, way_in};
 
-use crate::bands::bands_of;
+use crate::bands::{bands_of, gap_time};
 use crate::claim::{line_kind, order_of};
 use crate::columns::{digits, events_of, threads_of};
 use crate::line::{Added, Piece, push_all, push_number};
@@ -14,7 +12,7 @@ use crate::sheet::Scene;
 use event_records::{Event, MAX_THREADS};
 use history_merge::{History, OpKind, Operation};
 use std::alloc::{AllocError, Global};
-use verdicts::{ClaimLine, Claimed, ViolationKind};
+use verdicts::{Claimed, ViolationKind};
 
 /// A row of a picture.
 #[derive(Clone, Copy)]
@@ -31,15 +29,6 @@ pub enum Row {
     Effect(Operation, u64, u64),
 }
 
-fn push_each_initial_row(rows: &mut Vec<Row>, initial: &[u64]) -> Added
-    ensures { OnOk result (rows.new.items ≡ rows.old.items ++ flat_map initial_row (enumerate_from 0 initial.now)) }
-{
-    for (place, value) in initial.iter().enumerate() {
-        rows.push(Row::Initial(place, *value))?;
-    }
-    Ok(())
-}
-
 /// Adds the rows of the initial values under their head, where there are some.
 fn push_initial_rows(rows: &mut Vec<Row>, initial: &[u64]) -> Added
     ensures { OnOk result (rows.new.items ≡ rows.old.items ++ initial_rows initial.now) }
@@ -48,7 +37,10 @@ fn push_initial_rows(rows: &mut Vec<Row>, initial: &[u64]) -> Added
         [] => Ok(()),
         [_, ..] => {
             rows.push(Row::Head)?;
-            push_each_initial_row(rows, initial)
+            for (place, value) in initial.iter().enumerate() {
+                rows.push(Row::Initial(place, *value))?;
+            }
+            Ok(())
         }
     }
 }
@@ -177,15 +169,6 @@ pub(crate) fn gap_of(row: Row) -> Option<u64>
     }
 }
 
-fn row_time(row: Row) -> u128
-    ensures { result ≡ row_time row }
-{
-    match gap_of(row) {
-        None => 0,
-        Some(ticket) => u128::from(ticket) + 1,
-    }
-}
-
 fn row_turn(row: Row) -> u128
     ensures { result ≡ row_turn row }
 {
@@ -199,8 +182,8 @@ fn row_turn(row: Row) -> u128
 fn stands_above(other: Row, row: Row) -> bool
     ensures { result ≡ stands_above other row }
 {
-    row_time(other) < row_time(row)
-        || (row_time(other) == row_time(row) && row_turn(other) < row_turn(row))
+    let (above, time) = (gap_time(gap_of(other)), gap_time(gap_of(row)));
+    above < time || (above == time && row_turn(other) < row_turn(row))
 }
 
 /// The number of a row, from 0: how many stand above it.
@@ -208,13 +191,9 @@ fn stands_above(other: Row, row: Row) -> bool
 pub fn row_number(rows: &[Row], row: Row) -> usize
     ensures { result ≡ row_number rows.now row }
 {
-    let mut number = 0;
-    for other in rows {
-        if stands_above(*other, row) {
-            number += 1;
-        }
-    }
-    number
+    rows.iter()
+        .filter(|other| stands_above(**other, row))
+        .count()
 }
 
 fn events_word(count: usize) -> &'static [u8]
@@ -249,28 +228,22 @@ pub fn ticket_words(alloc: Global, row: Row) -> Result<Vec<u8>, AllocError>
     Ok(words)
 }
 
-fn ticket_words_len(row: Row) -> usize
-    ensures value { result ≡ length (ticket_words row) }
-    ensures few { result ≤ 35 }
+fn ticket_words_len(row: Row) -> u8
+    ensures { result ≡ length (ticket_words row) }
 {
     match row {
         Row::Ticket(ticket) => digits(ticket),
-        Row::LeftOut(count, _) => 4 + digits(count as u64) + events_word(count).len(),
+        Row::LeftOut(count, _) => 4 + digits(count as u64) + events_word(count).len() as u8,
         _ => 0,
     }
 }
 
 /// How wide the column of tickets is, in characters.
-pub fn ticket_width(rows: &[Row]) -> usize
-    ensures value { result ≡ ticket_width rows.now }
-    ensures few { result ≤ 35 }
-    ensures wide { 6 ≤ result }
+pub fn ticket_width(rows: &[Row]) -> u8
+    ensures { result ≡ ticket_width rows.now }
 {
-    let mut widest = 6;
-    for row in rows {
-        widest = widest.max(ticket_words_len(*row));
-    }
-    widest
+    rows.iter()
+        .fold(6, |widest, row| widest.max(ticket_words_len(*row)))
 }
 
 /// How many lanes stand to the left of a thread's.
@@ -279,25 +252,7 @@ pub fn lanes_before(threads: &[u8], thread: u8) -> usize
     ensures value { result ≡ lanes_before threads.now thread }
     ensures few { result ≤ MAX_THREADS }
 {
-    let mut before = 0;
-    for lower in threads {
-        if *lower < thread {
-            before += 1;
-        }
-    }
-    before
-}
-
-fn way_of(line: Option<ClaimLine>) -> &'static [u8]
-    ensures { result.now ≡ way_of line }
-{
-    match line {
-        None => b"",
-        Some(line) => match line_kind(line) {
-            OpKind::Enq(_) => b"in",
-            _ => b"out",
-        },
-    }
+    threads.iter().filter(|lower| **lower < thread).count()
 }
 
 /// The word `in` or `out` of the line in a row, where a value was dequeued twice.
@@ -305,7 +260,13 @@ pub fn way_in(claimed: &Claimed, row: Row) -> &'static [u8]
     ensures { result.now ≡ way_in claimed.now row }
 {
     match claimed {
-        Claimed::No(ViolationKind::VRepeat, lines) => way_of(line_in(lines.as_slice(), row)),
+        Claimed::No(ViolationKind::VRepeat, lines) => {
+            match line_in(lines.as_slice(), row).map(line_kind) {
+                None => b"",
+                Some(OpKind::Enq(_)) => b"in",
+                Some(_) => b"out",
+            }
+        }
         _ => b"",
     }
 }

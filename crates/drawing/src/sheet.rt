@@ -39,8 +39,7 @@ pub(crate) struct Sheet<'a> {
     ghost few_lines: { count_of_lines scene.now.claimed.now ≤ MOST_DRAWN },
     ghost few_bands: { vec_len scene.now.bands ≤ MOST_DRAWN + 2 },
     ghost few_threads: { vec_len scene.now.threads ≤ MAX_THREADS },
-    ghost ticket: { columns.ticket ≤ 35 },
-    ghost beside: { columns.beside ≤ 37 },
+    ghost beside: { columns.beside ≤ columns.lanes },
     ghost lanes_begin: { columns.lanes ≤ MAX_LANES },
     ghost lane: { columns.lane ≤ 22 },
 }

@@ -1,12 +1,10 @@
 //! How to read a picture.
-ghost use Rattle.std.specs.Prelude.{◌≡◌, ◌∷◌, ◌++◌, [], OnOk, IfOk};
-ghost use Rattle.drawing.specs.Signs.{initial_signs, number_sign, band_signs, away_signs, signs_of, meaning};
+ghost use Rattle.std.specs.Prelude.{◌≡◌, IfOk};
+ghost use Rattle.drawing.specs.Signs.{number_signs, band_signs, signs_of, meaning};
 ghost use Rattle.drawing.specs.Scene.{scene_on};
 
 use crate::drawn::is_any_away;
-use crate::line::{Added, push_two};
 use crate::sheet::Scene;
-use history_merge::Operation;
 use std::alloc::{AllocError, Global};
 use verdicts::{Claimed, ViolationKind};
 
@@ -35,59 +33,38 @@ pub enum Sign {
     Away,
 }
 
-fn push_initial_sign(signs: &mut Vec<Sign>, initial: &[u64]) -> Added
-    ensures { OnOk result (signs.new.items ≡ signs.old.items ++ initial_signs initial.now) }
+fn number_signs(claimed: &Claimed, initial: &[u64]) -> &'static [Sign]
+    ensures { result.now ≡ number_signs claimed.now initial.now }
 {
-    match initial {
-        [] => Ok(()),
-        [_, ..] => {
-            signs.push(Sign::First)?;
-            Ok(())
-        }
+    match (claimed, initial) {
+        (Claimed::Yes(_), []) => &[Sign::InOrder],
+        (Claimed::Yes(_), [_, ..]) => &[Sign::First, Sign::InOrder],
+        (Claimed::No(_, _), []) => &[Sign::OfOperations],
+        (Claimed::No(_, _), [_, ..]) => &[Sign::First, Sign::OfValues],
     }
 }
 
-fn number_sign(claimed: &Claimed, initial: &[u64]) -> Sign
-    ensures { result ≡ number_sign claimed.now initial.now }
+fn band_signs(claimed: &Claimed) -> &'static [Sign]
+    ensures { result.now ≡ band_signs claimed.now }
 {
     match claimed {
-        Claimed::Yes(_) => Sign::InOrder,
-        Claimed::No(_, _) => match initial {
-            [] => Sign::OfOperations,
-            [_, ..] => Sign::OfValues,
-        },
+        Claimed::Yes(_) | Claimed::No(ViolationKind::VRepeat, _) => &[],
+        Claimed::No(ViolationKind::VFresh, _) => &[Sign::Absent, Sign::Dequeued],
+        Claimed::No(ViolationKind::VOrd, _) => &[Sign::Present, Sign::InAndOut],
+        Claimed::No(ViolationKind::VWit, _) => &[Sign::Present, Sign::SaidEmpty],
     }
-}
-
-fn push_band_signs(signs: &mut Vec<Sign>, claimed: &Claimed) -> Added
-    ensures { OnOk result (signs.new.items ≡ signs.old.items ++ band_signs claimed.now) }
-{
-    match claimed {
-        Claimed::Yes(_) | Claimed::No(ViolationKind::VRepeat, _) => Ok(()),
-        Claimed::No(ViolationKind::VFresh, _) => push_two(signs, Sign::Absent, Sign::Dequeued),
-        Claimed::No(ViolationKind::VOrd, _) => push_two(signs, Sign::Present, Sign::InAndOut),
-        Claimed::No(ViolationKind::VWit, _) => push_two(signs, Sign::Present, Sign::SaidEmpty),
-    }
-}
-
-fn push_away_sign(signs: &mut Vec<Sign>, claimed: &Claimed, operations: &[Operation]) -> Added
-    ensures { OnOk result (signs.new.items ≡ signs.old.items ++ away_signs claimed.now operations.now) }
-{
-    if is_any_away(claimed, operations) {
-        signs.push(Sign::Away)?;
-    }
-    Ok(())
 }
 
 /// The signs of a picture, from top to bottom.
+#[tactic(auto, unfolding(crate::specs::Signs::signs_of))]
 pub fn signs_of(alloc: Global, scene: &Scene<'_>) -> Result<Vec<Sign>, AllocError>
     ensures { IfOk result (λ signs. signs.items ≡ signs_of (scene_on scene.now)) }
 {
-    let mut signs = Vec::new(alloc);
-    push_initial_sign(&mut signs, scene.initial)?;
-    signs.push(number_sign(scene.claimed, scene.initial))?;
-    push_band_signs(&mut signs, scene.claimed)?;
-    push_away_sign(&mut signs, scene.claimed, scene.operations.as_slice())?;
+    let mut signs = Vec::from_slice(alloc, number_signs(scene.claimed, scene.initial))?;
+    signs.extend_from_slice(band_signs(scene.claimed))?;
+    if is_any_away(scene.claimed, scene.operations.as_slice()) {
+        signs.push(Sign::Away)?;
+    }
     Ok(signs)
 }
 

@@ -1,20 +1,19 @@
 //! A picture as lines of characters.
-ghost use Rattle.std.specs.Prelude.{if◌then◌else◌, ◌==◌, ◌≡◌, ◌≤◌, ◌-◌, ◌++◌, [], IfOk, IfSome, OnOk, length, unwrap_or, codes, decimal};
-ghost use Rattle.std.specs.List.{flat_map, enumerate_from};
+ghost use Rattle.std.specs.Prelude.{if◌then◌else◌, ◌==◌, ◌≡◌, ◌≤◌, ◌-◌, ◌++◌, [], IfOk, IfSome, OnOk, length, unwrap_or};
+ghost use Rattle.std.specs.List.{flat_map};
 ghost use Rattle.drawing.specs.Claim.{count_of_lines, shown_by};
 ghost use Rattle.text_lines.specs.Lines.{line};
-ghost use Rattle.drawing.specs.Layout.{digits, value_in, told, label, numbered, number_at, place_in, initial_label};
-ghost use Rattle.drawing.specs.Scene.{scene_on, ticket_words};
+ghost use Rattle.drawing.specs.Layout.{kind_word, told, label, numbered, number_at};
+ghost use Rattle.drawing.specs.Scene.{scene_on};
 ghost use Rattle.drawing.specs.Signs.{signs_of};
-ghost use Rattle.drawing.specs.declared.scene.Row.TheVariants.{Initial, Ticket};
 ghost use Rattle.drawing.specs.Inner.Words.{scene_in};
 ghost use Rattle.drawing.specs.Words.{placed, with_words, line_of};
 ghost use Rattle.drawing.specs.Terminal.{one_of, event_sign, effect_sign, lane_sign, lane_column, lane_words, band_words, beside_words, call_label};
-ghost use Rattle.drawing.specs.Terminal.{told_word, row_words, strokes, head_words, head_lines, thread_words, order_word, thread_digits};
-ghost use Rattle.drawing.specs.Terminal.{lane_names, tens_line, name_words, heads, heads_again, numbered_row, sign_text, sign_line};
-ghost use Rattle.drawing.specs.Terminal.{effect_meaning, legend, words, terminal_picture};
+ghost use Rattle.drawing.specs.Terminal.{told_word, row_words, strokes, under, order_word, thread_digits, lane_names, name_words};
+ghost use Rattle.drawing.specs.Terminal.{tens_line, heads, heads_again, numbered_row, sign_text, sign_line, effect_meaning};
+ghost use Rattle.drawing.specs.Terminal.{legend, words, terminal_picture};
 
-use crate::bands::{Head, form_at, head_words};
+use crate::bands::{form_at, head_words};
 use crate::captions::{headline, push_caption};
 use crate::claim::{count_of_lines, shown_by};
 use crate::columns::{MOST_DRAWN, ROWS_UNDER_HEADS, columns_of, digits, lane_place};
@@ -28,19 +27,20 @@ use crate::signs::{Sign, meaning, signs_of};
 use history_merge::{OpKind, Operation};
 use itoa::Buffer;
 use std::alloc::{AllocError, Global};
-use verdicts::{ClaimLine, Claimed};
+use verdicts::Claimed;
 
 /// What the forms in the lanes mean.
 pub(crate) const LANE_MEANINGS: &[u8] = b"[    call of an operation\n]    its return\n";
 
-fn push_valued(text: &mut Vec<u8>, word: &[u8], full: bool, value: u64) -> Added
-    ensures { OnOk result (text.new.items ≡ text.old.items ++ (word.now ++ value_in full value)) }
+/// The word of a kind of operation.
+pub fn kind_word(kind: OpKind) -> &'static [u8]
+    ensures { result.now ≡ kind_word kind }
 {
-    text.extend_from_slice(word)?;
-    if full {
-        push_number(text, value)
-    } else {
-        push_value(text, value)
+    match kind {
+        OpKind::Enq(_) => b"enq",
+        OpKind::Deq(_) => b"deq",
+        OpKind::Not(_) => b"not",
+        OpKind::Empty => b"empty",
     }
 }
 
@@ -48,11 +48,17 @@ fn push_valued(text: &mut Vec<u8>, word: &[u8], full: bool, value: u64) -> Added
 pub fn push_told(text: &mut Vec<u8>, full: bool, kind: OpKind) -> Added
     ensures { OnOk result (text.new.items ≡ text.old.items ++ told full kind) }
 {
+    text.extend_from_slice(kind_word(kind))?;
     match kind {
-        OpKind::Enq(value) => push_valued(text, b"enq ", full, value),
-        OpKind::Deq(value) => push_valued(text, b"deq ", full, value),
-        OpKind::Not(value) => push_valued(text, b"not ", full, value),
-        OpKind::Empty => text.extend_from_slice(b"empty"),
+        OpKind::Enq(value) | OpKind::Deq(value) | OpKind::Not(value) => {
+            text.extend_from_slice(b" ")?;
+            if full {
+                push_number(text, value)
+            } else {
+                push_value(text, value)
+            }
+        }
+        OpKind::Empty => Ok(()),
     }
 }
 
@@ -77,16 +83,11 @@ fn number_at(alloc: Global, place: Option<usize>) -> Result<Vec<u8>, AllocError>
 }
 
 /// Words after a number at the right of a column of this width; blanks, where there is no number.
-pub fn numbered(
-    alloc: Global,
-    wide: usize,
-    number: &[u8],
-    words: &[u8],
-) -> Result<Vec<u8>, AllocError>
+pub fn numbered(alloc: Global, wide: u8, number: &[u8], words: &[u8]) -> Result<Vec<u8>, AllocError>
     ensures { IfOk result (λ word. word.items ≡ numbered wide number.now words.now) }
 {
     let mut word = Vec::new(alloc);
-    word.resize(wide.saturating_sub(number.len()), b' ')?;
+    word.resize(usize::from(wide).saturating_sub(number.len()), b' ')?;
     word.extend_from_slice(number)?;
     word.extend_from_slice(b" ")?;
     word.extend_from_slice(words)?;
@@ -101,25 +102,22 @@ fn one_of(away: bool, round: &'static [u8], square: &'static [u8]) -> &'static [
 }
 
 /// A call with its number, a return, or that an operation is under way.
-fn event_sign(
-    alloc: Global,
-    shown: &[ClaimLine],
-    away: bool,
-    ticket: u64,
-    operation: Operation,
-) -> Result<Vec<u8>, AllocError>
-    requires { length shown.now ≤ MOST_DRAWN }
-    ensures { IfOk result (λ word. word.items ≡ event_sign shown.now away ticket operation) }
+fn event_sign(sheet: &Sheet<'_>, ticket: u64, operation: Operation) -> Result<Vec<u8>, AllocError>
+    ensures { IfOk result (λ word. word.items ≡ event_sign sheet.now.columns (scene_in sheet.now) ticket operation) }
 {
+    let claimed = sheet.scene.claimed;
+    let away = is_away(claimed, operation);
     if operation.call == ticket {
-        let number = number_at(alloc, place_in(shown, Row::Ticket(operation.call)))?;
-        let mut word = Vec::from_slice(alloc, one_of(away, b"(", b"["))?;
+        let narrow = sheet.columns.lane == 1;
+        let shown = if narrow { &[] } else { shown_by(claimed) };
+        let number = number_at(sheet.alloc, place_in(shown, Row::Ticket(operation.call)))?;
+        let mut word = Vec::from_slice(sheet.alloc, one_of(away, b"(", b"["))?;
         word.extend_from_slice(number.as_slice())?;
         Ok(word)
     } else if operation.ret == ticket {
-        Vec::from_slice(alloc, one_of(away, b")", b"]"))
+        Vec::from_slice(sheet.alloc, one_of(away, b")", b"]"))
     } else {
-        Vec::from_slice(alloc, one_of(away, b":", b"|"))
+        Vec::from_slice(sheet.alloc, one_of(away, b":", b"|"))
     }
 }
 
@@ -143,35 +141,23 @@ fn effect_sign(
 }
 
 /// What stands in a lane in a row, where this operation is under way.
-fn lane_sign(
-    alloc: Global,
-    narrow: bool,
-    claimed: &Claimed,
-    row: Row,
-    under: Option<Operation>,
-) -> Result<Vec<u8>, AllocError>
-    requires { count_of_lines claimed.now ≤ MOST_DRAWN }
-    ensures { IfOk result (λ word. word.items ≡ lane_sign narrow claimed.now row under) }
+fn lane_sign(sheet: &Sheet<'_>, row: Row, under: Option<Operation>) -> Result<Vec<u8>, AllocError>
+    ensures { IfOk result (λ word. word.items ≡ lane_sign sheet.now.columns (scene_in sheet.now) row under) }
 {
     match (row, under) {
-        (Row::Ticket(ticket), Some(operation)) => {
-            let shown = if narrow { &[] } else { shown_by(claimed) };
-            let away = is_away(claimed, operation);
-            event_sign(alloc, shown, away, ticket, operation)
-        }
+        (Row::Ticket(ticket), Some(operation)) => event_sign(sheet, ticket, operation),
         (Row::LeftOut(_, _), Some(operation)) => {
-            Vec::from_slice(alloc, one_of(is_away(claimed, operation), b":", b"|"))
+            let away = is_away(sheet.scene.claimed, operation);
+            Vec::from_slice(sheet.alloc, one_of(away, b":", b"|"))
         }
         (Row::Effect(effect, number, point), Some(operation)) => {
+            let narrow = sheet.columns.lane == 1;
             let mut buffer = Buffer::new();
-            let here = if narrow {
-                b"*"
-            } else {
-                buffer.format(number).as_bytes()
-            };
-            effect_sign(alloc, here, effect, point, operation)
+            let number = buffer.format(number).as_bytes();
+            let here = if narrow { b"*" } else { number };
+            effect_sign(sheet.alloc, here, effect, point, operation)
         }
-        _ => Ok(Vec::new(alloc)),
+        _ => Ok(Vec::new(sheet.alloc)),
     }
 }
 
@@ -189,11 +175,10 @@ fn place_lanes(line: &mut Vec<u8>, sheet: &Sheet<'_>, row: Row) -> Added
 {
     let operations = sheet.scene.operations.as_slice();
     let threads = sheet.scene.threads.as_slice();
-    let narrow = sheet.columns.lane == 1;
     let ticket = gap_of(row).unwrap_or(0);
     for thread in threads {
         let operation = under_way(operations, *thread, ticket);
-        let word = lane_sign(sheet.alloc, narrow, sheet.scene.claimed, row, operation)?;
+        let word = lane_sign(sheet, row, operation)?;
         place(line, lane_column(sheet, *thread), word.as_slice())?;
     }
     Ok(())
@@ -219,83 +204,50 @@ fn beside_words(alloc: Global, claimed: &Claimed, row: Row) -> Result<Vec<u8>, A
             let mut buffer = Buffer::new();
             let label = label_of(alloc, effect.kind)?;
             let number = buffer.format(number).as_bytes();
-            numbered(
-                alloc,
-                digits(count_of_lines(claimed) as u64),
-                number,
-                label.as_slice(),
-            )
+            let wide = digits(count_of_lines(claimed) as u64);
+            numbered(alloc, wide, number, label.as_slice())
         }
         _ => Vec::from_slice(alloc, way_in(claimed, row)),
     }
 }
 
 /// The label of what is called, where something is; after its number, where lanes have no room for that.
-fn call_label(
-    alloc: Global,
-    narrow: bool,
-    shown: &[ClaimLine],
-    called: Option<Operation>,
-) -> Result<Vec<u8>, AllocError>
-    requires { length shown.now ≤ MOST_DRAWN }
-    ensures { IfOk result (λ word. word.items ≡ call_label narrow shown.now called) }
+fn call_label(sheet: &Sheet<'_>, called: Option<Operation>) -> Result<Vec<u8>, AllocError>
+    ensures { IfOk result (λ word. word.items ≡ call_label sheet.now.columns (scene_in sheet.now) called) }
 {
-    match called {
-        None => Ok(Vec::new(alloc)),
-        Some(operation) => {
-            let label = label_of(alloc, operation.kind)?;
-            if narrow {
-                let number = number_at(alloc, place_in(shown, Row::Ticket(operation.call)))?;
-                numbered(
-                    alloc,
-                    digits(shown.len() as u64),
-                    number.as_slice(),
-                    label.as_slice(),
-                )
-            } else {
-                Ok(label)
-            }
-        }
+    let Some(operation) = called else {
+        return Ok(Vec::new(sheet.alloc));
+    };
+    let label = label_of(sheet.alloc, operation.kind)?;
+    if sheet.columns.lane == 1 {
+        let shown = shown_by(sheet.scene.claimed);
+        let number = number_at(sheet.alloc, place_in(shown, Row::Ticket(operation.call)))?;
+        let wide = digits(shown.len() as u64);
+        numbered(sheet.alloc, wide, number.as_slice(), label.as_slice())
+    } else {
+        Ok(label)
     }
-}
-
-/// Adds the label of an initial value, after its number.
-fn place_initial(line: &mut Vec<u8>, sheet: &Sheet<'_>, index: usize, value: u64) -> Added
-    ensures { OnOk result (line.new.items ≡ placed line.old.items (told_word sheet.now.columns (scene_in sheet.now) (Initial index value))) }
-{
-    let claimed = sheet.scene.claimed;
-    let label = initial_label(sheet.alloc, value)?;
-    let number = number_at(
-        sheet.alloc,
-        place_in(shown_by(claimed), Row::Initial(index, value)),
-    )?;
-    let wide = digits(count_of_lines(claimed) as u64);
-    let word = numbered(sheet.alloc, wide, number.as_slice(), label.as_slice())?;
-    place(line, sheet.columns.lanes, word.as_slice())
-}
-
-/// Adds the label of what is called with this ticket.
-fn place_called(line: &mut Vec<u8>, sheet: &Sheet<'_>, ticket: u64) -> Added
-    ensures { OnOk result (line.new.items ≡ placed line.old.items (told_word sheet.now.columns (scene_in sheet.now) (Ticket ticket))) }
-{
-    let called = called_at(sheet.scene.operations.as_slice(), ticket);
-    let word = call_label(
-        sheet.alloc,
-        sheet.columns.lane == 1,
-        shown_by(sheet.scene.claimed),
-        called,
-    )?;
-    place(line, sheet.columns.label, word.as_slice())
 }
 
 /// Adds the words right of the bands or of the lanes.
 fn place_told(line: &mut Vec<u8>, sheet: &Sheet<'_>, row: Row) -> Added
     ensures { OnOk result (line.new.items ≡ placed line.old.items (told_word sheet.now.columns (scene_in sheet.now) row)) }
 {
+    let claimed = sheet.scene.claimed;
     match row {
         Row::Head => place(line, sheet.columns.lanes, b"in the queue first"),
-        Row::Initial(index, value) => place_initial(line, sheet, index, value),
-        Row::Ticket(ticket) => place_called(line, sheet, ticket),
+        Row::Initial(_, value) => {
+            let label = initial_label(sheet.alloc, value)?;
+            let number = number_at(sheet.alloc, place_in(shown_by(claimed), row))?;
+            let wide = digits(count_of_lines(claimed) as u64);
+            let word = numbered(sheet.alloc, wide, number.as_slice(), label.as_slice())?;
+            place(line, sheet.columns.lanes, word.as_slice())
+        }
+        Row::Ticket(ticket) => {
+            let called = called_at(sheet.scene.operations.as_slice(), ticket);
+            let word = call_label(sheet, called)?;
+            place(line, sheet.columns.label, word.as_slice())
+        }
         _ => Ok(()),
     }
 }
@@ -311,27 +263,21 @@ fn place_strokes(line: &mut Vec<u8>, sheet: &Sheet<'_>, bands: usize) -> Added
     Ok(())
 }
 
-/// Adds the line of the head of band i.
-fn push_head_line(text: &mut Vec<u8>, sheet: &Sheet<'_>, i: usize, head: Head) -> Added
-    requires { i ≤ length (scene_in sheet.now).bands }
-    ensures { OnOk result (text.new.items ≡ text.old.items ++ line (line_of (head_words sheet.now.columns i head))) }
+/// Adds a line of these strokes, and of a word at a column.
+fn push_under(
+    text: &mut Vec<u8>,
+    sheet: &Sheet<'_>,
+    bands: usize,
+    column: usize,
+    word: &[u8],
+) -> Added
+    requires { bands ≤ length (scene_in sheet.now).bands }
+    ensures { OnOk result (text.new.items ≡ text.old.items ++ under sheet.now.columns bands column word.now) }
 {
     let mut bytes = Vec::new(sheet.alloc);
-    place_strokes(&mut bytes, sheet, i)?;
-    let word = head_words(sheet.alloc, head)?;
-    place(&mut bytes, sheet.columns.beside + 5 * i, word.as_slice())?;
+    place_strokes(&mut bytes, sheet, bands)?;
+    place(&mut bytes, column, word)?;
     push_line(text, bytes.as_slice())
-}
-
-#[tactic(auto, unfolding(crate::specs::Terminal::head_lines))]
-fn push_band_heads(text: &mut Vec<u8>, sheet: &Sheet<'_>) -> Added
-    ensures { OnOk result (text.new.items ≡ text.old.items ++ head_lines sheet.now.columns (scene_in sheet.now).bands) }
-{
-    let bands = sheet.scene.bands.as_slice();
-    for (i, band) in bands.iter().enumerate() {
-        push_head_line(text, sheet, i, band.head)?;
-    }
-    Ok(())
 }
 
 /// What stands of a thread's number in a line above its lane: all of it, or where lanes are narrow its tens or its units.
@@ -370,55 +316,34 @@ fn order_word(claimed: &Claimed) -> &'static [u8]
     }
 }
 
-/// Adds the line of the tens of the threads' numbers, where lanes are narrow.
-fn push_tens_line(text: &mut Vec<u8>, sheet: &Sheet<'_>) -> Added
-    ensures { OnOk result (text.new.items ≡ text.old.items ++ tens_line sheet.now.columns (scene_in sheet.now)) }
+/// Adds the line of the words above the tickets and the order, and of the threads' numbers; or of the tens of these alone.
+fn push_names(text: &mut Vec<u8>, sheet: &Sheet<'_>, tens: bool) -> Added
+    ensures { OnOk result (text.new.items ≡ text.old.items ++ line (line_of (name_words sheet.now.columns (scene_in sheet.now) tens))) }
 {
-    if sheet.columns.lane == 1 {
-        let mut bytes = Vec::new(sheet.alloc);
-        place_strokes(&mut bytes, sheet, sheet.scene.bands.len())?;
-        place_lane_names(&mut bytes, sheet, true)?;
-        push_line(text, bytes.as_slice())?;
+    let mut bytes = Vec::new(sheet.alloc);
+    if !tens {
+        let column = sheet.columns.ticket.saturating_sub(6);
+        place(&mut bytes, column, b"ticket")?;
+        place(
+            &mut bytes,
+            sheet.columns.beside,
+            order_word(sheet.scene.claimed),
+        )?;
     }
-    Ok(())
-}
-
-#[tactic(auto, unfolding(crate::specs::Terminal::name_words))]
-fn name_bytes(sheet: &Sheet<'_>) -> Result<Vec<u8>, AllocError>
-    ensures { IfOk result (λ bytes. bytes.items ≡ line_of
-        (name_words sheet.now.columns (scene_in sheet.now))) }
-{
-    let mut bytes = Vec::new(sheet.alloc);
-    let column = sheet.columns.ticket.saturating_sub(6);
-    place(&mut bytes, column, b"ticket")?;
-    place(
-        &mut bytes,
-        sheet.columns.beside,
-        order_word(sheet.scene.claimed),
-    )?;
     place_strokes(&mut bytes, sheet, sheet.scene.bands.len())?;
-    place_lane_names(&mut bytes, sheet, false)?;
-    Ok(bytes)
-}
-
-/// Adds the line of the word above the lanes.
-#[tactic(auto, unfolding(crate::specs::Terminal::thread_words))]
-fn push_thread_line(text: &mut Vec<u8>, sheet: &Sheet<'_>) -> Added
-    ensures { OnOk result (text.new.items ≡ text.old.items
-        ++ line (line_of (thread_words sheet.now.columns (length (scene_in sheet.now).bands)))) }
-{
-    let mut bytes = Vec::new(sheet.alloc);
-    place_strokes(&mut bytes, sheet, sheet.scene.bands.len())?;
-    place(&mut bytes, sheet.columns.lanes, b"thread")?;
+    place_lane_names(&mut bytes, sheet, tens)?;
     push_line(text, bytes.as_slice())
 }
 
-/// Adds the line of the words above the tickets and the order, and of the threads' numbers.
-fn push_name_line(text: &mut Vec<u8>, sheet: &Sheet<'_>) -> Added
-    ensures { OnOk result (text.new.items ≡ text.old.items ++ line (line_of (name_words sheet.now.columns (scene_in sheet.now)))) }
+/// Adds the line of the tens of the threads' numbers, where lanes are narrow.
+fn push_tens(text: &mut Vec<u8>, sheet: &Sheet<'_>) -> Added
+    ensures { OnOk result (text.new.items ≡ text.old.items ++ tens_line sheet.now.columns (scene_in sheet.now)) }
 {
-    let names = name_bytes(sheet)?;
-    push_line(text, names.as_slice())
+    if sheet.columns.lane == 1 {
+        push_names(text, sheet, true)
+    } else {
+        Ok(())
+    }
 }
 
 /// Adds the heads: those of the bands, and those of the tickets and the lanes.
@@ -426,10 +351,25 @@ fn push_name_line(text: &mut Vec<u8>, sheet: &Sheet<'_>) -> Added
 fn push_heads(text: &mut Vec<u8>, sheet: &Sheet<'_>) -> Added
     ensures { OnOk result (text.new.items ≡ text.old.items ++ heads sheet.now.columns (scene_in sheet.now)) }
 {
-    push_band_heads(text, sheet)?;
-    push_thread_line(text, sheet)?;
-    push_tens_line(text, sheet)?;
-    push_name_line(text, sheet)
+    for (i, band) in sheet.scene.bands.as_slice().iter().enumerate() {
+        let word = head_words(sheet.alloc, band.head)?;
+        push_under(
+            text,
+            sheet,
+            i,
+            sheet.columns.beside + 5 * i,
+            word.as_slice(),
+        )?;
+    }
+    push_under(
+        text,
+        sheet,
+        sheet.scene.bands.len(),
+        sheet.columns.lanes,
+        b"thread",
+    )?;
+    push_tens(text, sheet)?;
+    push_names(text, sheet, false)
 }
 
 /// Adds the heads once more, above each 40th row.
@@ -443,32 +383,16 @@ fn push_heads_again(text: &mut Vec<u8>, sheet: &Sheet<'_>, i: usize) -> Added
     }
 }
 
-/// Adds the words in the column of tickets.
-fn place_tickets(line: &mut Vec<u8>, sheet: &Sheet<'_>, row: Row) -> Added
-    ensures { OnOk result (line.new.items ≡ placed line.old.items
-        (record { column = sheet.now.columns.ticket - length (ticket_words row); bytes = ticket_words row })) }
-{
-    let words = ticket_words(sheet.alloc, row)?;
-    let column = sheet.columns.ticket.saturating_sub(words.len());
-    place(line, column, words.as_slice())
-}
-
-/// Adds the words beside the tickets.
-fn place_beside(line: &mut Vec<u8>, sheet: &Sheet<'_>, row: Row) -> Added
-    ensures { OnOk result (line.new.items ≡ placed line.old.items
-        (record { column = sheet.now.columns.beside; bytes = beside_words (scene_in sheet.now).claimed row })) }
-{
-    let words = beside_words(sheet.alloc, sheet.scene.claimed, row)?;
-    place(line, sheet.columns.beside, words.as_slice())
-}
-
 /// Adds the words in a row.
 #[tactic(auto, unfolding(crate::specs::Terminal::row_words))]
 fn place_row(line: &mut Vec<u8>, sheet: &Sheet<'_>, row: Row) -> Added
     ensures { OnOk result (line.new.items ≡ with_words line.old.items (row_words sheet.now.columns (scene_in sheet.now) row)) }
 {
-    place_tickets(line, sheet, row)?;
-    place_beside(line, sheet, row)?;
+    let tickets = ticket_words(sheet.alloc, row)?;
+    let column = sheet.columns.ticket.saturating_sub(tickets.len());
+    place(line, column, tickets.as_slice())?;
+    let beside = beside_words(sheet.alloc, sheet.scene.claimed, row)?;
+    place(line, sheet.columns.beside, beside.as_slice())?;
     place_bands(line, sheet, gap_of(row))?;
     place_lanes(line, sheet, row)?;
     place_told(line, sheet, row)
@@ -484,17 +408,6 @@ fn push_numbered(text: &mut Vec<u8>, sheet: &Sheet<'_>, i: usize, row: Row) -> A
     push_line(text, bytes.as_slice())
 }
 
-fn push_each_row(text: &mut Vec<u8>, sheet: &Sheet<'_>) -> Added
-    ensures { OnOk result (text.new.items ≡ text.old.items
-        ++ flat_map (numbered_row sheet.now.columns (scene_in sheet.now)) (enumerate_from 0 (scene_in sheet.now).rows)) }
-{
-    let rows = sheet.scene.rows.as_slice();
-    for (i, row) in rows.iter().enumerate() {
-        push_numbered(text, sheet, i, *row)?;
-    }
-    Ok(())
-}
-
 fn sign_text(sign: Sign) -> &'static [u8]
     ensures { result.now ≡ sign_text sign }
 {
@@ -508,23 +421,6 @@ fn sign_text(sign: Sign) -> &'static [u8]
     }
 }
 
-/// Adds a sign, and what it means.
-fn push_sign(text: &mut Vec<u8>, sign: Sign) -> Added
-    ensures { OnOk result (text.new.items ≡ text.old.items ++ sign_line sign) }
-{
-    text.extend_from_slice(sign_text(sign))?;
-    push_line(text, meaning(sign))
-}
-
-fn push_signs(text: &mut Vec<u8>, signs: &[Sign]) -> Added
-    ensures { OnOk result (text.new.items ≡ text.old.items ++ flat_map sign_line signs.now) }
-{
-    for sign in signs {
-        push_sign(text, *sign)?;
-    }
-    Ok(())
-}
-
 fn effect_meaning(narrow: bool, claimed: &Claimed) -> &'static [u8]
     ensures { result.now ≡ effect_meaning narrow claimed.now }
 {
@@ -535,12 +431,23 @@ fn effect_meaning(narrow: bool, claimed: &Claimed) -> &'static [u8]
     }
 }
 
+/// Adds a sign, and what it means.
+fn push_sign(text: &mut Vec<u8>, sign: Sign) -> Added
+    ensures { OnOk result (text.new.items ≡ text.old.items ++ sign_line sign) }
+{
+    text.extend_from_slice(sign_text(sign))?;
+    push_line(text, meaning(sign))
+}
+
 /// Adds the signs of the picture, with what they mean.
-fn push_scene_signs(text: &mut Vec<u8>, sheet: &Sheet<'_>) -> Added
+fn push_signs(text: &mut Vec<u8>, sheet: &Sheet<'_>) -> Added
     ensures { OnOk result (text.new.items ≡ text.old.items ++ flat_map sign_line (signs_of (scene_in sheet.now))) }
 {
     let signs = signs_of(sheet.alloc, sheet.scene)?;
-    push_signs(text, signs.as_slice())
+    for sign in signs.as_slice() {
+        push_sign(text, *sign)?;
+    }
+    Ok(())
 }
 
 /// Adds how to read the picture.
@@ -550,7 +457,7 @@ fn push_legend(text: &mut Vec<u8>, sheet: &Sheet<'_>) -> Added
 {
     text.extend_from_slice(LANE_MEANINGS)?;
     text.extend_from_slice(effect_meaning(sheet.columns.lane == 1, sheet.scene.claimed))?;
-    push_scene_signs(text, sheet)
+    push_signs(text, sheet)
 }
 
 /// Adds what stands above the rows: what the picture shows, and how to read it.
@@ -584,7 +491,7 @@ fn push_words(text: &mut Vec<u8>, sheet: &Sheet<'_>) -> Added
 /// The claim need not be evidence: what stands in the picture follows its lines. Time O(n t n) for n operations of t threads, and
 /// O(k m) for k initial values and m lines; memory for the text, of O(n t + k m) bytes. `AllocError` comes only where a growth was
 /// refused.
-#[tactic(auto, unfolding(crate::specs::Terminal::terminal_picture, crate::specs::Terminal::lines))]
+#[tactic(auto, unfolding(crate::specs::Terminal::terminal_picture))]
 pub fn terminal_picture(alloc: Global, scene: &Scene<'_>) -> Result<Vec<u8>, AllocError>
     // The claim has few enough lines to be drawn.
     requires { count_of_lines scene.now.claimed.now ≤ MOST_DRAWN }
@@ -598,6 +505,8 @@ pub fn terminal_picture(alloc: Global, scene: &Scene<'_>) -> Result<Vec<u8>, All
     let mut text = Vec::new(alloc);
     push_words(&mut text, &sheet)?;
     push_heads(&mut text, &sheet)?;
-    push_each_row(&mut text, &sheet)?;
+    for (i, row) in scene.rows.as_slice().iter().enumerate() {
+        push_numbered(&mut text, &sheet, i, *row)?;
+    }
     Ok(text)
 }

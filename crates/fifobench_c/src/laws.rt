@@ -4,8 +4,7 @@ ghost use Rattle.event_records.specs.declared.event.Event.{Event};
 ghost use Rattle.history_text.specs.Histories.{HasHistoryText, history_text};
 ghost use Rattle.command_words.specs.Commands.{check};
 ghost use Rattle.commands.specs.Answers.{Reply};
-ghost use Rattle.commands.specs.Evidence.{input_of};
-ghost use Rattle.commands.specs.OneAnswer.{SameOrNoMemory};
+ghost use Rattle.commands.specs.Evidence.{SameOrNoMemory, input_of};
 ghost use Rattle.commands.specs.Running.{AnswersOf};
 ghost use Rattle.commands.specs.Judging.{AnswersOrNoMemory, JudgesHistory, from_none};
 

@@ -1,8 +1,8 @@
 -- What is taken from the buffer of a reader.
 use Rattle.history_text.proofs.Common.{[], ◌++◌, ◌+◌, ◌-◌, ◌<◌, ◌∙◌, ◌∷◌, ◌≡◌, ◌≤◌, ap, append_assoc, arith, drop}
-use Rattle.history_text.proofs.Common.{drop-drop, false, IfSome, length, length-append, length-drop, length-take-le, List}
-use Rattle.history_text.proofs.Common.{nat_lt, nat_tests, None, Option, refl, Some, subst, sym, take, take_all, ℕ}
-use Rattle.history_text.proofs.Common.{Ahead, EndOfInput, HasMore, IsOver, Takes, with_front}
+use Rattle.history_text.proofs.Common.{drop-drop, false, IfSome, length, length-append, length-drop, length-take-le}
+use Rattle.history_text.proofs.Common.{List, nat_lt, nat_tests, None, Option, refl, Some, subst, sym, take, take_all}
+use Rattle.history_text.proofs.Common.{ℕ, Ahead, EndOfInput, HasMore, IsOver, Takes, with_front}
 use Rattle.std.proofs.Common.{not, suc, take-add, zero}
 use Rattle.std.proofs.Math.Seq.{take-append-add}
 use Rattle.std.proofs.lemmas.List.Edits.{take-paste}

@@ -3,33 +3,32 @@ pub use Rattle.std.proofs.Common.{[], ◌%◌, ◌&&◌, ◌*◌, ◌++◌, ◌+
 pub use Rattle.std.proofs.Common.{append-nil, append_assoc, ap₂, arith, Bool, bytes_eq, codes, cond, Contains, decimal}
 pub use Rattle.std.proofs.Common.{drop, drop-drop, Err, false, filter_map, flat_map, get_or, IfErr, IfOk, IfSome, inl}
 pub use Rattle.std.proofs.Common.{inr, is_err, IsErrAnd, length, length-append, length-drop, length-take-le, List, map}
-pub use Rattle.std.proofs.Common.{MatchResult, nat_eq, nat_lt, None, Ok, OnOk, Option, option_map, option_to_list, refl}
-pub use Rattle.std.proofs.Common.{rules, slice_get, Some, subst, sym, take, take-append-drop, take_all, true, ℕ}
+pub use Rattle.std.proofs.Common.{MatchResult, nat_eq, nat_lt, None, Ok, OnOk, Option, option_map, option_to_list}
+pub use Rattle.std.proofs.Common.{refl, rules, slice_get, Some, subst, sym, take, take-append-drop, take_all, true, ℕ}
 pub use Rattle.std.proofs.lemmas.Bool.Decides.{nat_tests}
 pub use Rattle.std.proofs.lemmas.Fmt.{decimal_digit, decimal_nonempty, decimal_step, length-decimal-le}
 pub use Rattle.std.proofs.lemmas.Grind.{flat_map-append}
-pub use Rattle.std.proofs.lemmas.List.{append_cancel_left, drop_more, length-map, take_rest}
+pub use Rattle.std.proofs.lemmas.List.{drop_more, length-map, take_rest}
 pub use Rattle.std.proofs.lemmas.List.Splits.{join_with_byte-slice_split}
 pub use Rattle.std.proofs.lemmas.Bool.{and_right, false_from_ne_true}
-pub use Rattle.std.proofs.lemmas.Option.{none-some, same_Some}
-pub use Rattle.std.proofs.lemmas.Result.{err_from_is_err_and, IfErr-weaker, MatchResult-weaker}
-pub use Rattle.std.specs.List.{AllByRecursion, cons_option, list_all, onto_first}
+pub use Rattle.std.proofs.lemmas.Result.{err_from_is_err_and}
+pub use Rattle.std.specs.List.{AllByRecursion, cons_option, list_all}
 pub use Rattle.std.specs.declared.result.Result.{Result}
 pub use Rattle.event_records.specs.declared.event.Event.{Event}
-pub use Rattle.event_records.specs.declared.limits.TheConstants.{MAX_CLAIM_LINES, MAX_EVENTS, MAX_INITIAL, MAX_STEPS}
-pub use Rattle.event_records.specs.declared.limits.TheConstants.{MAX_THREAD, MAX_TICKET}
+pub use Rattle.event_records.specs.declared.limits.TheConstants.{MAX_CLAIM_LINES, MAX_EVENTS, MAX_INITIAL, MAX_THREAD}
+pub use Rattle.event_records.specs.declared.limits.TheConstants.{MAX_TICKET}
 pub use Rattle.text_lines.specs.Forms.{AreOfForm, FieldForm, Number, numbers_in, parse_line, spelled, Table, Word}
 pub use Rattle.text_lines.specs.Inner.Lines.{IsPartOfLine}
 pub use Rattle.text_lines.specs.Input.{Ahead, Ending, EndOfInput, Failure, IsOver, Takes}
-pub use Rattle.text_lines.specs.Lines.{◌>>=◌, After, begins_as_end, end_in, end_line, end_word, fields_of, Front}
-pub use Rattle.text_lines.specs.Lines.{front_of, greatest_value, header_fault, is_line_feed, line, longest_line}
-pub use Rattle.text_lines.specs.Lines.{Nothing, spaced, Unfinished, Whole}
+pub use Rattle.text_lines.specs.Lines.{◌>>=◌, begins_as_end, end_in, end_line, end_word, fields_of, Front, front_of}
+pub use Rattle.text_lines.specs.Lines.{greatest_value, header_fault, is_line_feed, line, longest_line, Nothing, spaced}
+pub use Rattle.text_lines.specs.Lines.{Unfinished, Whole}
 pub use Rattle.text_lines.specs.Writing.{Asked, PutsText, TakesFront, TakesSome}
 pub use Rattle.text_lines.specs.declared.fault.TextFault.{TextFault}
 pub use Rattle.text_lines.specs.declared.fault.TextFault.TheVariants.{Cut, Header, Line, Memory, Read}
 pub use Rattle.text_lines.proofs.Consuming.{before, before_end, Takes-append}
 pub use Rattle.text_lines.proofs.Fronts.{front_too_long, front_unfinished, whole}
-pub use Rattle.text_lines.proofs.Numbers.{bind_ok, both, chosen, end_ok, text_is}
+pub use Rattle.text_lines.proofs.Numbers.{both, end_ok, text_is}
 pub use Rattle.text_lines.proofs.Putting.{goes_out, one_more_put, puts_after, puts_then, refused_text, some_kept}
 pub use Rattle.text_lines.proofs.Putting.{some_then, stops_at_next, stops_before, stops_inside}
 pub use Rattle.text_lines.proofs.Tables.{has_bits, is_line_form, numbers_back, parse_line_says, spelled_is_line}
@@ -45,20 +44,18 @@ pub use Rattle.verdicts.specs.declared.verifying.ViolationKind.{ViolationKind}
 pub use Rattle.history_text.specs.Claims.{claim_line_format, claim_line_in, ClaimFault, empty_operation, first_line}
 pub use Rattle.history_text.specs.Claims.{FirstLineFault, HasClaimLine, HasOperationLine, HasVerdictText, initial_form}
 pub use Rattle.history_text.specs.Claims.{initial_forms, initial_of, is_initial, IsKindInRange, IsNoFirstLine}
-pub use Rattle.history_text.specs.Claims.{IsVerdictTextFault, kind_with, NoRoomForVerdict, operation_format}
-pub use Rattle.history_text.specs.Claims.{operation_forms, operation_in, operation_of, valued_operation}
+pub use Rattle.history_text.specs.Claims.{IsVerdictTextFault, NoRoomForVerdict, operation_format, operation_forms}
+pub use Rattle.history_text.specs.Claims.{operation_of, valued_operation}
 pub use Rattle.history_text.specs.Histories.{event_format, event_forms, event_in, event_line, event_of, HasEventLine}
 pub use Rattle.history_text.specs.Histories.{HasHistoryText, HasValueInRange, lines_to_end, plain_event, valued_event}
-pub use Rattle.history_text.specs.Histories.{what_fields, what_with}
-pub use Rattle.history_text.specs.Inner.Taking.{HasFaultAmong, HasFirstLineFault, HasHeaderFault, HasInitialFault}
-pub use Rattle.history_text.specs.Inner.Taking.{HasItemFault, HasItemsFault, HasLineFault, HasNoVersion, IsItemLine}
-pub use Rattle.history_text.specs.Inner.Taking.{IsOfInput, IsSpelled, NoLineFault, TakesEnd, TakesItem, TakesLine}
-pub use Rattle.history_text.specs.Inner.Verdicts.{line_text, lines_text, operation_text}
+pub use Rattle.history_text.specs.Histories.{what_fields}
+pub use Rattle.history_text.specs.Inner.Taking.{HasItemsFault, IsItemLine, IsOfInput, IsSpelled, TakesEnd, TakesItem}
+pub use Rattle.history_text.specs.Inner.Taking.{count_format, setting_format}
+pub use Rattle.history_text.specs.Inner.Verdicts.{line_text, lines_text}
 pub use Rattle.history_text.specs.Items.{a_value, FaultAmong, Format, HaveLines, item_at_front, item_at_nothing}
 pub use Rattle.history_text.specs.Items.{item_in, ItemFault, line_at_front, line_of, LineFault, lines_of, NoRoom}
 pub use Rattle.history_text.specs.Items.{NoRoomAmong, read_by}
-pub use Rattle.history_text.specs.Reading.{BeginsWith, HasFirstFault, HasMore, HasScheduleTextFault, HasTextFault}
-pub use Rattle.history_text.specs.Reading.{HasVerdictTextFault, Input, IsAll, with_front}
+pub use Rattle.history_text.specs.Reading.{BeginsWith, HasFirstFault, HasMore, HasTextFault, Input, IsAll, with_front}
 pub use Rattle.history_text.specs.Schedules.{draining, HasScheduleText, HasStepLine, IsAnswerInRange}
 pub use Rattle.history_text.specs.Schedules.{IsScheduleTextFault, IsSetting, lines_before_steps, NoRoomForSchedule}
 pub use Rattle.history_text.specs.Schedules.{plain_saying, plain_step, schedule_header, schedule_text, setting_fields}
@@ -67,10 +64,10 @@ pub use Rattle.history_text.specs.Schedules.{step_format, step_forms, step_in, s
 pub use Rattle.history_text.specs.Verdicts.{claim_line, claim_line_fields, claim_of, kind_fields, kind_name}
 pub use Rattle.history_text.specs.Verdicts.{maybe_place, operation_fields, operation_line, places_of_step}
 pub use Rattle.history_text.specs.Verdicts.{verdict_places, verdict_text, violation_kind, violation_places}
-pub use Rattle.history_text.specs.Versions.{AfterCount, count_before_events, count_fields, count_forms, count_in}
-pub use Rattle.history_text.specs.Versions.{FaultAfterHeader, HasText, HaveValueLines, header_of, HistoryText}
-pub use Rattle.history_text.specs.Versions.{InitialFault, is_blank, IsReadAs, IsTextFault, line_count}
-pub use Rattle.history_text.specs.Versions.{lines_before_events, lines_of_initial, NoRoomForText, NoVersionFault}
-pub use Rattle.history_text.specs.Versions.{number_of, text_of, value_fields, value_format, value_forms, value_in}
+pub use Rattle.history_text.specs.Versions.{count_before_events, count_fields, count_forms, count_in, FaultAfterHeader}
+pub use Rattle.history_text.specs.Versions.{HasText, HaveValueLines, header_of, HistoryText, is_blank, IsReadAs}
+pub use Rattle.history_text.specs.Versions.{IsTextFault, lines_before_events, lines_of_initial, NoRoomForText}
+pub use Rattle.history_text.specs.Versions.{NoVersionFault, number_of, text_of, value_fields, value_format}
+pub use Rattle.history_text.specs.Versions.{value_forms, value_in, text_by}
 pub use Rattle.history_text.specs.declared.version.Version.{Version}
 pub use Rattle.history_text.specs.declared.version.Version.TheVariants.{One, Two}

@@ -1,17 +1,13 @@
 -- The lines of a history: what is read is spelled so, and what is written is read back.
-use Rattle.history_text.proofs.Common.{[], ◌<◌, ◌==◌, ◌∷◌, ◌≡◌, ◌≤◌, arith, codes, cond, decimal, decimal_nonempty}
-use Rattle.history_text.proofs.Common.{false, inl, inr, length, List, nat_tests, Ok, onto_first, refl, true, ℕ, a_value}
-use Rattle.history_text.proofs.Common.{AreOfForm, chosen, count_fields, count_forms, count_in, FieldForm, fields_of}
-use Rattle.history_text.proofs.Common.{greatest_value, is_blank, IsSpelled, line, line_of, MAX_INITIAL, Number}
-use Rattle.history_text.proofs.Common.{number_of, spaced, spelled, value_fields, value_format, value_forms, value_in}
-use Rattle.history_text.proofs.Common.{Word, ◌++◌, AllByRecursion, ap, Some, sym, ◌>>=◌, Ending, Event, event_format}
-use Rattle.history_text.proofs.Common.{event_forms, event_in, event_line, event_of, front_of, HasEventLine}
-use Rattle.history_text.proofs.Common.{HasValueInRange, is_line_form, item_at_front, MAX_EVENTS, MAX_THREAD, MAX_TICKET}
-use Rattle.history_text.proofs.Common.{numbers_in, parse_line, parse_line_says, plain_event, valued_event, what_fields}
-use Rattle.history_text.proofs.Common.{what_with}
+use Rattle.history_text.proofs.Common.{Number, Word, [], ◌<◌, ◌==◌, ◌∷◌, ◌≡◌, ◌≤◌, arith, codes, decimal}
+use Rattle.history_text.proofs.Common.{decimal_nonempty, false, length, List, nat_tests, refl, ℕ, a_value}
+use Rattle.history_text.proofs.Common.{count_fields, count_format, count_forms, count_in, event_format, event_forms}
+use Rattle.history_text.proofs.Common.{event_in, event_of, fields_of, greatest_value, HasValueInRange, is_blank}
+use Rattle.history_text.proofs.Common.{IsSpelled, line, line_of, MAX_INITIAL, MAX_THREAD, MAX_TICKET, number_of}
+use Rattle.history_text.proofs.Common.{plain_event, spaced, value_fields, value_format, value_forms, value_in}
+use Rattle.history_text.proofs.Common.{valued_event, what_fields}
 use Rattle.text_lines.proofs.Fields.{has_field}
-use Rattle.history_text.proofs.OneLine.{Says}
-use Rattle.history_text.proofs.FormLines.{row_back, read_says, line_read, IsReadAs, item_read}
+use Rattle.history_text.proofs.FormLines.{IsReadAs, IsReadBack, item_read, line_read, row_back, Says, Spells, ◌&◌}
 use Rattle.event_records.specs.declared.event.What.{What}
 use Rattle.event_records.specs.declared.event.What.TheVariants.{CallEnq, RetEnq, RetNot, CallDeq, RetDeq, RetEmpty}
 
@@ -25,33 +21,13 @@ pub blank_line : (bytes : List ℕ) → is_blank (fields_of bytes) ≡ (length b
 blank_line [] = refl
 blank_line (b ∷ bytes) = let some : (length (b ∷ bytes) == 0) ≡ false = grind (arith, nat_tests) in rw (no_blank b bytes, some) refl
 
-value_row : (numbers : List ℕ) → AreOfForm (a_value ∷ []) numbers → IsSpelled value_format (spelled (a_value ∷ []) numbers) (number_of tt numbers)
-value_row (v ∷ []) h = record { text = refl; line = h.1 }
-value_row _ h = absurd (search)
-
 -- the field of a value is spelled as it is written
-pub value_ok : (n : ℕ) (fields : List (List ℕ)) (v : ℕ) → value_in n fields ≡ Ok v → IsSpelled value_format fields v
-value_ok n fields v e =
-    elim (chosen (is_blank fields) _ _ _ e) [
-      | inl h ↦ absurd (cc (h.1))
-      | inr h ↦ read_says value_forms number_of (IsSpelled value_format) n fields v (value_row, tt) refl h.1
-    ]
-
--- the form of a count
-abbrev count_form : List FieldForm
-count_form = Word (codes "initial") ∷ Number 0 MAX_INITIAL ∷ []
-
--- these fields are those of a count that a history may have
-abbrev IsCount : List (List ℕ) → ℕ → Type 0
-IsCount fields k = (fields ≡ count_fields k) × (k ≤ MAX_INITIAL)
-
-count_row : (numbers : List ℕ) → AreOfForm count_form numbers → IsCount (spelled count_form numbers) (number_of tt numbers)
-count_row (k ∷ []) h = (refl, h.1)
-count_row _ h = absurd (search)
+pub value_spells : Spells value_format value_forms number_of
+value_spells = record { bits = refl; rows = (λ v _ few. record { text = refl; line = few }, tt) }
 
 -- the fields of a count are spelled as it is written
-pub count_ok : (n : ℕ) (fields : List (List ℕ)) (k : ℕ) → count_in n fields ≡ Ok k → (fields ≡ count_fields k) × (k ≤ MAX_INITIAL)
-count_ok n fields k e = read_says count_forms number_of IsCount n fields k (count_row, tt) refl e
+pub count_spells : Spells count_format count_forms number_of
+count_spells = record { bits = refl; rows = (λ k _ few. record { text = refl; line = few }, tt) }
 
 some_digits : (ds : List ℕ) → 0 < length ds → is_blank (ds ∷ []) ≡ false
 some_digits ds some = grind arith
@@ -65,71 +41,41 @@ value_says v range =
 
 -- the line of a count says that count
 pub count_says : (k : ℕ) → k ≤ MAX_INITIAL → Says count_in (line (spaced (count_fields k))) k
-count_says k few = line_read count_in (count_fields k) k (row_back count_forms number_of tt count_form (k ∷ []) refl refl (λ n. refl) (omega arith, few, tt))
+count_says k few =
+    line_read count_in (count_fields k) k
+    (row_back count_forms number_of tt (Word (codes "initial") ∷ Number 0 MAX_INITIAL ∷ []) (k ∷ []) refl refl (λ n. refl) (omega arith, few, tt))
 
--- ---- events: what is read is spelled so
+-- ---- events
 
-plain_row : (word : List ℕ) (what : What) → ((v : ℕ) → (what_fields (what_with what v) ≡ word ∷ []) × HasValueInRange (what_with what v))
-    → (numbers : List ℕ) → AreOfForm (plain_event word) numbers → IsSpelled event_format (spelled (plain_event word) numbers) (event_of what numbers)
-plain_row word what is (t ∷ th ∷ []) h =
-    assumption (h, is 0, ap (λ (r : List (List ℕ)). decimal t ∷ decimal th ∷ r) (sym (is 0).0))
-plain_row word what is _ h = absurd (search)
-
-valued_row : (word : List ℕ) (what : What)
-    → ((v : ℕ) → v ≤ greatest_value → (what_fields (what_with what v) ≡ word ∷ decimal v ∷ []) × HasValueInRange (what_with what v))
-    → (numbers : List ℕ) → AreOfForm (valued_event word) numbers → IsSpelled event_format (spelled (valued_event word) numbers) (event_of what numbers)
-valued_row word what is (t ∷ th ∷ v ∷ []) h =
-    let made = is v h.2.2.1 in assumption (h, made, ap (λ (r : List (List ℕ)). decimal t ∷ decimal th ∷ r) (sym made.0))
-valued_row word what is _ h = absurd (search)
-
-rows : AllByRecursion (λ row. (numbers : List ℕ) → AreOfForm row.1 numbers
-    → IsSpelled event_format (spelled row.1 numbers) (event_of row.0 numbers)) event_forms
-rows = assumption (
-  valued_row (codes "call-enq") (CallEnq 0) (λ v r. (refl, r)),
-  plain_row (codes "ret-enq") RetEnq (λ v. (refl, tt)),
-  plain_row (codes "ret-not") RetNot (λ v. (refl, tt)),
-  plain_row (codes "call-deq") CallDeq (λ v. (refl, tt)),
-  valued_row (codes "ret-deq") (RetDeq 0) (λ v r. (refl, r)),
-  plain_row (codes "ret-empty") RetEmpty (λ v. (refl, tt)),
-)
-
--- what a line is judged as spells it
-pub event_said : (n : ℕ) (fields : List (List ℕ)) (said : What × List ℕ) → parse_line n event_forms fields ≡ Ok said
-    → IsSpelled event_format fields (event_of said.0 said.1)
-event_said n fields said e = parse_line_says (λ what numbers f. IsSpelled event_format f (event_of what numbers)) n event_forms fields said rows refl e
+event_row : (t th : ℕ) (what : What) → t ≤ MAX_TICKET → th ≤ MAX_THREAD → HasValueInRange what
+    → IsSpelled event_format (decimal t ∷ decimal th ∷ what_fields what) (record { ticket = t; thread = th; what = what })
+event_row t th what a b range = record { text = refl; line = record { ticket = a; thread = b; value = range } }
 
 -- the fields of an event are spelled as it is written
-pub event_ok : (n : ℕ) (fields : List (List ℕ)) (e : Event) → event_in n fields ≡ Ok e → IsSpelled event_format fields e
-event_ok n fields e h = read_says event_forms event_of (IsSpelled event_format) n fields e rows refl h
+pub event_spells : Spells event_format event_forms event_of
+event_spells = record {
+  bits = refl;
+  rows = (λ t _ a h _ b v _ r. event_row t h (CallEnq v) a b r) & (λ t _ a h _ b. event_row t h RetEnq a b tt)
+      & (λ t _ a h _ b. event_row t h RetNot a b tt) & (λ t _ a h _ b. event_row t h CallDeq a b tt)
+      & (λ t _ a h _ b v _ r. event_row t h (RetDeq v) a b r) & (λ t _ a h _ b. event_row t h RetEmpty a b tt) & tt;
+}
 
--- ---- events: what is written is read back
-
-module _ (t th : ℕ) (a : t ≤ MAX_TICKET) (b : th ≤ MAX_THREAD) (what : What) (word : List ℕ) where
-  plain_back : is_line_form (plain_event word) ≡ true
-      → ((n : ℕ) → parse_line n event_forms (decimal t ∷ decimal th ∷ word ∷ [])
-      ≡ (numbers_in n (plain_event word) (decimal t ∷ decimal th ∷ word ∷ []) >>= λ found. Ok (what, found)))
-      → IsReadAs event_in (decimal t ∷ decimal th ∷ word ∷ []) (event_of what (t ∷ th ∷ []))
-  plain_back is_line finds =
-      row_back event_forms event_of what (plain_event word) (t ∷ th ∷ []) refl is_line finds (omega arith, a, (omega arith, b, tt))
-
-  valued_back : (v : ℕ) → v ≤ greatest_value → is_line_form (valued_event word) ≡ true
-      → ((n : ℕ) → parse_line n event_forms (decimal t ∷ decimal th ∷ word ∷ decimal v ∷ [])
-      ≡ (numbers_in n (valued_event word) (decimal t ∷ decimal th ∷ word ∷ decimal v ∷ []) >>= λ found. Ok (what, found)))
-      → IsReadAs event_in (decimal t ∷ decimal th ∷ word ∷ decimal v ∷ []) (event_of what (t ∷ th ∷ v ∷ []))
-  valued_back v r is_line finds =
-      row_back event_forms event_of what (valued_event word) (t ∷ th ∷ v ∷ []) refl is_line finds (omega arith, a, (omega arith, b, (omega arith, r, tt)))
-
-event_back : (t th : ℕ) (what : What) → t ≤ MAX_TICKET → th ≤ MAX_THREAD → HasValueInRange what
-    → IsReadAs event_in (decimal t ∷ decimal th ∷ what_fields what) (record { ticket = t; thread = th; what = what })
-event_back t th (CallEnq v) a b r = valued_back t th a b (CallEnq 0) (codes "call-enq") v r refl (λ n. refl)
-event_back t th RetEnq a b r = plain_back t th a b RetEnq (codes "ret-enq") refl (λ n. refl)
-event_back t th RetNot a b r = plain_back t th a b RetNot (codes "ret-not") refl (λ n. refl)
-event_back t th CallDeq a b r = plain_back t th a b CallDeq (codes "call-deq") refl (λ n. refl)
-event_back t th (RetDeq v) a b r = valued_back t th a b (RetDeq 0) (codes "ret-deq") v r refl (λ n. refl)
-event_back t th RetEmpty a b r = plain_back t th a b RetEmpty (codes "ret-empty") refl (λ n. refl)
+module _ (t th : ℕ) (a : t ≤ MAX_TICKET) (b : th ≤ MAX_THREAD) where
+  event_back : (what : What) → HasValueInRange what
+      → IsReadAs event_in (decimal t ∷ decimal th ∷ what_fields what) (record { ticket = t; thread = th; what = what })
+  event_back (CallEnq v) r = row_back event_forms event_of (CallEnq 0) (valued_event (codes "call-enq")) (t ∷ th ∷ v ∷ []) refl refl (λ n. refl)
+      (omega arith, a, (omega arith, b, (omega arith, r, tt)))
+  event_back RetEnq r = row_back event_forms event_of RetEnq (plain_event (codes "ret-enq")) (t ∷ th ∷ []) refl refl (λ n. refl)
+      (omega arith, a, (omega arith, b, tt))
+  event_back RetNot r = row_back event_forms event_of RetNot (plain_event (codes "ret-not")) (t ∷ th ∷ []) refl refl (λ n. refl)
+      (omega arith, a, (omega arith, b, tt))
+  event_back CallDeq r = row_back event_forms event_of CallDeq (plain_event (codes "call-deq")) (t ∷ th ∷ []) refl refl (λ n. refl)
+      (omega arith, a, (omega arith, b, tt))
+  event_back (RetDeq v) r = row_back event_forms event_of (RetDeq 0) (valued_event (codes "ret-deq")) (t ∷ th ∷ v ∷ []) refl refl (λ n. refl)
+      (omega arith, a, (omega arith, b, (omega arith, r, tt)))
+  event_back RetEmpty r = row_back event_forms event_of RetEmpty (plain_event (codes "ret-empty")) (t ∷ th ∷ []) refl refl (λ n. refl)
+      (omega arith, a, (omega arith, b, tt))
 
 -- the line of an event is read as that event
-pub event_front : (n k : ℕ) (ending : Ending) (e : Event) (rest : List ℕ) → HasEventLine e → k < MAX_EVENTS
-    → item_at_front event_format n k ending (front_of (event_line e ++ rest)) ≡ Ok (Some e, rest)
-event_front n k ending e rest range few =
-    item_read event_format n k ending e rest (event_back e.ticket e.thread e.what range.ticket range.thread range.value) few
+pub event_front : IsReadBack event_format
+event_front = item_read event_format (λ e range. event_back e.ticket e.thread range.ticket range.thread e.what range.value)

@@ -2,11 +2,12 @@
 use Rattle.history_text.proofs.Common.{[], ◌++◌, ◌<◌, ◌∷◌, ◌≡◌, arith, Bool, Err, false, IfErr, IfOk, IfSome, length}
 use Rattle.history_text.proofs.Common.{List, None, Ok, Option, refl, Result, Some, subst, sym, true, ℕ, Ahead, before}
 use Rattle.history_text.proofs.Common.{before_end, Cut, end_line, Ending, EndOfInput, Failure, Format, Front, front_of}
-use Rattle.history_text.proofs.Common.{front_too_long, front_unfinished, HasItemFault, is_line_feed, IsItemLine, IsOver}
+use Rattle.history_text.proofs.Common.{front_too_long, front_unfinished, is_line_feed, IsItemLine, IsOver}
 use Rattle.history_text.proofs.Common.{IsPartOfLine, item_at_front, item_at_nothing, item_in, line, longest_line}
-use Rattle.history_text.proofs.Common.{Nothing, Read, Takes, TakesEnd, TakesItem, TextFault, Unfinished, Whole, whole}
-use Rattle.history_text.proofs.Common.{◌∙◌, ap, join_with_byte-slice_split, fields_of, HasLineFault, IsSpelled}
-use Rattle.history_text.proofs.Common.{line_at_front, line_of, spaced}
+use Rattle.history_text.proofs.Common.{Nothing, Takes, TakesEnd, TakesItem, TextFault, Unfinished, Whole, whole, ◌∙◌}
+use Rattle.history_text.proofs.Common.{ap, join_with_byte-slice_split, fields_of, IsSpelled, line_at_front, line_of}
+use Rattle.history_text.proofs.Common.{spaced}
+use Rattle.history_text.specs.Inner.Taking.{BrokenLineFault, FaultAtFront, NoLineFault}
 use Rattle.text_lines.specs.Lines.{TooLong}
 
 -- what holds of the front of the input
@@ -45,12 +46,17 @@ pub at_line : (P : Ending → Front → Type 0) (old new : Option Ahead) (bytes 
 at_line P old new bytes taken part holds =
     before old new (line bytes) (λ e r. P e (front_of r)) taken (λ e more. subst (P e) (sym (whole bytes more part)) (holds e more))
 
--- ---- items
+not_whole : (long : TextFault) (ending : Ending) (fault : TextFault) (front : Front) → BrokenLineFault long ending fault front
+    → NoLineFault long ending fault front
+not_whole long ending fault front h = grind (arith, h)
 
--- a failed read is a fault, whether a last line is wanted or not
-pub failure_is_fault : {A : Type 0} (is_counted : Bool) → (let found : Result (Option A × List ℕ) TextFault = item_at_nothing is_counted Failure in
-    found ≡ Err Read)
-failure_is_fault is_counted = grind arith
+-- where no line is whole there is none
+pub no_line : (long : TextFault) (old : Option Ahead) (fault : TextFault) → FaultAtFront (BrokenLineFault long) old fault
+    → FaultAtFront (NoLineFault long) old fault
+no_line long None fault h = tt
+no_line long (Some a) fault h = not_whole long a.ending fault (front_of a.bytes) h
+
+-- ---- items
 
 -- the end of the input is one where a last line is wanted
 pub nothing_is_cut : {A : Type 0} (is_counted : Bool) → is_counted ≡ true
@@ -80,7 +86,8 @@ items_taken format k old new bytes (Err fault) taken spelled = tt
 
 -- a line with a fault is that of the next item
 pub items_faulty : {A : Type 0} (format : Format A) (n k : ℕ) (old new : Option Ahead) (bytes : List ℕ) (r : Result (Option A) TextFault)
-    → Takes old new (line bytes) → IsPartOfLine bytes → r ≡ item_in format n k bytes → IfErr r (HasItemFault format n k old)
+    → Takes old new (line bytes) → IsPartOfLine bytes → r ≡ item_in format n k bytes
+    → IfErr r (FaultAtFront (λ end fault front. item_at_front format n k end front ≡ Err fault) old)
 items_faulty format n k old new bytes (Ok item) taken part e = tt
 items_faulty format n k old new bytes (Err fault) taken part e =
     at_line (λ end front. item_at_front format n k end front ≡ Err fault) old new bytes taken part (λ end rest. rw (← e) refl)
@@ -89,14 +96,15 @@ items_faulty format n k old new bytes (Err fault) taken part e =
 
 -- a line whose fields have a fault has it
 pub line_faulty : {A : Type 0} (read : ℕ → List (List ℕ) → Result A TextFault) (n : ℕ) (old new : Option Ahead) (bytes : List ℕ) (r : Result A TextFault)
-    → Takes old new (line bytes) → IsPartOfLine bytes → r ≡ read n (fields_of bytes) → IfErr r (HasLineFault read n old)
+    → Takes old new (line bytes) → IsPartOfLine bytes → r ≡ read n (fields_of bytes)
+    → IfErr r (FaultAtFront (λ end fault front. line_at_front read n end front ≡ Err fault) old)
 line_faulty read n old new bytes (Ok said) taken part e = tt
 line_faulty read n old new bytes (Err fault) taken part e =
     at_line (λ end front. line_at_front read n end front ≡ Err fault) old new bytes taken part (λ end rest. rw (← e) refl)
 
 -- a faulty next line has been counted
 pub next_line_faulty : {A : Type 0} (read : ℕ → List (List ℕ) → Result A TextFault) (n m : ℕ) (old new : Option Ahead) (bytes : List ℕ)
-    (r : Result A TextFault) → m ≡ n → Takes old new (line bytes) × IsPartOfLine bytes → r ≡ read m (fields_of bytes) → IfErr r (HasLineFault read n old)
+    (r : Result A TextFault) → m ≡ n → Takes old new (line bytes) × IsPartOfLine bytes → r ≡ read m (fields_of bytes) → IfErr r (FaultAtFront (λ end fault front. line_at_front read n end front ≡ Err fault) old)
 next_line_faulty read n m old new bytes r same taken e = line_faulty read n old new bytes r taken.0 taken.1 (rw same at e)
 
 -- the line of some fields is taken
@@ -104,16 +112,6 @@ pub fields_taken : (old new : Option Ahead) (bytes : List ℕ) (fields : List (L
     → Takes old new (line (spaced fields))
 fields_taken old new bytes fields taken is =
     subst (λ (b : List ℕ). Takes old new (line b)) (sym (join_with_byte-slice_split 32 bytes) ∙ ap spaced is) taken
-
--- what is said in a line that is spelled so is taken
-pub said_taken : {A : Type 0} (read : ℕ → List (List ℕ) → Result A TextFault) (fields : A → List (List ℕ)) (Fits : A → Type 0) (n : ℕ)
-    (old new : Option Ahead) (bytes : List ℕ) (r : Result A TextFault) → Takes old new (line bytes)
-    → ((said : A) → read n (fields_of bytes) ≡ Ok said → (fields_of bytes ≡ fields said) × Fits said) → r ≡ read n (fields_of bytes)
-    → IfOk r (λ said. Takes old new (line (spaced (fields said))) × Fits said)
-said_taken read fields Fits n old new bytes (Ok said) taken spelled e =
-    let is = spelled said (sym e) in
-    (fields_taken old new bytes (fields said) taken is.0, is.1)
-said_taken read fields Fits n old new bytes (Err fault) taken spelled e = tt
 
 -- the line of an item is taken
 pub required_taken : {A : Type 0} (format : Format A) (old new : Option Ahead) (bytes : List ℕ) (r : Result A TextFault) → Takes old new (line bytes)

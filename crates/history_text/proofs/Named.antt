@@ -1,10 +1,12 @@
 -- The lines at some places.
-use Rattle.history_text.proofs.Common.{[], ◌++◌, ◌+◌, ◌<◌, ◌∙◌, ◌∷◌, ◌≡◌, ap, append-nil, ap₂, arith, Bool, cons_option}
-use Rattle.history_text.proofs.Common.{filter_map, flat_map, flat_map-append, get_or, IsErrAnd, length, List, None}
+use Rattle.std.proofs.Common.{MatchOption}
+use Rattle.verdicts.specs.declared.shown.LinePlace.{LinePlace}
+use Rattle.verdicts.specs.declared.shown.LinePlace.TheVariants as place
+use Rattle.history_text.proofs.Common.{maybe_place, [], ◌++◌, ◌+◌, ◌∙◌, ◌∷◌, ◌≡◌, ap, append-nil, ap₂, arith, Bool}
+use Rattle.history_text.proofs.Common.{cons_option, filter_map, flat_map, flat_map-append, IsErrAnd, List, None}
 use Rattle.history_text.proofs.Common.{Option, option_map, option_to_list, refl, Result, slice_get, Some, subst, sym}
-use Rattle.history_text.proofs.Common.{take, ℕ, Asked, claim_line, one_more_put, Op, Operation, operation_line}
-use Rattle.history_text.proofs.Common.{operation_text, puts_then, PutsText, stops_at_next, stops_before, TakesFront}
-use Rattle.history_text.proofs.Common.{TakesSome}
+use Rattle.history_text.proofs.Common.{ℕ, Asked, claim_line, Op, Operation, operation_line, line_text, puts_then}
+use Rattle.history_text.proofs.Common.{PutsText, stops_before, TakesFront, TakesSome}
 
 module _ {S : Type 0} (contents : S → Option (List ℕ)) (has_refused : S → Bool) (transition : S → Asked → S → Type 0) where
   -- the lines of the first places went out in part
@@ -23,37 +25,18 @@ module _ {S : Type 0} (contents : S → Option (List ℕ)) (has_refused : S → 
       subst (λ (t : List ℕ). PutsText contents has_refused transition kept rest t a c r) (sym (flat_map-append f xs ys))
       (puts_then contents has_refused transition r kept mid rest (flat_map f xs) (flat_map f ys) a b c h k)
 
-  -- ---- places for each of a list
-
-  module _ {X P : Type 0} (f : P → List ℕ) (g : X → List P) where
-    -- the lines for each of a list are those of all its places
-    lines_for_each : (xs : List X) → flat_map (λ x. flat_map f (g x)) xs ≡ flat_map f (flat_map g xs)
-    lines_for_each [] = refl
-    lines_for_each (x ∷ xs) = ap (λ (r : List ℕ). flat_map f (g x) ++ r) (lines_for_each xs) ∙ sym (flat_map-append f (g x) (flat_map g xs))
-
-    -- the lines of one more step are put
-    pub step_is_put : (xs : List X) (i : ℕ) (x : X) (kept mid rest : List ℕ) (a b c : S) → i < length xs → x ≡ get_or xs i x
-        → TakesSome contents has_refused transition kept mid (flat_map f (flat_map g (take i xs))) a b
-        → TakesSome contents has_refused transition mid rest (flat_map f (g x)) b c
-        → TakesSome contents has_refused transition kept rest (flat_map f (flat_map g (take (i + 1) xs))) a c
-    step_is_put xs i x kept mid rest a b c within is before now =
-        subst (λ (t : List ℕ). TakesSome contents has_refused transition kept rest t a c) (lines_for_each (take (i + 1) xs))
-        (one_more_put contents has_refused transition (λ x. flat_map f (g x)) xs i x kept mid rest a b c within
-        (subst (λ (t : List ℕ). TakesSome contents has_refused transition kept mid t a b) (sym (lines_for_each (take i xs))) before)
-        (subst (λ (y : X). TakesSome contents has_refused transition mid rest (flat_map f (g y)) b c) is now))
-
-    -- the lines of one step went out in part
-    pub step_stops : {T E : Type 0} (Q : E → Type 0) (r : Result T E) (xs : List X) (i : ℕ) (x : X) (kept mid rest : List ℕ) (a b c : S) → i < length xs
-        → x ≡ get_or xs i x → TakesSome contents has_refused transition kept mid (flat_map f (flat_map g (take i xs))) a b → IsErrAnd r Q
-        → TakesFront contents has_refused transition (mid ++ flat_map f (g x)) b c
-        → PutsText contents has_refused transition kept rest (flat_map f (flat_map g xs)) a c r
-    step_stops Q r xs i x kept mid rest a b c within is before failed now =
-        subst (λ (t : List ℕ). PutsText contents has_refused transition kept rest t a c r) (lines_for_each xs)
-        (stops_at_next contents has_refused transition (λ x. flat_map f (g x)) Q r xs i x kept mid rest a b c within
-        (subst (λ (t : List ℕ). TakesSome contents has_refused transition kept mid t a b) (sym (lines_for_each (take i xs))) before) failed
-        (subst (λ (y : X). TakesFront contents has_refused transition (mid ++ flat_map f (g y)) b c) is now))
+-- the lines for each of a list are those of all its places
+pub lines_for_each : {X P : Type 0} (f : P → List ℕ) (g : X → List P) (xs : List X) → flat_map (λ x. flat_map f (g x)) xs ≡ flat_map f (flat_map g xs)
+lines_for_each f g [] = refl
+lines_for_each f g (x ∷ xs) = ap (λ (r : List ℕ). flat_map f (g x) ++ r) (lines_for_each f g xs) ∙ sym (flat_map-append f (g x) (flat_map g xs))
 
 -- ---- what is claimed
+
+-- the line of an operation that may be missing
+pub last_text : (f : LinePlace → List ℕ) (last : Option ℕ) (places : List ℕ) → MatchOption last (places ≡ []) (λ p. places ≡ p ∷ [])
+    → flat_map (λ p. f (place.Op p)) places ≡ flat_map f (maybe_place last)
+last_text f None places is = rw is refl
+last_text f (Some p) places is = rw is refl
 
 one_more : {X : Type 0} (text : X → List ℕ) (here : Option X) (rest : List X) → flat_map text (cons_option here rest)
     ≡ flat_map text (option_to_list here) ++ flat_map text rest
@@ -71,8 +54,8 @@ operation_or_none : (here : Option Operation) → flat_map operation_line (optio
 operation_or_none here = grind arith
 
 -- the lines of the operations of a `YES`
-pub order_is : (operations : List Operation) (places : List ℕ)
-    → flat_map operation_line (filter_map (slice_get operations) places) ≡ flat_map (operation_text operations) places
-order_is operations [] = refl
-order_is operations (p ∷ places) = one_more operation_line (slice_get operations p) _
-    ∙ ap₂ (λ (x y : List ℕ). x ++ y) (operation_or_none (slice_get operations p)) (order_is operations places)
+pub order_is : (initial : List ℕ) (operations : List Operation) (places : List ℕ) → flat_map operation_line (filter_map (slice_get operations) places)
+    ≡ flat_map (λ p. line_text initial operations (place.Op p)) places
+order_is initial operations [] = refl
+order_is initial operations (p ∷ places) = one_more operation_line (slice_get operations p) _
+    ∙ ap₂ (λ (x y : List ℕ). x ++ y) (operation_or_none (slice_get operations p)) (order_is initial operations places)

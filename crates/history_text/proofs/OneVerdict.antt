@@ -1,136 +1,116 @@
 -- Two claims whose texts are one input are one, and an input has one first fault.
-use Rattle.history_text.proofs.Common.{[], ◌++◌, ◌+◌, ◌∙◌, ◌≡◌, ap, append-nil, arith, false, IfErr, IfOk, inl, inr}
-use Rattle.history_text.proofs.Common.{length, List, MatchResult, None, Ok, Option, refl, Result, Some, subst, sym, ℕ}
-use Rattle.history_text.proofs.Common.{Ahead, claim_line_format, ClaimFault, Ending, EndOfInput, first_line}
-use Rattle.history_text.proofs.Common.{FirstLineFault, Format, Front, front_of, HasVerdictText, HasVerdictTextFault}
-use Rattle.history_text.proofs.Common.{HaveLines, IsAll, IsOver, IsPartOfLine, IsVerdictTextFault, item_at_front}
-use Rattle.history_text.proofs.Common.{ItemFault, line, lines_of, Memory, NoRoomForVerdict, operation_format, Takes}
-use Rattle.history_text.proofs.Common.{TextFault, verdict_text, ViolationKind, whole, same_Some}
-use Rattle.verdicts.specs.declared.verifying.ViolationKind.TheVariants.{VFresh}
+use Rattle.history_text.proofs.Common.{HaveLines, false, Format, ◌∙◌, IsAll, Ahead, [], ◌++◌, ◌+◌, ◌∷◌, ◌≡◌, ap}
+use Rattle.history_text.proofs.Common.{append-nil, append_assoc, arith, codes, Err, inl, inr, List, None, Ok, Option}
+use Rattle.history_text.proofs.Common.{refl, Result, Some, subst, sym, ℕ, ◌>>=◌, claim_line_format, ClaimFault, Ending}
+use Rattle.history_text.proofs.Common.{EndOfInput, first_line, FirstLineFault, Front, front_of, HasVerdictText}
+use Rattle.history_text.proofs.Common.{IsVerdictTextFault, Line, line, lines_of, Nothing, operation_format, TextFault}
+use Rattle.history_text.proofs.Common.{Unfinished, verdict_text, ViolationKind, Whole}
+use Rattle.text_lines.specs.Lines.{TooLong}
+use Rattle.verdicts.specs.declared.verifying.ViolationKind.TheVariants.{VFresh, VRepeat, VOrd, VWit}
 use Rattle.verdicts.specs.declared.verifying.Claimed.{Claimed}
 use Rattle.verdicts.specs.declared.verifying.Claimed.TheVariants.{Yes, No}
-use Rattle.history_text.proofs.FirstFaults.{is_read}
-use Rattle.history_text.proofs.OneLine as lines
+use Rattle.history_text.proofs.FormLines.{IsReadBack}
 use Rattle.history_text.proofs.ClaimLines.{operation_front, claim_line_front}
-use Rattle.history_text.proofs.OneLine.{IsReadBack, stops_at_last, same_items, no_item_fault, one_item_fault}
+use Rattle.history_text.proofs.Judging as judging
+use Rattle.history_text.proofs.Judging.{then_ok, then_err, first_at, first_read, none_with, items_in, all_read, fault_found, IsJudged, Stands}
 
--- ---- first lines
+abbrev answers : List (Option ViolationKind × List ℕ)
+answers = (None, first_line None) ∷ (Some VFresh, first_line (Some VFresh)) ∷ (Some VRepeat, first_line (Some VRepeat))
+    ∷ (Some VOrd, first_line (Some VOrd)) ∷ (Some VWit, first_line (Some VWit)) ∷ []
 
-first_line_is_part : (answer : Option ViolationKind) → IsPartOfLine (first_line answer)
-first_line_is_part (Some VFresh) = record { one = refl; short = omega arith }
-first_line_is_part _ = record { one = refl; short = omega arith }
+-- what is made of lines, and the bytes after them
+abbrev made : {A : Type 0} → (List A → Claimed) → List A × List ℕ → Result (Claimed × List ℕ) TextFault
+made make items = Ok (make items.0, items.1)
 
-same_answer : (a b : Option ViolationKind) → first_line a ≡ first_line b → a ≡ b
-same_answer a b same = grind arith
+-- the lines after the first, from line n on
+abbrev claim_in : Option ViolationKind → ℕ → Ending → List ℕ → Result (Claimed × List ℕ) TextFault
+claim_in None n ending bytes = items_in operation_format n ending bytes >>= made Yes
+claim_in (Some kind) n ending bytes = items_in claim_line_format n ending bytes >>= made (No kind)
 
--- two first lines of one input are one
-one_first_line : (a b : Option ViolationKind) (r s : List ℕ) → line (first_line a) ++ r ≡ line (first_line b) ++ s → (a ≡ b) × (r ≡ s)
-one_first_line a b r s same =
-    let first = lines.one_first_line (first_line a) (first_line b) r s (first_line_is_part a) (first_line_is_part b) same in
-    (same_answer a b first.0, first.1)
+-- the whole text, judged line by line
+abbrev verdict_in : ℕ → Ending → List ℕ → Result (Claimed × List ℕ) TextFault
+verdict_in lines ending bytes =
+    first_at answers (Line (lines + 1)) ending (front_of bytes) >>= λ first. claim_in first.0 (lines + 2) ending first.1
 
--- a right first line has no fault
-first_line_is_right : (n : ℕ) (answer : Option ViolationKind) (ending : Ending) (bytes rest : List ℕ) (fault : TextFault)
-    → bytes ≡ line (first_line answer) ++ rest → FirstLineFault n ending fault (front_of bytes) → ⊥
-first_line_is_right n answer ending bytes rest fault is h =
-    let here = subst (FirstLineFault n ending fault) (ap front_of is ∙ whole (first_line answer) rest (first_line_is_part answer)) h in
-    here.0 answer refl
+answer_read : (answer : Option ViolationKind) (n : ℕ) (ending : Ending) (rest : List ℕ)
+    → first_at answers (Line n) ending (front_of (line (first_line answer) ++ rest)) ≡ Ok (answer, rest)
+answer_read None n ending rest = first_read answers (Line n) ending None (first_line None) rest refl (omega arith) refl
+answer_read (Some VFresh) n ending rest = first_read answers (Line n) ending (Some VFresh) (codes "NO VFresh") rest refl (omega arith) refl
+answer_read (Some VRepeat) n ending rest = first_read answers (Line n) ending (Some VRepeat) (codes "NO VRepeat") rest refl (omega arith) refl
+answer_read (Some VOrd) n ending rest = first_read answers (Line n) ending (Some VOrd) (codes "NO VOrd") rest refl (omega arith) refl
+answer_read (Some VWit) n ending rest = first_read answers (Line n) ending (Some VWit) (codes "NO VWit") rest refl (omega arith) refl
 
-one_first_line_fault : (n : ℕ) (ending : Ending) (f g : TextFault) (front : Front) → FirstLineFault n ending f front → FirstLineFault n ending g front → f ≡ g
-one_first_line_fault n ending f g front a b = grind arith
+no_answer : (n : ℕ) (ending : Ending) (fault : TextFault) (front : Front) → FirstLineFault n ending fault front
+    → first_at answers (Line n) ending front ≡ Err fault
+no_answer n ending fault (Whole bytes rest) h =
+    rw h.1 (none_with answers (Line n) bytes rest (h.0 None, (h.0 (Some VFresh), (h.0 (Some VRepeat), (h.0 (Some VOrd), (h.0 (Some VWit), tt))))))
+no_answer n ending fault TooLong h = rw h refl
+no_answer n ending fault Unfinished h = rw h refl
+no_answer n ending fault Nothing h = rw h refl
 
--- ---- whole texts
+-- nothing follows a verdict
+abbrev pub IsLast : Ending → List ℕ → Type 0
+IsLast ending rest = (rest ≡ []) × (ending ≡ EndOfInput)
 
-abbrev answer_in : Claimed → Option ViolationKind
-answer_in (Yes operations) = None
-answer_in (No kind lines) = Some kind
+answer_then : (answer : Option ViolationKind) (lines : ℕ) (ending : Ending) (rest : List ℕ)
+    → verdict_in lines ending (line (first_line answer) ++ rest) ≡ claim_in answer (lines + 2) ending rest
+answer_then answer lines ending rest = then_ok _ _ _ (answer_read answer (lines + 1) ending rest)
 
--- the lines after the first
-abbrev lines_in : Claimed → List ℕ
-lines_in (Yes operations) = lines_of operation_format operations
-lines_in (No kind lines) = lines_of claim_line_format lines
+-- all lines up to the end of the input are read
+lines_read : {A : Type 0} (format : Format A) → IsReadBack format → format.is_counted ≡ false → (make : List A → Claimed) (n : ℕ) (xs : List A)
+    → HaveLines format xs
+    → (items_in format n EndOfInput (lines_of format xs ++ []) >>= made make) ≡ made make (xs, [])
+lines_read format back uncounted make n xs text =
+    then_ok _ _ _ (all_read format back n EndOfInput xs [] [] text (rw uncounted refl))
 
-text_is : (c : Claimed) → verdict_text c ≡ line (first_line (answer_in c)) ++ lines_in c
-text_is c = grind arith
+text_read : (lines : ℕ) (c : Claimed) → HasVerdictText c → verdict_in lines EndOfInput (verdict_text c ++ []) ≡ Ok (c, [])
+text_read lines (Yes xs) text =
+    ap (verdict_in lines EndOfInput) (append_assoc (line (first_line None)) (lines_of operation_format xs) [])
+    ∙ answer_then None lines EndOfInput (lines_of operation_format xs ++ []) ∙ lines_read operation_format operation_front refl Yes (lines + 2) xs text
+text_read lines (No kind xs) text =
+    ap (verdict_in lines EndOfInput) (append_assoc (line (first_line (Some kind))) (lines_of claim_line_format xs) [])
+    ∙ answer_then (Some kind) lines EndOfInput (lines_of claim_line_format xs ++ [])
+    ∙ lines_read claim_line_format claim_line_front refl (No kind) (lines + 2) xs text
 
--- the lines of one input up to its end are one list
-one_list : {A : Type 0} (format : Format A) → IsReadBack format → format.is_counted ≡ false → (xs ys : List A) → HaveLines format xs → HaveLines format ys
-    → lines_of format xs ≡ lines_of format ys → xs ≡ ys
-one_list format back uncounted xs ys right_x right_y same =
-    let over : (k : ℕ) → item_at_front format 0 k EndOfInput (front_of []) ≡ Ok (None, []) = λ k. rw uncounted refl in
-    (same_items format back 0 0 EndOfInput xs ys [] [] right_x right_y (stops_at_last format back 0 (length xs) EndOfInput [] [] (over (length xs)))
-    (stops_at_last format back 0 (length ys) EndOfInput [] [] (over (length ys))) (ap (λ (l : List ℕ). l ++ []) same)).0
+read : (lines : ℕ) (ending : Ending) (c : Claimed) (rest : List ℕ) → HasVerdictText c → IsLast ending rest
+    → verdict_in lines ending (verdict_text c ++ rest) ≡ Ok (c, rest)
+read lines ending c rest text last =
+    let P : Ending → List ℕ → Type 0 = λ e r. verdict_in lines e (verdict_text c ++ r) ≡ Ok (c, r) in
+    subst (λ e. P e rest) (sym last.1) (subst (P EndOfInput) (sym last.0) (text_read lines c text))
 
-claims_agree : (c d : Claimed) → HasVerdictText c → HasVerdictText d → answer_in c ≡ answer_in d → lines_in c ≡ lines_in d → c ≡ d
-claims_agree (Yes xs) (Yes ys) text_c text_d answers same = ap Yes (one_list operation_format operation_front refl xs ys text_c text_d same)
-claims_agree (Yes xs) (No kind ys) text_c text_d answers same = absurd (cc)
-claims_agree (No kind xs) (Yes ys) text_c text_d answers same = absurd (cc)
-claims_agree (No j xs) (No k ys) text_c text_d answers same =
-    let kinds : j ≡ k = same_Some j k answers in
-    ap (λ (i : ViolationKind). No i xs) kinds ∙ ap (No k) (one_list claim_line_format claim_line_front refl xs ys text_c text_d same)
+later_found : (answer : Option ViolationKind) (n : ℕ) (ending : Ending) (fault : TextFault) (bytes : List ℕ) → ClaimFault n ending fault answer bytes
+    → claim_in answer n ending bytes ≡ Err fault
+later_found None n ending fault bytes h = then_err _ _ _
+    (fault_found operation_format operation_front n ending fault bytes h)
+later_found (Some kind) n ending fault bytes h = then_err _ _ _
+    (fault_found claim_line_format claim_line_front n ending fault bytes h)
+
+found : (lines : ℕ) (ending : Ending) (bytes : List ℕ) (fault : TextFault) → IsVerdictTextFault lines ending bytes fault
+    → verdict_in lines ending bytes ≡ Err fault
+found lines ending bytes fault (inl h) = then_err _ _ _ (no_answer _ ending fault _ h)
+found lines ending bytes fault (inr (answer, (rest, is, h))) =
+    ap (verdict_in lines ending) is ∙ answer_then answer lines ending rest ∙ later_found answer (lines + 2) ending fault rest h
+
+-- so an input is judged
+pub judged : IsJudged HasVerdictText verdict_text IsLast IsVerdictTextFault verdict_in
+judged = record { read = read; found = found }
+
+-- a verdict that is all of the input stands there
+pub stands : (old : Option Ahead) (text : List ℕ) → IsAll old text → Stands IsLast old text
+stands None text all = absurd all
+stands (Some a) text all = ([], all.0 ∙ sym (append-nil text), (refl, all.1))
 
 -- two claims of one text are one
 pub texts_agree : (c d : Claimed) → HasVerdictText c → HasVerdictText d → verdict_text c ≡ verdict_text d → c ≡ d
 texts_agree c d text_c text_d same =
-    let first = one_first_line (answer_in c) (answer_in d) _ _ (sym (text_is c) ∙ same ∙ text_is d) in
-    claims_agree c d text_c text_d first.0 first.1
-
--- the lines after the first have no fault
-lines_have_no_fault : (c : Claimed) (n : ℕ) (fault : TextFault) → HasVerdictText c → ClaimFault n EndOfInput fault (answer_in c) (lines_in c) → ⊥
-lines_have_no_fault (Yes xs) n fault text h =
-    no_item_fault operation_format operation_front n EndOfInput fault xs [] [] text (λ m. refl)
-    (subst (ItemFault operation_format n EndOfInput fault) (sym (append-nil (lines_of operation_format xs))) h)
-lines_have_no_fault (No kind xs) n fault text h =
-    no_item_fault claim_line_format claim_line_front n EndOfInput fault xs [] [] text (λ m. refl)
-    (subst (ItemFault claim_line_format n EndOfInput fault) (sym (append-nil (lines_of claim_line_format xs))) h)
+    (judging.texts_agree judged EndOfInput c d [] [] text_c text_d (refl, refl) (refl, refl) (ap (λ (t : List ℕ). t ++ []) same)).0
 
 -- a text has no fault
 pub text_has_no_fault : (lines : ℕ) (c : Claimed) (fault : TextFault) → HasVerdictText c → IsVerdictTextFault lines EndOfInput (verdict_text c) fault → ⊥
-text_has_no_fault lines c fault text (inl at_first) = first_line_is_right (lines + 1) (answer_in c) EndOfInput _ _ fault (text_is c) at_first
-text_has_no_fault lines c fault text (inr (answer, (rest, is, h))) =
-    let first = one_first_line answer (answer_in c) rest _ (sym is ∙ text_is c) in
-    lines_have_no_fault c (lines + 2) fault text (subst (ClaimFault (lines + 2) EndOfInput fault (answer_in c)) first.1
-    (subst (λ (a : Option ViolationKind). ClaimFault (lines + 2) EndOfInput fault a rest) first.0 h))
-
-same_text : (found wanted : Claimed) (a : Ahead) (new : Option Ahead) → HasVerdictText found → Takes (Some a) new (verdict_text found)
-    → IsOver EndOfInput new → HasVerdictText wanted → a.bytes ≡ verdict_text wanted → found ≡ wanted
-same_text found wanted a None text taken over has is = absurd taken
-same_text found wanted a (Some b) text taken over has is =
-    let all : a.bytes ≡ verdict_text found = taken.0 ∙ ap (λ (r : List ℕ). verdict_text found ++ r) over.0 ∙ append-nil (verdict_text found) in
-    texts_agree found wanted text has (sym all ∙ is)
-
-no_fault : (lines : ℕ) (a : Ahead) (c : Claimed) (fault : TextFault) → HasVerdictText c → a.bytes ≡ verdict_text c → a.ending ≡ EndOfInput
-    → IsVerdictTextFault lines a.ending a.bytes fault → ⊥
-no_fault lines a c fault text is ending h =
-    text_has_no_fault lines c fault text (subst (λ (e : Ending). IsVerdictTextFault lines e (verdict_text c) fault) ending
-    (subst (λ (b : List ℕ). IsVerdictTextFault lines a.ending b fault) is h))
-
--- what is read if the rest of the input is a text
-pub reads_what_is_there : (lines : ℕ) (old new : Option Ahead) (r : Result Claimed TextFault)
-    → IfOk r (λ c. HasVerdictText c × Takes old new (verdict_text c) × IsOver EndOfInput new) → IfErr r (HasVerdictTextFault lines old)
-    → (claimed : Claimed) → HasVerdictText claimed → IsAll old (verdict_text claimed) → MatchResult r (λ c. c ≡ claimed) (λ fault. fault ≡ Memory)
-reads_what_is_there lines None new r ok err claimed wanted all = absurd all
-reads_what_is_there lines (Some a) new r ok err claimed wanted all =
-    is_read (IsVerdictTextFault lines) NoRoomForVerdict (λ c. HasVerdictText c × Takes (Some a) new (verdict_text c) × IsOver EndOfInput new)
-    (λ c. c ≡ claimed) a r ok err
-    (λ c found. same_text c claimed a new found.0 found.1 found.2 wanted all.0)
-    (λ fault first. no_fault lines a claimed fault wanted all.0 all.1 first)
-
--- the lines after the first have one first fault
-one_later_fault : (answer : Option ViolationKind) (n : ℕ) (ending : Ending) (f g : TextFault) (bytes : List ℕ) → ClaimFault n ending f answer bytes
-    → ClaimFault n ending g answer bytes → f ≡ g
-one_later_fault None n ending f g bytes a b = one_item_fault operation_format operation_front n ending f g bytes a b
-one_later_fault (Some kind) n ending f g bytes a b = one_item_fault claim_line_format claim_line_front n ending f g bytes a b
+text_has_no_fault lines c fault text h = judging.text_has_no_fault judged lines EndOfInput c [] fault text (refl, refl)
+    (subst (λ (t : List ℕ). IsVerdictTextFault lines EndOfInput t fault) (sym (append-nil (verdict_text c))) h)
 
 -- an input has one first fault
 pub one_first_fault : (lines : ℕ) (ending : Ending) (bytes : List ℕ) (f g : TextFault) → IsVerdictTextFault lines ending bytes f
     → IsVerdictTextFault lines ending bytes g → f ≡ g
-one_first_fault lines ending bytes f g (inl a) (inl b) = one_first_line_fault (lines + 1) ending f g (front_of bytes) a b
-one_first_fault lines ending bytes f g (inl a) (inr (answer, (rest, is, b))) =
-    absurd (first_line_is_right (lines + 1) answer ending bytes rest f is a)
-one_first_fault lines ending bytes f g (inr (answer, (rest, is, a))) (inl b) =
-    absurd (first_line_is_right (lines + 1) answer ending bytes rest g is b)
-one_first_fault lines ending bytes f g (inr (v, (r, is_r, a))) (inr (w, (s, is_s, b))) =
-    let first = one_first_line v w r s (sym is_r ∙ is_s) in
-    one_later_fault w (lines + 2) ending f g s (subst (λ (u : Option ViolationKind). ClaimFault (lines + 2) ending f u s) first.0
-    (subst (ClaimFault (lines + 2) ending f v) first.1 a)) b
+one_first_fault lines ending bytes f g h k = judging.one_first_fault judged lines ending bytes f g h k

@@ -3,9 +3,9 @@ use Rattle.history_text.proofs.Common.{[], ◌≡◌, ◌≤◌, All, length, Li
 use Rattle.history_text.proofs.Common.{HasHistoryText, HasText, HasValueInRange, MAX_EVENTS, MAX_INITIAL, One, Two}
 use Rattle.history_text.proofs.Common.{Version, ◌∷◌, AllByRecursion, arith, cons_option, Contains, filter_map}
 use Rattle.history_text.proofs.Common.{length-map, map, None, Option, option_map, slice_get, Some, subst, claim_of}
-use Rattle.history_text.proofs.Common.{ClaimLine, Deq, HasClaimLine, HasOperationLine, HasVerdictText}
-use Rattle.history_text.proofs.Common.{HaveValueLines, HistoryText, Initial, IsKindInRange, line_at, MAX_CLAIM_LINES}
-use Rattle.history_text.proofs.Common.{Op, Operation, OpKind, verdict_places, violation_places, sym}
+use Rattle.history_text.proofs.Common.{ClaimLine, Deq, HasClaimLine, HasOperationLine, HasVerdictText, HaveValueLines}
+use Rattle.history_text.proofs.Common.{HistoryText, Initial, IsKindInRange, line_at, MAX_CLAIM_LINES, Op, Operation}
+use Rattle.history_text.proofs.Common.{OpKind, verdict_places, violation_places, sym}
 use Rattle.std.proofs.lemmas.List.Elements.{recursion_from_All, All-contains, All-from_recursion}
 use Rattle.history_merge.specs.Complete.{IsCompleteHistory}
 use Rattle.history_merge.specs.declared.operation.OpKind.TheVariants.{Empty}

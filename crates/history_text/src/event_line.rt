@@ -1,11 +1,11 @@
 //! The line of an event, judged by its form, or read in one pass.
-ghost use Rattle.std.specs.Prelude.{◌≡◌, ◌+◌, ◌≤◌, ◌++◌, ◌∷◌, length, drop, decimal, IfErr, IfSome, slice_index};
-ghost use Rattle.text_lines.specs.Lines.{IsLineFault, fields_of, line, spaced};
+ghost use Rattle.std.specs.Prelude.{◌≡◌, ◌+◌, ◌≤◌, ◌++◌, ◌∷◌, length, drop, decimal, IfSome, slice_index};
+ghost use Rattle.text_lines.specs.Lines.{line, spaced};
 ghost use Rattle.history_text.specs.Histories as wanted;
-ghost use Rattle.history_text.specs.Histories.{event_line, what_fields, HasValueInRange, HasEventLine, event_format};
+ghost use Rattle.history_text.specs.Histories.{what_fields, HasValueInRange, event_format};
 ghost use Rattle.std.proofs.Common.{lit≤};
 
-use crate::item::{Item, ROOM};
+use crate::item::Item;
 use event_records::{Event, MAX_EVENTS, MAX_THREAD, MAX_TICKET, What};
 use text_lines::{Field, NumberFields, TextFault, after_word_at, number_at};
 
@@ -66,15 +66,6 @@ fn event_of(what: What, numbers: &NumberFields) -> Event
     }
 }
 
-/// Returns the event of a line, or the first fault of its fields.
-fn event_in(line: u64, bytes: &[u8]) -> Result<Event, TextFault>
-    ensures value { result ≡ wanted.event_in line (fields_of bytes.now) }
-    ensures of_line { IfErr result IsLineFault }
-{
-    let (what, numbers) = text_lines::parse_line(line, &EVENT_FORMS, bytes)?;
-    Ok(event_of(what, &numbers))
-}
-
 /// Returns the thread at this place, and the place after the space that follows it.
 #[inline(always)]
 fn thread_at(bytes: &[u8], at: usize) -> Option<(u8, usize)>
@@ -132,48 +123,34 @@ fn what_at(bytes: &[u8], at: usize) -> Option<(What, usize)>
     Some((What::RetEmpty, at))
 }
 
-/// Returns the event whose line stands whole at the front, and the place after it.
-///
-/// It reads no wrong line. `event_in` judges what it doesn't read.
-#[inline(always)]
-fn event_front(bytes: &[u8]) -> Option<(Event, usize)>
-    requires { ROOM ≤ length bytes.now }
-    ensures { IfSome result (λ p. (bytes.now ≡ event_line p.0 ++ drop p.1 bytes.now) × HasEventLine p.0) }
-{
-    let (ticket, at) = number_at(bytes, 0)?;
-    if ticket > MAX_TICKET {
-        return None;
-    }
-    let at = after_word_at(bytes, at, b" ")?;
-    let (thread, at) = thread_at(bytes, at)?;
-    let (what, at) = what_at(bytes, at)?;
-    let event = Event {
-        ticket,
-        thread,
-        what,
-    };
-    Some((event, at))
-}
-
 impl Item for Event {
     ghost format = { event_format };
 
     ghost few = { lit≤ tt };
 
-    fn most() -> usize {
-        MAX_EVENTS
-    }
-
-    fn is_counted() -> bool {
-        true
+    fn limits() -> (usize, bool) {
+        (MAX_EVENTS, true)
     }
 
     fn from_line(line: u64, bytes: &[u8]) -> Result<Event, TextFault> {
-        event_in(line, bytes)
+        let (what, numbers) = text_lines::parse_line(line, &EVENT_FORMS, bytes)?;
+        Ok(event_of(what, &numbers))
     }
 
     #[inline(always)]
     fn at_front(bytes: &[u8]) -> Option<(Event, usize)> {
-        event_front(bytes)
+        let (ticket, at) = number_at(bytes, 0)?;
+        if ticket > MAX_TICKET {
+            return None;
+        }
+        let at = after_word_at(bytes, at, b" ")?;
+        let (thread, at) = thread_at(bytes, at)?;
+        let (what, at) = what_at(bytes, at)?;
+        let event = Event {
+            ticket,
+            thread,
+            what,
+        };
+        Some((event, at))
     }
 }

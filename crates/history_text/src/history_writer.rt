@@ -8,7 +8,7 @@ ghost use Rattle.history_text.specs.Histories.{what_fields, event_line, HasValue
 ghost use Rattle.history_text.specs.Versions.{value_format, lines_before_events, text_by, text_of, said_in, HasText};
 ghost use Rattle.text_lines.specs.Writing.{Puts, Writes, PutsText};
 
-use crate::lines::{WritesLine, put_each};
+use crate::lines::{WritesLine, put_each, put_one};
 use crate::version::Version;
 use event_records::{Event, What};
 use history_merge::{Events, History};
@@ -36,32 +36,34 @@ fn push_what(kept: &mut WriteBuffer, what: What)
     }
 }
 
-/// Adds the line of an event.
-#[inline(always)]
-fn push_event(kept: &mut WriteBuffer, event: Event)
-    requires { length kept.old + 96 ≤ 4096 }
-    ensures line { kept.new ≡ kept.old ++ event_line event }
-    ensures fits { HasValueInRange event.what }
-{
-    kept.push_field(event.ticket);
-    kept.push_field(u64::from(event.thread));
-    push_what(kept, event.what);
-    kept.push(b"\n");
+/// The lines of initial values and of events.
+#[derive(Clone, Copy)]
+struct HistoryLines;
+
+impl WritesLine<u64> for HistoryLines {
+    ghost line = { λ _. line_of value_format };
+
+    ghost Fits = { λ _ value. value ≤ greatest_value };
+
+    #[inline(always)]
+    fn push(&self, value: &u64, kept: &mut WriteBuffer) {
+        kept.push_number(*value);
+        kept.push(b"\n");
+    }
 }
 
-/// Puts the line of an event, and may hold back the end of the text.
-#[inline(always)]
-fn put_event<W: TextSink>(
-    event: Event,
-    kept: &mut WriteBuffer,
-    writer: &mut W,
-) -> Result<(), WriteFault>
-    ensures text { PutsText W.contents W.has_refused W.transition kept.old kept.new (event_line event) writer.old writer.new result }
-    ensures fits { OnOk result (HasValueInRange event.what) }
-{
-    make_room(kept, writer)?;
-    push_event(kept, event);
-    Ok(())
+impl WritesLine<Event> for HistoryLines {
+    ghost line = { λ _. event_line };
+
+    ghost Fits = { λ _ event. HasValueInRange event.what };
+
+    #[inline(always)]
+    fn push(&self, event: &Event, kept: &mut WriteBuffer) {
+        kept.push_field(event.ticket);
+        kept.push_field(u64::from(event.thread));
+        push_what(kept, event.what);
+        kept.push(b"\n");
+    }
 }
 
 /// Puts the lines of events, and may hold back the end of the text.
@@ -74,25 +76,9 @@ fn put_events<W: TextSink>(
     ensures fits { OnOk result (All (λ e. HasValueInRange e.what) events.entry) }
 {
     for event in events {
-        put_event(event, kept, writer)?;
+        put_one(&HistoryLines, &event, kept, writer)?;
     }
     Ok(())
-}
-
-/// The lines of initial values.
-#[derive(Clone, Copy)]
-struct ValueLines;
-
-impl WritesLine<u64> for ValueLines {
-    ghost line = { λ _. line_of value_format };
-
-    ghost Fits = { λ _ value. value ≤ greatest_value };
-
-    #[inline(always)]
-    fn push(&self, value: &u64, kept: &mut WriteBuffer) {
-        kept.push_number(*value);
-        kept.push(b"\n");
-    }
 }
 
 /// Puts the lines before the events, and may hold back the end of the text.
@@ -115,7 +101,7 @@ fn put_before_events<W: TextSink>(
             kept.push(b"fifo-history 2\ninitial ");
             kept.push_number(initial.len() as u64);
             kept.push(b"\n");
-            put_each(&ValueLines, initial, kept, writer)
+            put_each(&HistoryLines, initial, kept, writer)
         }
     }
 }

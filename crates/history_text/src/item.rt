@@ -16,13 +16,10 @@ pub(crate) trait Item: Drop {
     /// How a text lists such items.
     ghost format: { Format Self };
 
-    /// The most items of a text.
-    fn most() -> usize
-        ensures { result ≡ format.most };
-
-    /// Whether a last line counts the items. Otherwise they go on to the end of the input.
-    fn is_counted() -> bool
-        ensures { result ≡ format.is_counted };
+    /// The most items of a text, and whether a last line counts them. Otherwise they go on to the end of the input.
+    fn limits() -> (usize, bool)
+        ensures most { result.0 ≡ format.most }
+        ensures is_counted { result.1 ≡ format.is_counted };
 
     /// Returns the item of a whole line, or the first fault of its fields.
     fn from_line(line: u64, bytes: &[u8]) -> Result<Self, TextFault>
@@ -49,7 +46,8 @@ pub(crate) trait Item: Drop {
 fn is_last<T: Item>(bytes: &[u8]) -> bool
     ensures { result ≡ (T.format.is_counted && begins_as_end bytes.now) }
 {
-    T::is_counted() && bytes.starts_with(b"end ")
+    let (_, is_counted) = T::limits();
+    is_counted && bytes.starts_with(b"end ")
 }
 
 /// Reads a whole line after this many items: an item, or none if it is the last line.
@@ -68,7 +66,8 @@ pub(crate) fn item_in<T: Item>(
             Err(fault) => Err(fault),
         };
     }
-    if count >= T::most() {
+    let (most, _) = T::limits();
+    if count >= most {
         return Err(TextFault::Limit(line));
     }
     match T::from_line(line, bytes) {

@@ -22,7 +22,7 @@ pub(crate) trait WritesLine<T> {
 
 /// Puts the line of an item.
 #[inline(always)]
-fn put_one<T, L: WritesLine<T>, W: TextSink>(
+pub(crate) fn put_one<T, L: WritesLine<T>, W: TextSink>(
     lines: &L,
     item: &T,
     kept: &mut WriteBuffer,

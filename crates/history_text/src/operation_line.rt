@@ -1,8 +1,9 @@
 //! The lines of a verdict: its first one, its operations and the initial values of a `NO`, judged by their forms.
-ghost use Rattle.std.specs.Prelude.{◌≡◌, ◌≤◌, IfErr, MatchOption, slice_index};
+ghost use Rattle.std.specs.Prelude.{◌≡◌, ◌≤◌, IfErr, IfOk, MatchOption, slice_index};
 ghost use Rattle.std.proofs.Common.{lit≤};
 ghost use Rattle.text_lines.specs.Lines.{IsLineFault, fields_of};
 ghost use Rattle.history_text.specs.Items.{read_by};
+ghost use Rattle.history_text.specs.Inner.Taking.{IsSpelled};
 ghost use Rattle.history_text.specs.Claims as wanted;
 ghost use Rattle.history_text.specs.Claims.{operation_format, claim_line_format, IsNoFirstLine, first_line};
 
@@ -84,6 +85,7 @@ fn operation_of(kind: OpKind, numbers: &NumberFields) -> Operation
 fn read_operation(line: u64, bytes: &[u8]) -> Result<Operation, TextFault>
     ensures value { result ≡ read_by wanted.operation_forms wanted.operation_of line (fields_of bytes.now) }
     ensures of_line { IfErr result IsLineFault }
+    ensures spelled { IfOk result (IsSpelled operation_format (fields_of bytes.now)) }
 {
     let (kind, numbers) = text_lines::parse_line(line, &OPERATION_FORMS, bytes)?;
     Ok(operation_of(kind, &numbers))
@@ -99,45 +101,20 @@ fn is_initial(bytes: &[u8]) -> bool
     }
 }
 
-/// Returns what a line of a `YES` says, or the first fault of its fields.
-fn operation_in(line: u64, bytes: &[u8]) -> Result<Operation, TextFault>
-    ensures value { result ≡ wanted.operation_in line (fields_of bytes.now) }
-    ensures of_line { IfErr result IsLineFault }
-{
-    if is_initial(bytes) {
-        return Err(TextFault::Line(line));
-    }
-    read_operation(line, bytes)
-}
-
-/// Returns what a line of a `NO` says, or the first fault of its fields.
-fn claim_line_in(line: u64, bytes: &[u8]) -> Result<ClaimLine, TextFault>
-    ensures value { result ≡ wanted.claim_line_in line (fields_of bytes.now) }
-    ensures of_line { IfErr result IsLineFault }
-{
-    if is_initial(bytes) {
-        let (_, numbers) = text_lines::parse_line(line, &INITIAL_FORMS, bytes)?;
-        return Ok(ClaimLine::Initial(numbers.at(0)));
-    }
-    let operation = read_operation(line, bytes)?;
-    Ok(ClaimLine::Op(operation))
-}
-
 impl Item for Operation {
     ghost format = { operation_format };
 
     ghost few = { lit≤ tt };
 
-    fn most() -> usize {
-        MAX_CLAIM_LINES as usize
-    }
-
-    fn is_counted() -> bool {
-        false
+    fn limits() -> (usize, bool) {
+        (MAX_CLAIM_LINES as usize, false)
     }
 
     fn from_line(line: u64, bytes: &[u8]) -> Result<Operation, TextFault> {
-        operation_in(line, bytes)
+        if is_initial(bytes) {
+            return Err(TextFault::Line(line));
+        }
+        read_operation(line, bytes)
     }
 }
 
@@ -145,15 +122,16 @@ impl Item for ClaimLine {
     ghost format = { claim_line_format };
 
     fn from_line(line: u64, bytes: &[u8]) -> Result<ClaimLine, TextFault> {
-        claim_line_in(line, bytes)
+        if is_initial(bytes) {
+            let (_, numbers) = text_lines::parse_line(line, &INITIAL_FORMS, bytes)?;
+            return Ok(ClaimLine::Initial(numbers.at(0)));
+        }
+        let operation = read_operation(line, bytes)?;
+        Ok(ClaimLine::Op(operation))
     }
 
-    fn most() -> usize {
-        MAX_CLAIM_LINES as usize
-    }
-
-    fn is_counted() -> bool {
-        false
+    fn limits() -> (usize, bool) {
+        (MAX_CLAIM_LINES as usize, false)
     }
 
     ghost few = { lit≤ tt };

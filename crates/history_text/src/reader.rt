@@ -5,18 +5,17 @@ ghost use Rattle.event_records.specs.declared.limits.TheConstants.{MAX_INITIAL};
 ghost use Rattle.verdicts.specs.declared.verifying.Claimed.{Claimed};
 ghost use Rattle.history_text.specs.declared.schedule.Schedule.{Schedule};
 ghost use Rattle.text_lines.specs.Input.{EndOfInput, Failure, Takes, IsOver};
-ghost use Rattle.text_lines.specs.Lines.{line, spaced};
-ghost use Rattle.history_text.specs.Items.{line_of, lines_of, HaveLines};
-ghost use Rattle.history_text.specs.Versions.{value_format, count_fields, count_in as judged_count, lines_of_initial, header_of};
+ghost use Rattle.text_lines.specs.Lines.{header_fault, line};
+ghost use Rattle.history_text.specs.Items.{item_at_front, line_at_front, line_of, lines_of, HaveLines};
+ghost use Rattle.history_text.specs.Versions.{header_of, NoVersionFault};
 ghost use Rattle.history_text.specs.Versions.{lines_before_events, count_before_events, text_of, line_count, HaveValueLines, HasText, HistoryText, IsReadAs};
-ghost use Rattle.history_text.specs.Schedules.{schedule_text, setting_fields, setting_in as judged_setting, HasScheduleText, IsSetting};
+ghost use Rattle.history_text.specs.Schedules.{schedule_text, HasScheduleText};
 ghost use Rattle.history_text.specs.Verdicts.{verdict_text};
-ghost use Rattle.history_text.specs.Claims.{claim_length, HasVerdictText, first_line};
+ghost use Rattle.history_text.specs.Claims.{claim_length, HasVerdictText, first_line, FirstLineFault};
 ghost use Rattle.history_text.specs.Reading.{HasTextFault, HasScheduleTextFault, HasVerdictTextFault, HasEndFault, IsOverIf};
 ghost use Rattle.history_text.specs.Reading.{BeginsWith, IsAll};
-ghost use Rattle.history_text.specs.Inner.Taking.{TakesLine, StopsInLine, TakesItem, TakesItems, HasNoLine, HasHeaderFault, HasNoVersion};
-ghost use Rattle.history_text.specs.Inner.Taking.{HasLineFault, HasFirstLineFault, HasItemFault, HasItemsFault, HasFaultAmong};
-ghost use Rattle.history_text.specs.Inner.Taking.{HasInitialFault, IsOfInput};
+ghost use Rattle.history_text.specs.Inner.Taking.{TakesLine, FaultAtFront, BrokenLineFault, NoLineFault, TakesItem, TakesItems};
+ghost use Rattle.history_text.specs.Inner.Taking.{HasItemsFault, HasFaultAmong, IsOfInput};
 ghost use Rattle.text_lines.specs.Inner.Lines.{IsPartOfLine};
 
 use crate::collecting::Collects;
@@ -24,8 +23,7 @@ use crate::item::{Item, ROOM, item_in};
 use crate::operation_line::answer_in;
 use crate::schedule::{Schedule, Steps};
 use crate::source_end::{BUFFER_LEN, SourceEnd, read_at};
-use crate::step_line::setting_in;
-use crate::value_line::{count_in, version_in};
+use crate::value_line::version_in;
 use crate::version::Version;
 use history_merge::HistoryBuilder;
 use std::alloc::Global;
@@ -67,18 +65,6 @@ impl<R: TextSource> Model for TextReader<R> {
     ghost invariant = { λ r. (r.at ≤ r.filled) × (r.filled ≤ 4160) × IsSeen r.end (R.ahead r.source) };
 }
 
-/// The line that the input begins with.
-#[derive(Drop)]
-pub(crate) enum FrontLine {
-    Whole(Line),
-    /// The line goes on after as many bytes as a line may have.
-    TooLong,
-    /// The input ends within the line.
-    Unfinished,
-    /// The input is over.
-    Nothing,
-}
-
 impl<R: TextSource> TextReader<R> {
     /// Makes a reader at the beginning of its source. It takes no memory, and asks for nothing yet.
     pub fn new(source: R) -> Self
@@ -101,7 +87,6 @@ impl<R: TextSource> TextReader<R> {
         ensures end { IfOk result (λ found. IfNone found (IsOver EndOfInput self.new.left)) }
         ensures failed { OnErr result (Takes self.old.left self.new.left [] × IsOver Failure self.new.left) }
         ensures lines { self.new.lines ≡ self.old.lines }
-        ensures is_stopped { self.new.is_stopped ≡ self.old.is_stopped }
     {
         if self.at < self.filled {
             let byte = self.buffer[self.at];
@@ -124,7 +109,6 @@ impl<R: TextSource> TextReader<R> {
         ensures over { IfOk result (λ more. IsOverIf self.new.left (not more)) }
         ensures failed { OnErr result (IsOver Failure self.new.left) }
         ensures lines { self.new.lines ≡ self.old.lines }
-        ensures is_stopped { self.new.is_stopped ≡ self.old.is_stopped }
     {
         if self.at < self.filled {
             return Ok(true);
@@ -135,23 +119,26 @@ impl<R: TextSource> TextReader<R> {
         Ok(self.filled > 0)
     }
 
-    /// Returns the next line, as far as it is there.
-    fn next_line(&mut self) -> Result<FrontLine, ReadFailed>
-        requires { self.old.lines + 1 < 2 ^ 64 }
-        ensures taken { MatchResult result (TakesLine self.old.left self.new.left) (λ _. StopsInLine self.old.left self.new.left) }
+    /// Returns the next line, or none at the end of the input. A line that is too long has the given fault.
+    fn next_line(&mut self, too_long: TextFault) -> Result<Option<Line>, TextFault>
+        requires lines { self.old.lines + 1 < 2 ^ 64 }
+        requires of_input { IsOfInput too_long }
+        ensures ok { IfOk result (TakesLine self.old.left self.new.left) }
+        ensures fault { IfErr result (FaultAtFront (BrokenLineFault too_long) self.old.left) }
+        ensures of_input { IfErr result IsOfInput }
         ensures lines { self.new.lines ≡ self.old.lines + 1 }
-        ensures is_stopped { self.new.is_stopped ≡ self.old.is_stopped }
     {
         self.lines += 1;
         let mut line = Line::new();
         loop {
-            match self.next_byte()? {
-                None if line.len() == 0 => return Ok(FrontLine::Nothing),
-                None => return Ok(FrontLine::Unfinished),
-                Some(b'\n') => return Ok(FrontLine::Whole(line)),
-                Some(byte) => {
+            match self.next_byte() {
+                Err(ReadFailed) => return Err(TextFault::Read),
+                Ok(None) if line.len() == 0 => return Ok(None),
+                Ok(None) => return Err(TextFault::Cut),
+                Ok(Some(b'\n')) => return Ok(Some(line)),
+                Ok(Some(byte)) => {
                     if line.len() == LONGEST_LINE {
-                        return Ok(FrontLine::TooLong);
+                        return Err(too_long);
                     }
                     line.push_byte(byte);
                 }
@@ -164,17 +151,13 @@ impl<R: TextSource> TextReader<R> {
         requires lines { self.old.lines + 1 < 2 ^ 64 }
         requires of_input { IsOfInput too_long }
         ensures ok { IfOk result (λ bytes. Takes self.old.left self.new.left (line bytes) × IsPartOfLine bytes) }
-        ensures fault { IfErr result (HasNoLine too_long self.old.left) }
+        ensures fault { IfErr result (FaultAtFront (NoLineFault too_long) self.old.left) }
         ensures of_input { IfErr result IsOfInput }
         ensures lines { self.new.lines ≡ self.old.lines + 1 }
-        ensures is_stopped { self.new.is_stopped ≡ self.old.is_stopped }
     {
-        match self.next_line() {
-            Err(ReadFailed) => return Err(TextFault::Read),
-            Ok(FrontLine::Nothing) => return Err(TextFault::Cut),
-            Ok(FrontLine::Unfinished) => return Err(TextFault::Cut),
-            Ok(FrontLine::TooLong) => return Err(too_long),
-            Ok(FrontLine::Whole(line)) => return Ok(line),
+        match self.next_line(too_long)? {
+            Some(line) => return Ok(line),
+            None => return Err(TextFault::Cut),
         }
     }
 
@@ -182,10 +165,9 @@ impl<R: TextSource> TextReader<R> {
     fn header_line(&mut self, expected: &[u8]) -> Result<(), TextFault>
         requires { self.old.lines + 1 < 2 ^ 64 }
         ensures ok { OnOk result (Takes self.old.left self.new.left (line expected.now)) }
-        ensures fault { IfErr result (HasHeaderFault expected.now self.old.left) }
+        ensures fault { IfErr result (FaultAtFront (λ ending fault front. header_fault expected.now ending front ≡ Some fault) self.old.left) }
         ensures of_input { IfErr result IsOfInput }
         ensures lines { self.new.lines ≡ self.old.lines + 1 }
-        ensures is_stopped { self.new.is_stopped ≡ self.old.is_stopped }
     {
         let line = self.whole_line(TextFault::Header)?;
         if line.as_slice() == expected {
@@ -199,10 +181,9 @@ impl<R: TextSource> TextReader<R> {
     fn version(&mut self) -> Result<Version, TextFault>
         requires { self.old.lines + 1 < 2 ^ 64 }
         ensures ok { IfOk result (λ version. Takes self.old.left self.new.left (line (header_of version))) }
-        ensures fault { IfErr result (HasNoVersion self.old.left) }
+        ensures fault { IfErr result (FaultAtFront NoVersionFault self.old.left) }
         ensures of_input { IfErr result IsOfInput }
         ensures lines { self.new.lines ≡ self.old.lines + 1 }
-        ensures is_stopped { self.new.is_stopped ≡ self.old.is_stopped }
     {
         let line = self.whole_line(TextFault::Header)?;
         match version_in(line.as_slice()) {
@@ -211,15 +192,18 @@ impl<R: TextSource> TextReader<R> {
         }
     }
 
-    /// Returns the item of the next line, if that stands whole in the buffer.
+    /// Returns the next item after this many, if there is room for it and its line stands whole in the buffer.
     #[inline(always)]
-    fn item_in_buffer<T: Item>(&mut self) -> Option<T>
+    fn item_in_buffer<T: Item>(&mut self, count: usize) -> Option<T>
         requires { self.old.lines + 1 < 2 ^ 64 }
-        ensures item { IfSome result (λ item. Takes self.old.left self.new.left (line_of T.format item) × T.format.HasLine item) }
+        ensures item { IfSome result (λ item. TakesItem T.format self.old.left self.new.left count (Some item)) }
         ensures lines { IfSome result (λ _. self.new.lines ≡ self.old.lines + 1) }
         ensures none { IfNone result (self.new ≡ self.old) }
-        ensures is_stopped { self.new.is_stopped ≡ self.old.is_stopped }
     {
+        let (most, _) = T::limits();
+        if count >= most {
+            return None;
+        }
         let (item, len) = T::at_front(&self.buffer[self.at..])?;
         if len > self.filled - self.at {
             return None;
@@ -235,7 +219,6 @@ impl<R: TextSource> TextReader<R> {
     fn complete_line(&mut self)
         ensures left { Takes self.old.left self.new.left [] }
         ensures lines { self.new.lines ≡ self.old.lines }
-        ensures is_stopped { self.new.is_stopped ≡ self.old.is_stopped }
     {
         let left = self.filled - self.at;
         if left > ROOM || self.buffer[self.at..self.filled].contains(&b'\n') {
@@ -255,67 +238,33 @@ impl<R: TextSource> TextReader<R> {
     fn item_by_line<T: Item>(&mut self, count: usize) -> Result<Option<T>, TextFault>
         requires { self.old.lines + 1 < 2 ^ 64 }
         ensures ok { IfOk result (TakesItem T.format self.old.left self.new.left count) }
-        ensures fault { IfErr result (HasItemFault T.format (self.old.lines + 1) count self.old.left) }
+        ensures fault { IfErr result (FaultAtFront (λ ending fault front. item_at_front T.format (self.old.lines + 1) count ending front ≡ Err fault) self.old.left) }
         ensures of_input { IfErr result IsOfInput }
         ensures lines { self.new.lines ≡ self.old.lines + 1 }
-        ensures is_stopped { self.new.is_stopped ≡ self.old.is_stopped }
     {
-        let line = match self.next_line() {
-            Err(ReadFailed) => return Err(TextFault::Read),
-            Ok(FrontLine::Nothing) => {
-                if T::is_counted() {
-                    return Err(TextFault::Cut);
-                }
-                return Ok(None);
-            }
-            Ok(FrontLine::Unfinished) => return Err(TextFault::Cut),
-            Ok(FrontLine::TooLong) => return Err(TextFault::Line(self.lines)),
-            Ok(FrontLine::Whole(line)) => line,
-        };
-        item_in(self.lines, count, line.as_slice())
-    }
-
-    /// Returns the next item after this many, if there is room for it and its line stands whole in the buffer.
-    #[inline(always)]
-    fn next_in_buffer<T: Item>(&mut self, count: usize) -> Option<T>
-        requires { self.old.lines + 1 < 2 ^ 64 }
-        ensures item { IfSome result (λ item. TakesItem T.format self.old.left self.new.left count (Some item)) }
-        ensures lines { IfSome result (λ _. self.new.lines ≡ self.old.lines + 1) }
-        ensures none { IfNone result (self.new ≡ self.old) }
-        ensures is_stopped { self.new.is_stopped ≡ self.old.is_stopped }
-    {
-        if count < T::most() {
-            return self.item_in_buffer();
+        if let Some(line) = self.next_line(TextFault::Line(self.lines + 1))? {
+            return item_in(self.lines, count, line.as_slice());
         }
-        None
+        let (_, is_counted) = T::limits();
+        if is_counted {
+            return Err(TextFault::Cut);
+        }
+        Ok(None)
     }
 
-    /// Returns the item of the next line, which must be one.
-    fn required_by_line<T: Item>(&mut self) -> Result<T, TextFault>
-        requires { self.old.lines + 1 < 2 ^ 64 }
-        ensures ok { IfOk result (λ item. Takes self.old.left self.new.left (line_of T.format item) × T.format.HasLine item) }
-        ensures fault { IfErr result (HasLineFault T.format.read (self.old.lines + 1) self.old.left) }
-        ensures of_input { IfErr result IsOfInput }
-        ensures lines { self.new.lines ≡ self.old.lines + 1 }
-        ensures is_stopped { self.new.is_stopped ≡ self.old.is_stopped }
-    {
-        let line = self.whole_line(TextFault::Line(self.lines + 1))?;
-        T::from_line(self.lines, line.as_slice())
-    }
-
-    /// Returns the item of the next line, in one pass if the line stands whole in the buffer and is right.
+    /// Returns the item of the next line, which must be one: in one pass if the line stands whole in the buffer and is right.
     fn required_item<T: Item>(&mut self) -> Result<T, TextFault>
         requires { self.old.lines + 1 < 2 ^ 64 }
         ensures ok { IfOk result (λ item. Takes self.old.left self.new.left (line_of T.format item) × T.format.HasLine item) }
-        ensures fault { IfErr result (HasLineFault T.format.read (self.old.lines + 1) self.old.left) }
+        ensures fault { IfErr result (FaultAtFront (λ ending fault front. line_at_front T.format.read (self.old.lines + 1) ending front ≡ Err fault) self.old.left) }
         ensures of_input { IfErr result IsOfInput }
         ensures lines { self.new.lines ≡ self.old.lines + 1 }
-        ensures is_stopped { self.new.is_stopped ≡ self.old.is_stopped }
     {
-        if let Some(item) = self.item_in_buffer() {
+        if let Some(item) = self.item_in_buffer(0) {
             return Ok(item);
         }
-        self.required_by_line()
+        let line = self.whole_line(TextFault::Line(self.lines + 1))?;
+        T::from_line(self.lines, line.as_slice())
     }
 
     /// Returns this many items, one in each line.
@@ -326,7 +275,6 @@ impl<R: TextSource> TextReader<R> {
         ensures count { IfOk result (λ v. length v.items ≡ count) }
         ensures fault { IfErr result (HasFaultAmong T.format count (self.old.lines + 1) self.old.left) }
         ensures lines { IfOk result (λ v. self.new.lines ≡ self.old.lines + count) }
-        ensures is_stopped { self.new.is_stopped ≡ self.old.is_stopped }
     {
         let mut items = Vec::new(alloc);
         while items.len() < count {
@@ -344,13 +292,12 @@ impl<R: TextSource> TextReader<R> {
         ensures collected { IfOk result (λ _. (items : List T) × HaveLines T.format items × TakesItems T.format self.old.left self.new.left items
             × (self.new.lines ≡ self.old.lines + 1 + length items) × C.Adds into.old into.new items) }
         ensures fault { IfErr result (HasItemsFault T.format (self.old.lines + 1) self.old.left) }
-        ensures is_stopped { self.new.is_stopped ≡ self.old.is_stopped }
     {
         let mut count = 0;
         // Whether what is left of the buffer was read on after, since the last item.
         let mut is_complete = false;
         loop {
-            let item = match self.next_in_buffer(count) {
+            let item = match self.item_in_buffer(count) {
                 Some(item) => item,
                 None if !is_complete => {
                     self.complete_line();
@@ -377,36 +324,10 @@ impl<R: TextSource> TextReader<R> {
         ensures taken { IfOk result (λ v. TakesItems T.format self.old.left self.new.left v.items) }
         ensures fault { IfErr result (HasItemsFault T.format (self.old.lines + 1) self.old.left) }
         ensures lines { IfOk result (λ v. self.new.lines ≡ self.old.lines + 1 + length v.items) }
-        ensures is_stopped { self.new.is_stopped ≡ self.old.is_stopped }
     {
         let mut items = Vec::new(alloc);
         self.collect_items(&mut items)?;
         Ok(items)
-    }
-
-    /// Returns how many initial values there are, by the next line.
-    fn initial_count(&mut self) -> Result<usize, TextFault>
-        requires { self.old.lines + 1 < 2 ^ 64 }
-        ensures ok { IfOk result (λ k. Takes self.old.left self.new.left (line (spaced (count_fields k))) × (k ≤ MAX_INITIAL)) }
-        ensures fault { IfErr result (HasLineFault judged_count (self.old.lines + 1) self.old.left) }
-        ensures of_input { IfErr result IsOfInput }
-        ensures lines { self.new.lines ≡ self.old.lines + 1 }
-        ensures is_stopped { self.new.is_stopped ≡ self.old.is_stopped }
-    {
-        let line = self.whole_line(TextFault::Line(self.lines + 1))?;
-        count_in(self.lines, line.as_slice())
-    }
-
-    /// Returns the initial values, after the line that counts them.
-    fn initial_values(&mut self, alloc: Global) -> Result<Vec<u64>, TextFault>
-        requires { self.old.lines < 2 ^ 63 + 2 }
-        ensures values { IfOk result (λ v. HaveLines value_format v.items × Takes self.old.left self.new.left (lines_of_initial v.items)) }
-        ensures fault { IfErr result (HasInitialFault (self.old.lines + 1) self.old.left) }
-        ensures lines { IfOk result (λ v. self.new.lines ≡ self.old.lines + 1 + length v.items) }
-        ensures is_stopped { self.new.is_stopped ≡ self.old.is_stopped }
-    {
-        let count = self.initial_count()?;
-        self.required_items(alloc, count)
     }
 
     /// Returns the version of the history's text that the input begins with, and its initial values.
@@ -416,12 +337,14 @@ impl<R: TextSource> TextReader<R> {
         ensures fault { IfErr result (HasTextFault self.old.lines self.old.left) }
         ensures lines { IfOk result (λ p. self.new.lines ≡ self.old.lines + count_before_events p.0 p.1.items) }
         ensures few { IfOk result (λ p. length p.1.items ≤ MAX_INITIAL) }
-        ensures is_stopped { self.new.is_stopped ≡ self.old.is_stopped }
     {
         let version = self.version()?;
         let initial = match version {
             Version::One => Vec::new(alloc),
-            Version::Two => self.initial_values(alloc)?,
+            Version::Two => {
+                let count: usize = self.required_item()?;
+                self.required_items(alloc, count)?
+            }
         };
         Ok((version, initial))
     }
@@ -432,25 +355,11 @@ impl<R: TextSource> TextReader<R> {
         ensures text { IfOk result (λ read. (text : HistoryText) × HasText text × Takes self.old.left self.new.left (text_of text)
             × ((self.new.lines ≡ self.old.lines + line_count text) × IsReadAs text read.0 read.1)) }
         ensures fault { IfErr result (HasTextFault self.old.lines self.old.left) }
-        ensures is_stopped { self.new.is_stopped ≡ self.old.is_stopped }
     {
         let (version, initial) = self.before_events(alloc)?;
         let mut builder = HistoryBuilder::new(alloc, initial);
         self.collect_items(&mut builder)?;
         Ok((version, builder))
-    }
-
-    /// Returns the setting in the next line.
-    fn setting(&mut self) -> Result<(usize, usize), TextFault>
-        requires { self.old.lines + 1 < 2 ^ 64 }
-        ensures ok { IfOk result (λ s. Takes self.old.left self.new.left (line (spaced (setting_fields s.0 s.1))) × IsSetting s.0 s.1) }
-        ensures fault { IfErr result (HasLineFault judged_setting (self.old.lines + 1) self.old.left) }
-        ensures of_input { IfErr result IsOfInput }
-        ensures lines { self.new.lines ≡ self.old.lines + 1 }
-        ensures is_stopped { self.new.is_stopped ≡ self.old.is_stopped }
-    {
-        let line = self.whole_line(TextFault::Line(self.lines + 1))?;
-        setting_in(self.lines, line.as_slice())
     }
 
     /// Returns the schedule that the input begins with.
@@ -459,10 +368,9 @@ impl<R: TextSource> TextReader<R> {
         ensures schedule { IfOk result (λ s. HasScheduleText s × Takes self.old.left self.new.left (schedule_text s)) }
         ensures fault { IfErr result (HasScheduleTextFault self.old.lines self.old.left) }
         ensures lines { IfOk result (λ s. self.new.lines ≡ self.old.lines + 3 + length s.steps) }
-        ensures is_stopped { self.new.is_stopped ≡ self.old.is_stopped }
     {
         self.header_line(b"fifo-schedule 1")?;
-        let (threads, ring) = self.setting()?;
+        let (threads, ring): (usize, usize) = self.required_item()?;
         let steps = Steps::from_vec(self.items(alloc)?);
         Ok(Schedule {
             threads,
@@ -475,10 +383,9 @@ impl<R: TextSource> TextReader<R> {
     fn answer(&mut self) -> Result<Option<ViolationKind>, TextFault>
         requires { self.old.lines + 1 < 2 ^ 64 }
         ensures ok { IfOk result (λ answer. Takes self.old.left self.new.left (line (first_line answer))) }
-        ensures fault { IfErr result (HasFirstLineFault (self.old.lines + 1) self.old.left) }
+        ensures fault { IfErr result (FaultAtFront (FirstLineFault (self.old.lines + 1)) self.old.left) }
         ensures of_input { IfErr result IsOfInput }
         ensures lines { self.new.lines ≡ self.old.lines + 1 }
-        ensures is_stopped { self.new.is_stopped ≡ self.old.is_stopped }
     {
         let line = self.whole_line(TextFault::Line(self.lines + 1))?;
         match answer_in(line.as_slice()) {
@@ -493,7 +400,6 @@ impl<R: TextSource> TextReader<R> {
         ensures claim { IfOk result (λ c. HasVerdictText c × Takes self.old.left self.new.left (verdict_text c) × IsOver EndOfInput self.new.left) }
         ensures fault { IfErr result (HasVerdictTextFault self.old.lines self.old.left) }
         ensures lines { IfOk result (λ c. self.new.lines ≡ self.old.lines + 2 + claim_length c) }
-        ensures is_stopped { self.new.is_stopped ≡ self.old.is_stopped }
     {
         match self.answer()? {
             None => {
@@ -513,7 +419,6 @@ impl<R: TextSource> TextReader<R> {
         ensures claim { IfOk result (λ c. HasVerdictText c × Takes self.old.left self.new.left (verdict_text c) × IsOver EndOfInput self.new.left) }
         ensures fault { IfErr result (HasVerdictTextFault self.old.lines self.old.left) }
         ensures lines { IfOk result (λ c. self.new.lines ≡ self.old.lines + 1 + claim_length c) }
-        ensures is_stopped { self.new.is_stopped ≡ self.old.is_stopped }
     {
         let claimed = self.lines_of_claim(alloc)?;
         self.lines -= 1;

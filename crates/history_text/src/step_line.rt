@@ -1,7 +1,7 @@
 //! The lines of a schedule: its setting and its steps, judged by their forms.
-ghost use Rattle.std.specs.Prelude.{◌≡◌, ◌≤◌, IfErr, slice_index};
+ghost use Rattle.std.specs.Prelude.{◌≡◌, ◌≤◌, slice_index};
 ghost use Rattle.std.proofs.Common.{lit≤};
-ghost use Rattle.text_lines.specs.Lines.{IsLineFault, fields_of};
+ghost use Rattle.history_text.specs.Inner.Taking.{setting_format};
 ghost use Rattle.history_text.specs.Schedules as wanted;
 ghost use Rattle.history_text.specs.Schedules.{step_format, HasStepLine};
 
@@ -79,30 +79,18 @@ fn step_of(step: Step, numbers: &NumberFields) -> Step
     }
 }
 
-/// Returns the step of a line, or the first fault of its fields.
-fn step_in(line: u64, bytes: &[u8]) -> Result<Step, TextFault>
-    ensures value { result ≡ wanted.step_in line (fields_of bytes.now) }
-    ensures of_line { IfErr result IsLineFault }
-{
-    let (step, numbers) = text_lines::parse_line(line, &STEP_FORMS, bytes)?;
-    Ok(step_of(step, &numbers))
-}
-
 impl Item for Step {
     ghost format = { step_format };
 
-    fn is_counted() -> bool {
-        true
-    }
-
     ghost few = { lit≤ tt };
 
-    fn most() -> usize {
-        MAX_STEPS
+    fn limits() -> (usize, bool) {
+        (MAX_STEPS, true)
     }
 
     fn from_line(line: u64, bytes: &[u8]) -> Result<Step, TextFault> {
-        step_in(line, bytes)
+        let (step, numbers) = text_lines::parse_line(line, &STEP_FORMS, bytes)?;
+        Ok(step_of(step, &numbers))
     }
 }
 
@@ -123,11 +111,17 @@ const SETTING_FORMS: [((), &[Field]); 1] = [(
     ],
 )];
 
-/// Returns the numbers of threads and of places in a ring that a line says, or the first fault of its fields.
-pub(crate) fn setting_in(line: u64, bytes: &[u8]) -> Result<(usize, usize), TextFault>
-    ensures value { result ≡ wanted.setting_in line (fields_of bytes.now) }
-    ensures of_line { IfErr result IsLineFault }
-{
-    let (_, numbers) = text_lines::parse_line(line, &SETTING_FORMS, bytes)?;
-    Ok((numbers.at(0) as usize, numbers.at(1) as usize))
+impl Item for (usize, usize) {
+    ghost format = { setting_format };
+
+    ghost few = { lit≤ tt };
+
+    fn limits() -> (usize, bool) {
+        (1, false)
+    }
+
+    fn from_line(line: u64, bytes: &[u8]) -> Result<(usize, usize), TextFault> {
+        let (_, numbers) = text_lines::parse_line(line, &SETTING_FORMS, bytes)?;
+        Ok((numbers.at(0) as usize, numbers.at(1) as usize))
+    }
 }

@@ -1,13 +1,13 @@
 //! The lines before the events: the first one, the count of the initial values, and each of these.
-ghost use Rattle.std.specs.Prelude.{◌≡◌, ◌≤◌, ◌++◌, length, drop, IfErr, IfSome, MatchOption};
+ghost use Rattle.std.specs.Prelude.{◌≡◌, MatchOption};
 ghost use Rattle.std.proofs.Common.{lit≤};
-ghost use Rattle.text_lines.specs.Lines.{IsLineFault, fields_of};
-ghost use Rattle.history_text.specs.Items.{line_of};
+ghost use Rattle.text_lines.specs.Lines.{fields_of};
+ghost use Rattle.history_text.specs.Inner.Taking.{count_format};
 ghost use Rattle.history_text.specs.Versions as wanted;
 ghost use Rattle.history_text.specs.Versions.{value_format, header_of};
 
 use crate::event_line::VALUE;
-use crate::item::{Item, ROOM};
+use crate::item::Item;
 use crate::version::Version;
 use event_records::MAX_INITIAL;
 use text_lines::{Field, TextFault, after_word_at, number_at};
@@ -40,15 +40,6 @@ const COUNT_FORMS: [((), &[Field]); 1] = [(
 /// The form of the line of an initial value.
 const VALUE_FORMS: [((), &[Field]); 1] = [((), &[VALUE])];
 
-/// Returns the number of initial values that a line says, or the first fault of its fields.
-pub(crate) fn count_in(line: u64, bytes: &[u8]) -> Result<usize, TextFault>
-    ensures value { result ≡ wanted.count_in line (fields_of bytes.now) }
-    ensures of_line { IfErr result IsLineFault }
-{
-    let (_, numbers) = text_lines::parse_line(line, &COUNT_FORMS, bytes)?;
-    Ok(numbers.at(0) as usize)
-}
-
 /// Whether the line has no byte.
 #[tactic(auto, using(crate::proofs::EventLines::blank_line))]
 fn is_blank(bytes: &[u8]) -> bool
@@ -57,50 +48,42 @@ fn is_blank(bytes: &[u8]) -> bool
     bytes.is_empty()
 }
 
-/// Returns the value of a line, or the first fault of its fields.
-fn value_in(line: u64, bytes: &[u8]) -> Result<u64, TextFault>
-    ensures value { result ≡ wanted.value_in line (fields_of bytes.now) }
-    ensures of_line { IfErr result IsLineFault }
-{
-    if is_blank(bytes) {
-        return Err(TextFault::Line(line));
-    }
-    let (_, numbers) = text_lines::parse_line(line, &VALUE_FORMS, bytes)?;
-    Ok(numbers.at(0))
-}
+impl Item for usize {
+    ghost format = { count_format };
 
-/// Returns the value whose line stands whole at the front, and the place after it.
-///
-/// It reads no wrong line. `value_in` judges what it doesn't read.
-#[inline(always)]
-fn value_front(bytes: &[u8]) -> Option<(u64, usize)>
-    requires { ROOM ≤ length bytes.now }
-    ensures { IfSome result (λ p. bytes.now ≡ line_of value_format p.0 ++ drop p.1 bytes.now) }
-{
-    let (value, at) = number_at(bytes, 0)?;
-    let at = after_word_at(bytes, at, b"\n")?;
-    Some((value, at))
+    fn from_line(line: u64, bytes: &[u8]) -> Result<usize, TextFault> {
+        let (_, numbers) = text_lines::parse_line(line, &COUNT_FORMS, bytes)?;
+        Ok(numbers.at(0) as usize)
+    }
+
+    ghost few = { lit≤ tt };
+
+    fn limits() -> (usize, bool) {
+        (1, false)
+    }
 }
 
 impl Item for u64 {
     ghost format = { value_format };
 
     fn from_line(line: u64, bytes: &[u8]) -> Result<u64, TextFault> {
-        value_in(line, bytes)
+        if is_blank(bytes) {
+            return Err(TextFault::Line(line));
+        }
+        let (_, numbers) = text_lines::parse_line(line, &VALUE_FORMS, bytes)?;
+        Ok(numbers.at(0))
     }
 
     #[inline(always)]
     fn at_front(bytes: &[u8]) -> Option<(u64, usize)> {
-        value_front(bytes)
+        let (value, at) = number_at(bytes, 0)?;
+        let at = after_word_at(bytes, at, b"\n")?;
+        Some((value, at))
     }
 
     ghost few = { lit≤ tt };
 
-    fn most() -> usize {
-        MAX_INITIAL
-    }
-
-    fn is_counted() -> bool {
-        false
+    fn limits() -> (usize, bool) {
+        (MAX_INITIAL, false)
     }
 }

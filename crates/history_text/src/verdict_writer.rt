@@ -1,13 +1,11 @@
 //! How the text of a verdict is written.
-ghost use Rattle.std.specs.Prelude.{◌≡◌, ◌+◌, ◌≤◌, ◌∷◌, ◌++◌, [], length, codes, option_map, slice_get};
+ghost use Rattle.std.specs.Prelude.{◌≡◌, ◌+◌, ◌≤◌, ◌∷◌, ◌++◌, [], length, codes};
 ghost use Rattle.std.specs.List.{flat_map};
-ghost use Rattle.std.specs.Option.{option_to_list};
 ghost use Rattle.history_merge.specs.Operations.{operations_of};
 ghost use Rattle.text_lines.specs.Lines.{line, spaced};
 ghost use Rattle.history_text.specs.Verdicts.{kind_fields, kind_name, operation_line, claim_line, verdict_text, IsWithin};
 ghost use Rattle.history_text.specs.Verdicts.{maybe_place, violation_places, places_of_step, violation_kind, claim_of};
-ghost use Rattle.history_text.specs.Inner.Verdicts.{operation_text, line_text, lines_text};
-ghost use Rattle.verdicts.specs.declared.verifying.ClaimLine.TheVariants.{Op};
+ghost use Rattle.history_text.specs.Inner.Verdicts.{line_text, lines_text};
 ghost use Rattle.verdicts.specs.declared.shown.LinePlace.TheVariants as place;
 ghost use Rattle.text_lines.specs.Writing.{Puts, Writes, PutsText};
 
@@ -67,40 +65,11 @@ fn push_line(kept: &mut WriteBuffer, shown: &ClaimLine)
     }
 }
 
-/// Returns the line of the operation at the place.
-fn order_line_at(operations: &Operations<'_>, place: OpId) -> Option<ClaimLine>
-    ensures { result ≡ option_map Op (slice_get operations.now place) }
-{
-    operations.get(place).map(ClaimLine::Op)
-}
-
-/// Puts a line, if there is one.
-#[inline(always)]
-fn push_if_shown(kept: &mut WriteBuffer, shown: Option<ClaimLine>)
-    requires { length kept.old + 96 ≤ 4096 }
-    ensures { kept.new ≡ kept.old ++ flat_map claim_line (option_to_list shown) }
-{
-    if let Some(shown) = shown {
-        push_line(kept, &shown);
-    }
-}
-
 /// The lines at places of these initial values and operations.
 #[derive(Clone, Copy)]
 struct PlaceLines<'a> {
     initial: &'a [u64],
     operations: &'a Operations<'a>,
-}
-
-impl<'a> WritesLine<OpId> for PlaceLines<'a> {
-    ghost line = { λ all id. operation_text all.operations.now id };
-
-    ghost Fits = { λ _ _. Unit {0} };
-
-    #[inline(always)]
-    fn push(&self, id: &OpId, kept: &mut WriteBuffer) {
-        push_if_shown(kept, order_line_at(self.operations, *id));
-    }
 }
 
 impl<'a> WritesLine<LinePlace> for PlaceLines<'a> {
@@ -110,22 +79,20 @@ impl<'a> WritesLine<LinePlace> for PlaceLines<'a> {
 
     #[inline(always)]
     fn push(&self, place: &LinePlace, kept: &mut WriteBuffer) {
-        push_if_shown(kept, place.line(self.initial, self.operations));
+        if let Some(shown) = place.line(self.initial, self.operations) {
+            push_line(kept, &shown);
+        }
     }
 }
 
-fn put_maybe<W: TextSink>(
-    lines: &PlaceLines,
-    place: Option<OpId>,
-    kept: &mut WriteBuffer,
-    writer: &mut W,
-) -> Result<(), WriteFault>
-    ensures { PutsText W.contents W.has_refused W.transition kept.old kept.new
-        (lines_text lines.now.initial.now lines.now.operations.now (maybe_place place)) writer.old writer.new result }
-{
-    match place {
-        Some(place) => put_each(lines, &[LinePlace::Op(place)], kept, writer),
-        None => Ok(()),
+impl<'a> WritesLine<OpId> for PlaceLines<'a> {
+    ghost line = { λ all id. line_text all.initial.now all.operations.now (place.Op id) };
+
+    ghost Fits = { λ _ _. Unit {0} };
+
+    #[inline(always)]
+    fn push(&self, id: &OpId, kept: &mut WriteBuffer) {
+        WritesLine::<LinePlace>::push(self, &LinePlace::Op(*id), kept);
     }
 }
 
@@ -141,7 +108,7 @@ fn put_with_last<W: TextSink>(
         (lines_text lines.now.initial.now lines.now.operations.now (first.now ++ maybe_place last)) writer.old writer.new result }
 {
     put_each(lines, first, kept, writer)?;
-    put_maybe(lines, last, kept, writer)
+    put_each(lines, last.as_slice(), kept, writer)
 }
 
 fn put_cover<W: TextSink>(
@@ -151,7 +118,7 @@ fn put_cover<W: TextSink>(
     writer: &mut W,
 ) -> Result<(), WriteFault>
     ensures { PutsText W.contents W.has_refused W.transition kept.old kept.new
-        (lines_text lines.now.initial.now lines.now.operations.now (flat_map places_of_step steps.now)) writer.old writer.new result }
+        (flat_map (λ step. lines_text lines.now.initial.now lines.now.operations.now (places_of_step step)) steps.now) writer.old writer.new result }
 {
     for step in steps {
         put_with_last(
@@ -163,20 +130,6 @@ fn put_cover<W: TextSink>(
         )?;
     }
     Ok(())
-}
-
-fn put_witness<W: TextSink>(
-    lines: &PlaceLines,
-    empty: OpId,
-    cover: &[CoverStep],
-    kept: &mut WriteBuffer,
-    writer: &mut W,
-) -> Result<(), WriteFault>
-    ensures { PutsText W.contents W.has_refused W.transition kept.old kept.new
-        (lines_text lines.now.initial.now lines.now.operations.now (place.Op empty ∷ flat_map places_of_step cover.now)) writer.old writer.new result }
-{
-    put_each(lines, &[LinePlace::Op(empty)], kept, writer)?;
-    put_cover(lines, cover, kept, writer)
 }
 
 /// Returns the first line of a `NO`.
@@ -230,7 +183,8 @@ fn put_violation<W: TextSink>(
             writer,
         ),
         Violation::Witness { empty, cover } => {
-            put_witness(lines, *empty, cover.as_slice(), kept, writer)
+            put_each(lines, &[LinePlace::Op(*empty)], kept, writer)?;
+            put_cover(lines, cover.as_slice(), kept, writer)
         }
     }
 }

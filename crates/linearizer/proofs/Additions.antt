@@ -78,24 +78,22 @@ stands_refused operations lives o _ is = cc
 pub adds_empty : (operations : List Operation) (k p gap : ℕ) (old new : List Timed) (is : IsNamed operations (filter is_empty_answer operations) k p)
     → Adds operations (take k (filter is_empty_answer operations)) old new → IsLeastFreeGap operations is.o gap
     → Adds operations (take (k + 1) (filter is_empty_answer operations)) old (new ++ record { time = gap; place = p } ∷ [])
-adds_empty operations k p gap old new is adds free =
-    adds_more operations (filter is_empty_answer operations) k is.o old new _ adds is.is_listed (record {
-      at = is.at;
-      stands = λ lives. stands_empty operations lives is.o gap is.o.kind (passed_filter is_empty_answer operations is.o
-          (contains_at (filter is_empty_answer operations) k is.o is.is_listed)).1 free;
-    })
+adds_empty operations k p gap old new is adds free = adds_more _ _ k is.o old new _ adds is.is_listed (record {
+  at = is.at;
+  stands = λ lives. stands_empty _ lives is.o gap _ (passed_filter is_empty_answer operations is.o
+      (contains_at (filter is_empty_answer operations) k is.o is.is_listed)).1 free;
+})
 
 -- a failed enqueue at its call
 pub adds_refused : (operations : List Operation) (k p call : ℕ) (old new : List Timed) (is : IsNamed operations (filter is_refused operations) k p)
     → Adds operations (take k (filter is_refused operations)) old new → call ≡ is.o.call
     → Adds operations (take (k + 1) (filter is_refused operations)) old (new ++ record { time = call; place = p } ∷ [])
-adds_refused operations k p call old new is adds calls =
-    adds_more operations (filter is_refused operations) k is.o old new _ adds is.is_listed (record {
-      at = is.at;
-      stands = λ lives. subst (λ gap. IsPositionFor operations lives is.o is.o.kind (noop_position is.o gap)) (sym calls)
-          (stands_refused operations lives is.o is.o.kind (passed_filter is_refused operations is.o
-          (contains_at (filter is_refused operations) k is.o is.is_listed)).1);
-    })
+adds_refused operations k p call old new is adds calls = adds_more _ _ k is.o old new _ adds is.is_listed (record {
+  at = is.at;
+  stands = λ lives. subst (λ gap. IsPositionFor operations lives is.o is.o.kind (noop_position is.o gap)) (sym calls)
+      (stands_refused _ lives is.o _ (passed_filter is_refused operations is.o
+      (contains_at (filter is_refused operations) k is.o is.is_listed)).1);
+})
 
 -- the gap beside an answer, and how many there are of both
 pub gap_beside : (operations listed : List Operation) (gaps : List ℕ) (k gap d : ℕ) (o : Operation)

@@ -1,10 +1,9 @@
 -- The last of a list, put before others.
-use Rattle.linearizer.proofs.Common.{[], ap, arith, append_assoc, drop, IsPermutation-sym, get_or}
-use Rattle.linearizer.proofs.Common.{get_or-insert_below, insert}
-use Rattle.linearizer.proofs.Common.{IsNonDecreasingBy, IsNonDecreasingBy-insert, IsPermutation}
-use Rattle.linearizer.proofs.Common.{IsPermutation-insert}
-use Rattle.linearizer.proofs.Common.{IsPermutation-trans, length, length-insert, length-take-le, List, one_more, set}
-use Rattle.linearizer.proofs.Common.{subst, sym, take, take_all, ℕ, ◌++◌, ◌+◌, ◌-◌, ◌<◌, ◌∙◌, ◌∷◌, ◌≡◌, ◌≤◌}
+use Rattle.linearizer.proofs.Common.{[], ap, arith, append_assoc, drop, IsPermutation-sym, get_or, get_or-insert_below}
+use Rattle.linearizer.proofs.Common.{insert, IsNonDecreasingBy, IsNonDecreasingBy-insert, IsPermutation}
+use Rattle.linearizer.proofs.Common.{IsPermutation-insert, IsPermutation-trans, length, length-insert, length-take-le}
+use Rattle.linearizer.proofs.Common.{List, one_more, set, subst, sym, take, take_all, ℕ, ◌++◌, ◌+◌, ◌-◌, ◌<◌, ◌∙◌, ◌∷◌}
+use Rattle.linearizer.proofs.Common.{◌≡◌, ◌≤◌}
 use Rattle.std.proofs.lemmas.List.{drop_more, set_at}
 use Rattle.std.proofs.lemmas.List.Edits.{insert_end}
 use Rattle.std.proofs.Common.{get_or-take}

@@ -17,18 +17,13 @@ use Rattle.linearizer.proofs.NoneTwice.{same_elements_permute}
 -- the enqueues, and then the dequeues
 by_class : (lives : List Life) → IsPermutation (flat_map operations_of_life lives) (enqueues_of lives ++ dequeues_of lives)
 by_class [] = IsPermutation-refl []
-by_class (life ∷ lives) =
-    IsPermutation-cons (enqueue_of life) (option_to_list (dequeue_of life) ++ flat_map operations_of_life lives)
-    (enqueues_of lives ++ cons_option (dequeue_of life) (dequeues_of lives)) (step (dequeue_of life) (by_class lives))
+by_class (life ∷ lives) = IsPermutation-cons _ _ _ (step (dequeue_of life) (by_class lives))
   where
     step : (o : Option Operation) → IsPermutation (flat_map operations_of_life lives) (enqueues_of lives ++ dequeues_of lives)
         → IsPermutation (option_to_list o ++ flat_map operations_of_life lives) (enqueues_of lives ++ cons_option o (dequeues_of lives))
     step None more = more
-    step (Some d) more =
-        IsPermutation-trans (d ∷ flat_map operations_of_life lives) (d ∷ (enqueues_of lives ++ dequeues_of lives)) (enqueues_of lives ++ d ∷ dequeues_of lives)
-        (IsPermutation-cons d (flat_map operations_of_life lives) (enqueues_of lives ++ dequeues_of lives) more)
-        (IsPermutation-sym (enqueues_of lives ++ d ∷ dequeues_of lives) (d ∷ (enqueues_of lives ++ dequeues_of lives))
-        (IsPermutation-middle (enqueues_of lives) d (dequeues_of lives)))
+    step (Some d) more = IsPermutation-trans _ _ _ (IsPermutation-cons d _ _ more) (IsPermutation-sym _ _
+        (IsPermutation-middle _ d _))
 
 abbrev moves_kind : OpKind → Bool
 moves_kind (Enq v) = true
@@ -50,12 +45,10 @@ split_by_kind (o ∷ operations) =
         → IsPermutation (o ∷ operations) (cond (moves_kind k) (o ∷ xs) xs ++ cond (is_empty_kind k) (o ∷ ys) ys ++ cond (is_refused_kind k) (o ∷ zs) zs)
     step xs ys zs moved (Enq v) = IsPermutation-cons o operations (xs ++ ys ++ zs) moved
     step xs ys zs moved (Deq v) = IsPermutation-cons o operations (xs ++ ys ++ zs) moved
-    step xs ys zs moved Empty =
-        IsPermutation-trans (o ∷ operations) (o ∷ (xs ++ ys ++ zs)) (xs ++ (o ∷ ys) ++ zs) (IsPermutation-cons o operations (xs ++ ys ++ zs) moved)
-        (IsPermutation-append_left zs (o ∷ (xs ++ ys)) (xs ++ (o ∷ ys)) (IsPermutation-sym (xs ++ (o ∷ ys)) (o ∷ (xs ++ ys)) (IsPermutation-middle xs o ys)))
-    step xs ys zs moved (Not v) =
-        IsPermutation-trans (o ∷ operations) (o ∷ (xs ++ ys ++ zs)) (xs ++ ys ++ (o ∷ zs)) (IsPermutation-cons o operations (xs ++ ys ++ zs) moved)
-        (IsPermutation-sym (xs ++ ys ++ (o ∷ zs)) (o ∷ (xs ++ ys ++ zs)) (IsPermutation-middle (xs ++ ys) o zs))
+    step xs ys zs moved Empty = IsPermutation-trans _ _ _ (IsPermutation-cons o _ _ moved)
+        (IsPermutation-append_left zs _ _ (IsPermutation-sym _ _ (IsPermutation-middle xs o ys)))
+    step xs ys zs moved (Not v) = IsPermutation-trans _ _ _ (IsPermutation-cons o _ _ moved)
+        (IsPermutation-sym _ _ (IsPermutation-middle _ o zs))
 
 none_twice_by_calls : (operations : List Operation) → AllPairs (λ x y. x.call < y.call) operations → NoneTwice operations
 none_twice_by_calls operations rise =

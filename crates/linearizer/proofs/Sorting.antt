@@ -4,8 +4,8 @@ use Rattle.linearizer.proofs.Common.{filter, get_or, get_or-map, get_or_from_sli
 use Rattle.linearizer.proofs.Common.{is_empty_answer, is_refused, IsNonDecreasingBy, IsNoopAt, IsPermutation}
 use Rattle.linearizer.proofs.Common.{IsPermutation-map, IsPlaced, IsPositionOf, length, length-map, Life, List, map}
 use Rattle.linearizer.proofs.Common.{MAX_MATCHED, NeverFall, noop_answers, noop_at, Operation, operation_at, PLACES}
-use Rattle.linearizer.proofs.Common.{slice_get-get_or, slice_get_within, subst, sym, Timed, ℕ, ◌*◌, ◌++◌, ◌+◌, ◌<◌, ◌∙◌}
-use Rattle.linearizer.proofs.Common.{◌∷◌, ◌≡◌, ◌≤◌, ◌⊎◌}
+use Rattle.linearizer.proofs.Common.{slice_get-get_or, slice_get_within, subst, sym, Timed, ℕ, ◌*◌, ◌++◌, ◌+◌, ◌<◌}
+use Rattle.linearizer.proofs.Common.{◌∙◌, ◌∷◌, ◌≡◌, ◌≤◌, ◌⊎◌}
 use Rattle.linearizer.proofs.Elements.{beside_second, zip_joined}
 use Rattle.linearizer.proofs.OneOrder.{operations_rise}
 
@@ -69,8 +69,7 @@ module _ (operations : List Operation) (first all : List Timed) (empties : Adds 
     (refused : Adds operations (filter is_refused operations) first all) where
   both : AllZip (IsNoopAt operations) (filter is_empty_answer operations ++ filter is_refused operations) all
   both = subst (AllZip (IsNoopAt operations) (filter is_empty_answer operations ++ filter is_refused operations))
-      (sym (refused.after ∙ ap (λ xs. xs ++ refused.added) empties.after))
-      (zip_joined (IsNoopAt operations) (filter is_empty_answer operations) (filter is_refused operations) empties.added refused.added
+      (sym (refused.after ∙ ap (λ xs. xs ++ refused.added) empties.after)) (zip_joined (IsNoopAt operations) _ _ _ _
       empties.each_stands refused.each_stands)
 
   -- in any order they are operations

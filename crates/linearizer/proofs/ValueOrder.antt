@@ -1,11 +1,11 @@
 -- There is one order of the values, and one only.
 use Rattle.linearizer.proofs.Common.{[], All-cons, All-nil, All-permutation, All-weaker, ap, arith, Contains}
-use Rattle.linearizer.proofs.Common.{Contains-permutation, contains_cons, dequeue_return, EachIsChoice, entered_by, inl}
-use Rattle.linearizer.proofs.Common.{inr, IsChoice, IsClear, IsLeastBy, IsLife, IsPermutation, IsPermutation-cons}
+use Rattle.linearizer.proofs.Common.{Contains-permutation, contains_cons, dequeue_return, EachIsChoice, entered_by}
+use Rattle.linearizer.proofs.Common.{inl, inr, IsChoice, IsClear, IsLeastBy, IsLife, IsPermutation, IsPermutation-cons}
 use Rattle.linearizer.proofs.Common.{IsPermutation-refl, IsPermutation-remove, IsPermutation-sym, IsPermutation-trans}
 use Rattle.linearizer.proofs.Common.{IsValueOrder, leaves_from, length, length_permutation, Life, List, lives_of}
-use Rattle.linearizer.proofs.Common.{not_in_none, one_deeper, Operation, refl, remove, rules, subst, suc, sym, zero, ℕ}
-use Rattle.linearizer.proofs.Common.{◌<◌, ◌∙◌, ◌∷◌, ◌≡◌, ◌≤◌, ◌⊎◌}
+use Rattle.linearizer.proofs.Common.{not_in_none, one_deeper, Operation, refl, rules, subst, suc, sym, zero, ℕ, ◌<◌}
+use Rattle.linearizer.proofs.Common.{◌∙◌, ◌∷◌, ◌≡◌, ◌≤◌, ◌⊎◌}
 use Rattle.linearizer.proofs.Choices.{made, least_at}
 use Rattle.linearizer.proofs.Times.{times_of_life}
 use Rattle.linearizer.proofs.NoneTwice.{NoneTwice, none_twice_from_places}
@@ -81,13 +81,12 @@ in_order n [] long = ([], IsPermutation-refl [], search rules)
 in_order zero (x ∷ xs) long = absurd (omega arith)
 in_order (suc n) (x ∷ xs) long =
     let choice = choice_of x xs in
-    let among = is_among (x ∷ xs) choice.0 choice.1 in
-    let moved = IsPermutation-remove (x ∷ xs) among.0 choice.0 among.1 (sym among.2) in
-    let shorter = length_permutation (x ∷ xs) (choice.0 ∷ remove (x ∷ xs) among.0) moved in
-    let rest = in_order n (remove (x ∷ xs) among.0) (omega arith) in
-    let all_moved = IsPermutation-trans (x ∷ xs) (choice.0 ∷ remove (x ∷ xs) among.0) (choice.0 ∷ rest.0) moved
-    (IsPermutation-cons choice.0 (remove (x ∷ xs) among.0) rest.0 rest.1) in
-    (choice.0 ∷ rest.0, all_moved, (choice_in_other_order (x ∷ xs) (choice.0 ∷ rest.0) choice.0 all_moved choice.1, rest.2))
+    let among = is_among _ _ choice.1 in
+    let moved = IsPermutation-remove _ _ _ among.1 (sym among.2) in
+    let shorter = length_permutation _ _ moved in
+    let rest = in_order n _ (omega arith) in
+    let all_moved = IsPermutation-trans _ _ _ moved (IsPermutation-cons _ _ rest.0 rest.1) in
+    (choice.0 ∷ rest.0, all_moved, (choice_in_other_order _ _ _ all_moved choice.1, rest.2))
 
 -- the values have an order
 pub values_have_order : (operations : List Operation) → IsClear operations → (lives : List Life) × IsValueOrder operations lives
@@ -164,12 +163,11 @@ one_order operations (x ∷ xs) (y ∷ ys) clear are same each each' =
 -- the values have one order
 pub values_have_one_order : (operations : List Operation) (xs ys : List Life) → IsClear operations → IsValueOrder operations xs
     → IsValueOrder operations ys → xs ≡ ys
-values_have_one_order operations xs ys clear order order' =
-    one_order operations xs ys clear (is_life operations xs order) (record {
-      into = λ x among. Contains-permutation (lives_of operations) ys x order'.holds_each_once
-          (Contains-permutation xs (lives_of operations) x (IsPermutation-sym (lives_of operations) xs order.holds_each_once) among);
-      back = λ x among. Contains-permutation (lives_of operations) xs x order.holds_each_once
-          (Contains-permutation ys (lives_of operations) x (IsPermutation-sym (lives_of operations) ys order'.holds_each_once) among);
-      first_once = none_twice_from_places xs (λ i j x y at_x at_y one. one_place_of_life operations xs i j x y clear order at_x at_y one);
-      second_once = none_twice_from_places ys (λ i j x y at_x at_y one. one_place_of_life operations ys i j x y clear order' at_x at_y one);
-    }) order.each_is_choice order'.each_is_choice
+values_have_one_order operations xs ys clear order order' = one_order _ xs ys clear (is_life _ xs order) (record {
+  into = λ x among. Contains-permutation _ ys x order'.holds_each_once
+      (Contains-permutation xs _ x (IsPermutation-sym _ xs order.holds_each_once) among);
+  back = λ x among. Contains-permutation _ xs x order.holds_each_once
+      (Contains-permutation ys _ x (IsPermutation-sym _ ys order'.holds_each_once) among);
+  first_once = none_twice_from_places xs (λ i j x y at_x at_y one. one_place_of_life _ xs i j x y clear order at_x at_y one);
+  second_once = none_twice_from_places ys (λ i j x y at_x at_y one. one_place_of_life _ ys i j x y clear order' at_x at_y one);
+}) order.each_is_choice order'.each_is_choice

@@ -1,7 +1,7 @@
 -- Rows and lanes stand apart, by the laws of the scene.
 use Rattle.svg_picture.proofs.Common.{◌*◌, ◌+◌, arith, inl, inr, mul-le-mul_left, thread_x}
 use Rattle.std.proofs.lemmas.Bool.{cases_lt}
-use Rattle.drawing.proofs.Lanes.{more_before}
+use Rattle.drawing.proofs.Below.{more_before}
 use Rattle.drawing.proofs.Rows.{rows_rise, rows_tell_precedence}
 use Rattle.drawing.specs.declared.scene.Row.TheVariants.{Ticket}
 use Rattle.drawing.specs.Scene.{scene_of, rows_of, row_number}

@@ -10,5 +10,5 @@ unfoldable pub use Rattle.svg_picture.specs.Layout.{thread_x}
 pub use Rattle.svg_picture.specs.Markup.{attribute_text, Content, each, Element, group, is_plain, named, Nothing}
 pub use Rattle.svg_picture.specs.Markup.{plain_byte, plain_words, Svg, Tag, tag_attributes, tag_name, text_of, Then}
 pub use Rattle.svg_picture.specs.Markup.{Title, Words}
-pub use Rattle.svg_picture.specs.Picture.{bar, inside, lane_names, numbered_band, numbered_sign, page_of, row_parts}
+pub use Rattle.svg_picture.specs.Picture.{band_at, bar, inside, lane_names, page_of, row_parts, sign_at}
 unfoldable pub use Rattle.svg_picture.specs.Picture.{initial_words, page_content, row_pattern, svg_picture}

@@ -1,6 +1,5 @@
 pub mod Markup
 pub mod Layout
-pub mod Words
 pub mod Elements
 pub mod Picture
 pub mod Html

@@ -3,6 +3,7 @@ use Rattle.std.specs.Prelude.{ℕ, ◌+◌, ◌-◌, ◌*◌, not, Bool, true, f
 use Rattle.std.specs.Prelude.{List, [], ◌∷◌, ◌++◌, length, map, codes, decimal}
 use Rattle.std.specs.List.{concat, enumerate_from}
 use Rattle.history_merge.specs.declared.operation.Operation.{Operation}
+use Rattle.history_merge.specs.declared.operation.OpKind.{OpKind}
 use Rattle.history_merge.specs.declared.operation.OpKind.TheVariants as kind
 use Rattle.verdicts.specs.declared.verifying.Claimed.{Claimed}
 use Rattle.verdicts.specs.declared.verifying.Claimed.TheVariants.{Yes, No}
@@ -10,8 +11,8 @@ use Rattle.drawing.specs.Claim.{count_of_lines, shown_by}
 use Rattle.drawing.specs.declared.bands.Band.{Band}
 use Rattle.drawing.specs.declared.bands.Head.{Head as BandHead}
 use Rattle.drawing.specs.declared.bands.Head.TheVariants as band_head
-use Rattle.drawing.specs.Layout.{digits, told, label, numbered, initial_label, label_width, place_in, place_of}
-use Rattle.drawing.specs.Bands.{head_text}
+use Rattle.drawing.specs.Layout.{digits, kind_word, told, label, numbered, initial_label, label_width, place_in, place_of}
+use Rattle.drawing.specs.Bands.{form_words, head_text}
 use Rattle.drawing.specs.Captions.{headline, caption}
 use Rattle.drawing.specs.Drawn.{is_away}
 use Rattle.drawing.specs.Scene.{SceneView, ticket_words, ticket_width, way_in}
@@ -25,9 +26,21 @@ use Rattle.svg_picture.specs.declared.sheet.Measures.{Measures}
 use Rattle.svg_picture.specs.Markup.{Content, Nothing, Words, Element, Svg, Title, Desc, Defs, Pattern, Group, each, group, document}
 use Rattle.svg_picture.specs.Layout.{Page, shown, left, number_x, bar_width, thread_x, band_x, width, legend_y, top, row_y, call_y, ret_y, bottom, height}
 use Rattle.svg_picture.specs.Layout.{line_count, parts, longest}
-use Rattle.svg_picture.specs.Words.{kind_word, corner, form_class}
 use Rattle.svg_picture.specs.declared.words.TheConstants.{READING}
 use Rattle.svg_picture.specs.Elements.{text_at, rect, stroke, lines_at, samples, hatch, style_element}
+
+-- ---- what characters don't have
+
+-- how round the corners of a bar are: dequeues are round
+abbrev pub corner : OpKind → ℕ
+corner (kind.Enq v) = 0
+corner (kind.Deq v) = 9
+corner (kind.Not v) = 0
+corner kind.Empty = 9
+
+-- the class of a band, by its form; nothing where there is no band
+abbrev pub form_class : BandHead → List ℕ
+form_class head = form_words head (codes "sure") (codes "none") (codes "time")
 
 -- ---- what is claimed of an operation
 
@@ -78,14 +91,12 @@ bar_of page o = record {
   place = place_in (shown_by page.scene.claimed) (Ticket o.call);
 }
 
--- the bar of an operation at this place of the claim
-abbrev pub placed_bar : Page → Operation → Option ℕ → Content
-placed_bar page o place =
-    marked_bar page.measures (mark page.scene.claimed (is_away page.scene.claimed o) place) (bar_words o place) (label o.kind) (bar_of page o)
-
 -- the bar of an operation
 unfoldable pub bar : Page → Operation → Content
-bar page o = placed_bar page o (place_of page.scene.claimed (Ticket o.call))
+bar page o =
+    let claimed = page.scene.claimed in
+    let place = place_of claimed (Ticket o.call) in
+    marked_bar page.measures (mark claimed (is_away claimed o) place) (bar_words o place) (label o.kind) (bar_of page o)
 
 -- the bars of the operations
 unfoldable pub bars : Page → Content
@@ -118,34 +129,27 @@ unfoldable pub guide : Measures → List ℕ → ℕ → ℕ → Option ℕ → 
 guide m class x y None = Nothing
 guide m class x y (Some ticket) = stroke class x y (left m) y
 
--- the band between its edges, with its dotted lines, and a thin line from its head
-unfoldable pub drawn_band : Page → List ℕ → ℕ → ℕ → Band → Content
-drawn_band page class x y band =
+-- the band between its edges, with its dotted lines, and a thin line from its head; nothing where its head has no form
+unfoldable pub formed_band : Page → List ℕ → ℕ → ℕ → Band → Content
+formed_band page [] x y band = Nothing
+formed_band page (b ∷ bytes) x y band =
+    let class = b ∷ bytes in
     group (guide page.measures class (x + 28) (first_y page band) band.first ∷ guide page.measures class (x + 28) (last_y page band) band.last
     ∷ stroke (codes "lead") x y x (first_y page band) ∷ rect class 0 x (first_y page band) 28 (last_y page band - first_y page band) ∷ [])
-
--- the band, where its head has a form
-abbrev pub formed_band : Page → List ℕ → ℕ → ℕ → Band → Content
-formed_band page [] x y band = Nothing
-formed_band page (b ∷ class) x y band = drawn_band page (b ∷ class) x y band
 
 -- the heads stand one above another, so that each has the room to its right, and above the names of the lanes
 abbrev pub head_y : Measures → ℕ → ℕ
 head_y m i = top m - (28 + 20 * (m.heads - (i + 1)))
 
 -- band i with its head
-unfoldable pub band_at : Page → ℕ → Band → Content
-band_at page i band =
+unfoldable pub band_at : Page → ℕ × Band → Content
+band_at page (i, band) =
     group (text_at 7 (codes "name") (band_x page.measures i) (head_y page.measures i) (head_text band.head)
     ∷ formed_band page (form_class band.head) (band_x page.measures i + 3) (head_y page.measures i + 4) band ∷ [])
 
--- band i with its head, as it is numbered
-abbrev pub numbered_band : Page → ℕ × Band → Content
-numbered_band page (i, band) = band_at page i band
-
 -- the bands of a `NO`
 unfoldable pub bands : Page → Content
-bands page = each (numbered_band page) (enumerate_from 0 page.scene.bands)
+bands page = each (band_at page) (enumerate_from 0 page.scene.bands)
 
 -- ---- initial values
 
@@ -153,18 +157,12 @@ bands page = each (numbered_band page) (enumerate_from 0 page.scene.bands)
 unfoldable pub initial_words : ℕ → Option ℕ → List ℕ
 initial_words v place = concat (codes "init " ∷ decimal v ∷ codes ", in the queue first" ∷ number_words place ∷ [])
 
--- where its bar stands, in line with the first lane, in the row from this height on
-abbrev pub initial_bar : Measures → ℕ → ℕ → Option ℕ → Bar
-initial_bar m y v place = record { x = left m; y = y + 2; height = 16; base = y + 14; kind = kind.Enq v; place = place }
-
--- an initial value at this place of the lines that show a `NO`
-abbrev pub initial_at : Page → ℕ → ℕ → Option ℕ → Content
-initial_at page y v place =
-    marked_bar page.measures (mark page.scene.claimed false place) (initial_words v place) (initial_label v) (initial_bar page.measures y v place)
-
--- an initial value in its row
+-- an initial value in its row from this height on: its bar in line with the first lane
 unfoldable pub placed_initial : Page → ℕ → Row → ℕ → Content
-placed_initial page y r v = initial_at page y v (place_in (shown_by page.scene.claimed) r)
+placed_initial page y r v =
+    let place = place_in (shown_by page.scene.claimed) r in
+    let b : Bar = record { x = left page.measures; y = y + 2; height = 16; base = y + 14; kind = kind.Enq v; place = place } in
+    marked_bar page.measures (mark page.scene.claimed false place) (initial_words v place) (initial_label v) b
 
 -- ---- rows
 
@@ -207,26 +205,20 @@ row_parts page r =
 unfoldable pub rows : Page → Content
 rows page = each (row_parts page) page.scene.rows
 
--- the words above and below the tickets
-unfoldable pub ticket_names : Measures → Content
-ticket_names m = group (in_tickets m (top m - 8) (codes "ticket") ∷ in_tickets m (bottom m - 6) (codes "end") ∷ [])
-
--- the word above the order of a `YES`
-unfoldable pub order_name : Measures → Claimed → Content
-order_name m (Yes order) = text_at 7 (codes "dim") (shown m) (top m - 8) (codes "order")
-order_name m (No kind lines) = Nothing
+-- the words above and below the tickets, and above the order of a `YES`
+unfoldable pub names : Measures → Content
+names m =
+    group (in_tickets m (top m - 8) (codes "ticket") ∷ in_tickets m (bottom m - 6) (codes "end")
+    ∷ (if m.is_yes then text_at 7 (codes "dim") (shown m) (top m - 8) (codes "order") else Nothing) ∷ [])
 
 -- ---- lanes
-
--- the name of a thread
-unfoldable pub thread_name : ℕ → List ℕ
-thread_name thread = codes "thread " ++ decimal thread
 
 -- the name of a thread above its lane and below it
 unfoldable pub lane_names : Page → ℕ → Content
 lane_names page thread =
-    group (text_at 7 (codes "name") (thread_x page thread + 3) (top page.measures - 8) (thread_name thread)
-    ∷ text_at 7 (codes "name") (thread_x page thread + 3) (bottom page.measures + 14) (thread_name thread) ∷ [])
+    let name = codes "thread " ++ decimal thread in
+    group (text_at 7 (codes "name") (thread_x page thread + 3) (top page.measures - 8) name
+    ∷ text_at 7 (codes "name") (thread_x page thread + 3) (bottom page.measures + 14) name ∷ [])
 
 -- the names of the threads
 unfoldable pub threads : Page → Content
@@ -236,14 +228,10 @@ threads page = each (lane_names page) page.scene.threads
 unfoldable pub row_pattern : Measures → Content
 row_pattern m = Element (Pattern (codes "rows") (top m) (width m) 40) (rect (codes "row") 0 0 0 (width m) 20)
 
--- the patterns of hatched bands and of rows
-unfoldable pub patterns : Measures → Content
-patterns m = Element Defs (group (hatch ∷ row_pattern m ∷ []))
-
--- the background, and the rows
+-- the background with the patterns of hatched bands and of rows, and the rows
 unfoldable pub background : Measures → Content
 background m =
-    group (patterns m ∷ rect (codes "page") 0 0 0 (width m) (height m)
+    group (Element Defs (group (hatch ∷ row_pattern m ∷ [])) ∷ rect (codes "page") 0 0 0 (width m) (height m)
     ∷ rect (codes "rows") 0 0 (top m) (width m) (bottom m - top m) ∷ [])
 
 -- ---- the whole
@@ -259,24 +247,22 @@ sign Absent y = rect (codes "none") 0 6 (y + 1) 28 14
 sign Away y = rect (codes "far") 0 6 (y + 1) 28 14
 sign others y = rect (codes "time") 0 6 (y + 1) 28 14
 
--- a sign, and what it means
-unfoldable pub sign_at : ℕ → Sign → Content
-sign_at y s = group (sign s y ∷ text_at 7 (codes "dim") 41 (y + 12) (meaning s) ∷ [])
+-- sign i, and what it means
+unfoldable pub sign_at : Measures → ℕ × Sign → Content
+sign_at m (i, s) =
+    let y = legend_y m + 63 + 20 * i in
+    group (sign s y ∷ text_at 7 (codes "dim") 41 (y + 12) (meaning s) ∷ [])
 
--- the same, as it is numbered
-abbrev pub numbered_sign : Measures → ℕ × Sign → Content
-numbered_sign m (i, s) = sign_at (legend_y m + 63 + 20 * i) s
-
--- the signs, each in a line
-unfoldable pub signs : Measures → List Sign → Content
-signs m list = each (numbered_sign m) (enumerate_from 0 list)
+-- the signs of the picture, each in a line
+unfoldable pub signs : Page → Content
+signs page = each (sign_at page.measures) (enumerate_from 0 (signs_of page.scene))
 
 -- the words above: the headline, the caption, and how to read the picture
 unfoldable pub heading : Page → Content
 heading page =
     group (text_at 9 (codes "head") 6 26 (headline page.scene.claimed) ∷ lines_at 8 (codes "say") 46 (caption page.scene.claimed)
     ∷ samples (legend_y page.measures) ∷ lines_at 7 (codes "dim") (legend_y page.measures + 35) READING.now
-    ∷ signs page.measures (signs_of page.scene) ∷ [])
+    ∷ signs page ∷ [])
 
 -- the words for those who don't see the picture, and its style
 unfoldable pub about : Claimed → Content
@@ -291,8 +277,8 @@ view_box m = concat (codes "0 0 " ∷ decimal (width m) ∷ codes " " ∷ decima
 -- what stands between the tags of the picture: above and under the lanes, and in them
 unfoldable pub inside : Page → Content
 inside page =
-    group (about page.scene.claimed ∷ background page.measures ∷ heading page ∷ ticket_names page.measures
-    ∷ order_name page.measures page.scene.claimed ∷ threads page ∷ bands page ∷ bars page ∷ rows page ∷ [])
+    group (about page.scene.claimed ∷ background page.measures ∷ heading page ∷ names page.measures
+    ∷ threads page ∷ bands page ∷ bars page ∷ rows page ∷ [])
 
 -- the picture on a page
 unfoldable pub page_content : Page → Content

@@ -1,17 +1,18 @@
 //! The bars of the operations.
-ghost use Rattle.std.specs.Prelude.{◌≡◌, ◌++◌, ◌≤◌, ◌^◌, OnOk, IfOk, IfSome, decimal};
+ghost use Rattle.std.specs.Prelude.{◌≡◌, ◌++◌, ◌≤◌, ◌^◌, OnOk, IfOk, IfSome};
 ghost use Rattle.svg_picture.specs.Markup.{text_of};
 ghost use Rattle.svg_picture.specs.Layout.{page_on};
 ghost use Rattle.svg_picture.specs.Picture.{mark, number_words, bar_words, pill, bar_number, marked_bar, bar, bars};
 
-use crate::elements::{Rect, push_rect, push_text_at};
-use crate::layout::{bar_width, call_y, number_x, ret_y, row_y, thread_x};
+use crate::elements::{push_rect, push_text_at};
+use crate::layout::{bar_width, number_x, row_y, thread_x};
 use crate::markup::Attribute::Words;
 use crate::markup::{push_element, push_end, push_number, push_start};
 use crate::sheet::{Measures, Sheet};
-use crate::words::{corner, kind_word};
+use crate::words::corner;
 use drawing::{
-    Added, MOST_DRAWN, Row, digits, is_away, label_of, place_in, place_of, push_told, shown_by,
+    Added, MOST_DRAWN, Row, digits, is_away, kind_word, label_of, place_in, place_of, push_told,
+    shown_by,
 };
 use history_merge::{OpKind, Operation};
 use itoa::Buffer;
@@ -71,13 +72,8 @@ pub(crate) fn push_pill(text: &mut Vec<u8>, x: u128, y: u128, number: u64) -> Ad
     requires y { y ≤ 2 ^ 92 }
     ensures { OnOk result (text.new.items ≡ text.old.items ++ text_of (pill x y number)) }
 {
-    let area = Rect {
-        x,
-        y,
-        width: 10 + 7 * digits(number) as u128,
-        height: 16,
-    };
-    push_rect(text, b"pill", 8, area)?;
+    let wide = 10 + 7 * u128::from(digits(number));
+    push_rect(text, b"pill", 8, (x, y), (wide, 16))?;
     let mut buffer = Buffer::new();
     let words = buffer.format(number).as_bytes();
     push_text_at(text, 7, b"pick", x + 5, y + 12, words)
@@ -125,13 +121,8 @@ pub(crate) fn push_marked_bar(
 {
     push_start(text, b"g", &[Words(b"class", class)])?;
     push_element(text, b"title", &[], title)?;
-    let area = Rect {
-        x: bar.x + 3,
-        y: bar.y,
-        width: bar_width(m),
-        height: bar.height,
-    };
-    push_rect(text, kind_word(bar.kind), corner(bar.kind), area)?;
+    let (at, size) = ((bar.x + 3, bar.y), (bar_width(m), bar.height));
+    push_rect(text, kind_word(bar.kind), corner(bar.kind), at, size)?;
     push_text_at(text, 7, b"label", bar.x + 9, bar.base, label)?;
     push_bar_number(text, m, bar.x, bar.base.saturating_sub(12), bar.place)?;
     push_end(text, b"g")
@@ -148,23 +139,18 @@ fn push_bar(text: &mut Vec<u8>, sheet: &Sheet<'_>, operation: Operation) -> Adde
     let class = mark(claimed, is_away(claimed, operation), place);
     let title = bar_words(sheet.alloc, operation, place)?;
     let label = label_of(sheet.alloc, operation.kind)?;
-    let y = call_y(sheet, operation.call);
+    let top = row_y(sheet, row);
+    let bottom = row_y(sheet, Row::Ticket(operation.ret)) + 17;
     let bar = Bar {
         x: thread_x(sheet, operation.thread),
-        y,
-        height: ret_y(sheet, operation.ret).saturating_sub(y),
-        base: row_y(sheet, row) + 24,
+        y: top + 3,
+        height: bottom.saturating_sub(top + 3),
+        base: top + 24,
         kind: operation.kind,
         place: place_in(shown_by(claimed), row),
     };
-    push_marked_bar(
-        text,
-        sheet.measures,
-        class,
-        title.as_slice(),
-        label.as_slice(),
-        bar,
-    )
+    let (m, title, label) = (sheet.measures, title.as_slice(), label.as_slice());
+    push_marked_bar(text, m, class, title, label, bar)
 }
 
 /// Adds the bars of the operations.

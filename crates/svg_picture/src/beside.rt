@@ -1,24 +1,13 @@
 //! The bands of a `NO` beside the lanes.
-ghost use Rattle.std.specs.Prelude.{◌≡◌, ◌++◌, ◌≤◌, ◌^◌, OnOk, IsTrue, false};
+ghost use Rattle.std.specs.Prelude.{◌≡◌, ◌++◌, ◌≤◌, ◌^◌, OnOk};
 ghost use Rattle.svg_picture.specs.Markup.{text_of};
-ghost use Rattle.svg_picture.specs.Layout.{page_on, call_y, ret_y};
-ghost use Rattle.svg_picture.specs.Words.{form_class};
-ghost use Rattle.svg_picture.specs.Picture.{is_time, edge_y, guide, formed_band, head_y, band_at, bands};
+ghost use Rattle.svg_picture.specs.Layout.{page_on};
+ghost use Rattle.svg_picture.specs.Picture.{form_class, edge_y, guide, formed_band, head_y, band_at, bands};
 
-use crate::elements::{Rect, push_rect, push_stroke, push_text_at};
-use crate::layout::{band_x, bottom, call_y, left, ret_y, top};
+use crate::elements::{push_rect, push_stroke, push_text_at};
+use crate::layout::{band_x, bottom, left, row_y, top};
 use crate::sheet::{Measures, Sheet};
-use crate::words::form_class;
-use drawing::{Added, Band, Head, head_words};
-
-fn is_time(head: Head) -> bool
-    ensures { result ≡ is_time head }
-{
-    match head {
-        Head::Dequeued(_) | Head::InAndOut(_) | Head::SaidEmpty => true,
-        _ => false,
-    }
-}
+use drawing::{Added, Band, Head, Row, form_words, head_words};
 
 /// An edge of a band: in the row of a call, or of a return; or here, where no event makes it.
 fn edge_y(sheet: &Sheet<'_>, is_call: bool, here: u128, edge: Option<u64>) -> u128
@@ -26,8 +15,8 @@ fn edge_y(sheet: &Sheet<'_>, is_call: bool, here: u128, edge: Option<u64>) -> u1
 {
     match edge {
         None => here,
-        Some(ticket) if is_call => call_y(sheet, ticket),
-        Some(ticket) => ret_y(sheet, ticket),
+        Some(ticket) if is_call => row_y(sheet, Row::Ticket(ticket)) + 3,
+        Some(ticket) => row_y(sheet, Row::Ticket(ticket)) + 17,
     }
 }
 
@@ -50,29 +39,26 @@ fn push_guide(
 }
 
 /// Adds a band with its dotted lines, where its head has a form.
-#[tactic(auto, unfolding(crate::specs::Picture::drawn_band))]
+#[tactic(auto, unfolding(crate::specs::Picture::formed_band))]
 fn push_formed_band(text: &mut Vec<u8>, sheet: &Sheet<'_>, x: u128, y: u128, band: Band) -> Added
     requires { x ≤ 2 ^ 92 }
     ensures { OnOk result (text.new.items ≡ text.old.items
         ++ text_of (formed_band (page_on sheet.now) (form_class band.head) x y band)) }
 {
-    let class = form_class(band.head);
+    let class = form_words(band.head, b"sure", b"none", b"time");
     match class {
         [] => Ok(()),
         [_, ..] => {
-            let time = is_time(band.head);
+            let time = matches!(
+                band.head,
+                Head::Dequeued(_) | Head::InAndOut(_) | Head::SaidEmpty
+            );
             let first = edge_y(sheet, time, top(sheet.measures), band.first);
             let last = edge_y(sheet, !time, bottom(sheet.measures), band.last);
-            let area = Rect {
-                x,
-                y: first,
-                width: 28,
-                height: last.saturating_sub(first),
-            };
             push_guide(text, sheet.measures, class, x + 28, first, band.first)?;
             push_guide(text, sheet.measures, class, x + 28, last, band.last)?;
             push_stroke(text, b"lead", (x, y), (x, first))?;
-            push_rect(text, class, 0, area)
+            push_rect(text, class, 0, (x, first), (28, last.saturating_sub(first)))
         }
     }
 }
@@ -87,7 +73,7 @@ fn head_y(m: Measures, i: usize) -> u128
 
 #[tactic(auto, unfolding(crate::specs::Picture::band_at))]
 fn push_band_at(text: &mut Vec<u8>, sheet: &Sheet<'_>, i: usize, band: Band) -> Added
-    ensures { OnOk result (text.new.items ≡ text.old.items ++ text_of (band_at (page_on sheet.now) i band)) }
+    ensures { OnOk result (text.new.items ≡ text.old.items ++ text_of (band_at (page_on sheet.now) (i, band))) }
 {
     let x = band_x(sheet.measures, i);
     let y = head_y(sheet.measures, i);

@@ -1,6 +1,6 @@
 //! The elements of a picture.
 ghost use Rattle.std.specs.Prelude.{◌≡◌, ◌+◌, ◌*◌, ◌++◌, ◌≤◌, ◌^◌, OnOk, codes, length};
-ghost use Rattle.svg_picture.specs.Markup.{text_of, named, start_tag, tag_attributes, Pattern};
+ghost use Rattle.svg_picture.specs.Markup.{text_of, start_tag, tag_attributes, Pattern};
 ghost use Rattle.svg_picture.specs.Elements.{text_at, rect, stroke, line_at, lines_at, sample, samples, hatch};
 
 use crate::lines::split_line;
@@ -20,7 +20,7 @@ pub(crate) fn push_text_at(
 ) -> Added
     ensures { OnOk result (text.new.items ≡ text.old.items ++ text_of (text_at char class.now x y words.now)) }
 {
-    let wide = u128::from(char) * words.len() as u128;
+    let wide = char as u128 * words.len() as u128;
     push_element(
         text,
         b"text",
@@ -34,28 +34,25 @@ pub(crate) fn push_text_at(
     )
 }
 
-/// A rectangle.
-#[derive(Clone, Copy)]
-pub(crate) struct Rect {
-    pub x: u128,
-    pub y: u128,
-    pub width: u128,
-    pub height: u128,
-}
-
-/// Adds a rectangle of a class, with round corners.
+/// Adds a rectangle of a class from a point on, so wide and so high, with round corners.
 #[tactic(auto, unfolding(crate::specs::Elements::rect))]
-pub(crate) fn push_rect(text: &mut Vec<u8>, class: &[u8], round: u128, area: Rect) -> Added
-    ensures { OnOk result (text.new.items ≡ text.old.items ++ text_of (rect class.now round area.x area.y area.width area.height)) }
+pub(crate) fn push_rect(
+    text: &mut Vec<u8>,
+    class: &[u8],
+    round: u128,
+    at: (u128, u128),
+    size: (u128, u128),
+) -> Added
+    ensures { OnOk result (text.new.items ≡ text.old.items ++ text_of (rect class.now round at.0 at.1 size.0 size.1)) }
 {
     push_element(
         text,
         b"rect",
         &[
-            Number(b"x", area.x),
-            Number(b"y", area.y),
-            Number(b"width", area.width),
-            Number(b"height", area.height),
+            Number(b"x", at.0),
+            Number(b"y", at.1),
+            Number(b"width", size.0),
+            Number(b"height", size.1),
             Number(b"rx", round),
             Words(b"class", class),
         ],
@@ -131,13 +128,7 @@ fn push_sample(
     requires y { y ≤ 2 ^ 90 }
     ensures { OnOk result (text.new.items ≡ text.old.items ++ text_of (sample x y class.now round meaning.now)) }
 {
-    let bar = Rect {
-        x,
-        y,
-        width: 47,
-        height: 18,
-    };
-    push_rect(text, class, round, bar)?;
+    push_rect(text, class, round, (x, y), (47, 18))?;
     push_text_at(text, 7, b"label", x + 6, y + 13, class)?;
     push_text_at(text, 7, b"dim", x + 53, y + 13, meaning)
 }

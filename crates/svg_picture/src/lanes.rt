@@ -1,17 +1,16 @@
 //! Lanes, and the background.
-ghost use Rattle.std.specs.Prelude.{◌≡◌, ◌++◌, OnOk, IfOk};
+ghost use Rattle.std.specs.Prelude.{◌≡◌, ◌++◌, OnOk};
 ghost use Rattle.svg_picture.specs.Markup.{text_of};
 ghost use Rattle.svg_picture.specs.Layout.{page_on};
-ghost use Rattle.svg_picture.specs.Picture.{thread_name, lane_names, threads, row_pattern, patterns, background};
+ghost use Rattle.svg_picture.specs.Picture.{lane_names, threads, row_pattern, background};
 
-use crate::elements::{Rect, push_hatch, push_pattern, push_rect, push_text_at};
+use crate::elements::{push_hatch, push_pattern, push_rect, push_text_at};
 use crate::layout::{bottom, height, thread_x, top, width};
 use crate::markup::{push_end, push_number, push_start};
 use crate::sheet::{Measures, Sheet};
 use drawing::Added;
-use std::alloc::{AllocError, Global};
 
-#[tactic(auto, unfolding(crate::specs::Picture::lane_names, crate::specs::Picture::thread_name))]
+#[tactic(auto, unfolding(crate::specs::Picture::lane_names))]
 fn push_lane_names(text: &mut Vec<u8>, sheet: &Sheet<'_>, thread: u8) -> Added
     ensures { OnOk result (text.new.items ≡ text.old.items ++ text_of (lane_names (page_on sheet.now) thread)) }
 {
@@ -39,38 +38,27 @@ pub(crate) fn push_threads(text: &mut Vec<u8>, sheet: &Sheet<'_>) -> Added
 fn push_row_pattern(text: &mut Vec<u8>, m: Measures) -> Added
     ensures { OnOk result (text.new.items ≡ text.old.items ++ text_of (row_pattern m)) }
 {
-    let tint = Rect {
-        x: 0,
-        y: 0,
-        width: width(m),
-        height: 20,
-    };
     push_pattern(text, b"rows", top(m), width(m), 40)?;
-    push_rect(text, b"row", 0, tint)?;
+    push_rect(text, b"row", 0, (0, 0), (width(m), 20))?;
     push_end(text, b"pattern")
 }
 
 /// Adds the background, and the rows.
-#[tactic(auto, unfolding(crate::specs::Picture::background, crate::specs::Picture::patterns))]
+#[tactic(auto, unfolding(crate::specs::Picture::background))]
 pub(crate) fn push_background(text: &mut Vec<u8>, m: Measures) -> Added
     ensures { OnOk result (text.new.items ≡ text.old.items ++ text_of (background m)) }
 {
-    let page = Rect {
-        x: 0,
-        y: 0,
-        width: width(m),
-        height: height(m),
-    };
-    let rows = Rect {
-        x: 0,
-        y: top(m),
-        width: width(m),
-        height: bottom(m).saturating_sub(top(m)),
-    };
+    let (width, top) = (width(m), top(m));
     push_start(text, b"defs", &[])?;
     push_hatch(text)?;
     push_row_pattern(text, m)?;
     push_end(text, b"defs")?;
-    push_rect(text, b"page", 0, page)?;
-    push_rect(text, b"rows", 0, rows)
+    push_rect(text, b"page", 0, (0, 0), (width, height(m)))?;
+    push_rect(
+        text,
+        b"rows",
+        0,
+        (0, top),
+        (width, bottom(m).saturating_sub(top)),
+    )
 }

@@ -1,7 +1,7 @@
 //! Where things stand in a picture, in pixels.
 ghost use Rattle.std.specs.Prelude.{◌≡◌, ◌≤◌, ◌^◌};
 ghost use Rattle.svg_picture.specs.Layout.{page_on, shown, band_x, left, number_x, bar_width, lane_x, thread_x, width};
-ghost use Rattle.svg_picture.specs.Layout.{legend_y, top, row_y, call_y, ret_y, bottom, height};
+ghost use Rattle.svg_picture.specs.Layout.{legend_y, top, row_y, bottom, height};
 
 use crate::sheet::{Measures, Sheet};
 use drawing::{Row, lanes_before, row_number};
@@ -106,20 +106,6 @@ pub(crate) fn row_y(sheet: &Sheet<'_>, row: Row) -> u128
 {
     let number = row_number(sheet.scene.rows.as_slice(), row);
     top(sheet.measures) + 20 * number as u128
-}
-
-/// The upper edge of a bar, in the row of its call.
-pub(crate) fn call_y(sheet: &Sheet<'_>, ticket: u64) -> u128
-    ensures { result ≡ call_y (page_on sheet.now) ticket }
-{
-    row_y(sheet, Row::Ticket(ticket)) + 3
-}
-
-/// The lower edge of a bar, in the row of its return.
-pub(crate) fn ret_y(sheet: &Sheet<'_>, ticket: u64) -> u128
-    ensures { result ≡ ret_y (page_on sheet.now) ticket }
-{
-    row_y(sheet, Row::Ticket(ticket)) + 17
 }
 
 /// Where the last row ends.

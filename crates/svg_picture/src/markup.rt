@@ -1,7 +1,7 @@
 //! Markup: elements with attributes, each closed by its end tag.
 ghost use Rattle.std.specs.Prelude.{◌≡◌, ◌++◌, OnOk, map, decimal};
 ghost use Rattle.std.specs.List.{flat_map};
-ghost use Rattle.svg_picture.specs.Markup.{is_plain, plain_byte, plain_words, attribute_text, named, start_tag, end_tag};
+ghost use Rattle.svg_picture.specs.Markup.{plain_byte, plain_words, attribute_text, named, start_tag, end_tag};
 
 use drawing::Added;
 use itoa::Buffer;
@@ -15,16 +15,13 @@ pub(crate) enum Attribute<'a> {
     Words(&'a [u8], &'a [u8]),
 }
 
-fn is_plain(b: u8) -> bool
-    ensures { result ≡ is_plain b }
-{
-    !(b == b'<' || b == b'>' || b == b'&' || b == b'"')
-}
-
 fn plain_byte(b: u8) -> u8
     ensures { result ≡ plain_byte b }
 {
-    if is_plain(b) { b } else { b'?' }
+    match b {
+        b'<' | b'>' | b'&' | b'"' => b'?',
+        _ => b,
+    }
 }
 
 /// Adds words, with a question mark in place of each byte that means markup.

@@ -1,13 +1,11 @@
 //! A picture as an SVG document.
-ghost use Rattle.std.specs.Prelude.{◌≡◌, ◌++◌, ◌≤◌, OnOk, IfOk, codes};
+ghost use Rattle.std.specs.Prelude.{◌≡◌, ◌++◌, ◌≤◌, OnOk, IfOk};
 ghost use Rattle.drawing.specs.Claim.{count_of_lines};
 ghost use Rattle.drawing.specs.Scene.{scene_on};
 ghost use Rattle.drawing.specs.Captions.{caption};
-ghost use Rattle.drawing.specs.Signs.{signs_of};
-ghost use Rattle.svg_picture.specs.Elements.{lines_at};
 ghost use Rattle.svg_picture.specs.Markup.{text_of};
 ghost use Rattle.svg_picture.specs.Layout.{page_on};
-ghost use Rattle.svg_picture.specs.Picture.{about, heading, inside, measures_of, page_content, page_of, signs, svg_picture, view_box};
+ghost use Rattle.svg_picture.specs.Picture.{about, heading, inside, measures_of, page_content, page_of, svg_picture, view_box};
 
 use crate::bars::push_bars;
 use crate::beside::push_bands;
@@ -17,7 +15,7 @@ use crate::layout::{height, legend_y, width};
 use crate::lines::{line_count, longest_head, longest_line};
 use crate::markup::Attribute::{Number, Words};
 use crate::markup::{push_element, push_end, push_number, push_start};
-use crate::rows::{push_order_name, push_rows, push_ticket_names};
+use crate::rows::{push_names, push_rows};
 use crate::sheet::{Measures, Sheet};
 use crate::signs::push_signs;
 use crate::words::{READING, push_style};
@@ -37,22 +35,6 @@ fn caption_of(alloc: Global, claimed: &Claimed) -> Result<Vec<u8>, AllocError>
     Ok(words)
 }
 
-/// Adds the caption.
-fn push_said(text: &mut Vec<u8>, sheet: &Sheet<'_>) -> Added
-    ensures { OnOk result (text.new.items ≡ text.old.items ++ text_of (lines_at 8 (codes "say") 46 (caption sheet.now.scene.now.claimed.now))) }
-{
-    let caption = caption_of(sheet.alloc, sheet.scene.claimed)?;
-    push_lines_at(text, 8, b"say", 46, caption.as_slice())
-}
-
-/// Adds the signs of the picture, with what they mean.
-fn push_scene_signs(text: &mut Vec<u8>, sheet: &Sheet<'_>) -> Added
-    ensures { OnOk result (text.new.items ≡ text.old.items ++ text_of (signs sheet.now.measures (signs_of (scene_on sheet.now.scene.now)))) }
-{
-    let signs = signs_of(sheet.alloc, sheet.scene)?;
-    push_signs(text, sheet.measures, signs.as_slice())
-}
-
 /// Adds the words above: the headline, the caption, and how to read the picture.
 #[tactic(auto, unfolding(crate::specs::Picture::heading))]
 fn push_heading(text: &mut Vec<u8>, sheet: &Sheet<'_>) -> Added
@@ -60,10 +42,11 @@ fn push_heading(text: &mut Vec<u8>, sheet: &Sheet<'_>) -> Added
 {
     let y = legend_y(sheet.measures);
     push_text_at(text, 9, b"head", 6, 26, headline(sheet.scene.claimed))?;
-    push_said(text, sheet)?;
+    let caption = caption_of(sheet.alloc, sheet.scene.claimed)?;
+    push_lines_at(text, 8, b"say", 46, caption.as_slice())?;
     push_samples(text, y)?;
     push_lines_at(text, 7, b"dim", y + 35, READING)?;
-    push_scene_signs(text, sheet)
+    push_signs(text, sheet)
 }
 
 /// Adds the words for those who don't see the picture, and its style.
@@ -86,8 +69,7 @@ fn push_inside(text: &mut Vec<u8>, sheet: &Sheet<'_>) -> Added
     push_about(sheet.alloc, text, sheet.scene.claimed)?;
     push_background(text, sheet.measures)?;
     push_heading(text, sheet)?;
-    push_ticket_names(text, sheet.measures)?;
-    push_order_name(text, sheet.measures, sheet.scene.claimed)?;
+    push_names(text, sheet.measures)?;
     push_threads(text, sheet)?;
     push_bands(text, sheet)?;
     push_bars(text, sheet)?;
@@ -135,9 +117,9 @@ fn measures_of(alloc: Global, scene: &Scene<'_>) -> Result<Measures, AllocError>
     let caption = caption_of(alloc, scene.claimed)?;
     let signs = signs_of(alloc, scene)?;
     Ok(Measures {
-        ticket: ticket_width(scene.rows.as_slice()) as u8,
-        number: digits(count_of_lines(scene.claimed) as u64) as u8,
-        label: label_width(scene.initial, scene.operations.as_slice()) as u8,
+        ticket: ticket_width(scene.rows.as_slice()),
+        number: digits(count_of_lines(scene.claimed) as u64),
+        label: label_width(scene.initial, scene.operations.as_slice()),
         lanes: scene.threads.len(),
         rows: scene.rows.len(),
         heads: scene.bands.len(),

@@ -2,8 +2,7 @@
 ghost use Rattle.std.specs.Prelude.{◌≡◌, ◌++◌, ◌≤◌, ◌^◌, OnOk, IfOk};
 ghost use Rattle.svg_picture.specs.Markup.{text_of};
 ghost use Rattle.svg_picture.specs.Layout.{page_on};
-ghost use Rattle.svg_picture.specs.Picture.{initial_words, placed_initial, way_at, in_tickets, effect, way_y, row_own, row_parts, rows, ticket_names};
-ghost use Rattle.svg_picture.specs.Picture.{order_name};
+ghost use Rattle.svg_picture.specs.Picture.{initial_words, placed_initial, way_at, in_tickets, effect, way_y, row_own, row_parts, rows, names};
 
 use crate::bars::{Bar, mark, push_marked_bar, push_number_words, push_pill};
 use crate::elements::{push_stroke, push_text_at};
@@ -16,7 +15,6 @@ use drawing::{
 use history_merge::{OpKind, Operation};
 use itoa::Buffer;
 use std::alloc::{AllocError, Global};
-use verdicts::Claimed;
 
 /// The title of an initial value.
 #[tactic(auto, unfolding(crate::specs::Picture::initial_words))]
@@ -48,14 +46,8 @@ fn push_initial(text: &mut Vec<u8>, sheet: &Sheet<'_>, y: u128, row: Row, value:
         kind: OpKind::Enq(value),
         place,
     };
-    push_marked_bar(
-        text,
-        sheet.measures,
-        class,
-        title.as_slice(),
-        label.as_slice(),
-        bar,
-    )
+    let (m, title, label) = (sheet.measures, title.as_slice(), label.as_slice());
+    push_marked_bar(text, m, class, title, label, bar)
 }
 
 /// Adds a word in the place of the first band, with a dotted line from it to the lanes.
@@ -99,7 +91,7 @@ fn push_effect(
     requires { y ≤ 2 ^ 91 }
     ensures { OnOk result (text.new.items ≡ text.old.items ++ text_of (effect (page_on sheet.now) y operation number)) }
 {
-    let blanks = u128::from(sheet.measures.number).saturating_sub(digits(number) as u128);
+    let blanks = u128::from(sheet.measures.number.saturating_sub(digits(number)));
     let left = shown(sheet.measures) + 7 * blanks;
     let label = label_of(sheet.alloc, operation.kind)?;
     let mut buffer = Buffer::new();
@@ -165,22 +157,16 @@ pub(crate) fn push_rows(text: &mut Vec<u8>, sheet: &Sheet<'_>) -> Added
     Ok(())
 }
 
-/// Adds the words above and below the tickets.
-#[tactic(auto, unfolding(crate::specs::Picture::ticket_names))]
-pub(crate) fn push_ticket_names(text: &mut Vec<u8>, m: Measures) -> Added
-    ensures { OnOk result (text.new.items ≡ text.old.items ++ text_of (ticket_names m)) }
+/// Adds the words above and below the tickets, and above the order of a `YES`.
+#[tactic(auto, unfolding(crate::specs::Picture::names))]
+pub(crate) fn push_names(text: &mut Vec<u8>, m: Measures) -> Added
+    ensures { OnOk result (text.new.items ≡ text.old.items ++ text_of (names m)) }
 {
     push_in_tickets(text, m, top(m) - 8, b"ticket")?;
-    push_in_tickets(text, m, bottom(m) - 6, b"end")
-}
-
-/// Adds the word above the order of a `YES`.
-#[tactic(auto, unfolding(crate::specs::Picture::order_name))]
-pub(crate) fn push_order_name(text: &mut Vec<u8>, m: Measures, claimed: &Claimed) -> Added
-    ensures { OnOk result (text.new.items ≡ text.old.items ++ text_of (order_name m claimed.now)) }
-{
-    match claimed {
-        Claimed::Yes(_) => push_text_at(text, 7, b"dim", shown(m), top(m) - 8, b"order"),
-        Claimed::No(_, _) => Ok(()),
+    push_in_tickets(text, m, bottom(m) - 6, b"end")?;
+    if m.is_yes {
+        push_text_at(text, 7, b"dim", shown(m), top(m) - 8, b"order")
+    } else {
+        Ok(())
     }
 }

@@ -2,23 +2,11 @@
 ghost use Rattle.std.specs.Prelude.{◌≡◌, ◌++◌, OnOk};
 ghost use Rattle.svg_picture.specs.Elements.{style_element};
 ghost use Rattle.svg_picture.specs.Markup.{text_of};
-ghost use Rattle.svg_picture.specs.Words.{kind_word, corner, form_class};
+ghost use Rattle.svg_picture.specs.Picture.{corner};
 
 use crate::markup::{push_end, push_plain, push_start};
-use drawing::{Added, Head, form_words};
+use drawing::Added;
 use history_merge::OpKind;
-
-/// The word of a kind of operation, which is its class too.
-pub(crate) fn kind_word(kind: OpKind) -> &'static [u8]
-    ensures { result.now ≡ kind_word kind }
-{
-    match kind {
-        OpKind::Enq(_) => b"enq",
-        OpKind::Deq(_) => b"deq",
-        OpKind::Not(_) => b"not",
-        OpKind::Empty => b"empty",
-    }
-}
 
 /// How round the corners of a bar are.
 pub(crate) fn corner(kind: OpKind) -> u128
@@ -28,13 +16,6 @@ pub(crate) fn corner(kind: OpKind) -> u128
         OpKind::Enq(_) | OpKind::Not(_) => 0,
         OpKind::Deq(_) | OpKind::Empty => 9,
     }
-}
-
-/// The class of a band.
-pub(crate) fn form_class(head: Head) -> &'static [u8]
-    ensures { result.now ≡ form_class head }
-{
-    form_words(head, b"sure", b"none", b"time")
 }
 
 /// How to read bars and rows, each line with its line feed.

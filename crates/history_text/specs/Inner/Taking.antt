@@ -1,18 +1,17 @@
 -- What the steps of a reader take of its input.
-use Rattle.std.specs.Prelude.{◌≡◌, ℕ, ◌<◌, ⊤, Bool, true, false, List, [], ◌∷◌, ◌++◌, length, Option, Some, None, Err, IfSome}
+use Rattle.std.specs.Prelude.{◌≡◌, ℕ, ◌<◌, ◌≤◌, ⊤, Bool, true, false, List, [], length, Option, Some, None, Err, IfSome}
 use Rattle.std.specs.declared.result.Result.{Result}
 use Rattle.text_lines.specs.declared.fault.TextFault.{TextFault}
-use Rattle.text_lines.specs.declared.fault.TextFault.TheVariants.{Memory}
-use Rattle.history_text.specs.declared.reader.FrontLine.{FrontLine}
-use Rattle.history_text.specs.declared.reader.FrontLine.TheVariants as at_front
+use Rattle.text_lines.specs.declared.fault.TextFault.TheVariants.{Memory, Read}
+use Rattle.event_records.specs.declared.limits.TheConstants.{MAX_INITIAL}
 use Rattle.history_text.specs.declared.source_end.SourceEnd.{SourceEnd}
 use Rattle.history_text.specs.declared.source_end.SourceEnd.TheVariants as end
 use Rattle.text_lines.specs.Input.{Ahead, Ending, EndOfInput, Failure, Takes, IsOver}
-use Rattle.text_lines.specs.Lines.{line, end_line, longest_line, is_line_feed, front_of, header_fault, Front, Whole, TooLong}
+use Rattle.text_lines.specs.Lines.{line, end_line, front_of, header_fault, fault_at, Front, Whole, TooLong, Unfinished, Nothing}
 use Rattle.text_lines.specs.Inner.Lines.{IsPartOfLine}
-use Rattle.text_lines.specs.Lines.{Unfinished, Nothing, fault_at}
 use Rattle.history_text.specs.Items.{Format, line_of, lines_of, item_at_front, LineFault, ItemFault, NoRoom, FaultAmong, NoRoomAmong}
-use Rattle.history_text.specs.Versions.{value_format, NoVersionFault, AfterCount, InitialFault}
+use Rattle.history_text.specs.Versions.{count_fields, count_in, NoVersionFault}
+use Rattle.history_text.specs.Schedules.{setting_fields, setting_in, IsSetting}
 use Rattle.history_text.specs.Claims.{FirstLineFault}
 use Rattle.history_text.specs.Reading.{HasFirstFault}
 
@@ -22,17 +21,21 @@ IsSeen end.NotSeen ahead = ⊤
 IsSeen end.Over ahead = IsOver EndOfInput ahead
 IsSeen end.Failed ahead = IsOver Failure ahead
 
--- the bytes that a line took, by how it stands
-abbrev pub TakesLine : Option Ahead → Option Ahead → FrontLine → Type 0
-TakesLine old new (at_front.Whole bytes) = Takes old new (line bytes) × IsPartOfLine bytes
-TakesLine old new at_front.TooLong = (given : List ℕ) × (b : ℕ) × Takes old new (given ++ b ∷ []) × IsPartOfLine given × (length given ≡ longest_line)
-    × (is_line_feed b ≡ false)
-TakesLine old new at_front.Unfinished = (given : List ℕ) × Takes old new given × IsPartOfLine given × IsOver EndOfInput new × (0 < length given)
-TakesLine old new at_front.Nothing = Takes old new [] × IsOver EndOfInput new
+-- what is ahead begins so that it has this fault
+abbrev pub FaultAtFront : (Ending → TextFault → Front → Type 0) → Option Ahead → TextFault → Type 0
+FaultAtFront IsFault old fault = IfSome old (λ a. IsFault a.ending fault (front_of a.bytes))
 
--- a read failed within a line
-abbrev pub StopsInLine : Option Ahead → Option Ahead → Type 0
-StopsInLine old new = (given : List ℕ) × Takes old new given × IsPartOfLine given × IsOver Failure new
+-- the bytes that a line took, or none at the end of the input
+abbrev pub TakesLine : Option Ahead → Option Ahead → Option (List ℕ) → Type 0
+TakesLine old new (Some bytes) = Takes old new (line bytes) × IsPartOfLine bytes
+TakesLine old new None = Takes old new [] × IsOver EndOfInput new
+
+-- a line begins at the front and isn't whole, or the source fails there, and this is the fault; that of a line that is too long is given
+abbrev pub BrokenLineFault : TextFault → Ending → TextFault → Front → Type 0
+BrokenLineFault long ending fault (Whole bytes rest) = ⊥
+BrokenLineFault long ending fault TooLong = fault ≡ long
+BrokenLineFault long ending fault Unfinished = fault ≡ fault_at ending
+BrokenLineFault long ending fault Nothing = (ending ≡ Failure) × (fault ≡ Read)
 
 -- no whole line stands at the front, and this is the fault; that of a line that is too long is given
 abbrev pub NoLineFault : TextFault → Ending → TextFault → Front → Type 0
@@ -41,32 +44,26 @@ NoLineFault long ending fault TooLong = fault ≡ long
 NoLineFault long ending fault Unfinished = fault ≡ fault_at ending
 NoLineFault long ending fault Nothing = fault ≡ fault_at ending
 
--- the next line isn't whole, and has this fault
-abbrev pub HasNoLine : TextFault → Option Ahead → TextFault → Type 0
-HasNoLine long old fault = IfSome old (λ a. NoLineFault long a.ending fault (front_of a.bytes))
-
--- the first line isn't as expected
-abbrev pub HasHeaderFault : List ℕ → Option Ahead → TextFault → Type 0
-HasHeaderFault expected old fault = IfSome old (λ a. header_fault expected a.ending (front_of a.bytes) ≡ Some fault)
-
--- the first line is that of no version
-abbrev pub HasNoVersion : Option Ahead → TextFault → Type 0
-HasNoVersion old fault = IfSome old (λ a. NoVersionFault a.ending fault (front_of a.bytes))
-
--- line n, which is to be read so, has this fault
-abbrev pub HasLineFault : {A : Type 0} → (ℕ → List (List ℕ) → Result A TextFault) → ℕ → Option Ahead → TextFault → Type 0
-HasLineFault read n old fault = IfSome old (λ a. LineFault read n a.ending fault a.bytes)
-
--- line n isn't the first of a verdict, and has this fault
-abbrev pub HasFirstLineFault : ℕ → Option Ahead → TextFault → Type 0
-HasFirstLineFault n old fault = IfSome old (λ a. FirstLineFault n a.ending fault (front_of a.bytes))
-
 -- ---- items
 
 -- an item whose line may be in a text has these fields
 pub record IsSpelled {A : Type 0} (format : Format A) (fields : List (List ℕ)) (item : A) : Type 0 where
   pub text : fields ≡ format.fields item
   pub line : format.HasLine item
+
+-- the line that counts the initial values, as an item that stands once
+abbrev pub count_format : Format ℕ
+count_format = record { fields = count_fields; HasLine = λ k. k ≤ MAX_INITIAL; most = 1; is_counted = false; read = count_in }
+
+-- the line of a setting, as an item that stands once
+abbrev pub setting_format : Format (ℕ × ℕ)
+setting_format = record {
+  fields = λ s. setting_fields s.0 s.1;
+  HasLine = λ s. IsSetting s.0 s.1;
+  most = 1;
+  is_counted = false;
+  read = setting_in;
+}
 
 -- the bytes are those of an item's line, after k others, or of the last line
 abbrev pub IsItemLine : {A : Type 0} → Format A → ℕ → List ℕ → Option A → Type 0
@@ -87,10 +84,6 @@ TakesItem format old new k None = TakesEnd format.is_counted old new k
 abbrev pub TakesItems : {A : Type 0} → Format A → Option Ahead → Option Ahead → List A → Type 0
 TakesItems format old new items = (after : Option Ahead) × Takes old after (lines_of format items) × TakesEnd format.is_counted after new (length items)
 
--- line n, which comes after k items, has this fault
-abbrev pub HasItemFault : {A : Type 0} → Format A → ℕ → ℕ → Option Ahead → TextFault → Type 0
-HasItemFault format n k old fault = IfSome old (λ a. item_at_front format n k a.ending (front_of a.bytes) ≡ Err fault)
-
 -- the first fault of the lines of items from line n on
 abbrev pub HasItemsFault : {A : Type 0} → Format A → ℕ → Option Ahead → TextFault → Type 0
 HasItemsFault format n old fault = HasFirstFault (λ ending bytes f. ItemFault format n ending f bytes) (NoRoom format) old fault
@@ -98,10 +91,6 @@ HasItemsFault format n old fault = HasFirstFault (λ ending bytes f. ItemFault f
 -- the first fault of the lines of this many items from line n on
 abbrev pub HasFaultAmong : {A : Type 0} → Format A → ℕ → ℕ → Option Ahead → TextFault → Type 0
 HasFaultAmong format k n old fault = HasFirstFault (λ ending bytes f. FaultAmong format k n ending f bytes) (NoRoomAmong format k) old fault
-
--- the first fault of the line that counts the initial values, line n, and of theirs
-abbrev pub HasInitialFault : ℕ → Option Ahead → TextFault → Type 0
-HasInitialFault n old fault = HasFirstFault (λ ending bytes f. InitialFault n ending f bytes) (AfterCount (NoRoomAmong value_format)) old fault
 
 -- a fault of the input, and not of the reader's memory
 abbrev pub IsOfInput : TextFault → Type 0

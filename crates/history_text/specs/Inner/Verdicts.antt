@@ -1,16 +1,11 @@
 -- The lines at the places of a verdict.
-use Rattle.std.specs.Prelude.{ℕ, List, option_map, slice_get}
+use Rattle.std.specs.Prelude.{ℕ, List}
 use Rattle.std.specs.List.{flat_map}
 use Rattle.std.specs.Option.{option_to_list}
 use Rattle.history_merge.specs.declared.operation.Operation.{Operation}
 use Rattle.verdicts.specs.declared.shown.LinePlace.{LinePlace}
-use Rattle.verdicts.specs.declared.verifying.ClaimLine.TheVariants.{Op}
 use Rattle.verdicts.specs.Claiming.{line_at}
 use Rattle.history_text.specs.Verdicts.{claim_line}
-
--- the line of the operation at this place, if there is one
-abbrev pub operation_text : List Operation → ℕ → List ℕ
-operation_text operations place = flat_map claim_line (option_to_list (option_map Op (slice_get operations place)))
 
 -- the line at this place, if there is one
 abbrev pub line_text : List ℕ → List Operation → LinePlace → List ℕ

@@ -1,4 +1,4 @@
-use Rattle.commands.proofs.Common.{◌≡◌, stress, settings_of}
+use Rattle.commands.proofs.Common.{◌≡◌, settings_of, stress}
 use Rattle.commands.proofs.Runs.{same_settings}
 use Rattle.commands.proofs.command.outcome_of.Goals as goal
 

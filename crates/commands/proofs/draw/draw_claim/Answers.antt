@@ -1,12 +1,17 @@
-use Rattle.commands.proofs.Common.{inr, err_from_is_err_and, said_in}
-use Rattle.std.proofs.Math.Logic.{⊎_map}
-use Rattle.commands.proofs.Findings.{undrawn_claim}
+use Rattle.commands.proofs.Common.{ap, arith, claim_on, err_from_is_err_and, inl, inr, length, refl, said_in}
+use Rattle.commands.specs.Judging.{IsSmall}
 use Rattle.commands.proofs.draw.draw_claim.Goals as goal
 
 pub returns-in_err-drawn-clause-found : goal.returns-in_err-drawn-clause-found
 returns-in_err-drawn-clause-found c = λ version.
     let p = err_from_is_err_and c.from_residual.result c.from_residual.ensures.1 in
-    rw (p.1, p.2) (undrawn_claim c.args.options (said_in version c.args.history.now) c.args.claimed.now _ c.requires.complete c.in_err-drawn.ensures.large)
+    rw (p.1, p.2) (c.in_err-drawn.ensures.large version)
 
-pub returns-clause-found : goal.returns-clause-found
-returns-clause-found c = λ version. ⊎_map (λ drawn. inr (inr (inr drawn))) (λ memory. memory) (c.draw_evidence.ensures.found version)
+pub returns-then-not-branch-clause-found : goal.returns-then-not-branch-clause-found
+returns-then-not-branch-clause-found c = λ version.
+    let small : IsSmall c.args.options (claim_on (said_in version c.args.history.now) c.args.claimed.now) = record {
+      few_values = c.requires.few_values;
+      few_lines = c.in_ok-drawn.ensures.few_lines;
+      few_operations = omega (arith, ap length c.in_ok-drawn.ensures.drawn, c.in_ok-drawn.ensures.few);
+    } in
+    inl (inl (small, inr (λ evident. let yes = c.in_ok-verify.ensures.exact.1 evident in cc, refl)))

@@ -1,10 +1,10 @@
 use Rattle.commands.proofs.Common.{arith}
-use Rattle.commands.proofs.Found.{carried, history_fault, verdict_fault, claim_found}
+use Rattle.commands.proofs.Inputs.{carried, claim_found, claim_history_fault, verdict_fault}
 use Rattle.commands.proofs.input.claimed_of.Goals as goal
 
 pub returns-in_err-gathered-clause-fault : goal.returns-in_err-gathered-clause-fault
 returns-in_err-gathered-clause-fault g c = carried c.from_residual.result _ _ c.from_residual.ensures.1
-    (history_fault (g.S.TextSource.ahead c.args.reader) _ (rw c.new-texts.ensures at c.in_err-gathered.ensures.fault))
+    (claim_history_fault (g.S.TextSource.ahead c.args.reader) _ (rw c.new-texts.ensures at c.in_err-gathered.ensures.fault))
 
 pub returns-in_err-claimed-clause-fault : goal.returns-in_err-claimed-clause-fault
 returns-in_err-claimed-clause-fault g c = carried c.from_residual-in_err-claimed.result _ _ c.from_residual-in_err-claimed.ensures.1

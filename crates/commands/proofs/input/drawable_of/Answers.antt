@@ -1,5 +1,6 @@
-use Rattle.commands.proofs.Common.{arith, text_of}
-use Rattle.commands.proofs.Found.{carried, drawable_history_fault, drawable_verdict_fault, claim_found, history_found, read_fault_after, taken_through}
+use Rattle.commands.proofs.Common.{arith}
+use Rattle.commands.proofs.Inputs.{carried, claim_found, drawable_history_fault, drawable_verdict_fault, history_found}
+use Rattle.commands.proofs.Inputs.{read_fault_after, taken_through}
 use Rattle.commands.proofs.input.drawable_of.Goals as goal
 
 pub returns-in_err-claimed-clause-fault : goal.returns-in_err-claimed-clause-fault
@@ -23,20 +24,13 @@ returns-in_err-is_at_end-clause-fault g c =
 pub returns-then-branch-clause-drawable : goal.returns-then-branch-clause-drawable
 returns-then-branch-clause-drawable g c =
     let read = rw c.new-texts.ensures at c.in_ok-gathered.ensures.text in
-    let over = rw c.if-branch.true at c.in_ok-is_at_end.ensures.over in (
-      read.0,
-      read.1,
-      read.3.1,
-      history_found (g.S.TextSource.ahead c.args.reader) _ _ read.0 read.1 read.2 c.in_ok-is_at_end.ensures.left over,
-    )
+    let over = rw c.if-branch.true at c.in_ok-is_at_end.ensures.over in
+    let taken = taken_through _ _ _ _ read.2 c.in_ok-is_at_end.ensures.left in
+    (read.0, read.1, read.3.1, history_found (g.S.TextSource.ahead c.args.reader) _ read.0 read.1 taken over)
 
 pub returns-clause-drawable : goal.returns-clause-drawable
 returns-clause-drawable g c =
     let read = rw c.new-texts.ensures at c.in_ok-gathered.ensures.text in
-    let input = g.S.TextSource.ahead c.args.reader in (
-      read.0,
-      read.1,
-      read.3.1,
-      claim_found input _ _ read.0 c.in_ok-claimed.claimed read.1
-          (taken_through input _ _ (text_of read.0) read.2 c.in_ok-is_at_end.ensures.left) c.in_ok-claimed.ensures.claim,
-    )
+    let taken = taken_through _ _ _ _ read.2 c.in_ok-is_at_end.ensures.left in
+    let claim = claim_found (g.S.TextSource.ahead c.args.reader) _ _ read.0 c.in_ok-claimed.claimed read.1 taken c.in_ok-claimed.ensures.claim in
+    (read.0, read.1, read.3.1, claim)

@@ -1,5 +1,5 @@
 use Rattle.commands.proofs.Common.{said_by}
-use Rattle.commands.proofs.Findings.{fault_found}
+use Rattle.commands.proofs.OneAnswer.{fault_found}
 use Rattle.commands.proofs.input.history_of.Goals as goal
 
 pub returns-in-Err-clause-fault : goal.returns-in-Err-clause-fault

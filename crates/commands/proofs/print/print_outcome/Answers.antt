@@ -1,5 +1,5 @@
 use Rattle.commands.proofs.Common.{answer_of, asked_if_err, asked_if_ok, bytes_if_err, bytes_if_ok, refused_if_err}
-use Rattle.commands.proofs.Common.{said_text}
+use Rattle.commands.specs.Answers.{said_text}
 use Rattle.commands.proofs.print.print_outcome.Goals as goal
 
 pub flush_written-requires : goal.flush_written-requires

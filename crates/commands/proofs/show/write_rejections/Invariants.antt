@@ -1,4 +1,5 @@
-use Rattle.commands.proofs.Common.{take, rejection_lines}
+use Rattle.commands.proofs.Common.{take}
+use Rattle.commands.specs.Answers.{rejection_lines}
 use Rattle.text_lines.specs.Writing.{TakesAll}
 use Rattle.commands.proofs.show.write_rejections.Given as goal
 

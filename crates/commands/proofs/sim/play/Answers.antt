@@ -1,15 +1,14 @@
-use Rattle.commands.proofs.Common.{ap, inl, refl, subst, operations_of, claim_of, rejections, left_open}
-use Rattle.commands.proofs.Common.{IsVerdictClaim}
-use Rattle.commands.proofs.Findings.{decided_claim, is_from_none}
+use Rattle.commands.proofs.Common.{ap, inl, inr}
+use Rattle.commands.specs.Answers.{left_open}
 use Rattle.commands.proofs.OneAnswer.{from_nothing}
-use Rattle.commands.proofs.Played.{played_found, merges_to_complete, few_events}
+use Rattle.commands.proofs.Runs.{few_events, merges_to_complete, played_found}
 use Rattle.commands.proofs.sim.play.Goals as goal
 
 pub returns-in-Open-clause-found : goal.returns-in-Open-clause-found
 returns-in-Open-clause-found c =
     let rejected = rw c.as_slice.ensures at c.in_ok-rejections.ensures.rejections in
     let ended = rw (c.as_slice.ensures, c.in-Open.is) at c.in_ok-rejections.ensures.ending in
-    inl (inl (record { undone = ended; is = ap left_open rejected }))
+    inl (inr (ended, ap left_open rejected))
 
 pub merged_from-requires-clause-complete : goal.merged_from-requires-clause-complete
 merged_from-requires-clause-complete c =
@@ -25,8 +24,5 @@ pub returns-clause-found : goal.returns-clause-found
 returns-clause-found c =
     let rejected = rw c.as_slice.ensures at c.in_ok-rejections.ensures.rejections in
     let ended = rw (c.as_slice.ensures, c.in-Done.is) at c.in_ok-rejections.ensures.ending in
-    let history = c.in_ok-history.history in
-    let decided = decided_claim history c.in_ok-verdict.verdict _ c.in_ok-verdict.ensures refl in
-    let right = subst (λ h. IsVerdictClaim h (claim_of history.initial (operations_of history.events) c.in_ok-verdict.verdict))
-    (is_from_none history c.in_ok-history.ensures.initial) decided in
-    inl (played_found _ _ _ rejected c.in-Done.lists _ _ ended c.in_ok-history.ensures.merged c.in_ok-history.ensures.complete.complete right)
+    inl (played_found _ _ _ rejected c.in-Done.lists c.in_ok-history.history c.in_ok-verdict.verdict ended c.in_ok-history.ensures.merged
+    c.in_ok-history.ensures.complete c.in_ok-history.ensures.initial c.in_ok-verdict.ensures)

@@ -1,5 +1,5 @@
 use Rattle.commands.proofs.Common.{◌+◌, arith, LEAST_INITIAL_NAME}
-use Rattle.std.proofs.lemmas.Iterator.{YieldsList-from_range, items_from_collect}
+use Rattle.std.proofs.lemmas.Iterator.{items_from_collect, YieldsList-from_range}
 use Rattle.commands.proofs.stress.first_values.Goals as goal
 
 pub returns : goal.returns

@@ -1,6 +1,6 @@
-use Rattle.commands.proofs.Common.{◌∙◌, List, subst, sym, ℕ, IsLinearizable, operations_of}
-use Rattle.commands.proofs.Findings.{shows_none}
-use Rattle.commands.proofs.FirstValues.{judged_run, none_in_version_1}
+use Rattle.commands.proofs.Common.{◌∙◌, IsLinearizable, List, operations_of, subst, sym, ℕ}
+use Rattle.commands.proofs.OneAnswer.{shows_none}
+use Rattle.commands.proofs.Runs.{judged_run, none_in_version_1}
 use Rattle.commands.proofs.stress.judge_run.Goals as goal
 
 pub returns-clause-found : goal.returns-clause-found

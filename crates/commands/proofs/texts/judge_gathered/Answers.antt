@@ -1,6 +1,6 @@
-use Rattle.commands.proofs.Common.{◌≡◌, subst, err_from_is_err_and, One, operations_of, claim_of, judged}
-use Rattle.commands.proofs.Common.{AnswersOrNoMemory, JudgesHistory}
-use Rattle.commands.proofs.Findings.{fault_found, faulty_or, judged_text}
+use Rattle.commands.proofs.Common.{◌≡◌, claim_of, err_from_is_err_and, inl, inr, IsOfVerdict, IsSound, judged}
+use Rattle.commands.proofs.Common.{operations_of, subst}
+use Rattle.commands.proofs.OneAnswer.{fault_found, faulty_or, of_decided}
 use Rattle.commands.proofs.texts.judge_gathered.Goals as goal
 
 pub returns-in_err-history-clause-found : goal.returns-in_err-history-clause-found
@@ -13,5 +13,8 @@ returns-clause-found c = λ history is.
     let same = c.in_ok-history.ensures.outcome history.initial history.events is in
     let found = c.in_ok-history.history in
     let one : found ≡ history = λ i. record { initial = same.0 i; events = same.1 i } in
-    subst (λ h. AnswersOrNoMemory JudgesHistory h (judged (claim_of found.initial (operations_of found.events) c.in_ok-verdict.verdict))) one
-    (judged_text One found c.in_ok-verdict.verdict c.in_ok-history.ensures.complete c.in_ok-verdict.ensures)
+    inl (inr (
+      subst IsSound one c.in_ok-history.ensures.complete,
+      subst (λ h. IsOfVerdict h judged (judged (claim_of found.initial (operations_of found.events) c.in_ok-verdict.verdict))) one
+          (of_decided found judged c.in_ok-verdict.verdict c.in_ok-verdict.ensures),
+    ))

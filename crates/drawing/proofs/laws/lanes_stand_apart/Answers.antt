@@ -1,4 +1,4 @@
-use Rattle.drawing.proofs.Lanes.{lanes_are_apart}
+use Rattle.drawing.proofs.Below.{lanes_are_apart}
 use Rattle.drawing.proofs.laws.lanes_stand_apart.Goals as goal
 
 pub returns : goal.returns

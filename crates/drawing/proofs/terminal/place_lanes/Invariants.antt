@@ -5,5 +5,5 @@ abbrev pub invariant-loop-thread : goal.invariant-loop-thread
 invariant-loop-thread l =
     l.line.items ≡ with_words l.fn.line.items (map (λ thread. record {
       column = lane_column l.sheet.columns (scene_in l.sheet).threads thread;
-      bytes = lane_sign l.narrow (scene_in l.sheet).claimed l.row (under_way (scene_in l.sheet).operations thread l.ticket);
+      bytes = lane_sign l.sheet.columns (scene_in l.sheet) l.row (under_way (scene_in l.sheet).operations thread l.ticket);
     }) (take l.thread-index l.threads))

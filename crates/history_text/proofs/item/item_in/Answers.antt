@@ -15,4 +15,4 @@ returns-in-Err-clause-value g c =
 pub returns-in-Ok-from_line-clause-spelled : goal.returns-in-Ok-from_line-clause-spelled
 returns-in-Ok-from_line-clause-spelled g c =
     item_line_ok g.T.Item.format c.args.count c.args.bytes.now c.in-Ok-from_line.item
-    (omega (arith, c.if-count-most.false, c.most.ensures)) c.in-Ok-from_line.ensures.spelled
+    (omega (arith, c.if-count-most.false, c.limits-most.ensures.most)) c.in-Ok-from_line.ensures.spelled

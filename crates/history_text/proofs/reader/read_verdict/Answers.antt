@@ -1,5 +1,10 @@
-use Rattle.history_text.proofs.OneVerdict.{reads_what_is_there}
+use Rattle.history_text.proofs.Common.{◌≡◌, EndOfInput, IsOver, NoRoomForVerdict, refl, subst}
+use Rattle.history_text.proofs.OneVerdict.{judged, stands}
+use Rattle.history_text.proofs.Judging.{reads_what_is_there}
 use Rattle.history_text.proofs.reader.read_verdict.Goals as goal
 
 pub returns-clause-whole : goal.returns-clause-whole
-returns-clause-whole g c = reads_what_is_there _ _ _ c.claim-result.result c.claim-result.ensures.claim c.claim-result.ensures.fault
+returns-clause-whole g c = λ claimed has begins.
+    reads_what_is_there judged NoRoomForVerdict _ (λ c d. c ≡ d) c.args.reader.now.lines _ _ c.claim-result.result
+    c.claim-result.ensures.claim c.claim-result.ensures.fault
+    (λ c is. (c, is.0, is.1, λ b e. subst (IsOver EndOfInput) e is.2, refl)) claimed has (stands _ _ begins)

@@ -1,6 +1,6 @@
-use Rattle.linearizer.proofs.Common.{[], All-contains, arith, contains_at, dequeue_return, entered_by, length, NEVER}
-use Rattle.linearizer.proofs.Common.{refl, slice_get_read, ◌++◌, ◌+◌, ◌<◌, ◌∷◌}
-use Rattle.linearizer.proofs.Sweeping.{moved_so_far, none_more_timed, none_timed, one_more_timed, sorted_by_time}
+use Rattle.linearizer.proofs.Common.{All-contains, arith, contains_at, dequeue_return, entered_by, NEVER, refl}
+use Rattle.linearizer.proofs.Common.{slice_get_read, ◌+◌, ◌<◌}
+use Rattle.linearizer.proofs.Choosing.{moved_so_far, none_more_timed, none_timed, one_more_timed, sorted_by_time}
 use Rattle.linearizer.proofs.by_time.by_time.Goals as goal
 use Rattle.linearizer.proofs.by_time.by_time.Goals.{then-time-lt-NEVER+in_ok-add-2, else-time-lt-NEVER}
 
@@ -16,13 +16,11 @@ pub loop-place-preserved : goal.loop-place-preserved
 loop-place-preserved c =
     let values = c.args.values.now in
     let known = c.loop-place.invariant in
-    let at = slice_get_read values (length values) c.loop-place.place _ refl (omega (arith, c.loop-place-test.true, c.len-place-end.ensures)) c.get.ensures in
+    let at = slice_get_read values _ _ _ refl (omega (arith, c.loop-place-test.true, c.len-place-end.ensures)) c.get.ensures in
     let more = one_more_timed entered_by values c.loop-place.place c.loop-place.entries.timed.items c.get.result known.entries at
     c.entered_by-time.result c.entered_by-time.ensures
-    (All-contains (λ value. entered_by value.life < NEVER) values c.get.result c.requires.entries (contains_at values c.loop-place.place c.get.result at)) in
-    let entries = moved_so_far entered_by values (c.loop-place.place + 1)
-    (c.loop-place.entries.timed.items ++ record { time = c.entered_by-time.result; place = c.loop-place.place } ∷ [])
-    c.add.new.self.timed.items more (rw (← c.new.ensures) c.in_ok-add.ensures.added) in
+    (All-contains (λ value. entered_by value.life < NEVER) values _ c.requires.entries (contains_at values c.loop-place.place c.get.result at)) in
+    let entries = moved_so_far _ values _ _ _ more (rw (← c.new.ensures) c.in_ok-add.ensures.added) in
     elim c.if-time-lt-NEVER.branch [
       | then-time-lt-NEVER+in_ok-add-2 w ↦
           let passed : dequeue_return c.get.result.life < NEVER = omega (arith, c.dequeue_return-time.ensures, w.if-time-lt-NEVER.true) in
@@ -30,7 +28,7 @@ loop-place-preserved c =
           c.dequeue_return-time.result c.dequeue_return-time.ensures passed in
           rw w.dequeues-is (record {
             entries = entries;
-            dequeues = moved_so_far dequeue_return values (c.loop-place.place + 1) _ _ one (rw (← w.new-then-time-lt-NEVER.ensures) w.in_ok-add-2.ensures.added);
+            dequeues = moved_so_far _ values _ _ _ one (rw (← w.new-then-time-lt-NEVER.ensures) w.in_ok-add-2.ensures.added);
             entries_sorted = c.in_ok-add.ensures.sorted known.entries_sorted;
             dequeues_sorted = w.in_ok-add-2.ensures.sorted known.dequeues_sorted;
           })
@@ -44,13 +42,11 @@ loop-place-preserved c =
     ]
 
 pub returns-clause-entries : goal.returns-clause-entries
-returns-clause-entries c =
-    sorted_by_time entered_by c.args.values.now c.loop-place.place c.loop-place.entries.timed.items c.sorted.result.items
+returns-clause-entries c = sorted_by_time _ _ _ _ _
     c.loop-place.invariant.entries (omega (arith, c.loop-place-test.false, c.len-place-end.ensures))
     c.sorted.ensures.permutation c.sorted.ensures.never_falls
 
 pub returns-clause-dequeues : goal.returns-clause-dequeues
-returns-clause-dequeues c =
-    sorted_by_time dequeue_return c.args.values.now c.loop-place.place c.loop-place.dequeues.timed.items c.sorted-2.result.items
+returns-clause-dequeues c = sorted_by_time _ _ _ _ _
     c.loop-place.invariant.dequeues (omega (arith, c.loop-place-test.false, c.len-place-end.ensures))
     c.sorted-2.ensures.permutation c.sorted-2.ensures.never_falls

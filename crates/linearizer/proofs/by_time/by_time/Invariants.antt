@@ -1,6 +1,6 @@
 use Rattle.linearizer.proofs.Common.{dequeue_return, entered_by}
 use Rattle.linearizer.specs.Inner.TimedLists.{IsAsSorted}
-use Rattle.linearizer.proofs.Sweeping.{AreTimedSoFar}
+use Rattle.linearizer.proofs.Choosing.{AreTimedSoFar}
 use Rattle.linearizer.proofs.by_time.by_time.Given as goal
 
 abbrev pub invariant-loop-place : goal.invariant-loop-place

@@ -1,9 +1,9 @@
 use Rattle.linearizer.proofs.Common.{All-contains, ap, arith, contains_at, dequeue_return, enqueue_call, entered_by}
-use Rattle.linearizer.proofs.Common.{false, get_or_from_slice_get, IsFirstLeft, IsPassedOver, length, length-map, NEVER}
-use Rattle.linearizer.proofs.Common.{places_in, refl, replicate, rules, slice_get, slice_get_read, slice_get_within}
-use Rattle.linearizer.proofs.Common.{Some, subst, sym, ◌<◌, ◌∙◌, ◌≡◌, ◌≤◌}
-use Rattle.linearizer.proofs.Sweeping.{IsLeastLeft, IsNext, least_left, next_at, not_past}
-use Rattle.linearizer.proofs.Choosing.{all_swept, flags_within, nothing_swept, passed_over, some_left, swept_next}
+use Rattle.linearizer.proofs.Common.{false, get_or_from_slice_get, IsFirstLeft, IsPassedOver, length, length-map}
+use Rattle.linearizer.proofs.Common.{NEVER, places_in, refl, replicate, rules, slice_get, slice_get_read}
+use Rattle.linearizer.proofs.Common.{slice_get_within, Some, subst, sym, ◌<◌, ◌∙◌, ◌≡◌, ◌≤◌}
+use Rattle.linearizer.proofs.Choosing.{IsLeastLeft, IsNext, least_left, next_at, not_past, all_swept, flags_within}
+use Rattle.linearizer.proofs.Choosing.{nothing_swept, passed_over, some_left, swept_next}
 use Rattle.linearizer.proofs.choice.put_in_order.Goals as goal
 use Rattle.linearizer.proofs.choice.put_in_order.Goals.{After-first_left-first_in, After-first_left-first_out, After-unpack-entry, After-choice-next}
 

@@ -2,9 +2,9 @@ use Rattle.linearizer.proofs.Common.{ap, arith, greatest_leaves_from, inl, inr, 
 use Rattle.linearizer.proofs.Common.{IsValueFrom, leaves_from, length, length-map, lives_at, max, NoneBelow, places_in}
 use Rattle.linearizer.proofs.Common.{refl, slice_get_read, slice_get_within, Some, StandsBefore, subst, sym, take}
 use Rattle.linearizer.proofs.Common.{timeline_of, ℕ, ◌+◌, ◌<◌, ◌∙◌, ◌≡◌}
-use Rattle.linearizer.proofs.Merging.{below_limit, below_next, dequeue_added, next_dequeue, passed}
+use Rattle.linearizer.proofs.Merging.{below_limit, below_next, dequeue_added, next_dequeue, passed, IsTurn}
+use Rattle.linearizer.proofs.Merging.{dequeue_stands, left_more, turn_alone, turn_is, turn_with_dequeue, turn_within}
 use Rattle.linearizer.proofs.OrderedPlaces.{lives_long}
-use Rattle.linearizer.proofs.PlacedValues.{IsTurn, dequeue_stands, left_more, turn_alone, turn_is, turn_with_dequeue, turn_within}
 use Rattle.linearizer.proofs.placing.place_dequeues.Goals as goal
 use Rattle.linearizer.proofs.placing.place_dequeues.Goals.{After-max-left, in-Some+else-stands_after+in_ok-place_noops+in_ok-push, in_default}
 
@@ -15,9 +15,7 @@ get-value-requires c = turn_within (timeline_of c.args.matching.now) c.values-va
 turn : (c : After-max-left) → IsTurn (timeline_of c.args.matching.now) (lives_at (timeline_of c.args.matching.now) (places_in c.args.order.now))
     c.loop-so_far.so_far.dequeues
     c.get-value.result c.unpack-entered.result.time
-turn c = turn_is (timeline_of c.args.matching.now) c.values-values.result c.args.order.now c.loop-so_far.so_far.dequeues c.unpack-entered.result
-    c.get-value.result
-    c.values-values.ensures.values c.requires.order c.requires.gaps
+turn c = turn_is _ _ _ _ _ _ c.values-values.ensures.values c.requires.order c.requires.gaps
     (slice_get_read _ _ _ _ refl c.loop-so_far-test.true c.index-order-rank.is ∙ ap Some (sym c.unpack-entered.ensures)) c.get-value.ensures
 
 left_is : (c : After-max-left) → c.max-left.result ≡ max (leaves_from c.get-value.result.life) c.loop-so_far.so_far.left

@@ -1,9 +1,8 @@
 use Rattle.linearizer.proofs.Common.{ap, arith, enqueue_position, enqueues, inl, inr, IsEnqueueFrom, IsMergedUpTo}
 use Rattle.linearizer.proofs.Common.{IsValueFrom, length, lives_at, NoneBelow, places_in, position_of, refl, rules}
-use Rattle.linearizer.proofs.Common.{slice_get_read, slice_get_within, Some, StandsBefore, subst, sym, timeline_of, ◌∙◌}
-use Rattle.linearizer.proofs.Common.{◌≡◌}
-use Rattle.linearizer.proofs.Merging.{enqueue_added, next_enqueue, nothing_merged}
-use Rattle.linearizer.proofs.PlacedValues.{enqueue_more, turn_is, turn_within}
+use Rattle.linearizer.proofs.Common.{slice_get_read, slice_get_within, Some, StandsBefore, subst, sym, timeline_of}
+use Rattle.linearizer.proofs.Common.{◌∙◌, ◌≡◌}
+use Rattle.linearizer.proofs.Merging.{enqueue_added, next_enqueue, nothing_merged, enqueue_more, turn_is, turn_within}
 use Rattle.linearizer.proofs.placing.place_enqueues.Goals as goal
 
 pub get-requires : goal.get-requires
@@ -11,8 +10,7 @@ get-requires c = turn_within (timeline_of c.args.matching.now) c.values-values.r
     (slice_get_read _ _ _ _ refl c.loop-rank-test.true c.index-order-rank.is ∙ ap Some (sym c.unpack-entered.ensures))
 
 pub loop-rank-init : goal.loop-rank-init
-loop-rank-init c = rw c.requires.none (nothing_merged (timeline_of c.args.matching.now)
-    (lives_at (timeline_of c.args.matching.now) (places_in c.args.order.now)) c.args.noops.now)
+loop-rank-init c = rw c.requires.none (nothing_merged _ _ _)
 
 pub loop-rank-preserved : goal.loop-rank-preserved
 loop-rank-preserved c =
@@ -20,10 +18,9 @@ loop-rank-preserved c =
     let i = c.loop-rank.rank in
     let x = c.enqueue-enqueue.result in
     let names : x.operation ≡ c.get.result.enqueue = search rules in
-    let turn = turn_is (timeline_of c.args.matching.now) c.values-values.result c.args.order.now i c.unpack-entered.result c.get.result
-    c.values-values.ensures.values
+    let turn = turn_is _ _ _ i _ _ c.values-values.ensures.values
     c.requires.order c.requires.gaps (slice_get_read _ _ _ _ refl c.loop-rank-test.true c.index-order-rank.is ∙ ap Some (sym c.unpack-entered.ensures)) c.get.ensures in
-    let within = slice_get_within lives i c.get.result.life turn.at in
+    let within = slice_get_within lives i _ turn.at in
     let stands : position_of x.position ≡ enqueue_position lives i =
     c.enqueue-enqueue.ensures.position ∙ ap (λ g. record { gap = g; class = enqueues; rank = i }) turn.gap_is in
     let none : NoneBelow (IsEnqueueFrom lives i) (Some x.position) =
@@ -33,10 +30,8 @@ loop-rank-preserved c =
     (λ p is. elim is [ inl enqueue ↦ none p enqueue | inr dequeue ↦ past p dequeue ]) in
     let merged = c.in_ok-place_noops.ensures.adds (timeline_of c.args.matching.now) lives i _ _ values
     (c.in_ok-place_dequeues.ensures.adds i none c.loop-rank.invariant) in
-    rw c.in_ok-push.ensures.items
-    (enqueue_added (timeline_of c.args.matching.now) lives c.args.noops.now i _ _ _ _ merged x
-    (enqueue_more (timeline_of c.args.matching.now) lives i c.get.result c.unpack-entered.result.time turn _ _ merged.values x merged.held names
-    c.enqueue-enqueue.ensures.position) within stands past
+    rw c.in_ok-push.ensures.items (enqueue_added _ lives _ i _ _ _ _ merged x
+    (enqueue_more _ lives i _ _ turn _ _ _ x merged.held names c.enqueue-enqueue.ensures.position) within stands past
     c.in_ok-place_noops.ensures.up_to)
 
 pub returns : goal.returns

@@ -1,5 +1,5 @@
 use Rattle.linearizer.proofs.Common.{false, get_or, subst, true, ◌∙◌, ◌≡◌}
-use Rattle.linearizer.proofs.Sweeping.{ended, stopped, walked}
+use Rattle.linearizer.proofs.Choosing.{ended, stopped, walked}
 use Rattle.linearizer.proofs.timed.first_left.Goals as goal
 
 pub loop-first-preserved : goal.loop-first-preserved

@@ -1,7 +1,12 @@
-use Rattle.history_text.proofs.Common.{claim_line_format}
-use Rattle.history_text.proofs.FormLines.{read_ok}
-use Rattle.history_text.proofs.ClaimLines.{claim_line_ok}
+use Rattle.history_text.proofs.Common.{fields_of, ◌∙◌, sym, initial_forms, initial_of}
+use Rattle.history_text.proofs.FormLines.{read_as, said_spelled}
+use Rattle.history_text.proofs.ClaimLines.{initial_spells}
 use Rattle.history_text.proofs.operation_line.ClaimLineItem.from_line.Goals as goal
 
-pub returns-clause-spelled : goal.returns-clause-spelled
-returns-clause-spelled c = read_ok claim_line_format c.args.line _ c.claim_line_in.result (claim_line_ok c.args.line _) c.claim_line_in.ensures.value
+pub returns-then-is_initial-clause-value : goal.returns-then-is_initial-clause-value
+returns-then-is_initial-clause-value c =
+    rw (c.at.ensures, sym c.is_initial.ensures ∙ c.if-is_initial.true)
+    (read_as initial_forms initial_of c.args.line (fields_of c.args.bytes.now) tt _ c.in_ok-numbers.ensures.value)
+
+pub returns-then-is_initial-clause-spelled : goal.returns-then-is_initial-clause-spelled
+returns-then-is_initial-clause-spelled c = rw c.at.ensures (said_spelled initial_spells _ _ _ (sym c.in_ok-numbers.ensures.value))

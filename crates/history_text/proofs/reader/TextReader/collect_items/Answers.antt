@@ -1,4 +1,4 @@
-use Rattle.history_text.proofs.Common.{[], ◌++◌, ◌+◌, ◌∙◌, ◌∷◌, ◌≡◌, ℕ, arith, err_from_is_err_and, length, length-append}
+use Rattle.history_text.proofs.Common.{[], ◌++◌, ◌+◌, ◌∷◌, ◌≡◌, ℕ, arith, err_from_is_err_and, length, length-append}
 use Rattle.history_text.proofs.Common.{Option, Some, TakesItem, subst}
 use Rattle.history_text.specs.Items.{Format}
 use Rattle.history_text.specs.Reading.{Input}
@@ -11,7 +11,6 @@ use Rattle.history_text.proofs.reader.TextReader.collect_items.Goals.{After-add,
 record IsNext {A : Type 0} (format : Format A) (old new : Input) (count : ℕ) (item : Option A) : Type 0 where
   pub taken : TakesItem format old.left new.left count item
   pub lines : new.lines ≡ old.lines + 1
-  pub is_stopped : new.is_stopped ≡ old.is_stopped
 
 -- where nothing stood in the buffer it is what the line gave
 by_line : {A : Type 0} (format : Format A) (old same new : Input) (count : ℕ) (found item : Option A) → same ≡ old → found ≡ item
@@ -21,12 +20,12 @@ by_line format old same new count found item none is next =
 
 -- the next item comes from the buffer or by its line
 next_is : (g : Over) (c : After-add g)
-    → IsNext g.T.Item.format c.loop-item.self c.match-next_in_buffer.self c.loop-item.count (Some c.match-next_in_buffer.item)
-next_is g c = elim c.match-next_in_buffer.branch [
-  | in-Some w ↦ rw (w.self-is, w.item-is) (record { taken = w.in-Some.ensures.item; lines = w.in-Some.ensures.lines; is_stopped = w.in-Some.ensures.is_stopped })
+    → IsNext g.T.Item.format c.loop-item.self c.match-item_in_buffer.self c.loop-item.count (Some c.match-item_in_buffer.item)
+next_is g c = elim c.match-item_in_buffer.branch [
+  | in-Some w ↦ rw (w.self-is, w.item-is) (record { taken = w.in-Some.ensures.item; lines = w.in-Some.ensures.lines })
   | in-None-2+in_ok-item-in-None-2+in-Some-2 w ↦
       rw (w.self-is, w.item-is) (by_line g.T.Item.format _ _ _ _ _ _ w.in-None-2.ensures.none w.in-Some-2.is
-      (record { taken = w.in_ok-item-in-None-2.ensures.ok; lines = w.item_by_line.ensures.lines; is_stopped = w.item_by_line.ensures.is_stopped }))
+      (record { taken = w.in_ok-item-in-None-2.ensures.ok; lines = w.item_by_line.ensures.lines }))
 ]
 
 pub returns-in_err-item-in-None-2-clause-fault : goal.returns-in_err-item-in-None-2-clause-fault
@@ -42,19 +41,19 @@ pub returns-then-is_err-clause-fault : goal.returns-then-is_err-clause-fault
 returns-then-is_err-clause-fault g c =
     let known = c.loop-item.invariant in
     let next = next_is g (goal.at.returns-then-is_err-clause-fault g c).After-add in
-    no_room g.T.Item.format known.items c.match-next_in_buffer.item _ _ _ known.right known.taken (omega (arith, known.count, next.taken.2)) next.taken.1 next.taken.0
+    no_room g.T.Item.format known.items c.match-item_in_buffer.item _ _ _ known.right known.taken
+    (omega (arith, known.count, next.taken.2)) next.taken.1 next.taken.0
 
 pub loop-item-preserved : goal.loop-item-preserved
 loop-item-preserved g c =
     let known = c.loop-item.invariant in
     let next = next_is g (goal.at.loop-item-preserved g c).After-add in
     record {
-      items = known.items ++ c.match-next_in_buffer.item ∷ [];
-      right = HaveLines-push g.T.Item.format known.items c.match-next_in_buffer.item known.right next.taken.1 (omega (arith, known.count, next.taken.2));
-      taken = takes_item g.T.Item.format known.items c.match-next_in_buffer.item _ _ _ known.taken next.taken.0;
+      items = known.items ++ c.match-item_in_buffer.item ∷ [];
+      right = HaveLines-push g.T.Item.format known.items c.match-item_in_buffer.item known.right next.taken.1 (omega (arith, known.count, next.taken.2));
+      taken = takes_item g.T.Item.format known.items c.match-item_in_buffer.item _ _ _ known.taken next.taken.0;
       held = on_ok c.add.result _ c.if-is_err.ensures.value
           (c.add.ensures _ known.items known.held (omega (arith, known.count, next.taken.2, g.met.T.Item.few)));
       count = simp length-append (omega (arith, known.count));
       lines = omega (arith, next.lines, known.lines);
-      is_stopped = next.is_stopped ∙ known.is_stopped;
     }

@@ -9,7 +9,6 @@ invariant-loop-item g l = record {
   held : g.C.Collects.Adds l.fn.into l.into items;
   count : l.count ≡ length items;
   lines : l.self.lines ≡ l.fn.self.lines + l.count;
-  is_stopped : l.self.is_stopped ≡ l.fn.self.is_stopped;
 }
 
 abbrev pub decreases-loop-item : goal.decreases-loop-item

@@ -1,5 +1,5 @@
-use Rattle.history_text.proofs.Common.{◌+◌, ◌-◌, ◌≤◌, ap, length, Option, rules, subst, Ahead, Input, line_of, Takes}
-use Rattle.history_text.proofs.Common.{with_front}
+use Rattle.history_text.proofs.Common.{◌+◌, ◌-◌, ◌≤◌, ap, arith, length, Option, rules, subst, Ahead, Input, line_of}
+use Rattle.history_text.proofs.Common.{Takes, with_front}
 use Rattle.history_text.proofs.Buffers.{takes_from_buffer, part}
 use Rattle.history_text.proofs.reader.TextReader.item_in_buffer.Goals as goal
 
@@ -13,4 +13,4 @@ returns-clause-item g c =
     let ahead = g.R.TextSource.ahead reader.source in
     let taken = takes_from_buffer reader.buffer reader.at reader.filled c.in_ok-item.len _ text ahead c.if-len-self.false fits all found.0 in
     let left : Option Ahead = with_front (part reader.buffer (reader.at + c.in_ok-item.len) reader.filled) ahead in
-    (subst (λ (l : Option Ahead). Takes l left text) (ap (λ (i : Input). i.left) c.self.view_is) taken, found.1)
+    (subst (λ (l : Option Ahead). Takes l left text) (ap (λ (i : Input). i.left) c.self.view_is) taken, found.1, omega (arith, c.if-count-most.false, c.limits-most.ensures.most))

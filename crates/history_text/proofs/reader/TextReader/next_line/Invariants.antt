@@ -6,7 +6,6 @@ invariant-loop-line g l = record {
   taken : Takes l.fn.self.left l.self.left l.line;
   part : IsPartOfLine l.line;
   lines : l.self.lines ≡ l.fn.self.lines + 1;
-  is_stopped : l.self.is_stopped ≡ l.fn.self.is_stopped;
 }
 
 abbrev pub decreases-loop-line : goal.decreases-loop-line

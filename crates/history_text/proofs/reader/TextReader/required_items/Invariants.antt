@@ -7,7 +7,6 @@ invariant-loop-self g l = record {
   taken : Takes l.fn.self.left l.self.left (lines_of g.T.Item.format l.items.items);
   few : length l.items.items ≤ l.count;
   lines : l.self.lines ≡ l.fn.self.lines + length l.items.items;
-  is_stopped : l.self.is_stopped ≡ l.fn.self.is_stopped;
 }
 
 abbrev pub decreases-loop-self : goal.decreases-loop-self

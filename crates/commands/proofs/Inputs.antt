@@ -1,0 +1,344 @@
+-- From what calls on the reader gave to what the input is, or to its fault. An input says one thing, or has one fault.
+use Rattle.commands.proofs.Common.{[], ◌++◌, ◌∙◌, ◌≡◌, ◌≢◌, ◌⊎◌, Ahead, alone, answer_of_text_fault, AnswersFor}
+use Rattle.commands.proofs.Common.{AnswersOrNoMemory, ap, claim_on, Claimed, ClaimOnText, Drawable, HasScheduleText}
+use Rattle.commands.proofs.Common.{HasText, HasVerdictText, HistoryText, IfSome, IfSome_then, inl, input_of, inr}
+use Rattle.commands.proofs.Common.{IsClaimOf, IsDrawableOf, IsFaultOfClaimInput, IsFaultOfDrawableInput}
+use Rattle.commands.proofs.Common.{IsFaultOfHistoryInput, IsHistoryOf, IsScheduleTextFault, IsTextFault, List}
+use Rattle.commands.proofs.Common.{memory_fault, None, NoRoomForSchedule, NoRoomForText, Option, refl, Reply}
+use Rattle.commands.proofs.Common.{SameOrNoMemory, schedule_text, Some, subst, sym, text_of, TextFault, verdict_text}
+use Rattle.commands.proofs.Common.{with_claim, ℕ}
+use Rattle.commands.specs.Inputs.{AfterText, IsFaultBehind, IsFaultOfEnd, IsFaultOfOneText, IsFaultOfScheduleInput}
+use Rattle.commands.specs.Inputs.{IsFaultOfTexts, IsScheduleOf, IsWhole}
+use Rattle.history_text.specs.Claims.{IsVerdictTextFault, NoRoomForVerdict}
+use Rattle.history_text.specs.Reading.{HasEndFault, HasFirstFault, HasMore, HasTextFault, HasVerdictTextFault}
+use Rattle.history_text.specs.Versions.{line_count}
+use Rattle.std.proofs.Common.{append-nil, Err, IfErr, IsErrAnd, Ok}
+use Rattle.std.specs.declared.result.Result.{Result}
+use Rattle.text_lines.proofs.Consuming.{Takes-append}
+use Rattle.text_lines.proofs.MemoryOrNot.{follows, is_memory, known_fault}
+use Rattle.text_lines.specs.Input.{Ending, EndOfInput, Failure, IsOver, Takes}
+use Rattle.text_lines.specs.declared.fault.TextFault.TheVariants.{Read}
+use Rattle.verdicts.specs.declared.verifying.Claimed.TheVariants.{No, Yes}
+use Rattle.history_text.proofs.OneHistory as histories
+use Rattle.history_text.proofs.OneSchedule as schedules
+use Rattle.text_lines.specs.declared.fault.TextFault.TheVariants as text
+use Rattle.history_text.proofs.OneVerdict as verdict_texts
+
+-- ---- what was taken of the input
+
+-- a `?` that carries a fault on answers that fault, of which P holds
+pub carried : {T E : Type 0} (r : Result T E) (fault : E) (P : E → Type 0) → IsErrAnd r (λ y. y ≡ fault) → P fault → IfErr r P
+carried (Ok x) fault P is holds = absurd is
+carried (Err y) fault P is holds = subst P (sym is) holds
+
+-- what takes nothing more takes the same
+pub taken_through : (input mid left : Option Ahead) (text : List ℕ) → Takes input mid text → Takes mid left [] → Takes input left text
+taken_through input mid left text before after =
+    subst (λ (t : List ℕ). Takes input left t) (append-nil text) (Takes-append input mid left text [] before after)
+
+-- what is taken is the whole, where the input is over after it
+whole_taken : (input left : Option Ahead) (text : List ℕ) → Takes input left text → IsOver EndOfInput left → IfSome input (IsWhole text)
+whole_taken None left text taken over = tt
+whole_taken (Some a) None text taken over = absurd taken
+whole_taken (Some a) (Some b) text taken over =
+    record { bytes = taken.0 ∙ ap (λ (r : List ℕ). text ++ r) over.0 ∙ append-nil text; ending = sym taken.1 ∙ over.1 }
+
+-- the text of a history is all that was there
+pub history_found : (input left : Option Ahead) (text : HistoryText) → HasText text → Takes input left (text_of text) → IsOver EndOfInput left
+    → IfSome input (λ a. IsHistoryOf a text)
+history_found input left text has taken over = IfSome_then input (whole_taken input left (text_of text) taken over) (λ a whole. (has, whole))
+
+-- the text of a history, and then that of a claim
+pub claim_found : (input left end : Option Ahead) (text : HistoryText) (claimed : Claimed) → HasText text → Takes input left (text_of text)
+    → HasVerdictText claimed × Takes left end (verdict_text claimed) × IsOver EndOfInput end → IfSome input (λ a. IsClaimOf a (claim_on text claimed))
+claim_found input left end text claimed has before claim = IfSome_then input
+    (whole_taken input end (text_of text ++ verdict_text claimed) (Takes-append input left end (text_of text) (verdict_text claimed) before claim.1) claim.2)
+    (λ a whole. record { history = has; verdict = claim.0; whole = whole })
+
+-- ---- an input says one thing
+
+-- an input says one value, or it has one fault; out of memory aside, not both
+pub record SaysOneThing {A : Type 0} (IsInputOf : Ahead → A → Type 0) (IsFaultOf : Ahead → TextFault → Type 0) : Type 0 where
+  pub one_value : (input : Ahead) (x y : A) → IsInputOf input x → IsInputOf input y → x ≡ y
+  pub only_memory : (input : Ahead) (x : A) (fault : TextFault) → IsInputOf input x → fault ≢ text.Memory → IsFaultOf input fault → ⊥
+  pub one_fault : (input : Ahead) (f g : TextFault) → f ≢ text.Memory → g ≢ text.Memory → IsFaultOf input f → IsFaultOf input g → f ≡ g
+
+-- ---- a text, and what comes after it
+
+module _ {A : Type 0} (Has : A → Type 0) (said : A → List ℕ) (IsFirst : Ending → List ℕ → TextFault → Type 0) (LacksRoom : List ℕ → Type 0)
+    (IsNext : A → Ending → List ℕ → TextFault → Type 0) (LacksNext : A → List ℕ → Type 0) where
+  -- there was no room for what the input says
+  abbrev Lacks : Ahead → Type 0
+  Lacks a = LacksRoom a.bytes ⊎ AfterText Has said LacksNext a.bytes
+
+  -- a fault of the text, or of what comes after it
+  abbrev IsFault : Ahead → TextFault → Type 0
+  IsFault a f = IsFirst a.ending a.bytes f ⊎ AfterText Has said (λ value rest. IsNext value a.ending rest f) a.bytes
+
+  -- a fault of the text
+  pub first_fault : (input : Option Ahead) (fault : TextFault) → HasFirstFault IsFirst LacksRoom input fault
+      → IfSome input (λ a. IsFaultOfTexts Has said IsFirst LacksRoom IsNext LacksNext a fault)
+  first_fault input fault h = IfSome_then input h
+      (λ a is. follows (LacksRoom a.bytes) (Lacks a) (IsFirst a.ending a.bytes) (IsFault a) fault (λ room. inl room) (λ f first. inl first) is)
+
+  -- a fault of what comes after the text
+  pub next_fault : (input left : Option Ahead) (value : A) (fault : TextFault) → Has value → Takes input left (said value)
+      → HasFirstFault (IsNext value) (LacksNext value) left fault
+      → IfSome input (λ a. IsFaultOfTexts Has said IsFirst LacksRoom IsNext LacksNext a fault)
+  next_fault None left value fault has taken h = tt
+  next_fault (Some a) None value fault has taken h = absurd taken
+  next_fault (Some a) (Some b) value fault has taken h =
+      follows (LacksNext value b.bytes) (Lacks a) (IsNext value b.ending b.bytes) (IsFault a) fault
+      (λ room. inr (record { value = value; rest = b.bytes; has = has; front = taken.0; after = room }))
+      (λ f next. inr (record {
+        value = value;
+        rest = b.bytes;
+        has = has;
+        front = taken.0;
+        after = subst (λ e. IsNext value e b.bytes f) taken.1 next;
+      }))
+      h
+
+  module _ (agree : (x y : A) (r s : List ℕ) → Has x → Has y → said x ++ r ≡ said y ++ s → (x ≡ y) × (r ≡ s))
+      (no_fault : (ending : Ending) (x : A) (r : List ℕ) (fault : TextFault) → Has x → IsFirst ending (said x ++ r) fault → ⊥)
+      (one_fault : (ending : Ending) (bytes : List ℕ) (f g : TextFault) → IsFirst ending bytes f → IsFirst ending bytes g → f ≡ g)
+      (one_next : (x : A) (ending : Ending) (rest : List ℕ) (f g : TextFault) → IsNext x ending rest f → IsNext x ending rest g → f ≡ g) where
+    -- a text that stands at the front has no fault
+    no_first : (input : Ahead) (x : A) (rest : List ℕ) (fault : TextFault) → Has x → input.bytes ≡ said x ++ rest
+        → IsFirst input.ending input.bytes fault → ⊥
+    no_first input x rest fault has front first =
+        no_fault input.ending x rest fault has (subst (λ bytes. IsFirst input.ending bytes fault) front first)
+
+    -- nor has the input, where what comes after the text has none
+    no_fault_of : (input : Ahead) (x : A) (rest : List ℕ) (fault : TextFault) → Has x → input.bytes ≡ said x ++ rest
+        → (IsNext x input.ending rest fault → ⊥) → IsFault input fault → ⊥
+    no_fault_of input x rest fault has front no_next (inl first) = no_first input x rest fault has front first
+    no_fault_of input x rest fault has front no_next (inr y) =
+        let parts = agree x y.value rest y.rest has y.has (sym front ∙ y.front) in
+        no_next (rw (← parts.0, ← parts.1) at y.after)
+
+    one_fault_of : (input : Ahead) (f g : TextFault) → IsFault input f → IsFault input g → f ≡ g
+    one_fault_of input f g (inl x) (inl y) = one_fault input.ending input.bytes f g x y
+    one_fault_of input f g (inl x) (inr y) = absurd (no_first input y.value y.rest f y.has y.front x)
+    one_fault_of input f g (inr x) (inl y) = absurd (no_first input x.value x.rest g x.has x.front y)
+    one_fault_of input f g (inr x) (inr y) =
+        let parts = agree x.value y.value x.rest y.rest x.has y.has (sym x.front ∙ y.front) in
+        one_next y.value input.ending y.rest f g (rw (parts.0, parts.1) at x.after) y.after
+
+    -- so an input says one thing, where it says one value, by a text and what comes after it without fault
+    says_one_thing : {B : Type 0} (IsInputOf : Ahead → B → Type 0) → ((input : Ahead) (x y : B) → IsInputOf input x → IsInputOf input y → x ≡ y)
+        → ((input : Ahead) (x : B) → IsInputOf input x → (value : A) × (rest : List ℕ) × Has value × (input.bytes ≡ said value ++ rest)
+        × ((fault : TextFault) → IsNext value input.ending rest fault → ⊥))
+        → SaysOneThing IsInputOf (IsFaultOfTexts Has said IsFirst LacksRoom IsNext LacksNext)
+    says_one_thing IsInputOf one_value parts = record {
+      one_value = one_value;
+      only_memory = λ input x fault is known faulty. let p = parts input x is in
+          no_fault_of input p.0 p.1 fault p.2 p.3 (p.4 fault) (known_fault (Lacks input) (IsFault input) fault known faulty);
+      one_fault = λ input f g known_f known_g is_f is_g. one_fault_of input f g (known_fault (Lacks input) (IsFault input) f known_f is_f)
+          (known_fault (Lacks input) (IsFault input) g known_g is_g);
+    }
+
+-- ---- one text
+
+-- the input isn't over after a text
+not_over : (left : Option Ahead) (fault : TextFault) → HasEndFault left fault → HasFirstFault IsFaultOfEnd (λ _. ⊥) left fault
+not_over None fault h = tt
+not_over (Some b) text.Memory h = absurd h
+not_over (Some b) fault h = h
+
+-- an input that is over has no such fault
+none_at_end : (fault : TextFault) → IsFaultOfEnd EndOfInput [] fault → ⊥
+none_at_end text.Trailing h = let more = h.2 in cc
+none_at_end text.Read h = let fails = h.1 in cc
+none_at_end fault h = h
+
+-- and one that isn't has one
+one_at_end : (ending : Ending) (rest : List ℕ) (f g : TextFault) → IsFaultOfEnd ending rest f → IsFaultOfEnd ending rest g → f ≡ g
+one_at_end ending rest text.Trailing text.Trailing x y = refl
+one_at_end ending rest text.Read text.Read x y = refl
+one_at_end ending rest text.Trailing text.Read x y = let more = x.2 in let none = y.0 in cc
+one_at_end ending rest text.Read text.Trailing x y = let none = x.0 in let more = y.2 in cc
+one_at_end ending rest text.Trailing g x y = absurd y
+one_at_end ending rest text.Read g x y = absurd y
+one_at_end ending rest f g x y = absurd x
+
+module _ {A : Type 0} (Has : A → Type 0) (said : A → List ℕ) (IsFirst : Ending → List ℕ → TextFault → Type 0) (LacksRoom : List ℕ → Type 0) where
+  -- a fault of the text
+  pub text_fault : (input : Option Ahead) (fault : TextFault) → HasFirstFault IsFirst LacksRoom input fault
+      → IfSome input (λ a. IsFaultOfOneText Has said IsFirst LacksRoom a fault)
+  text_fault = first_fault Has said IsFirst LacksRoom (λ _. IsFaultOfEnd) (λ _ _. ⊥)
+
+  -- a fault of what comes after it
+  pub end_fault : (input left : Option Ahead) (value : A) (fault : TextFault) → Has value → Takes input left (said value)
+      → HasEndFault left fault → IfSome input (λ a. IsFaultOfOneText Has said IsFirst LacksRoom a fault)
+  end_fault input left value fault has taken h =
+      next_fault Has said IsFirst LacksRoom (λ _. IsFaultOfEnd) (λ _ _. ⊥) input left value fault has taken (not_over left fault h)
+
+module _ {A : Type 0} (Has : A → Type 0) (said : A → List ℕ) (IsFirst : Ending → List ℕ → TextFault → Type 0) (LacksRoom : List ℕ → Type 0)
+    (agree : (x y : A) (r s : List ℕ) → Has x → Has y → said x ++ r ≡ said y ++ s → (x ≡ y) × (r ≡ s))
+    (no_fault : (ending : Ending) (x : A) (r : List ℕ) (fault : TextFault) → Has x → IsFirst ending (said x ++ r) fault → ⊥)
+    (one_fault : (ending : Ending) (bytes : List ℕ) (f g : TextFault) → IsFirst ending bytes f → IsFirst ending bytes g → f ≡ g) where
+  -- an input is the text of one value, or has one fault
+  one_text : SaysOneThing (λ input x. Has x × IsWhole (said x) input) (IsFaultOfOneText Has said IsFirst LacksRoom)
+  one_text = says_one_thing Has said IsFirst LacksRoom (λ _. IsFaultOfEnd) (λ _ _. ⊥) agree no_fault one_fault (λ _. one_at_end)
+      (λ input x. Has x × IsWhole (said x) input)
+      (λ input x y is_x is_y. (agree x y [] [] is_x.0 is_y.0 (ap (λ bytes. bytes ++ []) (sym is_x.1.bytes ∙ is_y.1.bytes))).0)
+      (λ input x is. (x, [], is.0, is.1.bytes ∙ sym (append-nil (said x)), λ fault next. none_at_end fault (rw is.1.ending at next)))
+
+-- an input is one history, or has one fault
+pub one_history : SaysOneThing IsHistoryOf IsFaultOfHistoryInput
+one_history = one_text HasText text_of (IsTextFault 0) NoRoomForText histories.texts_agree (histories.text_has_no_fault 0)
+    (histories.one_first_fault 0)
+
+-- an input is one schedule, or has one fault
+pub one_schedule : SaysOneThing IsScheduleOf IsFaultOfScheduleInput
+one_schedule = one_text HasScheduleText schedule_text (IsScheduleTextFault 0) NoRoomForSchedule schedules.texts_agree
+    (schedules.text_has_no_fault 0) (schedules.one_first_fault 0)
+
+-- ---- a history, and a verdict on it
+
+-- an input has one claim
+one_claim_of : (input : Ahead) (x y : ClaimOnText) → IsClaimOf input x → IsClaimOf input y → x ≡ y
+one_claim_of input x y is_x is_y =
+    let parts = histories.texts_agree x.text y.text (verdict_text x.claimed) (verdict_text y.claimed) is_x.history is_y.history
+    (sym is_x.whole.bytes ∙ is_y.whole.bytes) in
+    let texts = parts.0 in
+    let claims = verdict_texts.texts_agree x.claimed y.claimed is_x.verdict is_y.verdict parts.1 in
+    λ i. record { text = texts i; claimed = claims i }
+
+claim_parts : (input : Ahead) (x : ClaimOnText) → IsClaimOf input x → (text : HistoryText) × (rest : List ℕ) × HasText text
+    × (input.bytes ≡ text_of text ++ rest) × ((fault : TextFault) → IsVerdictTextFault (line_count text) input.ending rest fault → ⊥)
+claim_parts input x is = (
+  x.text,
+  verdict_text x.claimed,
+  is.history,
+  is.whole.bytes,
+  λ fault next. verdict_texts.text_has_no_fault (line_count x.text) x.claimed fault is.verdict (rw is.whole.ending at next),
+)
+
+-- an input is one claim, or has one fault
+pub one_claim : SaysOneThing IsClaimOf IsFaultOfClaimInput
+one_claim = says_one_thing HasText text_of (IsTextFault 0) NoRoomForText (λ t. IsVerdictTextFault (line_count t)) (λ _. NoRoomForVerdict)
+    histories.texts_agree (histories.text_has_no_fault 0) (histories.one_first_fault 0)
+    (λ t ending. verdict_texts.one_first_fault (line_count t) ending) IsClaimOf one_claim_of
+    claim_parts
+
+-- a fault of the history's text
+pub claim_history_fault : (input : Option Ahead) (fault : TextFault) → HasTextFault 0 input fault → IfSome input (λ a. IsFaultOfClaimInput a fault)
+claim_history_fault =
+    first_fault HasText text_of (IsTextFault 0) NoRoomForText (λ t. IsVerdictTextFault (line_count t)) (λ _. NoRoomForVerdict)
+
+-- a fault of the verdict's text, after the history's
+pub verdict_fault : (input left : Option Ahead) (text : HistoryText) (lines : ℕ) (fault : TextFault) → HasText text
+    → Takes input left (text_of text) → lines ≡ line_count text → HasVerdictTextFault lines left fault
+    → IfSome input (λ a. IsFaultOfClaimInput a fault)
+verdict_fault input left text lines fault has taken is h =
+    next_fault HasText text_of (IsTextFault 0) NoRoomForText (λ t. IsVerdictTextFault (line_count t)) (λ _. NoRoomForVerdict)
+    input left text fault has taken (rw is at h)
+
+-- ---- a history, and a verdict on it where anything follows
+
+-- a verdict has some text
+no_empty_verdict : (claimed : Claimed) → [] ≡ verdict_text claimed → ⊥
+no_empty_verdict (Yes operations) same = cc
+no_empty_verdict (No kind lines) same = cc
+
+-- no verdict follows a history on its own
+alone_without_claim : (input : Ahead) (text : HistoryText) (claim : ClaimOnText) → IsHistoryOf input text → IsClaimOf input claim → ⊥
+alone_without_claim input text claim is_text is_claim =
+    let parts = histories.texts_agree text claim.text [] (verdict_text claim.claimed) is_text.0 is_claim.history
+    (append-nil (text_of text) ∙ sym is_text.1.bytes ∙ is_claim.whole.bytes) in
+    no_empty_verdict claim.claimed parts.1
+
+one_drawable_of : (input : Ahead) (x y : Drawable) → IsDrawableOf input x → IsDrawableOf input y → x ≡ y
+one_drawable_of input (alone x) (alone y) is_x is_y = ap (λ t. alone t) (one_history.one_value input x y is_x is_y)
+one_drawable_of input (alone x) (with_claim y) is_x is_y = absurd (alone_without_claim input x y is_x is_y)
+one_drawable_of input (with_claim x) (alone y) is_x is_y = absurd (alone_without_claim input y x is_y is_x)
+one_drawable_of input (with_claim x) (with_claim y) is_x is_y = ap (λ c. with_claim c) (one_claim_of input x y is_x is_y)
+
+-- an input is one history with a claim, or one alone, or has one fault
+pub one_drawable : SaysOneThing IsDrawableOf IsFaultOfDrawableInput
+one_drawable = says_one_thing HasText text_of (IsTextFault 0) NoRoomForText IsFaultBehind (λ _. NoRoomForVerdict)
+    histories.texts_agree (histories.text_has_no_fault 0) (histories.one_first_fault 0)
+    (λ t ending rest f g x y. verdict_texts.one_first_fault (line_count t) ending rest f g x.0 y.0) IsDrawableOf one_drawable_of parts
+  where
+    parts : (input : Ahead) (x : Drawable) → IsDrawableOf input x → (text : HistoryText) × (rest : List ℕ) × HasText text
+        × (input.bytes ≡ text_of text ++ rest) × ((fault : TextFault) → IsFaultBehind text input.ending rest fault → ⊥)
+    parts input (alone x) is = (x, [], is.0, is.1.bytes ∙ sym (append-nil (text_of x)), λ fault next. next.1 (refl, is.1.ending))
+    parts input (with_claim x) is = let p = claim_parts input x is in (p.0, p.1, p.2, p.3, λ fault next. p.4 fault next.0)
+
+-- a fault of the history's text
+pub drawable_history_fault : (input : Option Ahead) (fault : TextFault) → HasTextFault 0 input fault → IfSome input (λ a. IsFaultOfDrawableInput a fault)
+drawable_history_fault = first_fault HasText text_of (IsTextFault 0) NoRoomForText IsFaultBehind (λ _. NoRoomForVerdict)
+
+-- a fault of what comes after it
+behind_history : (input left : Option Ahead) (text : HistoryText) (fault : TextFault) → HasText text → Takes input left (text_of text)
+    → HasFirstFault (IsFaultBehind text) NoRoomForVerdict left fault → IfSome input (λ a. IsFaultOfDrawableInput a fault)
+behind_history = next_fault HasText text_of (IsTextFault 0) NoRoomForText IsFaultBehind (λ _. NoRoomForVerdict)
+
+-- a fault of what follows the history, as the text of a verdict
+pub drawable_verdict_fault : (input mid left : Option Ahead) (text : HistoryText) (lines : ℕ) (fault : TextFault) → HasText text
+    → Takes input mid (text_of text) → Takes mid left [] → IfSome left HasMore → lines ≡ line_count text → HasVerdictTextFault lines left fault
+    → IfSome input (λ a. IsFaultOfDrawableInput a fault)
+drawable_verdict_fault input mid left text lines fault has before taken more is h =
+    behind_history input left text fault has (taken_through input mid left (text_of text) before taken) (both left more (rw is at h))
+  where
+    both : (left : Option Ahead) → IfSome left HasMore → HasVerdictTextFault (line_count text) left fault
+        → HasFirstFault (IsFaultBehind text) NoRoomForVerdict left fault
+    both None more h = tt
+    both (Some b) more h = follows (NoRoomForVerdict b.bytes) (NoRoomForVerdict b.bytes) (IsVerdictTextFault (line_count text) b.ending b.bytes)
+        (IsFaultBehind text b.ending b.bytes) fault (λ room. room) (λ f first. (first, λ over. let none = sym more.2 ∙ over.0 in cc)) h
+
+-- a read that fails just after a history
+pub read_fault_after : (input mid : Option Ahead) (text : HistoryText) (fault : TextFault) → HasText text → Takes input mid (text_of text)
+    → (fault ≡ Read) × IsOver Failure mid → IfSome input (λ a. IsFaultOfDrawableInput a fault)
+read_fault_after input mid text fault has taken is = rw is.0 (behind_history input mid text Read has taken (fails mid is.1))
+  where
+    fails : (mid : Option Ahead) → IsOver Failure mid → HasFirstFault (IsFaultBehind text) NoRoomForVerdict mid Read
+    fails None over = tt
+    fails (Some m) over = (rw (over.0, over.1) (inl refl), λ other. let ends : Failure ≡ EndOfInput = sym over.1 ∙ other.1 in cc)
+
+-- ---- what is answered of an input
+
+module _ {A : Type 0} {IsInputOf : Ahead → A → Type 0} {IsFaultOf : Ahead → TextFault → Type 0} (says : SaysOneThing IsInputOf IsFaultOf)
+    (OfValue : A → Reply → Type 0) where
+  -- what is answered of an input is answered of the value that it says
+  pub answered_of : (input : Ahead) (x : A) (a : Reply) → IsInputOf input x → AnswersFor IsInputOf IsFaultOf OfValue input a → AnswersOrNoMemory OfValue x a
+  answered_of input x a is (inl read) = subst (λ v. AnswersOrNoMemory OfValue v a) (says.one_value input read.value x read.input_of is) read.answered
+  answered_of input x a is (inr faulty) = elim (is_memory faulty.fault) [
+    | inl memory ↦ inr (faulty.is ∙ ap answer_of_text_fault memory)
+    | inr known ↦ absurd (says.only_memory input x faulty.fault is known faulty.first)
+  ]
+
+  -- inputs are answered alike where the values are that they say
+  pub alike : (i j : Ahead) (x y : A) (a b : Reply) → IsInputOf i x → IsInputOf j y → (OfValue x a → OfValue y b → a ≡ b)
+      → AnswersFor IsInputOf IsFaultOf OfValue i a → AnswersFor IsInputOf IsFaultOf OfValue j b → SameOrNoMemory a b
+  alike i j x y a b is_x is_y one p q = both (answered_of i x a is_x p) (answered_of j y b is_y q)
+    where
+      both : OfValue x a ⊎ (a ≡ memory_fault) → OfValue y b ⊎ (b ≡ memory_fault) → SameOrNoMemory a b
+      both (inl p) (inl q) = inl (one p q)
+      both (inr none) q = inr (inl none)
+      both (inl p) (inr none) = inr (inr none)
+
+  -- an input has one answer where a value has
+  pub one_answer : ((input : Ahead) (x : A) (a b : Reply) → IsInputOf input x → OfValue x a → OfValue x b → a ≡ b) → (input : Ahead) (a b : Reply)
+      → AnswersFor IsInputOf IsFaultOf OfValue input a → AnswersFor IsInputOf IsFaultOf OfValue input b → SameOrNoMemory a b
+  one_answer one input a b (inl x) y = alike input input x.value x.value a b x.input_of x.input_of (one input x.value a b x.input_of) (inl x) y
+  one_answer one input a b (inr x) (inl y) =
+      alike input input y.value y.value a b y.input_of y.input_of (one input y.value a b y.input_of) (inr x) (inl y)
+  one_answer one input a b (inr x) (inr y) = elim (is_memory x.fault) [
+    | inl memory ↦ inr (inl (x.is ∙ ap answer_of_text_fault memory))
+    | inr known_x ↦ elim (is_memory y.fault) [
+      | inl memory ↦ inr (inr (y.is ∙ ap answer_of_text_fault memory))
+      | inr known_y ↦ inl (x.is ∙ ap answer_of_text_fault (says.one_fault input x.fault y.fault known_x known_y x.first y.first) ∙ sym y.is)
+    ]
+  ]
+
+-- the text of a history and of a claim is a claim on that text
+pub claim_after : (bytes : List ℕ) (text : HistoryText) (claimed : Claimed) → HasVerdictText claimed → IsHistoryOf (input_of bytes) text
+    → IsClaimOf (input_of (bytes ++ verdict_text claimed)) (claim_on text claimed)
+claim_after bytes text claimed has read = record {
+  history = read.0;
+  verdict = has;
+  whole = record { bytes = ap (λ front. front ++ verdict_text claimed) read.1.bytes; ending = refl };
+}

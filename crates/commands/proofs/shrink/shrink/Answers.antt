@@ -1,9 +1,0 @@
-use Rattle.commands.proofs.Common.{err_from_is_err_and}
-use Rattle.commands.proofs.Validity.{ShrinksComplete}
-use Rattle.commands.proofs.Findings.{faults_answered}
-use Rattle.commands.proofs.shrink.shrink.Goals as goal
-
-pub returns-in_err-version-clause-found : goal.returns-in_err-version-clause-found
-returns-in_err-version-clause-found g c =
-    let p = err_from_is_err_and c.from_residual.result c.from_residual.ensures.1 in
-    rw (p.1, p.2) (faults_answered ShrinksComplete (g.S.TextSource.ahead c.args.reader) _ c.in_err-version.ensures.fault)

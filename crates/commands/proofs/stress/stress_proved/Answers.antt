@@ -1,0 +1,28 @@
+use Rattle.commands.proofs.Common.{◌∙◌, arith, err_from_is_err_and, inl, IsLinearizable, List, operations_of}
+use Rattle.commands.proofs.Common.{settings_of, subst, ℕ}
+use Rattle.commands.proofs.Runs.{failed_run, recorded_run}
+use Rattle.commands.proofs.stress.stress_proved.Goals as goal
+
+pub returns-clause-found : goal.returns-clause-found
+returns-clause-found g c = inl (
+  omega arith,
+  recorded_run _ _ (settings_of c.args.options.now) c.in_ok-plan.plan
+      c.in_ok-plan.ensures.seeded c.in_ok-recorded.recorded c.in_ok-recorded.ensures.recorded c.in_ok-recorded.ensures.lists
+      c.deref.result.now (c.deref.ensures.value ∙ c.in_ok-plan.ensures.first) c.in_ok-recorded.ensures.replays (λ k d h. tt) _
+      c.judge_run.ensures.found,
+)
+
+pub returns-in_err-recorded-clause-found : goal.returns-in_err-recorded-clause-found
+returns-in_err-recorded-clause-found g c =
+    let p = err_from_is_err_and c.from_residual-in_err-recorded.result c.from_residual-in_err-recorded.ensures.1 in
+    rw (p.1, p.2) (inl (
+      omega arith,
+      failed_run _ _ (settings_of c.args.options.now) c.in_ok-plan.plan _ c.requires
+          c.in_ok-plan.ensures.seeded c.deref.result.now (c.deref.ensures.value ∙ c.in_ok-plan.ensures.first) c.in_err-recorded.ensures.fault
+          (λ place is. absurd (c.in_err-recorded.ensures.preloads place (cc))),
+    ))
+
+pub returns-clause-linearizable : goal.returns-clause-linearizable
+returns-clause-linearizable g c = c.judge_run.ensures.linearizable (λ events merged.
+    subst (λ (values : List ℕ). IsLinearizable values (operations_of events)) (c.deref.ensures.value ∙ c.in_ok-plan.ensures.first)
+    (c.in_ok-recorded.ensures.linearizable events merged))

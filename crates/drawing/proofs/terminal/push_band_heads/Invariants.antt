@@ -1,5 +1,0 @@
-use Rattle.drawing.proofs.Common.{◌++◌, ◌≡◌, enumerate_from, flat_map, take, head_line}
-use Rattle.drawing.proofs.terminal.push_band_heads.Given as goal
-
-abbrev pub invariant-loop-i : goal.invariant-loop-i
-invariant-loop-i l = l.text.items ≡ l.fn.text.items ++ flat_map (head_line l.sheet.columns) (enumerate_from 0 (take l.i l.bands))
