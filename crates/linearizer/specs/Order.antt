@@ -41,7 +41,7 @@ abbrev pub dequeue_position : List Life → ℕ → Position
 dequeue_position lives i =
     record { gap = dequeue_gap lives i; class = (if nat_lt (enqueue_gap lives i) (dequeue_gap lives i) then earlier_dequeues else other_dequeues); rank = i }
 
--- an operation that changes nothing stands at this gap, by its call ticket
+-- an operation that changes nothing stands at this gap, by its call
 abbrev pub noop_position : Operation → ℕ → Position
 noop_position o c = record { gap = c; class = noop_answers; rank = o.call }
 

@@ -5,9 +5,9 @@ use Rattle.value_match.specs.declared.life.MatchedValue.{MatchedValue}
 use Rattle.value_match.specs.Lives.{enqueue_return}
 use Rattle.value_match.specs.Choice.{StaysAtLeast}
 
--- the value's enqueue returned before this ticket
+-- the value's enqueue returned before this time
 abbrev pub EntersBefore : ℕ → Life → Type 0
-EntersBefore ticket life = enqueue_return life < ticket
+EntersBefore time life = enqueue_return life < time
 
 -- one of the two values, which stays at least as long as each
 pub record IsLongerOf (first second longer : MatchedValue) : Type 0 where

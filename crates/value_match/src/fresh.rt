@@ -19,7 +19,7 @@ pub(crate) struct FreshPlaces {
     pub(crate) enq: Option<OpId>,
 }
 
-/// The dequeue of least return ticket among those of a value that was not there, if there is one, by the sources of all dequeues.
+/// The dequeue that returns first, of those of a value that was not there, if there is one, by the sources of all dequeues.
 pub(crate) fn first_fresh(operations: &[PackedOperation], sources: &Sources) -> Option<FreshPlaces>
     requires complete { AreComplete operations.now }
     requires few { length operations.now ≤ MAX_MATCHED }

@@ -21,7 +21,7 @@ pub struct Front {
     pub place: usize,
 }
 
-/// Values, seen as the list of them, that are asked which of those that entered the queue before some ticket stays
+/// Values, seen as the list of them, that are asked which of those that entered the queue before some time stays
 /// longest.
 ///
 /// It borrows the values, and holds two words for each.

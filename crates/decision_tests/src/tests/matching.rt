@@ -1,4 +1,5 @@
 use super::small_histories::{HIDDEN, Row, are_rows, history_behind, is_timeline, matching_of};
+use event_records::ORIGIN;
 use history_merge::OpKind::{Deq, Empty, Enq, Not};
 use history_merge::{OpId, Operation, PackedOperation};
 use std::alloc::Global;
@@ -230,12 +231,10 @@ static LONGEST: [(u64, Option<u64>); 8] = [
     (11, Some(5)),
 ];
 
-/// The call of the enqueue of the value that stays longest, of those whose enqueues returned before the limit.
+/// The ticket of the enqueue's call of the value that stays longest, of those that were enqueued before this ticket.
 fn longest_call(table: &LongestTable, limit: u64) -> Option<u64> {
-    match table.longest_before(limit) {
-        Some(longest) => Some(longest.life.enqueue_call()),
-        None => None,
-    }
+    let longest = table.longest_before(limit.saturating_add(ORIGIN))?;
+    longest.life.enqueue_call().checked_sub(ORIGIN)
 }
 
 /// Whether the table finds these of four values.
