@@ -54,7 +54,11 @@ times_of_life operations life clear (v, did, dequeues) =
         let one = returns_at_call operations d enqueue clear.complete did_d.0 did.0 same in
         let clash : Deq v ≡ Enq v = sym did_d.1 ∙ ap (λ o. o.kind) one ∙ did.1 in cc in
         let fresh : ¬ (d.ret < enqueue.call) = λ early. clear.no_fresh d (Some enqueue) (record { value = v; dequeues = did_d; enqueues = inr (did, early) }) in
-        record { takes_time = inl (call_before_return operations d clear.complete did_d.0 (no_enqueue d (Deq v) did_d.1 refl)); after_enqueue = omega arith; in_range = omega arith }
+        record {
+          takes_time = inl (call_before_return operations d clear.complete did_d.0 (no_enqueue d (Deq v) did_d.1 refl));
+          after_enqueue = omega arith;
+          in_range = omega arith;
+        }
 
 -- what is dequeued returns before the last ticket is over
 pub returned_in_time : (operations : List Operation) (life : Life) (d : Operation) → IsClear operations → IsLife operations life

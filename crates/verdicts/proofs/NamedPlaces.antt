@@ -151,7 +151,8 @@ module _ (initial : List ℕ) (operations : List Operation) (few : length initia
   cover_shown _ _ names = absurd names
 
   -- the places of a violation are those of its operations' lines, one by one
-  pub each_shown : (named : Violation) (full : FullViolation) → Names initial operations named full → AllZip (IsShownAt initial operations) (violation_places named) (lines_of full)
+  pub each_shown : (named : Violation) (full : FullViolation) → Names initial operations named full
+      → AllZip (IsShownAt initial operations) (violation_places named) (lines_of full)
   each_shown (violation.Fresh deq enq) (fresh d e) names = (shown_at deq d names.0, maybe_shown enq e names.1)
   each_shown (violation.Repeat enq first second) (repeat e d f) names =
       (source_shown enq e names.0, (shown_at first d names.1, (shown_at second f names.2, tt)))

@@ -200,7 +200,8 @@ module _ (from to : List Operation) (f g : Operation → Operation) (IsTaken : O
   }
   violation_carried (witness empty cover) taken is = record {
     answers_empty = did empty Empty (taken empty (zero, omega arith, refl)) is.answers_empty;
-    covers = cover_carried empty empty cover (taken empty (zero, omega arith, refl)) (taken empty (zero, omega arith, refl)) (λ o at. taken o (one_deeper empty (flat_map operations_of_life cover) o at)) is.covers;
+    covers = cover_carried empty empty cover (taken empty (zero, omega arith, refl)) (taken empty (zero, omega arith, refl))
+        (λ o at. taken o (one_deeper empty (flat_map operations_of_life cover) o at)) is.covers;
   }
 
 -- the same at the operations' own clocks
