@@ -1,14 +1,13 @@
 -- Places of calls and of sources, met by walks over the operations.
-use Rattle.value_match.proofs.Common.{[], ◌++◌, ◌+◌, ◌<◌, ◌∙◌, ◌∷◌, ◌≡◌, ◌≤◌, All, All-permutation, All-pop}
-use Rattle.value_match.proofs.Common.{All-push, ap, AreFound, AreFoundTo, AreTakersTo, arith, Bool, btree_set_len}
-use Rattle.value_match.proofs.Common.{BTreeSet, Call, CallsNoneOf, cases_Bool, cond, contains, Deq, each_more}
-use Rattle.value_match.proofs.Common.{enqueued_value, eq-eqb, false, false≢true, first_of, get_or}
-use Rattle.value_match.proofs.Common.{get_or-append_seam, get_or-set_other, get_or-set_same, get_or_append_left}
-use Rattle.value_match.proofs.Common.{HoldsNear, HoldsOthers, HoldsSources, inl, inr, is_eq, is_eq-nat_cmp, IsAt}
-use Rattle.value_match.proofs.Common.{IsCall, IsCallPlace, IsNearSource, IsNonDecreasingBy, IsPermutation}
-use Rattle.value_match.proofs.Common.{IsPermutation-sym, IsSourceOf, keys, length, length-append, length-set, List}
-use Rattle.value_match.proofs.Common.{list_any, nat_cmp, None, NoneOf, Operation, OpKind, Option, place_of, refl}
-use Rattle.value_match.proofs.Common.{set, slice_get_within, Some, subst, sym, true, ℕ}
+use Rattle.value_match.proofs.Common.{[], All, All-permutation, All-pop, All-push, ap, arith, Bool, btree_set_len}
+use Rattle.value_match.proofs.Common.{BTreeSet, Call, CallsNoneOf, cases_Bool, cases_eq, cond, contains, Deq}
+use Rattle.value_match.proofs.Common.{each_more, enqueued_value, eq-eqb, false, false≢true, get_or, get_or-append_seam}
+use Rattle.value_match.proofs.Common.{get_or-set_other, get_or-set_same, get_or_append_left, HoldsNear, HoldsOthers}
+use Rattle.value_match.proofs.Common.{HoldsSources, inl, inr, is_eq, is_eq-nat_cmp, is_some, IsAt, IsCall, IsCallPlace}
+use Rattle.value_match.proofs.Common.{IsNearSource, IsNonDecreasingBy, IsPermutation, IsPermutation-sym, IsSourceOf}
+use Rattle.value_match.proofs.Common.{keys, length, length-append, length-set, List, list_any, nat_cmp, None, NoneOf}
+use Rattle.value_match.proofs.Common.{one_at, Operation, OpKind, Option, place_of, refl, set, slice_get_within, Some}
+use Rattle.value_match.proofs.Common.{subst, sym, true, ℕ, ◌++◌, ◌+◌, ◌-◌, ◌<◌, ◌∙◌, ◌∷◌, ◌≡◌, ◌≤◌}
 
 -- none of the first n operations called to enqueue the value
 abbrev pub NotCalledTo : List Operation → ℕ → ℕ → Type 0
@@ -54,11 +53,6 @@ others_sorted wanted operations n calls sorted all met moved rises = record {
   rises = rises;
 }
 
--- the sources near by of the first n operations
-pub record HasNear (wanted : BTreeSet ℕ) (operations : List Operation) (n : ℕ) (sources : List (Option ℕ)) : Type 0 where
-  pub one_each : length sources ≡ n
-  pub each : (i : ℕ) (o : Operation) → i < n → IsAt operations i o → IsNearSource wanted operations o.kind (get_or sources i None)
-
 -- where more values are wanted, what is near by stays so
 near_wider : (wanted more : BTreeSet ℕ) (operations : List Operation) (kind : OpKind) (source : Option ℕ)
     → ((v : ℕ) → contains nat_cmp wanted v ≡ true → contains nat_cmp more v ≡ true)
@@ -66,11 +60,11 @@ near_wider : (wanted more : BTreeSet ℕ) (operations : List Operation) (kind : 
 near_wider wanted more operations (Deq v) None wider near = wider v near
 near_wider wanted more operations _ _ wider near = near
 
--- the same of the first n operations, when one value more is wanted
-pub wants_more : (wanted more : BTreeSet ℕ) (w : ℕ) (operations : List Operation) (n : ℕ) (sources : List (Option ℕ))
+-- the same of operations, when one value more is wanted
+pub wants_more : (wanted more : BTreeSet ℕ) (w : ℕ) (operations : List Operation) (from to : ℕ) (sources : List (Option ℕ))
     → ((v : ℕ) → contains nat_cmp more v ≡ cond (is_eq (nat_cmp w v)) true (contains nat_cmp wanted v))
-    → HasNear wanted operations n sources → HasNear more operations n sources
-wants_more wanted more w operations n sources adds near = record {
+    → HoldsNear wanted operations from to sources → HoldsNear more operations from to sources
+wants_more wanted more w operations from to sources adds near = record {
   one_each = near.one_each;
   each = λ i o below at. near_wider wanted more operations o.kind (get_or sources i None) wider (near.each i o below at);
 }
@@ -95,50 +89,36 @@ pub no_near_source : (wanted : BTreeSet ℕ) (operations : List Operation) (kind
 no_near_source wanted operations (Deq v) other = absurd (other v refl)
 no_near_source wanted operations _ other = refl
 
--- what holds of each of the first n operations and its source, holds of one more and its
-pushed : (R : Operation → Option ℕ → Type 0) (operations : List Operation) (n : ℕ) (o : Operation) (sources : List (Option ℕ)) (source : Option ℕ)
-    → length sources ≡ n → IsAt operations n o → R o source → ((i : ℕ) (x : Operation) → i < n → IsAt operations i x → R x (get_or sources i None))
-    → (i : ℕ) (x : Operation) → i < n + 1 → IsAt operations i x → R x (get_or (sources ++ source ∷ []) i None)
-pushed R operations n o sources source long here is before =
-    each_more (λ i x. R x (get_or (sources ++ source ∷ []) i None)) operations n o here (rw (← long, get_or-append_seam) is)
-    (λ i x below at. rw (get_or_append_left sources (source ∷ []) None i (omega (arith, long))) (before i x below at))
-
 -- one more
-pub near_push : (wanted : BTreeSet ℕ) (operations : List Operation) (n : ℕ) (o : Operation) (sources : List (Option ℕ)) (source : Option ℕ)
-    → IsAt operations n o → IsNearSource wanted operations o.kind source → HasNear wanted operations n sources
-    → HasNear wanted operations (n + 1) (sources ++ source ∷ [])
-near_push wanted operations n o sources source here is known = record {
+pub near_push : (wanted : BTreeSet ℕ) (operations : List Operation) (from n : ℕ) (o : Operation) (sources : List (Option ℕ)) (source : Option ℕ)
+    → IsAt operations n o → IsNearSource wanted operations o.kind source → HoldsNear wanted operations from n sources
+    → HoldsNear wanted operations from (n + 1) (sources ++ source ∷ [])
+near_push wanted operations from n o sources source here is known = record {
   one_each = simp length-append (omega (arith, known.one_each));
-  each = pushed (λ x. IsNearSource wanted operations x.kind) operations n o sources source known.one_each here is known.each;
+  each = λ i x below at. elim (cases_eq i (length sources)) [
+    | inl last ↦
+        let there : from + i ≡ n = omega (arith, known.one_each) in
+        let same = one_at operations n x o (subst (λ k. IsAt operations k x) there at) here in
+        rw (same, last, get_or-append_seam) is
+    | inr other ↦
+        let before : i < length sources = omega (arith, below, length-append {A = Option ℕ}) in
+        rw (get_or_append_left sources (source ∷ []) None i before) (known.each i x before at)
+  ];
 }
 
 -- the call is among the operations
 pub call_within : (operations : List Operation) (v place : ℕ) → IsCallPlace operations v (Some place) → place < length operations
 call_within operations v place (o, here, called) = slice_get_within operations place o here
 
--- ---- sources that are near
+-- ---- sources that are found
 
--- the sources near by of all operations
-pub near_all : (wanted : BTreeSet ℕ) (operations : List Operation) (n : ℕ) (sources : List (Option ℕ)) → length operations ≤ n → n ≤ length operations
-    → HasNear wanted operations n sources → HoldsNear wanted operations sources
-near_all wanted operations n sources all within known = record {
-  one_each = omega (arith, known.one_each);
-  each = λ i o at. known.each i o (let below = slice_get_within operations i o at in omega arith) at;
-}
-
--- the sources of the first n operations are found, and some of the others
-pub record HasFound (wanted : BTreeSet ℕ) (operations : List Operation) (n : ℕ) (sources : List (Option ℕ)) : Type 0 where
-  pub one_each : length sources ≡ length operations
-  pub found : (i : ℕ) (o : Operation) → i < n → IsAt operations i o → IsSourceOf operations o.kind (get_or sources i None)
-  pub near : (i : ℕ) (o : Operation) → n ≤ i → IsAt operations i o → IsNearSource wanted operations o.kind (get_or sources i None)
-
--- a walk over the operations finds the sources of the values that are wanted, and keeps those of the first operations
-pub record FindsOthers (operations : List Operation) (first n : ℕ) (before sources : List (Option ℕ)) (calls : List Call) : Type 0 where
+-- of the operations from one place on the sources of the first n are found, and the values of others that aren't found are wanted
+pub record FindsOthers (operations : List Operation) (from n : ℕ) (sources : List (Option ℕ)) (calls : List Call) : Type 0 where
   pub wanted : BTreeSet ℕ
-  pub found : HasFound wanted operations n sources
+  pub one_each : from + length sources ≡ length operations
+  pub found : (i : ℕ) (o : Operation) → from + i < n → IsAt operations (from + i) o → IsSourceOf operations o.kind (get_or sources i None)
+  pub near : (i : ℕ) (o : Operation) → n ≤ from + i → IsAt operations (from + i) o → IsNearSource wanted operations o.kind (get_or sources i None)
   pub others : HoldsOthers wanted operations calls
-  pub kept : (i : ℕ) → i < first → get_or sources i None ≡ get_or before i None
-  pub behind : first ≤ n
 
 -- a source that was near
 pub near_source : (wanted : BTreeSet ℕ) (operations : List Operation) (kind : OpKind) (source : Option ℕ) → IsNearSource wanted operations kind source
@@ -146,20 +126,47 @@ pub near_source : (wanted : BTreeSet ℕ) (operations : List Operation) (kind : 
 near_source wanted operations (Deq v) None near some = absurd (some refl)
 near_source wanted operations _ _ near some = near
 
--- a source is as it was
-pub found_here : (operations : List Operation) (first n : ℕ) (o : Operation) (before sources : List (Option ℕ)) (calls : List Call) → IsAt operations n o
-    → IsSourceOf operations o.kind (get_or sources n None) → FindsOthers operations first n before sources calls
-    → FindsOthers operations first (n + 1) before sources calls
-found_here operations first n o before sources calls here is known = record {
+-- an operation behind a place stands at its source's place, behind it too
+pub behind_at : (operations : List Operation) (from n : ℕ) (o : Operation) → from ≤ n → IsAt operations n o → IsAt operations (from + (n - from)) o
+behind_at operations from n o late here = let there : from + (n - from) ≡ n = omega arith in rw there here
+
+-- one source more is found
+pub found_more : (operations : List Operation) (from n : ℕ) (o : Operation) (sources : List (Option ℕ)) (source : Option ℕ) (calls : List Call)
+    → from ≤ n → IsAt operations n o → IsSourceOf operations o.kind source → FindsOthers operations from n sources calls
+    → FindsOthers operations from (n + 1) (set sources (n - from) source) calls
+found_more operations from n o sources source calls late here is known = record {
   wanted = known.wanted;
-  found = record {
-    one_each = known.found.one_each;
-    found = each_more (λ i x. IsSourceOf operations x.kind (get_or sources i None)) operations n o here is known.found.found;
-    near = λ i x after at. known.found.near i x (omega (arith, after)) at;
-  };
+  one_each = ap (λ k. from + k) (length-set sources (n - from) source) ∙ known.one_each;
+  found = λ i x below at. elim (cases_eq i (n - from)) [
+    | inl last ↦
+        let there : from + i ≡ n = omega arith in
+        let same = one_at operations n x o (subst (λ k. IsAt operations k x) there at) here in
+        rw (same, last, get_or-set_same sources (n - from) source None within) is
+    | inr other ↦ rw (get_or-set_other sources (n - from) i source None other) (known.found i x (omega arith) at)
+  ];
+  near = λ i x after at. rw (get_or-set_other sources (n - from) i source None (omega arith)) (known.near i x (omega arith) at);
   others = known.others;
-  kept = known.kept;
-  behind = omega (arith, known.behind);
+}
+  where
+    within : n - from < length sources
+    within = let inside = slice_get_within operations n o here in omega (arith, inside, known.one_each)
+
+-- a source is as it was
+pub found_here : (operations : List Operation) (from n : ℕ) (o : Operation) (sources : List (Option ℕ)) (calls : List Call) → from ≤ n
+    → IsAt operations n o → IsSourceOf operations o.kind (get_or sources (n - from) None) → FindsOthers operations from n sources calls
+    → FindsOthers operations from (n + 1) sources calls
+found_here operations from n o sources calls late here is known = record {
+  wanted = known.wanted;
+  one_each = known.one_each;
+  found = λ i x below at. elim (cases_eq i (n - from)) [
+    | inl last ↦
+        let there : from + i ≡ n = omega arith in
+        let same = one_at operations n x o (subst (λ k. IsAt operations k x) there at) here in
+        rw (same, last) is
+    | inr other ↦ known.found i x (omega arith) at
+  ];
+  near = λ i x after at. known.near i x (omega arith) at;
+  others = known.others;
 }
 
 -- the value of a dequeue has no call, where none of those that are wanted is of it
@@ -169,40 +176,21 @@ pub found_nowhere : (wanted : BTreeSet ℕ) (operations : List Operation) (o : O
 found_nowhere wanted operations o v source calls is none others none_of near =
     rw (is, none) (others.has_all v (rw (is, none) at near) none_of)
 
--- one source more is found
-pub found_more : (operations : List Operation) (first n : ℕ) (o : Operation) (before sources : List (Option ℕ)) (source : Option ℕ) (calls : List Call)
-    → IsAt operations n o → IsSourceOf operations o.kind source → FindsOthers operations first n before sources calls
-    → FindsOthers operations first (n + 1) before (set sources n source) calls
-found_more operations first n o before sources source calls here is known =
-    let within : n < length sources = let inside = slice_get_within operations n o here in omega (arith, known.found.one_each) in
-    record {
-      wanted = known.wanted;
-      found = record {
-        one_each = length-set sources n source ∙ known.found.one_each;
-        found = each_more (λ i x. IsSourceOf operations x.kind (get_or (set sources n source) i None)) operations n o here
-            (rw (get_or-set_same sources n source None within) is)
-            (λ i x below at. rw (get_or-set_other sources n i source None (omega (arith, below))) (known.found.found i x below at));
-        near = λ i x after at. rw (get_or-set_other sources n i source None (omega (arith, after))) (known.found.near i x (omega (arith, after)) at);
-      };
-      others = known.others;
-      kept = λ i below. get_or-set_other sources n i source None (omega (arith, known.behind, below)) ∙ known.kept i below;
-      behind = omega (arith, known.behind);
-    }
-
 -- the sources of all operations are found
-pub found_all : (wanted : BTreeSet ℕ) (operations : List Operation) (n : ℕ) (sources : List (Option ℕ)) → length operations ≤ n
-    → HasFound wanted operations n sources → HoldsSources operations sources
-found_all wanted operations n sources all known = record {
+pub found_all : (operations : List Operation) (from n : ℕ) (sources : List (Option ℕ)) (calls : List Call) → length operations ≤ n
+    → FindsOthers operations from n sources calls → HoldsSources operations from sources
+found_all operations from n sources calls all known = record {
   one_each = known.one_each;
-  each = λ i o at. known.found i o (let below = slice_get_within operations i o at in omega (arith, below)) at;
+  each = λ i o at. known.found i o (let below = slice_get_within operations (from + i) o at in omega (arith, below)) at;
 }
 
 -- if no value is wanted, the sources near by are all
-pub none_wanted : (wanted : BTreeSet ℕ) (operations : List Operation) (sources : List (Option ℕ)) → btree_set_len wanted ≡ 0
-    → HoldsNear wanted operations sources → HoldsSources operations sources
-none_wanted wanted operations sources none near = record {
+pub none_wanted : (wanted : BTreeSet ℕ) (operations : List Operation) (from : ℕ) (sources : List (Option ℕ)) → btree_set_len wanted ≡ 0
+    → HoldsNear wanted operations from (length operations) sources → HoldsSources operations from sources
+none_wanted wanted operations from sources none near = record {
   one_each = near.one_each;
-  each = λ i o at. settled o.kind (get_or sources i None) (near.each i o at);
+  each = λ i o at. settled o.kind (get_or sources i None)
+      (near.each i o (let below = slice_get_within operations (from + i) o at in omega (arith, below, near.one_each)) at);
 }
   where
     any_of_none : (test : ℕ → Bool) (keys : List ℕ) → length keys ≡ 0 → list_any test keys ≡ false
@@ -213,24 +201,12 @@ none_wanted wanted operations sources none near = record {
     settled (Deq v) None is_wanted = absurd (false≢true (sym (any_of_none _ (keys wanted) none) ∙ is_wanted))
     settled _ _ is = is
 
--- ---- sources that are found up to an operation
+-- the source of an operation behind a place
+pub source_at : (operations : List Operation) (from n : ℕ) (o : Operation) (sources : List (Option ℕ)) → HoldsSources operations from sources
+    → from ≤ n → IsAt operations n o → IsSourceOf operations o.kind (get_or sources (n - from) None)
+source_at operations from n o sources holds late here = holds.each (n - from) o (behind_at operations from n o late here)
 
--- those before the first that isn't found stay so
-found_before : (operations : List Operation) (n : ℕ) (sources : List (Option ℕ)) (source : Option ℕ) → n ≤ length sources → AreFound n operations sources
-    → AreFound n operations (sources ++ source ∷ [])
-found_before operations n sources source within found i o below at =
-    subst (IsSourceOf operations o.kind) (sym (get_or_append_left sources (source ∷ []) None i (omega (arith, below, within)))) (found i o below at)
-
--- what is known stays known where the operation isn't the first
-pub first_of_none : (known : Option ℕ) (n : ℕ) → first_of known n false ≡ known
-first_of_none None n = refl
-first_of_none (Some k) n = refl
-
--- an operation more, which is found, or is the first that may not be
-pub found_next : (operations : List Operation) (n : ℕ) (o : Operation) (sources takers : List (Option ℕ)) (source unnoted : Option ℕ) (again : Bool)
-    → length sources ≡ n → IsAt operations n o → (again ≡ false → IsSourceOf operations o.kind source) → AreTakersTo unnoted sources takers
-    → AreFoundTo n operations sources unnoted → AreFoundTo (n + 1) operations (sources ++ source ∷ []) (first_of unnoted n again)
-found_next operations n o sources takers source None true long here is noted found = found_before operations n sources source (omega (arith, long)) found
-found_next operations n o sources takers source None false long here is noted found =
-    pushed (λ x. IsSourceOf operations x.kind) operations n o sources source long here (is refl) found
-found_next operations n o sources takers source (Some k) _ long here is noted found = found_before operations k sources source noted.0 found
+-- what isn't some place is none
+pub none_if : (x : Option ℕ) → is_some x ≡ false → x ≡ None
+none_if None is = refl
+none_if (Some n) is = absurd (false≢true (sym is))

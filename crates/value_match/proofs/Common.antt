@@ -48,8 +48,8 @@ pub use Rattle.value_match.specs.Choice.{StaysAtLeast}
 pub use Rattle.value_match.specs.Fronts.{Any, AreEntriesOf, HasFronts, IsEntryOf, IsFrontAt, IsTableOf, values_at}
 pub use Rattle.value_match.specs.Inner.MatchOutcome.{AreChosenFresh, AreChosenRepeat, AreTakers, IsMatchOutcomeOf}
 pub use Rattle.value_match.specs.Inner.Others.{CallsNoneOf, HoldsNear, HoldsOthers, IsCall, IsNearSource, NoneOf}
-pub use Rattle.value_match.specs.Inner.Sources.{AreFound, AreFoundTo, AreInTimeTo, AreTakersTo, first_of}
-pub use Rattle.value_match.specs.Inner.Sources.{HasTakersTo, HoldsDequeues, HoldsSources, HoldsTakers, IsCallPlace}
+pub use Rattle.value_match.specs.Inner.Sources.{AreSettled}
+pub use Rattle.value_match.specs.Inner.Sources.{HasTakersTo, HoldsDequeues, HoldsSources, IsCallPlace}
 pub use Rattle.value_match.specs.Inner.Sources.{IsDequeuePlace, IsFreshFrom, IsSourceOf, NoneFresh, return_at}
 pub use Rattle.value_match.specs.Inner.Sources.{TakesFrom}
 pub use Rattle.value_match.specs.Lives.{call_or_never, dequeue_call, dequeue_of, dequeues_kind, enqueue_of}

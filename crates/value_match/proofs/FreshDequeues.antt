@@ -1,13 +1,12 @@
 -- Dequeues of values that were not there, told by the places of the calls.
-use Rattle.value_match.proofs.Common.{◌+◌, ◌<◌, ◌||◌, ◌↔◌, ◌∙◌, ◌≡◌, ◌≤◌, ◌⊎◌, ap, AreChosenFresh, AreComplete}
-use Rattle.value_match.proofs.Common.{AreInTimeTo, arith, Bool, CallsFor, cases_Bool, cond, Contains, contains_at}
-use Rattle.value_match.proofs.Common.{Deq, each_more, Enq, enqueued_value, false, false≢true, first_of, get_or}
-use Rattle.value_match.proofs.Common.{HoldsSources, IfSome, inl, inr, is_refused, IsAt, IsCallPlace}
-use Rattle.value_match.proofs.Common.{IsEnqueuedTooLate, IsFreshFrom, IsFreshViolation, IsMaybeAt, IsSourceOf}
-use Rattle.value_match.proofs.Common.{IsTrue, length, List, lt-ltb, ltb-false, ltb-true, nat_lt, NoFreshViolation}
-use Rattle.value_match.proofs.Common.{None, NoneFresh, Not, not, one_at, Operation, OpKind, Option, place_of, refl}
-use Rattle.value_match.proofs.Common.{same_value_call, slice_get-get_or, slice_get_within, Some, subst, sym, true}
-use Rattle.value_match.proofs.Common.{ℕ}
+use Rattle.value_match.proofs.Common.{ap, AreChosenFresh, AreComplete, arith, Bool, CallsFor, cases_Bool, cond}
+use Rattle.value_match.proofs.Common.{Contains, contains_at, Deq, each_more, Enq, enqueued_value, false, false≢true}
+use Rattle.value_match.proofs.Common.{FreshPlaces, get_or, HoldsSources, IfSome, inl, inr, is_refused, IsAt}
+use Rattle.value_match.proofs.Common.{IsCallPlace, IsEnqueuedTooLate, IsFreshFrom, IsFreshViolation, IsMaybeAt}
+use Rattle.value_match.proofs.Common.{IsSourceOf, IsTrue, length, List, lt-ltb, ltb-false, ltb-true, MatchOption}
+use Rattle.value_match.proofs.Common.{nat_lt, NoFreshViolation, None, NoneFresh, Not, not, one_at, Operation, OpKind}
+use Rattle.value_match.proofs.Common.{Option, place_of, refl, same_value_call, slice_get-get_or, slice_get_within}
+use Rattle.value_match.proofs.Common.{Some, subst, sym, true, ℕ, ◌+◌, ◌<◌, ◌||◌, ◌↔◌, ◌∙◌, ◌≡◌, ◌≤◌, ◌⊎◌}
 use Rattle.value_match.proofs.ToldPlaces.{fresh_dequeues}
 
 -- an operation that called to enqueue a value was accepted or refused
@@ -39,35 +38,24 @@ fresh_by_call operations i p o call v here is there calls = (λ soon. (Some call
       | inr accepted ↦ rw (same, accepted.0.1, lt-ltb o.ret e.call accepted.1) refl
     ]
 
--- the source of a dequeue
-pub source_of_dequeue : (operations : List Operation) (sources : List (Option ℕ)) (i : ℕ) (o : Operation) (v : ℕ) (source : Option ℕ)
-    → HoldsSources operations sources → IsAt operations i o → o.kind ≡ Deq v
-    → get_or sources i None ≡ source → IsCallPlace operations v source
-source_of_dequeue operations sources i o v source holds here is from =
-    subst (IsCallPlace operations v) from (subst (λ kind. IsSourceOf operations kind (get_or sources i None)) is (holds.each i o here))
-
 -- a dequeue without a source is of a value that was not there
-pub fresh_at_none : (operations : List Operation) (sources : List (Option ℕ)) (i : ℕ) (o x : Operation) (v : ℕ) → HoldsSources operations sources
-    → IsAt operations i o → o.kind ≡ Deq v → get_or sources i None ≡ None
-    → IsAt operations i x → IsTrue true ↔ IsFreshFrom operations (get_or sources i None) x
-fresh_at_none operations sources i o x v holds here is from there =
-    let none = source_of_dequeue operations sources i o v None holds here is from in
+pub fresh_at_none : (operations : List Operation) (i : ℕ) (o x : Operation) (v : ℕ) → IsAt operations i o → o.kind ≡ Deq v
+    → IsCallPlace operations v None → IsAt operations i x → IsTrue true ↔ IsFreshFrom operations None x
+fresh_at_none operations i o x v here is none there =
     let fresh : IsFreshViolation operations o None = record {
       value = v;
       dequeues = (contains_at operations i o here, is);
       not_accepted = λ x among did. none x among (rw did refl);
       not_refused = λ x among did. none x among (rw did refl);
     } in
-    rw (from, one_at operations i x o there here) (λ _. (None, tt, fresh), λ _. refl)
+    rw (one_at operations i x o there here) (λ _. (None, tt, fresh), λ _. refl)
 
 -- a dequeue with a source is, where the call there was refused or comes after its return
-pub fresh_at_some : (operations : List Operation) (sources : List (Option ℕ)) (i : ℕ) (o x : Operation) (v p : ℕ) (soon : Bool)
-    → HoldsSources operations sources → IsAt operations i o → o.kind ≡ Deq v → get_or sources i None ≡ Some p
-    → ((call : Operation) → IsAt operations p call → soon ≡ (is_refused call || nat_lt o.ret call.call)) → IsAt operations i x
-    → IsTrue soon ↔ IsFreshFrom operations (get_or sources i None) x
-fresh_at_some operations sources i o x v p soon holds here is from tells there =
-    let call = source_of_dequeue operations sources i o v (Some p) holds here is from in
-    rw (from, one_at operations i x o there here, tells call.0 call.1) (fresh_by_call operations i p o call.0 v here is call.1 call.2)
+pub fresh_at_some : (operations : List Operation) (i p : ℕ) (o x : Operation) (v : ℕ) (soon : Bool) → IsAt operations i o → o.kind ≡ Deq v
+    → IsCallPlace operations v (Some p) → ((call : Operation) → IsAt operations p call → soon ≡ (is_refused call || nat_lt o.ret call.call))
+    → IsAt operations i x → IsTrue soon ↔ IsFreshFrom operations (Some p) x
+fresh_at_some operations i p o x v soon here is call tells there =
+    rw (one_at operations i x o there here, tells call.0 call.1) (fresh_by_call operations i p o call.0 v here is call.1 call.2)
 
 -- the call that a violation names is the source
 pub named_by_source : (operations : List Operation) (o : Operation) (enq : Option Operation) (source : Option ℕ) → AreComplete operations
@@ -101,135 +89,107 @@ no_dequeue operations i o here other none =
     (λ enq violates. let dequeue = fresh_dequeues operations o enq violates in other dequeue.0 dequeue.1) none
 
 -- a dequeue after the call for its value
-pub in_time_more : (operations : List Operation) (i p : ℕ) (o : Operation) (v : ℕ) (soon : Bool) → AreComplete operations → IsAt operations i o
+pub in_time_more : (operations : List Operation) (i p : ℕ) (o : Operation) (v : ℕ) → AreComplete operations → IsAt operations i o
     → o.kind ≡ Deq v → IsCallPlace operations v (Some p)
-    → ((call : Operation) → IsAt operations p call → soon ≡ (is_refused call || nat_lt o.ret call.call)) → not soon ≡ true
+    → ((call : Operation) → IsAt operations p call → false ≡ (is_refused call || nat_lt o.ret call.call))
     → NoneFresh operations i → NoneFresh operations (i + 1)
-in_time_more operations i p o v soon complete here is call tells in_time none =
+in_time_more operations i p o v complete here is call tells none =
     each_more (λ k x. (enq : Option Operation) → ¬ (IsFreshViolation operations x enq)) operations i o here
     (λ enq violates.
     let source = subst (λ kind. IsSourceOf operations kind (Some p)) (sym is) call in
     let from : IsFreshFrom operations (Some p) o = (enq, named_by_source operations o enq (Some p) complete source violates, violates) in
-    let fresh = (fresh_by_call operations i p o call.0 v here is call.1 call.2).1 from in
-    false≢true (sym (ap not (tells call.0 call.1 ∙ fresh)) ∙ in_time)) none
-
--- a dequeue that may come too soon is the first of those that aren't known to come in time
-pub late_from : (operations : List Operation) (n : ℕ) (late : Option ℕ) (soon : Bool) → (soon ≡ false → NoneFresh operations n → NoneFresh operations (n + 1))
-    → AreInTimeTo n operations late → AreInTimeTo (n + 1) operations (first_of late n soon)
-late_from operations n None false more none = more refl none
-late_from operations n None true more none = none
-late_from operations n (Some k) _ more none = none
-
--- an operation that comes in time
-pub in_time_at : (operations : List Operation) (n : ℕ) (late : Option ℕ) → (NoneFresh operations n → NoneFresh operations (n + 1))
-    → AreInTimeTo n operations late → AreInTimeTo (n + 1) operations late
-in_time_at operations n None more none = more none
-in_time_at operations n (Some k) more none = none
+    false≢true ((fresh_at_some operations i p o o v false here is call tells here).1 from)) none
 
 -- what violates is one of the operations
 pub violates_among : (operations : List Operation) (o : Operation) (enq : Option Operation) → IsFreshViolation operations o enq → Contains operations o
 violates_among operations o None violates = violates.dequeues.0
 violates_among operations o (Some e) violates = violates.dequeues.0
 
--- of the first n operations none violates, or the one at this place does and returns first
-abbrev pub IsFirstFresh : List Operation → List (Option ℕ) → ℕ → Option ℕ → Type 0
-IsFirstFresh operations sources n None = NoneFresh operations n
-IsFirstFresh operations sources n (Some place) =
-    (deq : Operation) × IsAt operations place deq × IsFreshFrom operations (get_or sources place None) deq
+-- of the first n operations none violates, or the one that was found does and returns first
+abbrev pub IsFirstFresh : List Operation → ℕ → Option FreshPlaces → Type 0
+IsFirstFresh operations n None = NoneFresh operations n
+IsFirstFresh operations n (Some found) =
+    (deq : Operation) × IsAt operations found.deq deq × IsFreshFrom operations found.enq deq
     × ((k : ℕ) (o : Operation) → k < n → IsAt operations k o → (enq : Option Operation) → IsFreshViolation operations o enq → deq.ret ≤ o.ret)
 
--- where none is found, no dequeue is of a value that was not there
-pub none_fresh : (operations : List Operation) (n : ℕ) → length operations ≤ n → NoneFresh operations n → NoFreshViolation operations
-none_fresh operations n all none deq enq violates =
+-- at the end none violates, or what was found is the chosen one
+pub first_of_all : (operations : List Operation) (n : ℕ) (first : Option FreshPlaces) → length operations ≤ n → IsFirstFresh operations n first
+    → MatchOption first (NoFreshViolation operations) (AreChosenFresh operations)
+first_of_all operations n None all none = λ deq enq violates.
     let at = place_of operations deq (violates_among operations deq enq violates) in
     none at.0 deq (let within = slice_get_within operations at.0 deq at.1 in omega arith) at.1 enq violates
+first_of_all operations n (Some found) all (deq, at, (enq, named, violates), before) = (
+  deq,
+  enq,
+  at,
+  named,
+  record {
+    violates = violates;
+    first = λ deq' enq' violates'.
+        let at' = place_of operations deq' (violates_among operations deq' enq' violates') in
+        before at'.0 deq' (let within = slice_get_within operations at'.0 deq' at'.1 in omega arith) at'.1 enq' violates';
+  },
+)
 
--- the first that is found is the chosen one
-pub first_fresh : (operations : List Operation) (sources : List (Option ℕ)) (n place : ℕ) (source : Option ℕ) → length operations ≤ n
-    → source ≡ get_or sources place None → IsFirstFresh operations sources n (Some place)
-    → AreChosenFresh operations (record { deq = place; enq = source })
-first_fresh operations sources n place source all is found =
-    let enq = found.2.0 in (
-      found.0,
-      enq,
-      found.1,
-      subst (λ s. IsMaybeAt operations s enq) (sym is) found.2.1,
-      record {
-        violates = found.2.2;
-        first = λ deq' enq' violates'.
-            let at = place_of operations deq' (violates_among operations deq' enq' violates') in
-            found.3 at.0 deq' (let within = slice_get_within operations at.0 deq' at.1 in omega arith) at.1 enq' violates';
-      },
-    )
+-- what was found so far is one of the operations
+pub first_in_range : (operations : List Operation) (n : ℕ) (first : Option FreshPlaces) → IsFirstFresh operations n first
+    → IfSome first (λ f. f.deq < length operations)
+first_in_range operations n None found = tt
+first_in_range operations n (Some f) found = slice_get_within operations f.deq found.0 found.1
 
--- the place so far is one of the operations
-pub first_in_range : (operations : List Operation) (sources : List (Option ℕ)) (n : ℕ) (first : Option ℕ) → IsFirstFresh operations sources n first
-    → IfSome first (λ p. p < length operations)
-first_in_range operations sources n None found = tt
-first_in_range operations sources n (Some place) found = slice_get_within operations place found.0 found.1
+-- ---- at an operation that the walk reads, by its source
 
--- ---- at an operation that the walk reads
+module _ (operations : List Operation) (i : ℕ) (o : Operation) (source : Option ℕ) (here : IsAt operations i o) where
+  -- an operation that is passed over leaves the first
+  pub first_skip : (first : Option FreshPlaces) → AreComplete operations → IsSourceOf operations o.kind source
+      → ¬ (IsFreshFrom operations source o) → IsFirstFresh operations i first → IsFirstFresh operations (i + 1) first
+  first_skip first complete from not_fresh found = skip first found
+    where
+      clear : (enq : Option Operation) → ¬ (IsFreshViolation operations o enq)
+      clear enq violates = not_fresh (enq, named_by_source operations o enq source complete from violates, violates)
 
--- an operation that is passed over leaves the first
-pub first_skip_at : (operations : List Operation) (sources : List (Option ℕ)) (i : ℕ) (d : Operation) (first : Option ℕ) (b : Bool)
-    → AreComplete operations → HoldsSources operations sources → i < length operations
-    → b ≡ false → ((o : Operation) → IsAt operations i o → IsTrue b ↔ IsFreshFrom operations (get_or sources i None) o)
-    → IsFirstFresh operations sources i first → IsFirstFresh operations sources (i + 1) first
-first_skip_at operations sources i d first b complete holds below is tells found = skip first found
-  where
-    here : IsAt operations i (get_or operations i d)
-    here = slice_get-get_or operations i d below
+      skip : (first : Option FreshPlaces) → IsFirstFresh operations i first → IsFirstFresh operations (i + 1) first
+      skip None found = each_more (λ k x. (enq : Option Operation) → ¬ (IsFreshViolation operations x enq)) operations i o here clear found
+      skip (Some f) (deq, at, fresh, before) = (
+        deq,
+        at,
+        fresh,
+        each_more (λ k x. (enq : Option Operation) → IsFreshViolation operations x enq → deq.ret ≤ x.ret) operations i o here
+            (λ enq violates. absurd (clear enq violates)) before,
+      )
 
-    clear : (enq : Option Operation) → ¬ (IsFreshViolation operations (get_or operations i d) enq)
-    clear enq violates =
-        let named = named_by_source operations _ enq (get_or sources i None) complete (holds.each i _ here) violates in
-        false≢true (sym is ∙ (tells _ here).1 (enq, named, violates))
+  -- an operation that comes sooner is the first
+  pub first_more : (first : Option FreshPlaces) (other sooner : FreshPlaces) → other.deq ≡ i → other.enq ≡ source
+      → IsFreshFrom operations source o → (first ≡ None → sooner ≡ other)
+      → IfSome first (λ f. (x y : Operation) → IsAt operations f.deq x → IsAt operations other.deq y → sooner ≡ cond (nat_lt x.ret y.ret) f other)
+      → IsFirstFresh operations i first → IsFirstFresh operations (i + 1) (Some sooner)
+  first_more first other sooner deq_is enq_is violates none some found = pick first none some found
+    where
+      here' : IsAt operations other.deq o
+      here' = rw deq_is here
 
-    skip : (first : Option ℕ) → IsFirstFresh operations sources i first → IsFirstFresh operations sources (i + 1) first
-    skip None found = each_more (λ k x. (enq : Option Operation) → ¬ (IsFreshViolation operations x enq)) operations i _ here clear found
-    skip (Some place) (deq, at, fresh, before) = (
-      deq,
-      at,
-      fresh,
-      each_more (λ k x. (enq : Option Operation) → IsFreshViolation operations x enq → deq.ret ≤ x.ret) operations i _ here
-          (λ enq violates. absurd (clear enq violates)) before,
-    )
+      violates' : IsFreshFrom operations other.enq o
+      violates' = rw enq_is violates
 
--- an operation that comes sooner is the first
-pub first_more_at : (operations : List Operation) (sources : List (Option ℕ)) (i : ℕ) (d : Operation) (first : Option ℕ) (sooner : ℕ) (b : Bool)
-    → i < length operations
-    → b ≡ true → ((o : Operation) → IsAt operations i o → IsTrue b ↔ IsFreshFrom operations (get_or sources i None) o)
-    → (first ≡ None → sooner ≡ i) → IfSome first (λ p. (x y : Operation) → IsAt operations p x → IsAt operations i y → sooner ≡ cond (nat_lt x.ret y.ret) p i)
-    → IsFirstFresh operations sources i first → IsFirstFresh operations sources (i + 1) (Some sooner)
-first_more_at operations sources i d first sooner b below is tells none some found = pick first none some found
-  where
-    o : Operation
-    o = get_or operations i d
+      -- a dequeue that returns no later than the operations so far
+      soonest : (f : FreshPlaces) (deq : Operation) → IsAt operations f.deq deq → IsFreshFrom operations f.enq deq
+          → ((k : ℕ) (x : Operation) → k < i → IsAt operations k x → (enq : Option Operation) → IsFreshViolation operations x enq → deq.ret ≤ x.ret)
+          → deq.ret ≤ o.ret → IsFirstFresh operations (i + 1) (Some f)
+      soonest f deq at from before last = (
+        deq,
+        at,
+        from,
+        each_more (λ k x. (enq : Option Operation) → IsFreshViolation operations x enq → deq.ret ≤ x.ret) operations i o here (λ _ _. last) before,
+      )
 
-    here : IsAt operations i o
-    here = slice_get-get_or operations i d below
-
-    violates : IsFreshFrom operations (get_or sources i None) o
-    violates = (tells o here).0 is
-
-    -- a dequeue that returns no later than the operations so far
-    soonest : (place : ℕ) (deq : Operation) → IsAt operations place deq → IsFreshFrom operations (get_or sources place None) deq
-        → ((k : ℕ) (x : Operation) → k < i → IsAt operations k x → (enq : Option Operation) → IsFreshViolation operations x enq → deq.ret ≤ x.ret)
-        → deq.ret ≤ o.ret → IsFirstFresh operations sources (i + 1) (Some place)
-    soonest place deq at from before last = (
-      deq,
-      at,
-      from,
-      each_more (λ k x. (enq : Option Operation) → IsFreshViolation operations x enq → deq.ret ≤ x.ret) operations i o here (λ _ _. last) before,
-    )
-
-    pick : (first : Option ℕ) → (first ≡ None → sooner ≡ i)
-        → IfSome first (λ p. (x y : Operation) → IsAt operations p x → IsAt operations i y → sooner ≡ cond (nat_lt x.ret y.ret) p i)
-        → IsFirstFresh operations sources i first → IsFirstFresh operations sources (i + 1) (Some sooner)
-    pick None none some found = rw (none refl) (soonest i o here violates (λ k x below at enq is'. absurd (found k x below at enq is')) (omega arith))
-    pick (Some place) none some (deq, at, from, before) = elim (cases_Bool (nat_lt deq.ret o.ret)) [
-      | inl sooner' ↦ let less = ltb-true _ _ sooner' in rw (some deq o at here, sooner') (soonest place deq at from before (omega arith))
-      | inr later ↦
-          let most = ltb-false _ _ later in
-          rw (some deq o at here, later) (soonest i o here violates (λ k x below at enq is'. let low = before k x below at enq is' in omega arith) (omega arith))
-    ]
+      pick : (first : Option FreshPlaces) → (first ≡ None → sooner ≡ other)
+          → IfSome first (λ f. (x y : Operation) → IsAt operations f.deq x → IsAt operations other.deq y → sooner ≡ cond (nat_lt x.ret y.ret) f other)
+          → IsFirstFresh operations i first → IsFirstFresh operations (i + 1) (Some sooner)
+      pick None none some found = rw (none refl) (soonest other o here' violates' (λ k x below at enq is'. absurd (found k x below at enq is')) (omega arith))
+      pick (Some f) none some (deq, at, from, before) = elim (cases_Bool (nat_lt deq.ret o.ret)) [
+        | inl sooner' ↦ let less = ltb-true _ _ sooner' in rw (some deq o at here', sooner') (soonest f deq at from before (omega arith))
+        | inr later ↦
+            let most = ltb-false _ _ later in
+            rw (some deq o at here', later)
+            (soonest other o here' violates' (λ k x below at enq is'. let low = before k x below at enq is' in omega arith) (omega arith))
+      ]

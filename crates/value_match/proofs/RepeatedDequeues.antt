@@ -1,18 +1,18 @@
 -- The one dequeue of each source and of each accepted value, or the chosen pair of one source, met by walks over the operations.
-use Rattle.value_match.proofs.Common.{[], AllPairs, ap, AreChosenRepeat, AreComplete, AreTakersTo, arith, cases_eq}
-use Rattle.value_match.proofs.Common.{cases_order, contains_at, Deq, Did, Empty, Enq, enqueued_value, false}
-use Rattle.value_match.proofs.Common.{false≢true, find, first_of, get_or, get_or-set_other, get_or-set_same}
-use Rattle.value_match.proofs.Common.{get_or_from_slice_get, HasTakersTo, HoldsDequeues, HoldsSources, HoldsTakers}
-use Rattle.value_match.proofs.Common.{inl, inr, is_dequeue_of, is_some, IsAt, IsCallPlace, IsClear, IsDequeuePlace}
-use Rattle.value_match.proofs.Common.{IsMaybeAt, IsSourceOf, length, length-append, length-set, List, MatchOption}
-use Rattle.value_match.proofs.Common.{NoFreshViolation, None, NoneDid, Operation, OpKind, Option, pairs_at, place_of}
-use Rattle.value_match.proofs.Common.{refl, RepeatPlaces, replicate, return_at, same_return, same_value_call, set}
-use Rattle.value_match.proofs.Common.{slice_get, slice_get-get_or, slice_get_within, Some, subst, suc, sym, TakesFrom}
-use Rattle.value_match.proofs.Common.{true, zero, ℕ, ⊤, ◌++◌, ◌+◌, ◌<◌, ◌∙◌, ◌∷◌, ◌≡◌, ◌≢◌, ◌≤◌, ◌⊎◌}
+use Rattle.value_match.proofs.Common.{[], AllPairs, ap, AreChosenRepeat, AreComplete, arith, cases_eq, cases_order}
+use Rattle.value_match.proofs.Common.{contains_at, Deq, Did, Empty, Enq, enqueued_value, false, false≢true, find}
+use Rattle.value_match.proofs.Common.{get_or, get_or-set_other, get_or-set_same, get_or_from_slice_get, HasTakersTo}
+use Rattle.value_match.proofs.Common.{HoldsDequeues, HoldsSources, inl, inr, is_dequeue_of, is_some, IsAt, IsCallPlace}
+use Rattle.value_match.proofs.Common.{IsClear, IsDequeuePlace, IsMaybeAt, IsSourceOf, length, length-append}
+use Rattle.value_match.proofs.Common.{length-replicate, length-set, List, MatchOption, NoFreshViolation, None, NoneDid}
+use Rattle.value_match.proofs.Common.{one_at, Operation, OpKind, Option, pairs_at, place_of, refl, RepeatPlaces}
+use Rattle.value_match.proofs.Common.{replicate, return_at, same_return, same_value_call, set, slice_get}
+use Rattle.value_match.proofs.Common.{slice_get-get_or, slice_get_within, Some, subst, suc, sym, TakesFrom, true, zero}
+use Rattle.value_match.proofs.Common.{ℕ, ⊤, ◌++◌, ◌+◌, ◌<◌, ◌∙◌, ◌∷◌, ◌≡◌, ◌≢◌, ◌≤◌, ◌⊎◌}
 use Rattle.value_match.proofs.FreshDequeues.{calls_for}
 use Rattle.value_match.proofs.Lives.{found_dequeue, same_found}
 
--- ---- operations and their places
+-- ---- what takes from a call
 
 -- an operation of a complete history has one place
 pub one_place : (operations : List Operation) (i j : ℕ) (o : Operation) → AreComplete operations → IsAt operations i o → IsAt operations j o → i ≡ j
@@ -22,154 +22,192 @@ one_place operations i j o complete at_i at_j =
     let down = pairs_at (λ x y. x.call < y.call) operations j i o o rise in
     grind (arith, cases_order i j)
 
--- an operation with a source is a dequeue of the value that was called for there
-pub record IsTakenFrom (operations : List Operation) (o : Operation) (p : ℕ) : Type 0 where
-  pub value : ℕ
-  pub dequeues : o.kind ≡ Deq value
-  pub call : Operation
-  pub at_source : IsAt operations p call
-  pub accepted : call.kind ≡ Enq value
-
--- a dequeue takes from its value's enqueue
-pub taken_from : (operations : List Operation) (sources : List (Option ℕ)) (i p : ℕ) (o : Operation) → HoldsSources operations sources
-    → NoFreshViolation operations → IsAt operations i o → TakesFrom sources i p → IsTakenFrom operations o p
-taken_from operations sources i p o holds no_fresh here from = pick o.kind refl (subst (IsSourceOf operations o.kind) source (holds.each i o here))
+-- an operation with a source takes from it
+pub takes_source : (operations : List Operation) (i p : ℕ) (o : Operation) → IsAt operations i o → IsSourceOf operations o.kind (Some p)
+    → TakesFrom operations i p
+takes_source operations i p o here source = pick o.kind refl source
   where
-    source : get_or sources i None ≡ Some p
-    source = get_or_from_slice_get sources i (Some p) None from
-
-    pick : (kind : OpKind) → o.kind ≡ kind → IsSourceOf operations kind (Some p) → IsTakenFrom operations o p
-    pick (Deq v) is (call, there, calls) = elim (calls_for call.kind v calls) [
-      | inl accepted ↦ record { value = v; dequeues = is; call = call; at_source = there; accepted = accepted }
-      | inr refused ↦ absurd (no_fresh o (Some call) (record {
-        value = v;
-        dequeues = (contains_at operations i o here, is);
-        enqueues =
-            inl (contains_at operations p call there, refused);
-      }))
-    ]
+    pick : (kind : OpKind) → o.kind ≡ kind → IsSourceOf operations kind (Some p) → TakesFrom operations i p
+    pick (Deq v) is call = record { value = v; dequeue = o; at = here; dequeues = is; from_call = call }
     pick _ is wrong = cc
 
--- a dequeue of an accepted value has its enqueue's place as its source
-pub takes_from_enqueue : (operations : List Operation) (sources : List (Option ℕ)) (i p : ℕ) (o enq : Operation) (v : ℕ) → AreComplete operations
-    → HoldsSources operations sources → IsAt operations i o → o.kind ≡ Deq v
-    → IsAt operations p enq → enq.kind ≡ Enq v → TakesFrom sources i p
-takes_from_enqueue operations sources i p o enq v complete holds here is there accepted =
-    let below : i < length sources = let inside = slice_get_within operations i o here in omega (arith, holds.one_each) in
-    slice_get-get_or sources i None below ∙ ap (λ s. Some s) (named (get_or sources i None)
-    (subst (λ kind. IsSourceOf operations kind (get_or sources i None)) is (holds.each i o here)))
+-- one without a source takes from nothing
+pub takes_no_source : (operations : List Operation) (i : ℕ) (o : Operation) → IsAt operations i o → IsSourceOf operations o.kind None
+    → (p : ℕ) → ¬ (TakesFrom operations i p)
+takes_no_source operations i o here none p t =
+    let is : o.kind ≡ Deq t.value = ap (λ (x : Operation). x.kind) (one_at operations i o t.dequeue here t.at) ∙ t.dequeues in
+    let (call, there, calls) = t.from_call in
+    (rw is at none) call (contains_at operations p call there) calls
+
+-- what takes from a call
+module _ (operations : List Operation) (complete : AreComplete operations) where
+  -- an operation takes from one call
+  pub one_source : (i p q : ℕ) → TakesFrom operations i p → TakesFrom operations i q → p ≡ q
+  one_source i p q x y =
+      let kinds : Deq x.value ≡ Deq y.value =
+      sym x.dequeues ∙ ap (λ (o : Operation). o.kind) (one_at operations i x.dequeue y.dequeue x.at y.at) ∙ y.dequeues in
+      let value : x.value ≡ y.value = cc in
+      let (call, at_p, calls) = x.from_call in
+      let (call', at_q, calls') = y.from_call in
+      let same = same_value_call operations call call' y.value complete (contains_at operations p call at_p) (contains_at operations q call' at_q)
+      (calls_for call.kind y.value (calls ∙ ap (λ v. Some v) value)) (calls_for call'.kind y.value calls') in
+      one_place operations p q call' complete (subst (IsAt operations p) same at_p) at_q
+
+  -- two dequeues of one value return at different times
+  pub distinct_returns : (p i j : ℕ) → TakesFrom operations i p → TakesFrom operations j p → return_at operations i ≡ return_at operations j → i ≡ j
+  distinct_returns p i j x y same =
+      let ret_i : return_at operations i ≡ x.dequeue.ret = rw x.at refl in
+      let ret_j : return_at operations j ≡ y.dequeue.ret = rw y.at refl in
+      let one = same_return operations x.dequeue y.dequeue complete (contains_at operations i x.dequeue x.at)
+      (contains_at operations j y.dequeue y.at) (sym ret_i ∙ same ∙ ret_j) in
+      one_place operations i j y.dequeue complete (subst (IsAt operations i) one x.at) y.at
+
+-- what is taken from is one of the operations
+pub source_inside : (operations : List Operation) (i p : ℕ) → TakesFrom operations i p → p < length operations
+source_inside operations i p t = slice_get_within operations p t.from_call.0 t.from_call.1
+
+-- a dequeue takes from its value's enqueue
+pub takes_from_enqueue : (operations : List Operation) (i p : ℕ) (o enq : Operation) (v : ℕ) → IsAt operations i o → o.kind ≡ Deq v
+    → IsAt operations p enq → enq.kind ≡ Enq v → TakesFrom operations i p
+takes_from_enqueue operations i p o enq v here is there accepted =
+    record { value = v; dequeue = o; at = here; dequeues = is; from_call = (enq, there, ap enqueued_value accepted) }
+
+-- where each dequeued value was there, it takes from a successful enqueue
+pub accepted_call : (operations : List Operation) (i p : ℕ) → NoFreshViolation operations → (t : TakesFrom operations i p)
+    → (t.from_call.0).kind ≡ Enq t.value
+accepted_call operations i p no_fresh t = elim (calls_for (t.from_call.0).kind t.value t.from_call.2) [
+  | inl accepted ↦ accepted
+  | inr refused ↦ absurd (no_fresh t.dequeue (Some t.from_call.0) (record {
+    value = t.value;
+    dequeues = (contains_at operations i t.dequeue t.at, t.dequeues);
+    enqueues = inl (contains_at operations p t.from_call.0 t.from_call.1, refused);
+  }))
+]
+
+-- ---- what takes from the calls, noted while the first operations are settled
+
+none_at : (n i : ℕ) → get_or {A = Option ℕ} (replicate n None) i None ≡ None
+none_at zero i = refl
+none_at (suc n) zero = refl
+none_at (suc n) (suc i) = none_at n i
+
+-- of no operations none takes from a call
+pub no_takers : (operations : List Operation) → HasTakersTo operations 0 (replicate (length operations) None)
+no_takers operations = record {
+  one_each = length-replicate (length operations) None;
+  taken = λ p i is. let none = none_at (length operations) p in cc;
+  takes = λ i p below from. absurd (omega (arith, below));
+}
+
+-- an operation that takes from nothing
+pub takes_nothing : (operations : List Operation) (n : ℕ) (takers : List (Option ℕ)) → ((p : ℕ) → ¬ (TakesFrom operations n p))
+    → HasTakersTo operations n takers → HasTakersTo operations (n + 1) takers
+takes_nothing operations n takers none known = record {
+  one_each = known.one_each;
+  taken = λ p i is. let was = known.taken p i is in (omega (arith, was.0), was.1);
+  takes = λ i p below from. elim (cases_eq i n) [
+    | inl last ↦ absurd (none p (subst (λ k. TakesFrom operations k p) last from))
+    | inr before ↦ known.takes i p (omega arith) from
+  ];
+}
+
+-- one that takes from a call from which nothing took
+pub takes_first : (operations : List Operation) (n q : ℕ) (takers : List (Option ℕ)) → AreComplete operations → TakesFrom operations n q
+    → get_or takers q None ≡ None → HasTakersTo operations n takers → HasTakersTo operations (n + 1) (set takers q (Some n))
+takes_first operations n q takers complete here free known = record {
+  one_each = length-set takers q (Some n) ∙ known.one_each;
+  taken = λ p i is. elim (cases_eq p q) [
+    | inl same ↦
+        let last : ◌≡◌ {A = Option ℕ} (Some n) (Some i) = sym now ∙ subst (λ k. get_or (set takers q (Some n)) k None ≡ Some i) same is in
+        let i_is : n ≡ i = cc in
+        (omega arith, subst (λ k. TakesFrom operations k p) i_is (subst (TakesFrom operations n) (sym same) here))
+    | inr other ↦ let was = known.taken p i (sym (get_or-set_other takers q p (Some n) None other) ∙ is) in (omega (arith, was.0), was.1)
+  ];
+  takes = λ i p below from. elim (cases_eq i n) [
+    | inl last ↦
+        let same = one_source operations complete n p q (subst (λ k. TakesFrom operations k p) last from) here in
+        rw (same, last) now
+    | inr before ↦
+        let was = known.takes i p (omega arith) from in
+        get_or-set_other takers q p (Some n) None (λ same. let none = sym was ∙ ap (λ k. get_or takers k None) same ∙ free in cc) ∙ was
+  ];
+}
   where
-    named : (source : Option ℕ) → IsCallPlace operations v source → source ≡ Some p
-    named None none = absurd (none enq (contains_at operations p enq there) (ap enqueued_value accepted))
-    named (Some q) (call, at, calls) =
-        let same = same_value_call operations call enq v complete (contains_at operations q call at) (contains_at operations p enq there)
-        (calls_for call.kind v calls) (inl accepted) in
-        ap (λ r. Some r) (one_place operations q p enq complete (subst (IsAt operations q) same at) there)
+    now : get_or (set takers q (Some n)) q None ≡ Some n
+    now = get_or-set_same takers q (Some n) None (let inside = source_inside operations n q here in omega (arith, inside, known.one_each))
 
--- ---- the walk
+-- ---- the walk over the others
 
--- of the first n operations with a source at each place, the one that returns first
-pub record HasFirsts (returns : ℕ → ℕ) (sources firsts : List (Option ℕ)) (n : ℕ) : Type 0 where
-  pub one_each : length firsts ≡ length sources
-  pub taken : (p i : ℕ) → get_or firsts p None ≡ Some i → (i < n) × TakesFrom sources i p
-  pub least : (i p : ℕ) → i < n → TakesFrom sources i p → (first : ℕ) × (get_or firsts p None ≡ Some first) × (returns first ≤ returns i)
+-- of the first n operations that take from a place the one that returns first
+pub record HasFirsts (operations : List Operation) (firsts : List (Option ℕ)) (n : ℕ) : Type 0 where
+  pub one_each : length firsts ≡ length operations
+  pub taken : (p i : ℕ) → get_or firsts p None ≡ Some i → (i < n) × TakesFrom operations i p
+  pub least : (i p : ℕ) → i < n → TakesFrom operations i p
+      → (first : ℕ) × (get_or firsts p None ≡ Some first) × (return_at operations first ≤ return_at operations i)
 
--- two operations with one source; of such pairs among the first n operations the later one of none returns sooner
-pub record IsSoonest (returns : ℕ → ℕ) (sources : List (Option ℕ)) (n : ℕ) (pair : RepeatPlaces) : Type 0 where
-  pub first_from : TakesFrom sources pair.first pair.enq
-  pub second_from : TakesFrom sources pair.second pair.enq
-  pub in_order : returns pair.first < returns pair.second
-  pub soonest : (p i j : ℕ) → i < n → j < n → TakesFrom sources i p → TakesFrom sources j p → returns i < returns j → returns pair.second ≤ returns j
+-- two operations that take from one place; of such pairs among the first n operations the later one of none returns sooner
+pub record IsSoonest (operations : List Operation) (n : ℕ) (pair : RepeatPlaces) : Type 0 where
+  pub first_from : TakesFrom operations pair.first pair.enq
+  pub second_from : TakesFrom operations pair.second pair.enq
+  pub in_order : return_at operations pair.first < return_at operations pair.second
+  pub soonest : (p i j : ℕ) → i < n → j < n → TakesFrom operations i p → TakesFrom operations j p → return_at operations i < return_at operations j
+      → return_at operations pair.second ≤ return_at operations j
 
--- no two of the first n operations have one source
-abbrev pub Once : List (Option ℕ) → ℕ → Type 0
-Once sources n = (p i j : ℕ) → i < n → j < n → TakesFrom sources i p → TakesFrom sources j p → i ≡ j
+-- no two of the first n operations take from one place
+abbrev pub Once : List Operation → ℕ → Type 0
+Once operations n = (p i j : ℕ) → i < n → j < n → TakesFrom operations i p → TakesFrom operations j p → i ≡ j
 
--- no source twice, or the soonest pair
-abbrev pub Twice : (ℕ → ℕ) → List (Option ℕ) → ℕ → Option RepeatPlaces → Type 0
-Twice returns sources n found = MatchOption found (Once sources n) (IsSoonest returns sources n)
+-- no two take from one place, or the soonest pair
+abbrev pub Twice : List Operation → ℕ → Option RepeatPlaces → Type 0
+Twice operations n found = MatchOption found (Once operations n) (IsSoonest operations n)
 
 -- what was met of the first n operations
-pub record HasMet (returns : ℕ → ℕ) (sources firsts : List (Option ℕ)) (n : ℕ) (found : Option RepeatPlaces) : Type 0 where
-  pub kept : HasFirsts returns sources firsts n
-  pub twice : Twice returns sources n found
+pub record HasMet (operations : List Operation) (firsts : List (Option ℕ)) (n : ℕ) (found : Option RepeatPlaces) : Type 0 where
+  pub kept : HasFirsts operations firsts n
+  pub twice : Twice operations n found
 
--- what is known of the first operations was met, and no source twice
-pub met_once : (returns : ℕ → ℕ) (sources takers : List (Option ℕ)) (n : ℕ) → length takers ≡ length sources → HasTakersTo n sources takers
-    → HasMet returns sources takers n None
-met_once returns sources takers n same known = record {
-  kept = record {
-    one_each = same;
-    taken = known.taken;
-    least = λ i p below from. (i, known.takes i p below from, omega arith);
-  };
+-- what is known of settled operations was met, and no two that take from one place
+pub met_once : (operations : List Operation) (takers : List (Option ℕ)) (n : ℕ) → HasTakersTo operations n takers → HasMet operations takers n None
+met_once operations takers n known = record {
+  kept = record { one_each = known.one_each; taken = known.taken; least = λ i p below from. (i, known.takes i p below from, omega arith) };
   twice = λ p i j below_i below_j from_i from_j.
       let both : ◌≡◌ {A = Option ℕ} (Some i) (Some j) = sym (known.takes i p below_i from_i) ∙ known.takes j p below_j from_j in cc;
 }
 
--- what was met of the first n operations, where each two of one source that are among n + 1 are among n
-met_more : (returns : ℕ → ℕ) (sources : List (Option ℕ)) (n : ℕ) (found : Option RepeatPlaces)
-    → ((q i j : ℕ) → i < n + 1 → j < n + 1 → TakesFrom sources i q → TakesFrom sources j q → i ≢ j → (i < n) × (j < n))
-    → Twice returns sources n found → Twice returns sources (n + 1) found
-met_more returns sources n None before once = λ q i j low high from_i from_j. elim (cases_eq i j) [
+-- what was met of the first n operations, where each two of one place that are among n + 1 are among n
+met_more : (operations : List Operation) (n : ℕ) (found : Option RepeatPlaces)
+    → ((q i j : ℕ) → i < n + 1 → j < n + 1 → TakesFrom operations i q → TakesFrom operations j q → i ≢ j → (i < n) × (j < n))
+    → Twice operations n found → Twice operations (n + 1) found
+met_more operations n None before once = λ q i j low high from_i from_j. elim (cases_eq i j) [
   | inl same ↦ same
   | inr differ ↦ let was = before q i j low high from_i from_j differ in once q i j was.0 was.1 from_i from_j
 ]
-met_more returns sources n (Some pair) before is = record {
+met_more operations n (Some pair) before is = record {
   first_from = is.first_from;
   second_from = is.second_from;
   in_order = is.in_order;
   soonest = λ q i j low high from_i from_j less.
-      let was = before q i j low high from_i from_j (λ same. let equal = ap returns same in omega arith) in
+      let was = before q i j low high from_i from_j (λ same. let equal = ap (return_at operations) same in omega arith) in
       is.soonest q i j was.0 was.1 from_i from_j less;
 }
 
--- an operation without a source
-pub met_skip : (returns : ℕ → ℕ) (sources firsts : List (Option ℕ)) (n : ℕ) (found : Option RepeatPlaces) → slice_get sources n ≡ Some None
-    → HasMet returns sources firsts n found → HasMet returns sources firsts (n + 1) found
-met_skip returns sources firsts n found none met = record {
+-- an operation that takes from nothing
+pub met_skip : (operations : List Operation) (firsts : List (Option ℕ)) (n : ℕ) (found : Option RepeatPlaces) → ((p : ℕ) → ¬ (TakesFrom operations n p))
+    → HasMet operations firsts n found → HasMet operations firsts (n + 1) found
+met_skip operations firsts n found none met = record {
   kept = record {
     one_each = met.kept.one_each;
     taken = λ p i is. let was = met.kept.taken p i is in (omega (arith, was.0), was.1);
     least = λ i p below from. met.kept.least i p (earlier i p below from) from;
   };
-  twice = met_more returns sources n found (λ q i j low high from_i from_j _. (earlier i q low from_i, earlier j q high from_j)) met.twice;
+  twice = met_more operations n found (λ q i j low high from_i from_j _. (earlier i q low from_i, earlier j q high from_j)) met.twice;
 }
   where
-    earlier : (i p : ℕ) → i < n + 1 → TakesFrom sources i p → i < n
-    earlier i p below from = grind (arith, cases_eq i n)
-
--- the first operations by source, after one that returns no later than those before it of its source
-firsts_more : (returns : ℕ → ℕ) (sources firsts : List (Option ℕ)) (n p first : ℕ) → TakesFrom sources n p → p < length firsts
-    → first < n + 1 → TakesFrom sources first p → returns first ≤ returns n
-    → ((i : ℕ) → i < n → TakesFrom sources i p → returns first ≤ returns i)
-    → HasFirsts returns sources firsts n → HasFirsts returns sources (set firsts p (Some first)) (n + 1)
-firsts_more returns sources firsts n p first from inside below from_first least_here least_before known = record {
-  one_each = simp length-set known.one_each;
-  taken = λ q i is. elim (cases_eq q p) [
-    | inl same ↦ grind (arith, get_or-set_same {A = Option ℕ})
-    | inr other ↦
-        let was = known.taken q i (sym (get_or-set_other firsts p q (Some first) None other) ∙ is) in
-        (omega (arith, was.0), was.1)
-  ];
-  least = λ i q low from_i. elim (cases_eq q p) [
-    | inl same ↦ (first, grind (arith, get_or-set_same {A = Option ℕ}), grind (arith, cases_eq i n, least_before i))
-    | inr other ↦
-        let was = known.least i q (grind (arith, cases_eq i n)) from_i in
-        (was.0, get_or-set_other firsts p q (Some first) None other ∙ was.1, was.2)
-  ];
-}
-
--- the first operation with its source
-pub met_first : (returns : ℕ → ℕ) (sources firsts : List (Option ℕ)) (n p : ℕ) (found : Option RepeatPlaces) → TakesFrom sources n p → p < length firsts
-    → get_or firsts p None ≡ None → HasMet returns sources firsts n found → HasMet returns sources (set firsts p (Some n)) (n + 1) found
-met_first returns sources firsts n p found from inside free met = record {
-  kept = firsts_more returns sources firsts n p n from inside (omega arith) from (omega arith) (λ i below from_i. absurd (alone i below from_i)) met.kept;
-  twice = met_more returns sources n found (λ q i j low high from_i from_j differ. grind (arith, cases_eq i n, cases_eq j n, alone i, alone j)) met.twice;
-}
-  where
-    alone : (i : ℕ) → i < n → TakesFrom sources i p → ⊥
-    alone i below from_i = let was = met.kept.least i p below from_i in cc
+    earlier : (i p : ℕ) → i < n + 1 → TakesFrom operations i p → i < n
+    earlier i p below from = elim (cases_eq i n) [
+      | inl last ↦ absurd (none p (subst (λ k. TakesFrom operations k p) last from))
+      | inr before ↦ omega arith
+    ]
 
 -- what is known of a pair that is made of two places in the order of their returns
 pub record IsPairOf (returns : ℕ → ℕ) (p i j : ℕ) (pair : RepeatPlaces) : Type 0 where
@@ -183,289 +221,207 @@ IsSoonerOf returns found pair result = MatchOption found (result ≡ pair)
     (λ f. ((result ≡ f) × (returns f.second ≤ returns pair.second)) ⊎ ((result ≡ pair) × (returns pair.second ≤ returns f.second)))
 
 -- what is known of the ends of a pair that is made of a place before n, and of n
-record Ends (returns : ℕ → ℕ) (sources : List (Option ℕ)) (n p other : ℕ) (pair : RepeatPlaces) : Type 0 where
+record Ends (operations : List Operation) (n p other : ℕ) (pair : RepeatPlaces) : Type 0 where
   pub first_below : pair.first < n + 1
-  pub first_from : TakesFrom sources pair.first p
-  pub second_from : TakesFrom sources pair.second p
+  pub first_from : TakesFrom operations pair.first p
+  pub second_from : TakesFrom operations pair.second p
   pub apart : pair.first ≢ pair.second
-  pub first_here : returns pair.first ≤ returns n
-  pub first_there : returns pair.first ≤ returns other
-  pub second_least : (m : ℕ) → returns other ≤ m → returns n ≤ m → returns pair.second ≤ m
+  pub first_here : return_at operations pair.first ≤ return_at operations n
+  pub first_there : return_at operations pair.first ≤ return_at operations other
+  pub second_least : (m : ℕ) → return_at operations other ≤ m → return_at operations n ≤ m → return_at operations pair.second ≤ m
 
--- one more operation with a source that another has
-pub met_again : (returns : ℕ → ℕ) (sources firsts : List (Option ℕ)) (n p other : ℕ) (found : Option RepeatPlaces) (pair result : RepeatPlaces)
-    → ((i j : ℕ) → TakesFrom sources i p → TakesFrom sources j p → returns i ≡ returns j → i ≡ j)
-    → TakesFrom sources n p → p < length firsts → get_or firsts p None ≡ Some other → IsPairOf returns p other n pair
-    → IsSoonerOf returns found pair result → HasMet returns sources firsts n found
-    → HasMet returns sources (set firsts p (Some pair.first)) (n + 1) (Some result)
-met_again returns sources firsts n p other found pair result one from inside held is_pair sooner met = record {
-  kept = firsts_more returns sources firsts n p pair.first from inside ends.first_below ends.first_from ends.first_here
-      (λ i below from_i. let low = least i below from_i in let first = ends.first_there in omega arith) met.kept;
-  twice = twice found sooner met.twice;
-}
-  where
-    ends : Ends returns sources n p other pair
-    ends =
-        let (below, from_other) = met.kept.taken p other held in
-        let both = is_pair.both in
-        let order = is_pair.in_order in
-        record {
-          first_below = grind arith;
-          first_from = grind arith;
-          second_from = grind arith;
-          apart = λ same. grind arith;
-          first_here = grind arith;
-          first_there = grind arith;
-          second_least = λ m low high. grind arith;
-        }
+module _ (operations : List Operation) (complete : AreComplete operations) (firsts : List (Option ℕ)) (n p : ℕ) (from : TakesFrom operations n p) where
+  -- what takes from another place is another operation
+  other_source : (i q : ℕ) → q ≢ p → i < n + 1 → TakesFrom operations i q → i < n
+  other_source i q other below from_i = elim (cases_eq i n) [
+    | inl last ↦ absurd (other (one_source operations complete n q p (subst (λ k. TakesFrom operations k q) last from_i) from))
+    | inr before ↦ omega arith
+  ]
 
-    -- the kept first returns no later than any before it
-    least : (i : ℕ) → i < n → TakesFrom sources i p → returns other ≤ returns i
-    least i below from_i = let found' = met.kept.least i p below from_i in grind arith
+  -- the first operations by source, after one that returns no later than those before it of its source
+  firsts_more : (first : ℕ) → first < n + 1 → TakesFrom operations first p → return_at operations first ≤ return_at operations n
+      → ((i : ℕ) → i < n → TakesFrom operations i p → return_at operations first ≤ return_at operations i)
+      → HasFirsts operations firsts n → HasFirsts operations (set firsts p (Some first)) (n + 1)
+  firsts_more first below from_first least_here least_before known = record {
+    one_each = length-set firsts p (Some first) ∙ known.one_each;
+    taken = λ q i is. elim (cases_eq q p) [
+      | inl same ↦
+          let held : ◌≡◌ {A = Option ℕ} (Some first) (Some i) = sym now ∙ subst (λ k. get_or (set firsts p (Some first)) k None ≡ Some i) same is in
+          let i_is : first ≡ i = cc in
+          (omega arith, subst (λ k. TakesFrom operations k q) i_is (subst (TakesFrom operations first) (sym same) from_first))
+      | inr other ↦ let was = known.taken q i (sym (get_or-set_other firsts p q (Some first) None other) ∙ is) in (omega (arith, was.0), was.1)
+    ];
+    least = λ i q low from_i. elim (cases_eq q p) [
+      | inl same ↦ (first, rw same now, elim (cases_eq i n) [
+        | inl last ↦ rw last least_here
+        | inr before ↦ least_before i (omega arith) (subst (TakesFrom operations i) same from_i)
+      ])
+      | inr other ↦
+          let was = known.least i q (other_source i q other low from_i) from_i in
+          (was.0, get_or-set_other firsts p q (Some first) None other ∙ was.1, was.2)
+    ];
+  }
+    where
+      now : get_or (set firsts p (Some first)) p None ≡ Some first
+      now = get_or-set_same firsts p (Some first) None (let inside = source_inside operations n p from in omega (arith, inside, known.one_each))
 
-    -- a pair that this operation is of is no sooner
-    no_sooner : (q i j : ℕ) → i < n + 1 → j < n + 1 → TakesFrom sources i q → TakesFrom sources j q → returns i < returns j
-        → (i < n) × (j < n) ⊎ (returns pair.second ≤ returns j)
-    no_sooner q i j low high from_i from_j less =
-        grind (arith, cases_eq i n, cases_eq j n, least i, least j, ends.second_least (returns j))
+  -- the first operation with its source
+  pub met_first : (found : Option RepeatPlaces) → get_or firsts p None ≡ None → HasMet operations firsts n found
+      → HasMet operations (set firsts p (Some n)) (n + 1) found
+  met_first found free met = record {
+    kept = firsts_more n (omega arith) from (omega arith) (λ i below from_i. absurd (alone i below from_i)) met.kept;
+    twice = met_more operations n found (λ q i j low high from_i from_j differ. elim (cases_eq q p) [
+      | inl same ↦ absurd (differ (only i low (subst (TakesFrom operations i) same from_i) ∙ sym (only j high (subst (TakesFrom operations j) same from_j))))
+      | inr other ↦ (other_source i q other low from_i, other_source j q other high from_j)
+    ]) met.twice;
+  }
+    where
+      alone : (i : ℕ) → i < n → TakesFrom operations i p → ⊥
+      alone i below from_i = let was = met.kept.least i p below from_i in cc
 
-    soonest_pair : ((q i j : ℕ) → i < n → j < n → TakesFrom sources i q → TakesFrom sources j q → returns i < returns j → returns pair.second ≤ returns j)
-        → IsSoonest returns sources (n + 1) pair
-    soonest_pair before = record {
-      first_from = rw is_pair.enq ends.first_from;
-      second_from = rw is_pair.enq ends.second_from;
-      in_order =
-          let differ : returns pair.first ≢ returns pair.second =
-          λ same. ends.apart (one pair.first pair.second ends.first_from ends.second_from same) in
-          let order = is_pair.in_order in omega arith;
-      soonest = λ q i j low high from_i from_j less. elim (no_sooner q i j low high from_i from_j less) [
-        | inl both ↦ before q i j both.0 both.1 from_i from_j less
-        | inr late ↦ late
-      ];
-    }
+      only : (i : ℕ) → i < n + 1 → TakesFrom operations i p → i ≡ n
+      only i below from_i = elim (cases_eq i n) [ inl last ↦ last | inr before ↦ absurd (alone i (omega arith) from_i) ]
 
-    twice : (found : Option RepeatPlaces) → IsSoonerOf returns found pair result → Twice returns sources n found → IsSoonest returns sources (n + 1) result
-    twice None is once = rw is (soonest_pair (λ q i j low high from_i from_j less. let same = once q i j low high from_i from_j in grind arith))
-    twice (Some f) (inl (is, sooner')) old = rw is (record {
-      first_from = old.first_from;
-      second_from = old.second_from;
-      in_order = old.in_order;
-      soonest = λ q i j low high from_i from_j less. elim (no_sooner q i j low high from_i from_j less) [
-        | inl both ↦ old.soonest q i j both.0 both.1 from_i from_j less
-        | inr late ↦ omega arith
-      ];
-    })
-    twice (Some f) (inr (is, sooner')) old =
-        rw is (soonest_pair (λ q i j low high from_i from_j less. let before = old.soonest q i j low high from_i from_j less in omega arith))
+  -- one more operation with a source that another has
+  pub met_again : (other : ℕ) (found : Option RepeatPlaces) (pair result : RepeatPlaces) → get_or firsts p None ≡ Some other
+      → IsPairOf (return_at operations) p other n pair → IsSoonerOf (return_at operations) found pair result → HasMet operations firsts n found
+      → HasMet operations (set firsts p (Some pair.first)) (n + 1) (Some result)
+  met_again other found pair result held is_pair sooner met = record {
+    kept = firsts_more pair.first ends.first_below ends.first_from ends.first_here
+        (λ i below from_i. let low = least i below from_i in let first = ends.first_there in omega arith) met.kept;
+    twice = twice found sooner met.twice;
+  }
+    where
+      ends : Ends operations n p other pair
+      ends =
+          let (below, from_other) = met.kept.taken p other held in
+          let both = is_pair.both in
+          let order = is_pair.in_order in
+          record {
+            first_below = grind arith;
+            first_from = grind arith;
+            second_from = grind arith;
+            apart = λ same. grind arith;
+            first_here = grind arith;
+            first_there = grind arith;
+            second_least = λ m low high. grind arith;
+          }
+
+      -- the kept first returns no later than any before it
+      least : (i : ℕ) → i < n → TakesFrom operations i p → return_at operations other ≤ return_at operations i
+      least i below from_i = let found' = met.kept.least i p below from_i in grind arith
+
+      -- a pair that this operation is of is no sooner
+      no_sooner : (q i j : ℕ) → i < n + 1 → j < n + 1 → TakesFrom operations i q → TakesFrom operations j q
+          → return_at operations i < return_at operations j → (i < n) × (j < n) ⊎ (return_at operations pair.second ≤ return_at operations j)
+      no_sooner q i j low high from_i from_j less = elim (cases_eq q p) [
+        | inl same ↦
+            let from_i' = subst (TakesFrom operations i) same from_i in
+            let from_j' = subst (TakesFrom operations j) same from_j in
+            grind (arith, cases_eq i n, cases_eq j n, least i, least j, ends.second_least (return_at operations j))
+        | inr differ ↦ inl (other_source i q differ low from_i, other_source j q differ high from_j)
+      ]
+
+      soonest_pair : ((q i j : ℕ) → i < n → j < n → TakesFrom operations i q → TakesFrom operations j q → return_at operations i < return_at operations j
+          → return_at operations pair.second ≤ return_at operations j) → IsSoonest operations (n + 1) pair
+      soonest_pair before = record {
+        first_from = rw is_pair.enq ends.first_from;
+        second_from = rw is_pair.enq ends.second_from;
+        in_order =
+            let differ : return_at operations pair.first ≢ return_at operations pair.second =
+            λ same. ends.apart (distinct_returns operations complete p pair.first pair.second ends.first_from ends.second_from same) in
+            let order = is_pair.in_order in omega arith;
+        soonest = λ q i j low high from_i from_j less. elim (no_sooner q i j low high from_i from_j less) [
+          | inl both ↦ before q i j both.0 both.1 from_i from_j less
+          | inr late ↦ late
+        ];
+      }
+
+      twice : (found : Option RepeatPlaces) → IsSoonerOf (return_at operations) found pair result → Twice operations n found
+          → IsSoonest operations (n + 1) result
+      twice None is once = rw is (soonest_pair (λ q i j low high from_i from_j less. let same = once q i j low high from_i from_j in grind arith))
+      twice (Some f) (inl (is, sooner')) old = rw is (record {
+        first_from = old.first_from;
+        second_from = old.second_from;
+        in_order = old.in_order;
+        soonest = λ q i j low high from_i from_j less. elim (no_sooner q i j low high from_i from_j less) [
+          | inl both ↦ old.soonest q i j both.0 both.1 from_i from_j less
+          | inr late ↦ omega arith
+        ];
+      })
+      twice (Some f) (inr (is, sooner')) old =
+          rw is (soonest_pair (λ q i j low high from_i from_j less. let before = old.soonest q i j low high from_i from_j less in omega arith))
 
 -- ---- what the walk ends with
 
-module _ (operations : List Operation) (sources : List (Option ℕ)) (holds : HoldsSources operations sources) where
-  -- an operation with a source stands at its place
-  operation_at : (i p : ℕ) → TakesFrom sources i p → (o : Operation) × IsAt operations i o × (return_at operations i ≡ o.ret)
-  operation_at i p from =
-      let within = slice_get_within sources i (Some p) from in
-      let inside : i < length operations = omega (arith, holds.one_each, within) in
-      let d : Operation = record { call = 0; ret = 0; thread = 0; kind = Empty } in
-      let here = slice_get-get_or operations i d inside in
-      (get_or operations i d, here, rw here refl)
+-- the later one of the pair that was found is one of the operations
+pub found_inside : (operations : List Operation) (n : ℕ) (found : Option RepeatPlaces) → Twice operations n found
+    → MatchOption found ⊤ (λ f. f.second < length operations)
+found_inside operations n None met = tt
+found_inside operations n (Some f) met = slice_get_within operations f.second met.second_from.dequeue met.second_from.at
 
-  -- two dequeues of one value return at different times
-  pub distinct_returns : AreComplete operations → (p i j : ℕ) → TakesFrom sources i p → TakesFrom sources j p
-      → return_at operations i ≡ return_at operations j → i ≡ j
-  distinct_returns complete p i j from_i from_j same =
-      let a = operation_at i p from_i in
-      let b = operation_at j p from_j in
-      let o = same_return operations a.0 b.0 complete (contains_at operations i a.0 a.1) (contains_at operations j b.0 b.1) (sym a.2 ∙ same ∙ b.2) in
-      one_place operations i j b.0 complete (subst (IsAt operations i) o a.1) b.1
+-- the soonest pair of all operations is chosen
+pub repeat_chosen : (operations : List Operation) (n : ℕ) (pair : RepeatPlaces) → NoFreshViolation operations → length operations ≤ n
+    → IsSoonest operations n pair → AreChosenRepeat operations pair
+repeat_chosen operations n pair no_fresh all is =
+    let one = is.first_from in
+    let two = is.second_from in
+    let first = accepted_call operations pair.first pair.enq no_fresh one in
+    let second = accepted_call operations pair.second pair.enq no_fresh two in
+    let calls = one_at operations pair.enq one.from_call.0 two.from_call.0 one.from_call.1 two.from_call.1 in
+    let kinds : Enq one.value ≡ Enq two.value = sym first ∙ ap (λ (o : Operation). o.kind) calls ∙ second in
+    let same_value : one.value ≡ two.value = cc in
+    let ret_one : return_at operations pair.first ≡ one.dequeue.ret = rw one.at refl in
+    let ret_two : return_at operations pair.second ≡ two.dequeue.ret = rw two.at refl in (
+      two.from_call.0,
+      one.dequeue,
+      two.dequeue,
+      two.from_call.1,
+      one.at,
+      two.at,
+      no_fresh,
+      record {
+        violates = record {
+          value = two.value;
+          enqueues = (contains_at operations pair.enq two.from_call.0 two.from_call.1, second);
+          dequeues = (contains_at operations pair.first one.dequeue one.at, one.dequeues ∙ ap Deq same_value);
+          dequeues_again = (contains_at operations pair.second two.dequeue two.at, two.dequeues);
+          in_order = let order = is.in_order in omega arith;
+        };
+        soonest = λ enq' first' second' r.
+            let (p, at_p) = place_of operations enq' r.enqueues.0 in
+            let (i, at_i) = place_of operations first' r.dequeues.0 in
+            let (j, at_j) = place_of operations second' r.dequeues_again.0 in
+            let from_i = takes_from_enqueue operations i p first' enq' r.value at_i r.dequeues.1 at_p r.enqueues.1 in
+            let from_j = takes_from_enqueue operations j p second' enq' r.value at_j r.dequeues_again.1 at_p r.enqueues.1 in
+            let ret_i : return_at operations i ≡ first'.ret = rw at_i refl in
+            let ret_j : return_at operations j ≡ second'.ret = rw at_j refl in
+            let low = slice_get_within operations i first' at_i in
+            let high = slice_get_within operations j second' at_j in
+            let late = is.soonest p i j (omega arith) (omega arith) from_i from_j (omega (arith, ret_i, ret_j, r.in_order)) in
+            omega (arith, late, ret_j, ret_two);
+      },
+    )
 
-  -- what is taken from is one of the operations
-  pub source_inside : (i p : ℕ) → NoFreshViolation operations → TakesFrom sources i p → p < length operations
-  source_inside i p no_fresh from =
-      let o = operation_at i p from in
-      let taken = taken_from operations sources i p o.0 holds no_fresh o.1 from in slice_get_within operations p taken.call taken.at_source
-
-  -- the later one of the pair that was found is one of the operations
-  pub found_inside : (n : ℕ) (found : Option RepeatPlaces) → Twice (return_at operations) sources n found → MatchOption found ⊤ (λ f. f.second < length operations)
-  found_inside n None met = tt
-  found_inside n (Some f) met =
-      let within = slice_get_within sources f.second (Some f.enq) met.second_from in omega (arith, holds.one_each, within)
-
-  -- the soonest pair of all operations is chosen
-  pub repeat_chosen : (n : ℕ) (pair : RepeatPlaces) → AreComplete operations → NoFreshViolation operations → length sources ≤ n
-      → IsSoonest (return_at operations) sources n pair → AreChosenRepeat operations pair
-  repeat_chosen n pair complete no_fresh all is =
-      let one = operation_at pair.first pair.enq is.first_from in
-      let two = operation_at pair.second pair.enq is.second_from in
-      let first = taken_from operations sources pair.first pair.enq one.0 holds no_fresh one.1 is.first_from in
-      let second = taken_from operations sources pair.second pair.enq two.0 holds no_fresh two.1 is.second_from in
-      let same_value : first.value ≡ second.value = cc in (
-        second.call,
-        one.0,
-        two.0,
-        second.at_source,
-        one.1,
-        two.1,
-        no_fresh,
-        record {
-          violates = record {
-            value = second.value;
-            enqueues = (contains_at operations pair.enq second.call second.at_source, second.accepted);
-            dequeues = (contains_at operations pair.first one.0 one.1, first.dequeues ∙ ap Deq same_value);
-            dequeues_again = (contains_at operations pair.second two.0 two.1, second.dequeues);
-            in_order = let order = is.in_order in omega (arith, one.2, two.2);
-          };
-          soonest = λ enq' first' second' r.
-              let (p, at_p) = place_of operations enq' r.enqueues.0 in
-              let (i, at_i) = place_of operations first' r.dequeues.0 in
-              let (j, at_j) = place_of operations second' r.dequeues_again.0 in
-              let from_i = takes_from_enqueue operations sources i p first' enq' r.value complete holds at_i r.dequeues.1 at_p r.enqueues.1 in
-              let from_j = takes_from_enqueue operations sources j p second' enq' r.value complete holds at_j r.dequeues_again.1 at_p r.enqueues.1 in
-              let ret_i : return_at operations i ≡ first'.ret = rw at_i refl in
-              let ret_j : return_at operations j ≡ second'.ret = rw at_j refl in
-              let low = slice_get_within sources i (Some p) from_i in
-              let high = slice_get_within sources j (Some p) from_j in
-              let late = is.soonest p i j (omega arith) (omega arith) from_i from_j (omega (arith, ret_i, ret_j, r.in_order)) in
-              omega (arith, late, ret_j, two.2);
-        },
-      )
-
--- a walk over all operations that meets no source twice leaves the one operation that takes from each
-pub once_taken : (returns : ℕ → ℕ) (sources firsts : List (Option ℕ)) (n : ℕ) → length sources ≤ n → HasFirsts returns sources firsts n → Once sources n
-    → HoldsTakers sources firsts
-once_taken returns sources firsts n all known once = record {
+-- a walk over all operations that meets no two of one place leaves the one operation that takes from each
+pub once_taken : (operations : List Operation) (firsts : List (Option ℕ)) (n : ℕ) → length operations ≤ n → HasFirsts operations firsts n
+    → Once operations n → HasTakersTo operations (length operations) firsts
+once_taken operations firsts n all known once = record {
   one_each = known.one_each;
-  taken = λ p i is. (known.taken p i is).1;
-  takes = λ i p from.
-      let below = slice_get_within sources i (Some p) from in
+  taken = λ p i is. let was = known.taken p i is in (slice_get_within operations i was.1.dequeue was.1.at, was.1);
+  takes = λ i p below from.
       let first = known.least i p (omega arith) from in
       let was = known.taken p first.0 first.1 in
       first.1 ∙ ap (λ k. Some k) (once p first.0 i was.0 (omega arith) was.1 from);
 }
 
--- what is read at a place is its source
-pub source_read : (sources : List (Option ℕ)) (i : ℕ) (source : Option ℕ) → i < length sources → get_or sources i None ≡ source
-    → slice_get sources i ≡ Some source
-source_read sources i source below is = slice_get-get_or sources i None below ∙ ap (λ s. Some s) is
-
--- ---- what takes from the sources, noted while these are found
-
--- what isn't some place is none
-pub none_if : (x : Option ℕ) → is_some x ≡ false → x ≡ None
-none_if None is = refl
-none_if (Some n) is = absurd (false≢true (sym is))
-
-none_at : (n i : ℕ) → get_or {A = Option ℕ} (replicate n None) i None ≡ None
-none_at zero i = refl
-none_at (suc n) zero = refl
-none_at (suc n) (suc i) = none_at n i
-
--- of no operations none takes from a source
-pub no_takers : (n : ℕ) (sources : List (Option ℕ)) → HasTakersTo 0 sources (replicate n None)
-no_takers n sources = record { taken = λ p i is. let none = none_at n p in cc; takes = λ i p below from. absurd (omega (arith, below)) }
-
--- an operation more: it is behind those before, or it is the last
-last_or_before : (sources : List (Option ℕ)) (source : Option ℕ) (i p : ℕ) → TakesFrom (sources ++ source ∷ []) i p
-    → (TakesFrom sources i p) ⊎ ((i ≡ length sources) × (source ≡ Some p))
-last_or_before [] source zero p from = inr (refl, let e = from in cc)
-last_or_before [] source (suc i) p from = cc
-last_or_before (s ∷ sources) source zero p from = inl from
-last_or_before (s ∷ sources) source (suc i) p from = elim (last_or_before sources source i p from) [
-  | inl before ↦ inl before
-  | inr last ↦ inr (ap suc last.0, last.1)
-]
-
-before : (sources : List (Option ℕ)) (source : Option ℕ) (i p : ℕ) → TakesFrom sources i p → TakesFrom (sources ++ source ∷ []) i p
-before [] source i p from = cc
-before (s ∷ sources) source zero p from = from
-before (s ∷ sources) source (suc i) p from = before sources source i p from
-
-last : (sources : List (Option ℕ)) (p : ℕ) → TakesFrom (sources ++ Some p ∷ []) (length sources) p
-last [] p = refl
-last (s ∷ sources) p = last sources p
-
--- an operation more, where no more are noted
-kept : (sources takers : List (Option ℕ)) (source : Option ℕ) (n : ℕ) → n ≤ length sources → HasTakersTo n sources takers
-    → HasTakersTo n (sources ++ source ∷ []) takers
-kept sources takers source n within known = record {
-  taken = λ p i is. let was = known.taken p i is in (was.0, before sources source i p was.1);
-  takes = λ i p below from. elim (last_or_before sources source i p from) [
-    | inl old ↦ known.takes i p below old
-    | inr new ↦ absurd (omega (arith, below, within, new.0))
-  ];
-}
-
--- what is known up to an operation stays known
-pub kept_to : (n : ℕ) (sources takers : List (Option ℕ)) (source : Option ℕ) → AreTakersTo (Some n) sources takers
-    → AreTakersTo (Some n) (sources ++ source ∷ []) takers
-kept_to n sources takers source known = (omega (arith, known.0, length-append {A = Option ℕ}), kept sources takers source n known.0 known.1)
-
--- an operation that may take from a source again is the first of those that aren't noted
-pub not_noted : (sources takers : List (Option ℕ)) (source : Option ℕ) → AreTakersTo None sources takers
-    → AreTakersTo (Some (length sources)) (sources ++ source ∷ []) takers
-not_noted sources takers source known = (omega (arith, length-append {A = Option ℕ}), kept sources takers source (length sources) (omega arith) known)
-
--- an operation after which no more are noted
-pub takes_unnoted : (n : ℕ) (unnoted : Option ℕ) (sources takers : List (Option ℕ)) (source : Option ℕ) → length sources ≡ n
-    → AreTakersTo unnoted sources takers → AreTakersTo (first_of unnoted n true) (sources ++ source ∷ []) takers
-takes_unnoted n None sources takers source long known =
-    subst (λ k. AreTakersTo (Some k) (sources ++ source ∷ []) takers) long (not_noted sources takers source known)
-takes_unnoted n (Some k) sources takers source long known = kept_to k sources takers source known
-
--- where the sources of the first operations stay, so does what takes from them
-pub takers_kept : (n : ℕ) (sources sources' takers : List (Option ℕ)) → n ≤ length sources → length sources' ≡ length sources
-    → ((i : ℕ) → i < n → get_or sources' i None ≡ get_or sources i None) → HasTakersTo n sources takers → HasTakersTo n sources' takers
-takers_kept n sources sources' takers within long same known = record {
-  taken = λ p i is. let was = known.taken p i is in
-      (was.0, source_read sources' i (Some p) (omega (arith, was.0, within, long)) (same i was.0 ∙ get_or_from_slice_get sources i (Some p) None was.1));
-  takes = λ i p below from. known.takes i p below
-      (source_read sources i (Some p) (omega (arith, below, within)) (sym (same i below) ∙ get_or_from_slice_get sources' i (Some p) None from));
-}
-
--- one that takes from nothing
-takes_none : (sources takers : List (Option ℕ)) → AreTakersTo None sources takers → AreTakersTo None (sources ++ None ∷ []) takers
-takes_none sources takers known = record {
-  taken = λ p i is. let was = known.taken p i is in (omega (arith, was.0, length-append {A = Option ℕ}), before sources None i p was.1);
-  takes = λ i p below from. elim (last_or_before sources None i p from) [
-    | inl old ↦ known.takes i p (slice_get_within sources i (Some p) old) old
-    | inr new ↦ let e = new.1 in cc
-  ];
-}
-
-pub takes_nothing : (twice : Option ℕ) (sources takers : List (Option ℕ)) → AreTakersTo twice sources takers → AreTakersTo twice (sources ++ None ∷ []) takers
-takes_nothing None sources takers known = takes_none sources takers known
-takes_nothing (Some n) sources takers known = kept_to n sources takers None known
-
--- one that takes from a source from which nothing took
-pub takes_first : (sources takers : List (Option ℕ)) (q : ℕ) → q < length takers → get_or takers q None ≡ None → AreTakersTo None sources takers
-    → AreTakersTo None (sources ++ Some q ∷ []) (set takers q (Some (length sources)))
-takes_first sources takers q inside free known = record {
-  taken = λ p i is. elim (cases_eq q p) [
-    | inl same ↦
-        let now = last sources q in
-        let long = length-append sources (Some q ∷ []) in
-        let here = get_or-set_same takers q (Some (length sources)) None inside in
-        (grind arith, grind arith)
-    | inr other ↦
-        let was = known.taken p i (sym (get_or-set_other takers q p (Some (length sources)) None (λ same. other (sym same))) ∙ is) in
-        (omega (arith, was.0, length-append {A = Option ℕ}), before sources (Some q) i p was.1)
-  ];
-  takes = λ i p below from. elim (last_or_before sources (Some q) i p from) [
-    | inl old ↦
-        let was = known.takes i p (slice_get_within sources i (Some p) old) old in
-        get_or-set_other takers q p (Some (length sources)) None (λ same. grind arith) ∙ was
-    | inr new ↦ let here = get_or-set_same takers q (Some (length sources)) None inside in cc
-  ];
-}
-
 -- ---- the dequeues by their enqueues
 
 -- the taker of each enqueue is the dequeue of its value
-pub dequeues_by_enqueues : (operations : List Operation) (sources takers : List (Option ℕ)) → AreComplete operations → NoFreshViolation operations
-    → HoldsSources operations sources → HoldsTakers sources takers
-    → HoldsDequeues operations takers
-dequeues_by_enqueues operations sources takers complete no_fresh holds taken = record {
-  one_each = taken.one_each ∙ holds.one_each;
+pub dequeues_by_enqueues : (operations : List Operation) (takers : List (Option ℕ)) → NoFreshViolation operations
+    → HasTakersTo operations (length operations) takers → HoldsDequeues operations takers
+dequeues_by_enqueues operations takers no_fresh taken = record {
+  one_each = taken.one_each;
   each = λ i o v here is. at_place i o v here is (get_or takers i None) refl;
 }
   where
@@ -473,15 +429,15 @@ dequeues_by_enqueues operations sources takers complete no_fresh holds taken = r
         → IsDequeuePlace operations v taker
     at_place i o v here is None none = λ x among dequeues.
         let j = place_of operations x among in
-        let taker = taken.takes j.0 i (takes_from_enqueue operations sources j.0 i x o v complete holds j.1 dequeues here is) in
+        let taker = taken.takes j.0 i (slice_get_within operations j.0 x j.1) (takes_from_enqueue operations j.0 i x o v j.1 dequeues here is) in
         cc
     at_place i o v here is (Some j) some =
-        let from = taken.taken i j some in
-        let below : j < length operations = let inside = slice_get_within sources j (Some i) from in omega (arith, holds.one_each) in
-        let x = get_or operations j o in
-        let at_j = slice_get-get_or operations j o below in
-        let t = taken_from operations sources j i x holds no_fresh at_j from in
-        (x, at_j, cc)
+        let t = (taken.taken i j some).1 in
+        let call = accepted_call operations j i no_fresh t in
+        let kinds : Enq t.value ≡ Enq v =
+        sym call ∙ ap (λ (x : Operation). x.kind) (one_at operations i t.from_call.0 o t.from_call.1 here) ∙ is in
+        let value : t.value ≡ v = cc in
+        (t.dequeue, t.at, t.dequeues ∙ ap Deq value)
 
 -- the dequeue at the place is the one that is found
 pub found_at_place : (operations : List Operation) (enq : Operation) (v : ℕ) (place : Option ℕ) (dequeue : Option Operation) → IsClear operations
@@ -498,17 +454,19 @@ found_at_place operations enq v place dequeue clear did is at =
     named _ _ is there = absurd there
 
 -- then no value is dequeued that was not there, and none twice
-pub clear_from_takers : (operations : List Operation) (sources takers : List (Option ℕ)) → AreComplete operations → NoFreshViolation operations
-    → HoldsSources operations sources → HoldsTakers sources takers → IsClear operations
-clear_from_takers operations sources takers complete no_fresh holds taken = record {
+pub clear_from_takers : (operations : List Operation) (takers : List (Option ℕ)) → AreComplete operations → NoFreshViolation operations
+    → HasTakersTo operations (length operations) takers → IsClear operations
+clear_from_takers operations takers complete no_fresh taken = record {
   complete = complete;
   no_fresh = no_fresh;
   no_repeat = λ enq first second r.
       let (p, at_p) = place_of operations enq r.enqueues.0 in
       let (i, at_i) = place_of operations first r.dequeues.0 in
       let (j, at_j) = place_of operations second r.dequeues_again.0 in
-      let taker_i = taken.takes i p (takes_from_enqueue operations sources i p first enq r.value complete holds at_i r.dequeues.1 at_p r.enqueues.1) in
-      let taker_j = taken.takes j p (takes_from_enqueue operations sources j p second enq r.value complete holds at_j r.dequeues_again.1 at_p r.enqueues.1) in
+      let taker_i = taken.takes i p (slice_get_within operations i first at_i)
+      (takes_from_enqueue operations i p first enq r.value at_i r.dequeues.1 at_p r.enqueues.1) in
+      let taker_j = taken.takes j p (slice_get_within operations j second at_j)
+      (takes_from_enqueue operations j p second enq r.value at_j r.dequeues_again.1 at_p r.enqueues.1) in
       let less = r.in_order in
       absurd (grind arith);
 }

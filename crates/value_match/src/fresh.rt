@@ -1,15 +1,14 @@
-ghost use Rattle.std.specs.Prelude.{◌≡◌, ◌||◌, ◌↔◌, ◌<◌, ◌≤◌, nat_lt, if◌then◌else◌, IsTrue, IfSome, MatchOption, None, length, slice_index_or};
+ghost use Rattle.std.specs.Prelude.{◌≡◌, ◌||◌, ◌↔◌, ◌<◌, ◌≤◌, nat_lt, if◌then◌else◌, IsTrue, IfSome, MatchOption, None, length};
 ghost use Rattle.history_merge.specs.declared.operation.Operation.{Operation};
 ghost use Rattle.history_merge.specs.Complete.{AreComplete};
 ghost use Rattle.history_merge.specs.Operations.{IsAt};
 ghost use Rattle.value_match.specs.Lives.{is_refused};
 ghost use Rattle.value_match.specs.Inner.MatchOutcome.{AreChosenFresh};
-ghost use Rattle.value_match.specs.Inner.Sources.{AreSources, HoldsSources, IsFreshFrom, NoneFresh};
+ghost use Rattle.value_match.specs.Inner.Sources.{HoldsSources, IsFreshFrom, IsSourceOf, NoneFresh};
 ghost use Rattle.value_match.specs.Violations.{NoFreshViolation};
 
 use crate::matching::MAX_MATCHED;
 use crate::maybe_place::MaybePlace;
-use crate::sources::Sources;
 use history_merge::{OpId, OpKind, Operation, PackedOperation};
 
 /// The places of a dequeue of a value that was not there, and of the call for this value if there is one.
@@ -19,62 +18,45 @@ pub(crate) struct FreshPlaces {
     pub(crate) enq: Option<OpId>,
 }
 
-/// The dequeue that returns first, of those of a value that was not there, if there is one, by the sources of all dequeues.
-pub(crate) fn first_fresh(operations: &[PackedOperation], sources: &Sources) -> Option<FreshPlaces>
-    requires complete { AreComplete operations.now }
-    requires few { length operations.now ≤ MAX_MATCHED }
-    requires sources { AreSources operations.now sources.now }
-    ensures { MatchOption result (NoFreshViolation operations.now) (AreChosenFresh operations.now) }
-{
-    find_fresh(operations, sources.places.as_slice(), sources.in_time)
-}
-
-/// The same by looking at each dequeue from a place on. Before it no dequeue is of a value that was not there.
-fn find_fresh(
+/// The dequeue that returns first, of those of a value that was not there, if there is one, by the sources of the operations
+/// behind the settled ones.
+pub(crate) fn first_fresh(
     operations: &[PackedOperation],
+    settled: usize,
     sources: &[MaybePlace],
-    in_time: usize,
 ) -> Option<FreshPlaces>
     requires complete { AreComplete operations.now }
     requires few { length operations.now ≤ MAX_MATCHED }
-    requires sources { HoldsSources operations.now sources.now }
-    requires in_time { NoneFresh operations.now in_time }
+    requires sources { HoldsSources operations.now settled sources.now }
+    requires in_time { NoneFresh operations.now settled }
     ensures { MatchOption result (NoFreshViolation operations.now) (AreChosenFresh operations.now) }
 {
     let mut first = None;
-    for place in in_time..operations.len() {
-        if !is_fresh(operations, sources, place) {
+    for place in settled..operations.len() {
+        let source = sources[place - settled];
+        if !is_fresh(operations, place, source) {
             continue;
         }
-        first = Some(sooner(operations, first, place));
+        let found = FreshPlaces {
+            deq: OpId::new(place as u32),
+            enq: source.id(),
+        };
+        first = Some(sooner(operations, first, found));
     }
-    let deq = first?;
-    Some(fresh_at(sources, deq))
+    first
 }
 
-/// The dequeue at this place with the call for its value, if there is one.
-fn fresh_at(sources: &[MaybePlace], deq: usize) -> FreshPlaces
-    requires place { deq < length sources.now }
-    requires few { length sources.now ≤ MAX_MATCHED }
-    ensures { result ≡ record { deq = deq; enq = slice_index_or sources.now deq None } }
-{
-    FreshPlaces {
-        deq: OpId::new(deq as u32),
-        enq: sources[deq].id(),
-    }
-}
-
-/// Whether the operation at this place is a dequeue of a value that was not there.
-fn is_fresh(operations: &[PackedOperation], sources: &[MaybePlace], place: usize) -> bool
+/// Whether the operation at this place, which has this source, is a dequeue of a value that was not there.
+fn is_fresh(operations: &[PackedOperation], place: usize, source: MaybePlace) -> bool
     requires place { place < length operations.now }
-    requires sources { HoldsSources operations.now sources.now }
-    ensures { (o : Operation) → IsAt operations.now place o → IsTrue result ↔ IsFreshFrom operations.now (slice_index_or sources.now place None) o }
+    requires source { (o : Operation) → IsAt operations.now place o → IsSourceOf operations.now o.kind source }
+    ensures { (o : Operation) → IsAt operations.now place o → IsTrue result ↔ IsFreshFrom operations.now source o }
 {
     let operation = operations[place].unpack();
     let OpKind::Deq(_) = operation.kind else {
         return false;
     };
-    let Some(source) = sources[place].get() else {
+    let Some(source) = source.get() else {
         return true;
     };
     comes_too_soon(operations, operation, source)
@@ -90,16 +72,16 @@ pub(crate) fn comes_too_soon(operations: &[PackedOperation], deq: Operation, sou
     matches!(call.kind, OpKind::Not(_)) || deq.ret < call.call
 }
 
-/// The place, if there is one, or the other, whichever operation returns first.
-fn sooner(operations: &[PackedOperation], place: Option<usize>, other: usize) -> usize
-    requires place { IfSome place (λ p. p < length operations.now) }
-    requires other { other < length operations.now }
-    ensures none { place ≡ None → result ≡ other }
-    ensures some { IfSome place (λ p. (o x : Operation) → IsAt operations.now p o → IsAt operations.now other x
-        → result ≡ (if nat_lt o.ret x.ret then p else other)) }
+/// What was found first, if anything was, or the other, whichever dequeue returns first.
+fn sooner(operations: &[PackedOperation], first: Option<FreshPlaces>, other: FreshPlaces) -> FreshPlaces
+    requires first { IfSome first (λ f. f.deq < length operations.now) }
+    requires other { other.deq < length operations.now }
+    ensures none { first ≡ None → result ≡ other }
+    ensures some { IfSome first (λ f. (o x : Operation) → IsAt operations.now f.deq o → IsAt operations.now other.deq x
+        → result ≡ (if nat_lt o.ret x.ret then f else other)) }
 {
-    match place {
-        Some(place) if returns_before(operations, place, other) => place,
+    match first {
+        Some(first) if returns_before(operations, first.deq.place(), other.deq.place()) => first,
         _ => other,
     }
 }

@@ -28,43 +28,41 @@ pub(crate) enum Takers {
 
 /// What takes from the sources of all dequeues.
 ///
-/// Time O(n) for n operations behind those that were seen to take from different sources.
+/// Time O(n) for n operations behind the settled ones.
 pub(crate) fn takers_of(operations: &[PackedOperation], sources: Sources) -> Takers
     requires complete { AreComplete operations.now }
     requires few { length operations.now ≤ MAX_MATCHED }
     requires sources { AreSources operations.now sources }
     requires no_fresh { NoFreshViolation operations.now }
-    ensures { AreTakers operations.now sources.places.items result }
+    ensures { AreTakers operations.now result }
 {
     let Sources {
-        places,
-        in_time: _in_time,
+        settled,
         takers,
-        once,
+        places,
     } = sources;
-    find_takers(operations, places.as_slice(), takers, once)
+    find_takers(operations, settled, places.as_slice(), takers)
 }
 
-/// The same by looking at each source from a place on. At each source stands the operation before this place that takes from it.
+/// The same by looking at each source behind the settled operations, what takes from the others being known.
 fn find_takers(
     operations: &[PackedOperation],
+    settled: usize,
     sources: &[MaybePlace],
     takers: Vec<MaybePlace>,
-    once: usize,
 ) -> Takers
     requires complete { AreComplete operations.now }
     requires few { length operations.now ≤ MAX_MATCHED }
-    requires sources { HoldsSources operations.now sources.now }
-    requires takers { HasTakersTo once sources.now takers.items }
-    requires one_each { length takers.items ≡ length sources.now }
+    requires sources { HoldsSources operations.now settled sources.now }
+    requires takers { HasTakersTo operations.now settled takers.items }
     requires no_fresh { NoFreshViolation operations.now }
-    ensures { AreTakers operations.now sources.now result }
+    ensures { AreTakers operations.now result }
 {
     // For each source the dequeue that returns first, of those so far.
     let mut firsts = takers;
     let mut found = None;
-    for place in once..sources.len() {
-        let Some(source) = sources[place].get() else {
+    for place in settled..operations.len() {
+        let Some(source) = sources[place - settled].get() else {
             continue;
         };
         let Some(other) = firsts[source].get() else {

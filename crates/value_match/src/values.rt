@@ -61,7 +61,7 @@ fn find(
     ensures { IfOk result (IsMatchOutcomeOf operations.now) }
 {
     let sources = sources_of(alloc, operations, initial_count)?;
-    if let Some(places) = first_fresh(operations, &sources) {
+    if let Some(places) = first_fresh(operations, sources.settled, sources.places.as_slice()) {
         return Ok(MatchOutcome::Fresh(places));
     }
     match takers_of(operations, sources) {

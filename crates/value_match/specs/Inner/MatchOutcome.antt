@@ -1,5 +1,5 @@
 -- What matching finds of operations, before they are those of a matching.
-use Rattle.std.specs.Prelude.{ℕ, List, Option}
+use Rattle.std.specs.Prelude.{List, Option, length}
 use Rattle.history_merge.specs.declared.operation.Operation.{Operation}
 use Rattle.history_merge.specs.Operations.{IsAt}
 use Rattle.value_match.specs.declared.fresh.FreshPlaces.{FreshPlaces}
@@ -11,7 +11,7 @@ use Rattle.value_match.specs.declared.takers.Takers.TheVariants as takers
 use Rattle.value_match.specs.Choice.{IsChosenFresh, IsChosenRepeat}
 use Rattle.value_match.specs.Lives.{IsMaybeAt}
 use Rattle.value_match.specs.Violations.{NoFreshViolation}
-use Rattle.value_match.specs.Inner.Sources.{HoldsTakers}
+use Rattle.value_match.specs.Inner.Sources.{HasTakersTo}
 use Rattle.value_match.specs.Inner.SortedOut.{IsSortedOutOf}
 
 -- the places are those of the chosen dequeue of a value that was not there, and of the call for this value
@@ -25,10 +25,11 @@ AreChosenRepeat operations found =
     (enq : Operation) × (first : Operation) × (second : Operation) × IsAt operations found.enq enq × IsAt operations found.first first
     × IsAt operations found.second second × NoFreshViolation operations × IsChosenRepeat operations enq first second
 
--- at each source stands the one dequeue that takes from it; otherwise the two dequeues are those of the chosen repeat violation
-abbrev pub AreTakers : List Operation → List (Option ℕ) → Takers → Type 0
-AreTakers operations sources (takers.Once places) = HoldsTakers sources places.items
-AreTakers operations sources (takers.Twice places) = AreChosenRepeat operations places
+-- at each place stands the one operation that takes from it, if there is one; otherwise the two dequeues are those of the chosen repeat
+-- violation
+abbrev pub AreTakers : List Operation → Takers → Type 0
+AreTakers operations (takers.Once places) = HasTakersTo operations (length operations) places.items
+AreTakers operations (takers.Twice places) = AreChosenRepeat operations places
 
 -- what matching finds of these operations
 abbrev pub IsMatchOutcomeOf : List Operation → MatchOutcome → Type 0

@@ -1,5 +1,5 @@
 -- Calls to enqueue, found near by, or among those of values that weren't.
-use Rattle.std.specs.Prelude.{◌≡◌, ℕ, ◌<◌, ◌≤◌, ◌^◌, true, List, All, length, slice_index_or, Option, Some, None}
+use Rattle.std.specs.Prelude.{◌≡◌, ℕ, ◌+◌, ◌<◌, ◌≤◌, ◌^◌, true, List, All, length, slice_index_or, Option, Some, None}
 use Rattle.std.specs.BTreeSet.{BTreeSet, contains}
 use Rattle.std.specs.List.Sorted.{IsNonDecreasingBy}
 use Rattle.std.specs.Ordering.{nat_cmp}
@@ -38,11 +38,12 @@ abbrev pub IsNearSource : BTreeSet ℕ → List Operation → OpKind → Option 
 IsNearSource wanted operations (Deq v) None = contains nat_cmp wanted v ≡ true
 IsNearSource wanted operations kind source = IsSourceOf operations kind source
 
--- such places, one by one
-pub record HoldsNear (wanted : BTreeSet ℕ) (operations : List Operation) (sources : List (Option ℕ)) : Type 0 where
-  pub one_each : length sources ≡ length operations
-  pub each : (i : ℕ) (o : Operation) → IsAt operations i o → IsNearSource wanted operations o.kind (slice_index_or sources i None)
+-- such places of the operations from one place on, before another, one by one
+pub record HoldsNear (wanted : BTreeSet ℕ) (operations : List Operation) (from to : ℕ) (sources : List (Option ℕ)) : Type 0 where
+  pub one_each : from + length sources ≡ to
+  pub each : (i : ℕ) (o : Operation) → i < length sources → IsAt operations (from + i) o → IsNearSource wanted operations o.kind (slice_index_or sources i None)
 
 -- and the calls of the values that are wanted
-abbrev pub AreNearWith : List Operation → List (Option ℕ) → List Call → Type 0
-AreNearWith operations sources others = (wanted : BTreeSet ℕ) × HoldsNear wanted operations sources × HoldsOthers wanted operations others
+abbrev pub AreNearWith : List Operation → ℕ → List (Option ℕ) → List Call → Type 0
+AreNearWith operations from sources others =
+    (wanted : BTreeSet ℕ) × HoldsNear wanted operations from (length operations) sources × HoldsOthers wanted operations others

@@ -1,5 +1,5 @@
 -- From each dequeue to the call that enqueued its value, and back.
-use Rattle.std.specs.Prelude.{◌≡◌, ℕ, ◌<◌, ◌≤◌, Bool, true, List, length, slice_get, slice_index_or, Option, Some, None, Contains}
+use Rattle.std.specs.Prelude.{◌≡◌, ℕ, ◌+◌, ◌<◌, List, length, slice_get, slice_index_or, Option, Some, None, Contains}
 use Rattle.std.specs.Option.{option_map_or}
 use Rattle.history_merge.specs.declared.operation.Operation.{Operation}
 use Rattle.history_merge.specs.declared.operation.OpKind.{OpKind}
@@ -19,64 +19,42 @@ abbrev pub IsSourceOf : List Operation → OpKind → Option ℕ → Type 0
 IsSourceOf operations (Deq v) source = IsCallPlace operations v source
 IsSourceOf operations _ source = source ≡ None
 
--- the places are the sources of the operations, one by one
-pub record HoldsSources (operations : List Operation) (sources : List (Option ℕ)) : Type 0 where
-  pub one_each : length sources ≡ length operations
-  pub each : (i : ℕ) (o : Operation) → IsAt operations i o → IsSourceOf operations o.kind (slice_index_or sources i None)
-
--- so are the first n of them
-abbrev pub AreFound : ℕ → List Operation → List (Option ℕ) → Type 0
-AreFound n operations sources = (i : ℕ) (o : Operation) → i < n → IsAt operations i o → IsSourceOf operations o.kind (slice_index_or sources i None)
-
--- so are the first n of them, or those before the one given
-abbrev pub AreFoundTo : ℕ → List Operation → List (Option ℕ) → Option ℕ → Type 0
-AreFoundTo n operations sources None = AreFound n operations sources
-AreFoundTo n operations sources (Some place) = AreFound place operations sources
+-- the places are the sources of the operations from one place on, one by one
+pub record HoldsSources (operations : List Operation) (from : ℕ) (sources : List (Option ℕ)) : Type 0 where
+  pub one_each : from + length sources ≡ length operations
+  pub each : (i : ℕ) (o : Operation) → IsAt operations (from + i) o → IsSourceOf operations o.kind (slice_index_or sources i None)
 
 -- the operation is a dequeue of a value that was not there; the call for its value, if there is one, is at the place
 abbrev pub IsFreshFrom : List Operation → Option ℕ → Operation → Type 0
 IsFreshFrom operations source deq = (enq : Option Operation) × IsMaybeAt operations source enq × IsFreshViolation operations deq enq
 
--- the operation at place i has its source at place p
-abbrev pub TakesFrom : List (Option ℕ) → ℕ → ℕ → Type 0
-TakesFrom sources i p = slice_get sources i ≡ Some (Some p)
-
 -- none of the first n operations is a dequeue of a value that was not there
 abbrev pub NoneFresh : List Operation → ℕ → Type 0
 NoneFresh operations n = (k : ℕ) (o : Operation) → k < n → IsAt operations k o → (enq : Option Operation) → ¬ (IsFreshViolation operations o enq)
 
--- so it is with the first n operations, or with those before the one given
-abbrev pub AreInTimeTo : ℕ → List Operation → Option ℕ → Type 0
-AreInTimeTo n operations None = NoneFresh operations n
-AreInTimeTo n operations (Some place) = NoneFresh operations place
+-- the operation at place i is a dequeue of the value that the one at place p called to enqueue
+pub record TakesFrom (operations : List Operation) (i p : ℕ) : Type 0 where
+  pub value : ℕ
+  pub dequeue : Operation
+  pub at : IsAt operations i dequeue
+  pub dequeues : dequeue.kind ≡ Deq value
+  pub from_call : IsCallPlace operations value (Some p)
 
--- the first of some places: what is known of it, or else this one, where it is one of them
-abbrev pub first_of : Option ℕ → ℕ → Bool → Option ℕ
-first_of None place true = Some place
-first_of known place is_one = known
+-- at each place stands the one of the first n operations that takes from it, if there is one
+pub record HasTakersTo (operations : List Operation) (n : ℕ) (takers : List (Option ℕ)) : Type 0 where
+  pub one_each : length takers ≡ length operations
+  pub taken : (p i : ℕ) → slice_index_or takers p None ≡ Some i → (i < n) × TakesFrom operations i p
+  pub takes : (i p : ℕ) → i < n → TakesFrom operations i p → slice_index_or takers p None ≡ Some i
 
--- at each place stands the one of the first n operations that has its source there, if there is one
-pub record HasTakersTo (n : ℕ) (sources takers : List (Option ℕ)) : Type 0 where
-  pub taken : (p i : ℕ) → slice_index_or takers p None ≡ Some i → (i < n) × TakesFrom sources i p
-  pub takes : (i p : ℕ) → i < n → TakesFrom sources i p → slice_index_or takers p None ≡ Some i
+-- of the first n operations none is a dequeue of a value that was not there, and no two take from one place
+pub record AreSettled (operations : List Operation) (n : ℕ) (takers : List (Option ℕ)) : Type 0 where
+  pub in_time : NoneFresh operations n
+  pub noted : HasTakersTo operations n takers
 
--- so it is with all operations, or with those before the one given
-abbrev pub AreTakersTo : Option ℕ → List (Option ℕ) → List (Option ℕ) → Type 0
-AreTakersTo None sources takers = HasTakersTo (length sources) sources takers
-AreTakersTo (Some n) sources takers = (n ≤ length sources) × HasTakersTo n sources takers
-
--- at each place stands the one operation that has its source there, if there is one
-pub record HoldsTakers (sources takers : List (Option ℕ)) : Type 0 where
-  pub one_each : length takers ≡ length sources
-  pub taken : (p i : ℕ) → slice_index_or takers p None ≡ Some i → TakesFrom sources i p
-  pub takes : (i p : ℕ) → TakesFrom sources i p → slice_index_or takers p None ≡ Some i
-
--- the places are the sources, the first operations are in time, and the takers are those of the first that take once
+-- the first operations are settled, and the places are the sources of the others
 pub record AreSources (operations : List Operation) (sources : Sources) : Type 0 where
-  pub holds : HoldsSources operations sources.places.items
-  pub in_time : NoneFresh operations sources.in_time
-  pub takers : HasTakersTo sources.once sources.places.items sources.takers.items
-  pub one_each : length sources.takers.items ≡ length operations
+  pub settled : AreSettled operations sources.settled sources.takers.items
+  pub holds : HoldsSources operations sources.settled sources.places.items
 
 -- the return of the operation at this place
 abbrev pub return_at : List Operation → ℕ → ℕ

@@ -1,22 +1,28 @@
-use Rattle.value_match.proofs.Common.{◌∙◌, ap, arith, get_or_read, None, refl, slice_get_read, Some, sym}
-use Rattle.value_match.proofs.FreshDequeues.{fresh_at_none, fresh_at_some, source_of_dequeue}
+use Rattle.value_match.proofs.Common.{◌∙◌, ap, IsCallPlace, IsSourceOf, None, refl, slice_get_read, Some, subst, sym}
 use Rattle.value_match.proofs.CallPlaces.{call_within}
+use Rattle.value_match.proofs.FreshDequeues.{fresh_at_none, fresh_at_some}
 use Rattle.value_match.proofs.fresh.is_fresh.Goals as goal
+use Rattle.value_match.proofs.fresh.is_fresh.Goals.{In-Deq}
+
+-- the call is that for the value of the dequeue
+call : (c : In-Deq) → IsCallPlace c.args.operations.now c.in-Deq.field-0 c.args.source
+call c = let here = slice_get_read _ _ _ _ refl c.requires.place c.index-operations-place.is ∙ ap Some (sym c.unpack-operation.ensures.operation) in
+    subst (λ kind. IsSourceOf c.args.operations.now kind c.args.source) c.in-Deq.is (c.requires.source _ here)
 
 pub returns-in_default-get : goal.returns-in_default-get
 returns-in_default-get c =
     let here = slice_get_read _ _ _ _ refl c.requires.place c.index-operations-place.is ∙ ap Some (sym c.unpack-operation.ensures.operation) in
-    let read = get_or_read c.args.sources.now _ _ (omega (arith, c.requires.place, c.requires.sources.one_each)) c.index-sources-place.is None in
-    λ o there. fresh_at_none _ _ _ _ o _ c.requires.sources here c.in-Deq.is (sym read ∙ sym c.get.ensures ∙ c.in_default-get.is) there
+    let none = sym c.get.ensures ∙ c.in_default-get.is in
+    let no_call = subst (IsCallPlace _ _) none (call (goal.at.returns-in_default-get c).In-Deq) in
+    λ o there. rw none (fresh_at_none _ _ _ o _ here c.in-Deq.is no_call there)
 
 pub comes_too_soon-requires : goal.comes_too_soon-requires
 comes_too_soon-requires c =
-    let here = slice_get_read _ _ _ _ refl c.requires.place c.index-operations-place.is ∙ ap Some (sym c.unpack-operation.ensures.operation) in
-    let read = get_or_read c.args.sources.now _ _ (omega (arith, c.requires.place, c.requires.sources.one_each)) c.index-sources-place.is None in
-    call_within _ _ _ (source_of_dequeue _ _ _ _ _ _ c.requires.sources here c.in-Deq.is (sym read ∙ sym c.get.ensures ∙ c.in-Some.is))
+    call_within _ _ _ (subst (IsCallPlace _ _) (sym c.get.ensures ∙ c.in-Some.is) (call (goal.at.comes_too_soon-requires c).In-Deq))
 
 pub returns : goal.returns
 returns c =
     let here = slice_get_read _ _ _ _ refl c.requires.place c.index-operations-place.is ∙ ap Some (sym c.unpack-operation.ensures.operation) in
-    let read = get_or_read c.args.sources.now _ _ (omega (arith, c.requires.place, c.requires.sources.one_each)) c.index-sources-place.is None in
-    λ o there. fresh_at_some _ _ _ _ o _ _ _ c.requires.sources here c.in-Deq.is (sym read ∙ sym c.get.ensures ∙ c.in-Some.is) c.comes_too_soon.ensures there
+    let some = sym c.get.ensures ∙ c.in-Some.is in
+    let at_call = subst (IsCallPlace _ _) some (call (goal.at.returns c).In-Deq) in
+    λ o there. rw some (fresh_at_some _ _ _ _ o _ _ here c.in-Deq.is at_call c.comes_too_soon.ensures there)
