@@ -50,16 +50,14 @@ pub(crate) fn if_overtaken(b: &Life, longest: Option<MatchedValue>) -> Option<Ma
 
 /// Returns of the candidates that overtake a value of the table the one that is dequeued first.
 ///
-/// Time O(m log n) for m candidates and n values. If the candidates come by the calls of their enqueues, each look-up
-/// starts where the one before ended, and all take little more than a pass.
+/// Time O(m log n) for m candidates and n values.
 pub fn first_overtaking(table: &LongestTable, candidates: &Values) -> Option<MatchedValue>
     ensures { FindsFirst table.now candidates.now result }
 {
     let mut first: Option<MatchedValue> = None;
-    let mut start = 0;
     for place in 0..candidates.len() {
         let b = candidates.get(place);
-        let longest = table.longest_before_from(&mut start, b.life.enqueue_call());
+        let longest = table.longest_before(b.life.enqueue_call());
         if if_overtaken(&b.life, longest).is_some() {
             first = Some(first.map_or(b, |so_far| sooner_of(so_far, b)));
         }

@@ -195,14 +195,3 @@ module _ (values : List MatchedValue) (fronts : List Front) (limit i : ℕ) (tab
               | inr after ↦ absurd (enters_not d d j after (omega arith) passes)
             ]));
       }
-
--- where the front before place i returned before the limit, and the one at i, if there is one, did not, the first i did and no other
-pub point_between : (fronts : List Front) (limit i : ℕ) → IsNonDecreasingBy (λ f. f.enqueue_return) fronts → i < length fronts
-    → ((f : Front) → (get_or fronts i f).enqueue_return < limit)
-    → ((f : Front) → i + 1 < length fronts → limit ≤ (get_or fronts (i + 1) f).enqueue_return)
-    → IsPartitionPoint (λ (f : Front). ltb f.enqueue_return limit ≡ true) (λ (f : Front). ltb f.enqueue_return limit ≡ false) fronts (i + 1)
-point_between fronts limit i rises within here next = (
-  λ k f below before. let le = rises k i f (omega arith) within in let less = here f in lt-ltb (get_or fronts k f).enqueue_return limit (omega arith),
-  λ k f after inside. let le = rises (i + 1) k f after inside in let more = next f (omega arith) in
-      le-ltb (get_or fronts k f).enqueue_return limit (omega arith),
-)

@@ -252,10 +252,14 @@ module _ (operations : List Operation) (complete : AreComplete operations) (firs
       | inr other ↦ let was = known.taken q i (sym (get_or-set_other firsts p q (Some first) None other) ∙ is) in (omega (arith, was.0), was.1)
     ];
     least = λ i q low from_i. elim (cases_eq q p) [
-      | inl same ↦ (first, rw same now, elim (cases_eq i n) [
-        | inl last ↦ rw last least_here
-        | inr before ↦ least_before i (omega arith) (subst (TakesFrom operations i) same from_i)
-      ])
+      | inl same ↦ (
+        first,
+        rw same now,
+        elim (cases_eq i n) [
+          | inl last ↦ rw last least_here
+          | inr before ↦ least_before i (omega arith) (subst (TakesFrom operations i) same from_i)
+        ],
+      )
       | inr other ↦
           let was = known.least i q (other_source i q other low from_i) from_i in
           (was.0, get_or-set_other firsts p q (Some first) None other ∙ was.1, was.2)

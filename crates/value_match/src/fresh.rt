@@ -73,7 +73,11 @@ pub(crate) fn comes_too_soon(operations: &[PackedOperation], deq: Operation, sou
 }
 
 /// What was found first, if anything was, or the other, whichever dequeue returns first.
-fn sooner(operations: &[PackedOperation], first: Option<FreshPlaces>, other: FreshPlaces) -> FreshPlaces
+fn sooner(
+    operations: &[PackedOperation],
+    first: Option<FreshPlaces>,
+    other: FreshPlaces,
+) -> FreshPlaces
     requires first { IfSome first (λ f. f.deq < length operations.now) }
     requires other { other.deq < length operations.now }
     ensures none { first ≡ None → result ≡ other }

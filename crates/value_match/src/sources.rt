@@ -72,11 +72,7 @@ pub(crate) fn sources_of(
 }
 
 /// How many operations at the front are settled; at the call for each of their values it notes what takes it.
-fn settle(
-    operations: &[PackedOperation],
-    guess: &mut Guess,
-    takers: &mut [MaybePlace],
-) -> usize
+fn settle(operations: &[PackedOperation], guess: &mut Guess, takers: &mut [MaybePlace]) -> usize
     requires complete { AreComplete operations.now }
     requires few { length operations.now ≤ MAX_MATCHED }
     requires none { HasTakersTo operations.now 0 takers.old }

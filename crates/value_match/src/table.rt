@@ -11,9 +11,6 @@ use crate::presorting::presort;
 use std::alloc::{AllocError, Global};
 use std::marker::Model;
 
-/// How many fronts a look-up that goes on where another ended walks past at most.
-const MOST_STEPS: usize = 32;
-
 /// A value's enqueue return, with its place; in a table, with the place of the longest of the values up to it.
 #[derive(Clone, Copy)]
 pub struct Front {
@@ -85,43 +82,18 @@ impl<'a> LongestTable<'a> {
     pub fn longest_before(&self, limit: u64) -> Option<MatchedValue>
         ensures { FindsLongest (EntersBefore limit) self.now result }
     {
-        let mut start = self.fronts.len();
-        self.longest_before_from(&mut start, limit)
-    }
-
-    /// The same. The look-up begins at `start`, any place, and leaves there where it ended.
-    ///
-    /// Time O(log n) for n values, and a few steps where it ends near by: so for limits that rise, each beginning where the
-    /// one before ended.
-    #[inline(always)]
-    pub fn longest_before_from(&self, start: &mut usize, limit: u64) -> Option<MatchedValue>
-        ensures { FindsLongest (EntersBefore limit) self.now result }
-    {
         let fronts = self.fronts.as_slice();
-        *start = count_before(fronts, *start, limit);
-        let last = start.checked_sub(1)?;
+        let last = count_before(fronts, limit).checked_sub(1)?;
         Some(self.values.get(fronts[last].place))
     }
 }
 
-/// How many of the fronts returned before the limit. It walks a few steps on from a place near by, and else searches.
-#[inline(always)]
-fn count_before(fronts: &[Front], near: usize, limit: u64) -> usize
+/// How many of the fronts returned before the limit.
+fn count_before(fronts: &[Front], limit: u64) -> usize
     requires { IsNonDecreasingBy (λ front. front.enqueue_return) fronts.now }
     ensures within { result ≤ length fronts.now }
     ensures cut { IsPartitionPoint (λ front. nat_lt front.enqueue_return limit ≡ true) (λ front. nat_lt front.enqueue_return limit ≡ false) fronts.now result }
 {
-    let mut before = near.min(fronts.len());
-    let most = fronts.len().min(before.saturating_add(MOST_STEPS));
-    while before < most && fronts[before].enqueue_return < limit {
-        before += 1;
-    }
-    if before < most
-        && let Some(last) = before.checked_sub(1)
-        && fronts[last].enqueue_return < limit
-    {
-        return before;
-    }
     fronts.partition_point(|front| front.enqueue_return < limit)
 }
 

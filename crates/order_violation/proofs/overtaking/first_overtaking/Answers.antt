@@ -10,8 +10,8 @@ loop-place-preserved c =
     let b = c.get-b.result in
     let first = c.loop-place.first in
     let longest = c.if_overtaken.result in
-    let entered = subst (λ limit. FindsLongest (EntersBefore limit) values c.longest_before_from-longest.result) c.enqueue_call.ensures
-    c.longest_before_from-longest.ensures in
+    let entered = subst (λ limit. FindsLongest (EntersBefore limit) values c.longest_before-longest.result) c.enqueue_call.ensures
+    c.longest_before-longest.ensures in
     let finds = c.if_overtaken.ensures values entered in
     elim c.if-is_some.branch [
       | then-is_some w ↦

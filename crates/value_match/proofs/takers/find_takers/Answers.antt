@@ -13,9 +13,12 @@ here c =
     let at = slice_get-get_or c.args.operations.now c.loop-place.place d c.loop-place-test.true in
     let within : c.loop-place.place - c.args.settled < length c.args.sources.now =
     omega (arith, c.loop-place-test.true, c.loop-place.auto.place, c.requires.sources.one_each) in
-    let read = get_or_read c.args.sources.now _ _ within c.index-sources-place.is None in
-    (get_or c.args.operations.now c.loop-place.place d, at, subst (IsSourceOf _ _) (sym (c.get.ensures ∙ read))
-    (source_at _ _ _ _ _ c.requires.sources c.loop-place.auto.place at))
+    let read = get_or_read c.args.sources.now _ _ within c.index-sources-place.is None in (
+      get_or c.args.operations.now c.loop-place.place d,
+      at,
+      subst (IsSourceOf _ _) (sym (c.get.ensures ∙ read))
+          (source_at _ _ _ _ _ c.requires.sources c.loop-place.auto.place at),
+    )
 
 -- it takes from the source that was read
 from : (c : In-Some) → TakesFrom c.args.operations.now c.loop-place.place c.in-Some.source
