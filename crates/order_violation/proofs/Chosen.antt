@@ -1,27 +1,23 @@
 -- A value that overtakes another is an order violation, and each order violation is one.
-use Rattle.order_violation.proofs.Common.{◌<◌, ◌∙◌, ◌≡◌, ◌≤◌, All, All-contains, ap, arith, Contains, length, List}
-use Rattle.order_violation.proofs.Common.{MatchOption, None, Option, option_map, refl, Some, subst, sym, ℕ}
-use Rattle.order_violation.proofs.Common.{call_or_never, dequeue_call, dequeue_of, dequeue_return, enqueue_of}
-use Rattle.order_violation.proofs.Common.{HoldsLives, IsFirstOvertaking, IsLife, IsLongestOf, IsMaybeAt, Life}
-use Rattle.order_violation.proofs.Common.{MatchedValue, NonePasses, Overtakes, return_or_never, StaysAtLeast}
+use Rattle.order_violation.proofs.Common.{All, All-contains, ap, arith, call_or_never, Contains, dequeue_call}
+use Rattle.order_violation.proofs.Common.{dequeue_of, dequeue_return, enqueue_of, FindsFirst, HoldsLives}
+use Rattle.order_violation.proofs.Common.{IsFirstOvertaking, IsLife, IsLongestOf, IsMaybeAt, length, Life, List}
+use Rattle.order_violation.proofs.Common.{MatchedValue, MatchOption, None, NonePasses, Option, option_map, Overtakes}
+use Rattle.order_violation.proofs.Common.{refl, return_or_never, Some, StaysAtLeast, subst, sym, ℕ, ◌<◌, ◌≡◌, ◌≤◌}
+use Rattle.order_violation.specs.Overtaking.{IsFirstFound, IsFirstOvertaker}
 use Rattle.history_merge.specs.declared.operation.Operation.{Operation}
 use Rattle.history_merge.specs.declared.operation.OpKind.TheVariants.{Deq}
-use Rattle.history_merge.specs.Operations.{Did, NoneDid, Precedes, IsAt}
+use Rattle.history_merge.specs.Operations.{Did, NoneDid, Precedes}
 use Rattle.history_merge.specs.Complete.{AreComplete}
 use Rattle.history_merge.specs.Initial.{timeline}
-use Rattle.history_merge.proofs.Distinct.{return_in_range, call_by_return}
+use Rattle.history_merge.proofs.Distinct.{call_by_return, return_in_range}
 use Rattle.value_match.specs.declared.life.TheConstants.{NEVER}
 use Rattle.value_match.specs.Timeline.{behind}
 use Rattle.value_match.specs.Told.{told_place, told_source}
 use Rattle.value_match.specs.Violations.{IsClear, IsOrderViolation, NoOrderViolation}
-use Rattle.order_violation.specs.Overtaking.{IsFirstOvertaker}
 use Rattle.order_violation.specs.Pairs.{IsChosenPair, IsOrderAnswer, told_pair}
-use Rattle.std.proofs.Common.{get_or}
-use Rattle.std.proofs.lemmas.List.Elements.{Contains-get_or}
 use Rattle.std.proofs.lemmas.Option.{MatchOption-at_some}
-use Rattle.value_match.specs.Lives.{HasPlaces}
-use Rattle.value_match.proofs.RepeatedDequeues.{one_place}
-use Rattle.value_match.proofs.Lives.{value_is_life, value_of_life, places_of_value}
+use Rattle.value_match.proofs.Lives.{places_of_value, value_is_life, value_of_life}
 use Rattle.value_match.proofs.TimelineLines.{few_initial}
 use Rattle.value_match.proofs.ToldPlaces.{value_told}
 
@@ -85,6 +81,10 @@ life_a operations enq_a enq_b deq_b deq_a violation = (violation.a, violation.en
     named None none = none
     named (Some d) later = later.0
 
+pub life_b : (operations : List Operation) (enq_a enq_b deq_b : Operation) (deq_a : Option Operation)
+    → IsOrderViolation operations enq_a enq_b deq_b deq_a → IsLife operations (record { enqueue = enq_b; dequeue = Some deq_b })
+life_b operations enq_a enq_b deq_b deq_a violation = (violation.b, violation.enqueues_b, violation.dequeues_b)
+
 -- the value that was enqueued later overtakes the other
 pub violation_overtakes : (operations : List Operation) (enq_a enq_b deq_b : Operation) (deq_a : Option Operation) → IsClear operations
     → IsOrderViolation operations enq_a enq_b deq_b deq_a
@@ -96,42 +96,40 @@ violation_overtakes operations enq_a enq_b deq_b deq_a clear violation = (violat
     before None none = let range = return_in_range operations deq_b clear.complete violation.dequeues_b.0 in omega arith
     before (Some d) later = later.1
 
--- the values of an order violation
-record HasValues (operations : List Operation) (values : List MatchedValue) (enq_a enq_b deq_b : Operation) (deq_a : Option Operation) : Type 0 where
-  a : MatchedValue
-  b : MatchedValue
-  among_a : Contains values a
-  among_b : Contains values b
-  is_a : a.life ≡ record { enqueue = enq_a; dequeue = deq_a }
-  is_b : b.life ≡ record { enqueue = enq_b; dequeue = Some deq_b }
-  overtakes : Overtakes b.life a.life
-
-values_of : (operations : List Operation) (values : List MatchedValue) (enq_a enq_b deq_b : Operation) (deq_a : Option Operation) → IsClear operations
-    → HoldsLives operations values
-    → IsOrderViolation operations enq_a enq_b deq_b deq_a → HasValues operations values enq_a enq_b deq_b deq_a
-values_of operations values enq_a enq_b deq_b deq_a clear holds violation =
-    let a : Life = record { enqueue = enq_a; dequeue = deq_a } in
-    let b : Life = record { enqueue = enq_b; dequeue = Some deq_b } in
-    let value_a = value_of_life operations values a clear holds (life_a operations enq_a enq_b deq_b deq_a violation) in
-    let value_b = value_of_life operations values b clear holds (violation.b, violation.enqueues_b, violation.dequeues_b) in
-    let overtakes = violation_overtakes operations enq_a enq_b deq_b deq_a clear violation in
-    record {
-      a = value_a.0;
-      b = value_b.0;
-      among_a = value_a.1;
-      among_b = value_b.1;
-      is_a = value_a.2;
-      is_b = value_b.2;
-      overtakes = subst (λ l. Overtakes l value_a.0.life) (sym value_b.2) (subst (λ l. Overtakes b l) (sym value_a.2) overtakes);
-    }
-
 -- if no value overtakes another, there is no order violation
 pub no_overtaking : (operations : List Operation) (values : List MatchedValue) → IsClear operations → HoldsLives operations values
     → All (λ b. NonePasses (Overtakes b.life) values) values → NoOrderViolation operations
 no_overtaking operations values clear holds none enq_a enq_b deq_b deq_a violation =
-    let found = values_of operations values enq_a enq_b deq_b deq_a clear holds violation in
-    All-contains (λ a. ¬ (Overtakes found.b.life a.life)) values found.a
-    (All-contains (λ b. NonePasses (Overtakes b.life) values) values found.b none found.among_b) found.among_a found.overtakes
+    let life : Life = record { enqueue = enq_a; dequeue = deq_a } in
+    let later : Life = record { enqueue = enq_b; dequeue = Some deq_b } in
+    let (a, among_a, is_a) = value_of_life operations values life clear holds (life_a operations enq_a enq_b deq_b deq_a violation) in
+    let (b, among_b, is_b) = value_of_life operations values later clear holds (life_b operations enq_a enq_b deq_b deq_a violation) in
+    let overtakes : Overtakes later life = violation_overtakes operations enq_a enq_b deq_b deq_a clear violation in
+    All-contains (λ a. ¬ (Overtakes b.life a.life)) values a (All-contains (λ b. NonePasses (Overtakes b.life) values) values b none among_b) among_a
+    (rw (is_a, is_b) overtakes)
+
+-- the first of the values that overtake another is the first of all lives that do
+pub first_of_lives : (operations : List Operation) (values : List MatchedValue) (b : MatchedValue) → IsClear operations → HoldsLives operations values
+    → IsFirstOvertaking values values b → IsFirstOvertaker operations b
+first_of_lives operations values b clear holds is = record {
+  is_life = value_is_life operations values b holds is.among;
+  has_places = places_of_value operations values b holds is.among;
+  overtaken = is.overtaken.life;
+  overtaken_is_life = value_is_life operations values is.overtaken holds is.overtaken_among;
+  overtakes = is.overtakes;
+  first = λ x a is_x is_a overtakes.
+      let (y, among_y, same_y) = value_of_life operations values x clear holds is_x in
+      let (z, among_z, same_z) = value_of_life operations values a clear holds is_a in
+      subst (λ l. dequeue_return b.life ≤ dequeue_return l) same_y
+      (All-contains (λ other. (a : MatchedValue) → Contains values a → Overtakes other.life a.life
+      → dequeue_return b.life ≤ dequeue_return other.life) values y is.first among_y z among_z (rw (same_y, same_z) overtakes));
+}
+
+-- what is found among the values is found of all operations
+pub first_found : (operations : List Operation) (values : List MatchedValue) (found : Option MatchedValue) → IsClear operations
+    → HoldsLives operations values → FindsFirst values values found → IsFirstFound operations found
+first_found operations values None clear holds none = no_overtaking operations values clear holds none
+first_found operations values (Some b) clear holds is = first_of_lives operations values b clear holds is
 
 place_there : (operations : List Operation) (place : Option ℕ) (o : Option Operation) (d : Operation) → IsMaybeAt operations place o → o ≡ Some d
     → (p : ℕ) × (place ≡ Some p)
@@ -140,7 +138,7 @@ place_there operations None None d at is = cc
 place_there operations None (Some e) d at is = absurd at
 
 module _ (initial : List ℕ) (operations : List Operation) (values : List MatchedValue) (clear : IsClear (timeline initial operations))
-    (holds : HoldsLives (timeline initial operations) values) (a b : MatchedValue) (first : IsFirstOvertaking values values b)
+    (holds : HoldsLives (timeline initial operations) values) (a b : MatchedValue) (first : IsFirstOvertaker (timeline initial operations) b)
     (longest : IsLongestOf (Overtakes b.life) values a) where
   abbrev all : List Operation
   all = timeline initial operations
@@ -154,22 +152,23 @@ module _ (initial : List ℕ) (operations : List Operation) (values : List Match
   comes_first : (enq_a' enq_b' deq_b' : Operation) (deq_a' : Option Operation) → IsOrderViolation all enq_a' enq_b' deq_b' deq_a'
       → dequeue_of_b.0.ret ≤ deq_b'.ret
   comes_first enq_a' enq_b' deq_b' deq_a' violation =
-      let found = values_of all values enq_a' enq_b' deq_b' deq_a' clear holds violation in
-      let le = All-contains (λ other. (a : MatchedValue) → Contains values a → Overtakes other.life a.life
-      → dequeue_return b.life ≤ dequeue_return other.life) values found.b first.first found.among_b
-      found.a found.among_a found.overtakes in
+      let le = first.first (record { enqueue = enq_b'; dequeue = Some deq_b' }) (record { enqueue = enq_a'; dequeue = deq_a' })
+      (life_b all enq_a' enq_b' deq_b' deq_a' violation) (life_a all enq_a' enq_b' deq_b' deq_a' violation)
+      (violation_overtakes all enq_a' enq_b' deq_b' deq_a' clear violation) in
       let here : dequeue_return b.life ≡ dequeue_of_b.0.ret = ap return_or_never dequeue_of_b.1 in
-      let there : dequeue_return found.b.life ≡ deq_b'.ret = ap dequeue_return found.is_b in
       omega arith
 
   stays_longest : (enq_a' : Operation) (deq_a' : Option Operation) → IsOrderViolation all enq_a' (enqueue_of b.life) dequeue_of_b.0 deq_a'
       → StaysAtLeast a.life (record { enqueue = enq_a'; dequeue = deq_a' })
   stays_longest enq_a' deq_a' violation =
-      let found = values_of all values enq_a' (enqueue_of b.life) dequeue_of_b.0 deq_a' clear holds violation in
-      let same : found.b.life ≡ b.life = found.is_b ∙ (λ i. record { enqueue = enqueue_of b.life; dequeue = sym dequeue_of_b.1 i }) in
-      subst (StaysAtLeast a.life) found.is_a
-      (All-contains (λ other. Overtakes b.life other.life → StaysAtLeast a.life other.life) values found.a longest.longest found.among_a
-      (subst (λ l. Overtakes l found.a.life) same found.overtakes))
+      let life : Life = record { enqueue = enq_a'; dequeue = deq_a' } in
+      let (x, among, same) = value_of_life all values life clear holds (life_a all enq_a' (enqueue_of b.life) dequeue_of_b.0 deq_a' violation) in
+      let overtakes = violation_overtakes all enq_a' (enqueue_of b.life) dequeue_of_b.0 deq_a' clear violation in
+      let is_b : ◌≡◌ {A = Life} (record { enqueue = enqueue_of b.life; dequeue = Some dequeue_of_b.0 }) b.life =
+      λ i. record { enqueue = enqueue_of b.life; dequeue = sym dequeue_of_b.1 i } in
+      subst (StaysAtLeast a.life) same
+      (All-contains (λ other. Overtakes b.life other.life → StaysAtLeast a.life other.life) values x longest.longest among
+      (subst (Overtakes b.life) (sym same) (subst (λ l. Overtakes l life) is_b overtakes)))
 
   -- the first value that overtakes another, with the longest that it overtakes, is the chosen pair
   pub is_chosen_pair : (p : ℕ) → b.dequeue ≡ Some p → IsChosenPair initial operations (record {
@@ -180,9 +179,9 @@ module _ (initial : List ℕ) (operations : List Operation) (values : List Match
   })
   is_chosen_pair p named =
       let is_a = value_is_life all values a holds longest.among in
-      let is_b = value_is_life all values b holds first.among in
+      let is_b = first.is_life in
       let at_a = value_told initial operations (few_initial initial operations clear.complete) a (places_of_value all values a holds longest.among) is_a in
-      let at_b = value_told initial operations (few_initial initial operations clear.complete) b (places_of_value all values b holds first.among) is_b in
+      let at_b = value_told initial operations (few_initial initial operations clear.complete) b first.has_places is_b in
       record {
         enq_a = enqueue_of a.life;
         enq_b = enqueue_of b.life;
@@ -203,47 +202,5 @@ module _ (initial : List ℕ) (operations : List Operation) (values : List Match
   -- so their pair is the answer
   pub is_answer : IsOrderAnswer initial operations (told_pair k a b)
   is_answer =
-      let place = place_there all b.dequeue (dequeue_of b.life) dequeue_of_b.0 (places_of_value all values b holds first.among).1 dequeue_of_b.1 in
+      let place = place_there all b.dequeue (dequeue_of b.life) dequeue_of_b.0 first.has_places.1 dequeue_of_b.1 in
       rw place.1 (is_chosen_pair place.0 place.1)
-
-same_place : (operations : List Operation) (p q : Option ℕ) (o : Option Operation) → AreComplete operations → IsMaybeAt operations p o
-    → IsMaybeAt operations q o → p ≡ q
-same_place operations None None o complete at_p at_q = refl
-same_place operations None (Some q) None complete at_p at_q = absurd at_q
-same_place operations None (Some q) (Some o) complete at_p at_q = absurd at_p
-same_place operations (Some p) q None complete at_p at_q = absurd at_p
-same_place operations (Some p) None (Some o) complete at_p at_q = absurd at_q
-same_place operations (Some p) (Some q) (Some o) complete at_p at_q = ap (λ n. Some n) (one_place operations p q o complete at_p at_q)
-
--- the first of all lives that overtake another is the first of the values
-pub first_of_values : (operations : List Operation) (values : List MatchedValue) (b : MatchedValue) → IsClear operations → HoldsLives operations values
-    → IsFirstOvertaker operations b → IsFirstOvertaking values values b
-first_of_values operations values b clear holds is = record {
-  among = subst (Contains values) same m.1;
-  overtaken = a.0;
-  overtaken_among = a.1;
-  overtakes = subst (Overtakes b.life) (sym a.2) is.overtakes;
-  first = λ k d within x also overtakes. is.first (get_or values k d).life x.life
-      (value_is_life operations values (get_or values k d) holds (Contains-get_or values k d within))
-      (value_is_life operations values x holds also) overtakes;
-}
-  where
-    m : (m : MatchedValue) × Contains values m × (m.life ≡ b.life)
-    m = value_of_life operations values b.life clear holds is.is_life
-
-    a : (m : MatchedValue) × Contains values m × (m.life ≡ is.overtaken)
-    a = value_of_life operations values is.overtaken clear holds is.overtaken_is_life
-
-    places : HasPlaces operations m.0
-    places = places_of_value operations values m.0 holds m.1
-
-    enqueue : m.0.enqueue ≡ b.enqueue
-    enqueue = one_place operations m.0.enqueue b.enqueue (enqueue_of b.life) clear.complete
-        (subst (λ l. IsAt operations m.0.enqueue (enqueue_of l)) m.2 places.0) is.has_places.0
-
-    dequeue : m.0.dequeue ≡ b.dequeue
-    dequeue = same_place operations m.0.dequeue b.dequeue (dequeue_of b.life) clear.complete
-        (subst (λ l. IsMaybeAt operations m.0.dequeue (dequeue_of l)) m.2 places.1) is.has_places.1
-
-    same : m.0 ≡ b
-    same = λ i. record { life = m.2 i; enqueue = enqueue i; dequeue = dequeue i }

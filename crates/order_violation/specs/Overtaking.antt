@@ -5,6 +5,7 @@ use Rattle.value_match.specs.declared.life.Life.{Life}
 use Rattle.value_match.specs.declared.life.MatchedValue.{MatchedValue}
 use Rattle.value_match.specs.Lives.{HasPlaces, IsLife, enqueue_call, enqueue_return, dequeue_call, dequeue_return}
 use Rattle.value_match.specs.Longest.{NonePasses}
+use Rattle.value_match.specs.Violations.{NoOrderViolation}
 
 -- b is dequeued before a is, though a was enqueued before b
 abbrev pub Overtakes : Life → Life → Type 0
@@ -36,3 +37,7 @@ pub record IsFirstOvertaker (operations : List Operation) (b : MatchedValue) : T
 -- the candidate that overtakes a value and is dequeued first, or none if none overtakes
 abbrev pub FindsFirst : List MatchedValue → List MatchedValue → Option MatchedValue → Type 0
 FindsFirst values candidates found = MatchOption found (All (λ b. NonePasses (Overtakes b.life) values) candidates) (λ b. IsFirstOvertaking values candidates b)
+
+-- the one of the accepted values that overtake another that is dequeued first, or none where no two are an order violation
+abbrev pub IsFirstFound : List Operation → Option MatchedValue → Type 0
+IsFirstFound operations found = MatchOption found (NoOrderViolation operations) (IsFirstOvertaker operations)

@@ -7,4 +7,4 @@ mod search;
 
 pub use overtaking::{first_overtaking, sooner_of};
 pub use pair::OrderPair;
-pub use search::{chosen_pair, find_order, pair_with};
+pub use search::{chosen_pair, find_order};

@@ -26,14 +26,6 @@ pub(crate) fn overtakes(b: &Life, a: &Life) -> bool
     b.dequeue_return() < a.dequeue_call() && a.enqueue_return() < b.enqueue_call()
 }
 
-/// Returns of the values that b overtakes the one that stays longest.
-pub(crate) fn longest_overtaken(table: &LongestTable, b: &Life) -> Option<MatchedValue>
-    ensures { FindsLongest (Overtakes b.now) table.now result }
-{
-    let longest = table.longest_before(b.enqueue_call());
-    if_overtaken(b, longest)
-}
-
 /// Returns the longest of the values that entered before b, if b overtakes it; otherwise b overtakes none.
 #[inline(always)]
 pub(crate) fn if_overtaken(b: &Life, longest: Option<MatchedValue>) -> Option<MatchedValue>

@@ -1,11 +1,10 @@
 ghost use Rattle.std.specs.Prelude.{◌≡◌, IfOk};
 ghost use Rattle.value_match.specs.Longest.{FindsLongest};
-ghost use Rattle.value_match.specs.Lives.{HoldsLives};
-ghost use Rattle.order_violation.specs.Overtaking.{FindsFirst, IsFirstOvertaker, Overtakes};
+ghost use Rattle.order_violation.specs.Overtaking.{IsFirstFound, Overtakes};
 ghost use Rattle.value_match.specs.Timeline.{timeline_of};
 ghost use Rattle.order_violation.specs.Pairs.{IsOrderAnswer, told_pair};
 
-use crate::overtaking::{first_overtaking, longest_overtaken, overtakes};
+use crate::overtaking::{first_overtaking, overtakes};
 use crate::pair::OrderPair;
 use std::alloc::{AllocError, Global};
 use value_match::{
@@ -22,37 +21,19 @@ pub fn find_order(alloc: Global, matching: &Matching) -> Result<Option<OrderPair
 {
     let table = LongestTable::new(alloc, matching.values())?;
     let first = first_overtaking(&table, table.values());
-    Ok(chosen_pair(matching, &table, first))
+    Ok(chosen_pair(matching, first))
 }
 
 /// Returns the pair of the value that overtakes another and is dequeued first, if there is one, and the longest of
 /// those that it overtakes.
 ///
-/// Time O(log n) for n values.
-pub fn chosen_pair(
-    matching: &Matching,
-    table: &LongestTable,
-    first: Option<MatchedValue>,
-) -> Option<OrderPair>
-    requires lives { HoldsLives (timeline_of matching.now) table.now }
-    requires first { FindsFirst table.now table.now first }
+/// Time O(n) for n values, and no memory.
+pub fn chosen_pair(matching: &Matching, first: Option<MatchedValue>) -> Option<OrderPair>
+    requires { IsFirstFound (timeline_of matching.now) first }
     ensures { IsOrderAnswer matching.now.initial matching.now.operations result }
 {
     let initial_count = matching.initial().len();
     let b = first?;
-    let a = longest_overtaken(table, &b.life)?;
-    pair_of(initial_count, a, b)
-}
-
-/// Returns the pair of this value, which overtakes another and is dequeued first of those that do, and the longest of those
-/// that it overtakes. There always is one.
-///
-/// Time O(n) for n values, and no memory.
-pub fn pair_with(matching: &Matching, b: MatchedValue) -> Option<OrderPair>
-    requires { IsFirstOvertaker (timeline_of matching.now) b }
-    ensures { IsOrderAnswer matching.now.initial matching.now.operations result }
-{
-    let initial_count = matching.initial().len();
     let a = longest_among(&matching.values(), &b.life)?;
     pair_of(initial_count, a, b)
 }

@@ -43,7 +43,7 @@ pub fn order_in_pieces<R: Threads + Sync>(
 {
     let table = table_of(rt, alloc, matching.values())?;
     let first = first_overtaking_par(rt, &table, table.values(), pieces);
-    Ok(chosen_pair(matching, &table, first))
+    Ok(chosen_pair(matching, first))
 }
 
 /// Returns the table of these values.

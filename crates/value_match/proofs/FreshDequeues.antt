@@ -1,12 +1,12 @@
 -- Dequeues of values that were not there, told by the places of the calls.
 use Rattle.value_match.proofs.Common.{ap, AreChosenFresh, AreComplete, arith, Bool, CallsFor, cases_Bool, cond}
 use Rattle.value_match.proofs.Common.{Contains, contains_at, Deq, each_more, Enq, enqueued_value, false, false≢true}
-use Rattle.value_match.proofs.Common.{FreshPlaces, get_or, HoldsSources, IfSome, inl, inr, is_refused, IsAt}
+use Rattle.value_match.proofs.Common.{FreshPlaces, IfSome, inl, inr, is_refused, IsAt}
 use Rattle.value_match.proofs.Common.{IsCallPlace, IsEnqueuedTooLate, IsFreshFrom, IsFreshViolation, IsMaybeAt}
 use Rattle.value_match.proofs.Common.{IsSourceOf, IsTrue, length, List, lt-ltb, ltb-false, ltb-true, MatchOption}
-use Rattle.value_match.proofs.Common.{nat_lt, NoFreshViolation, None, NoneFresh, Not, not, one_at, Operation, OpKind}
-use Rattle.value_match.proofs.Common.{Option, place_of, refl, same_value_call, slice_get-get_or, slice_get_within}
-use Rattle.value_match.proofs.Common.{Some, subst, sym, true, ℕ, ◌+◌, ◌<◌, ◌||◌, ◌↔◌, ◌∙◌, ◌≡◌, ◌≤◌, ◌⊎◌}
+use Rattle.value_match.proofs.Common.{nat_lt, NoFreshViolation, None, NoneFresh, Not, one_at, Operation, OpKind}
+use Rattle.value_match.proofs.Common.{Option, place_of, refl, same_value_call, slice_get_within}
+use Rattle.value_match.proofs.Common.{Some, subst, sym, true, ℕ, ◌+◌, ◌<◌, ◌||◌, ◌↔◌, ◌≡◌, ◌≤◌, ◌⊎◌}
 use Rattle.value_match.proofs.ToldPlaces.{fresh_dequeues}
 
 -- an operation that called to enqueue a value was accepted or refused

@@ -6,8 +6,8 @@ use Rattle.value_match.proofs.Common.{FindsLongest, Front, get_or, get_or-map, g
 use Rattle.value_match.proofs.Common.{get_or-take, get_or_default, HasFronts, IfSome, inl, inr, IsEntryOf}
 use Rattle.value_match.proofs.Common.{IsFrontAt, IsLongerOf, IsLongestOf, IsNonDecreasingBy, IsPartitionPoint}
 use Rattle.value_match.proofs.Common.{IsPermutation, IsPermutation-map, IsPermutation-refl, IsPermutation-sym}
-use Rattle.value_match.proofs.Common.{IsPermutation-trans, IsTableOf, le-ltb, length, length-map, length-set}
-use Rattle.value_match.proofs.Common.{length-take-le, List, lt-ltb, ltb, ltb-false, ltb-true, map-append}
+use Rattle.value_match.proofs.Common.{IsPermutation-trans, IsTableOf, length, length-map, length-set}
+use Rattle.value_match.proofs.Common.{length-take-le, List, ltb, ltb-false, ltb-true, map-append}
 use Rattle.value_match.proofs.Common.{MatchedValue, MatchOption, None, NonePasses, Option, refl, rules, set, Some}
 use Rattle.value_match.proofs.Common.{StaysAtLeast, subst, sym, take, take_all, take_more, true, values_at, ℕ}
 use Rattle.value_match.proofs.Longest.{longest_changes}

@@ -1,14 +1,14 @@
 -- The one dequeue of each source and of each accepted value, or the chosen pair of one source, met by walks over the operations.
-use Rattle.value_match.proofs.Common.{[], AllPairs, ap, AreChosenRepeat, AreComplete, arith, cases_eq, cases_order}
-use Rattle.value_match.proofs.Common.{contains_at, Deq, Did, Empty, Enq, enqueued_value, false, false≢true, find}
-use Rattle.value_match.proofs.Common.{get_or, get_or-set_other, get_or-set_same, get_or_from_slice_get, HasTakersTo}
-use Rattle.value_match.proofs.Common.{HoldsDequeues, HoldsSources, inl, inr, is_dequeue_of, is_some, IsAt, IsCallPlace}
-use Rattle.value_match.proofs.Common.{IsClear, IsDequeuePlace, IsMaybeAt, IsSourceOf, length, length-append}
+use Rattle.value_match.proofs.Common.{AllPairs, ap, AreChosenRepeat, AreComplete, arith, cases_eq, cases_order}
+use Rattle.value_match.proofs.Common.{contains_at, Deq, Did, Enq, enqueued_value, find}
+use Rattle.value_match.proofs.Common.{get_or, get_or-set_other, get_or-set_same, HasTakersTo}
+use Rattle.value_match.proofs.Common.{HoldsDequeues, inl, inr, is_dequeue_of, IsAt}
+use Rattle.value_match.proofs.Common.{IsClear, IsDequeuePlace, IsMaybeAt, IsSourceOf, length}
 use Rattle.value_match.proofs.Common.{length-replicate, length-set, List, MatchOption, NoFreshViolation, None, NoneDid}
 use Rattle.value_match.proofs.Common.{one_at, Operation, OpKind, Option, pairs_at, place_of, refl, RepeatPlaces}
-use Rattle.value_match.proofs.Common.{replicate, return_at, same_return, same_value_call, set, slice_get}
-use Rattle.value_match.proofs.Common.{slice_get-get_or, slice_get_within, Some, subst, suc, sym, TakesFrom, true, zero}
-use Rattle.value_match.proofs.Common.{ℕ, ⊤, ◌++◌, ◌+◌, ◌<◌, ◌∙◌, ◌∷◌, ◌≡◌, ◌≢◌, ◌≤◌, ◌⊎◌}
+use Rattle.value_match.proofs.Common.{replicate, return_at, same_return, same_value_call, set}
+use Rattle.value_match.proofs.Common.{slice_get_within, Some, subst, suc, sym, TakesFrom, zero}
+use Rattle.value_match.proofs.Common.{ℕ, ⊤, ◌+◌, ◌<◌, ◌∙◌, ◌≡◌, ◌≢◌, ◌≤◌, ◌⊎◌}
 use Rattle.value_match.proofs.FreshDequeues.{calls_for}
 use Rattle.value_match.proofs.Lives.{found_dequeue, same_found}
 

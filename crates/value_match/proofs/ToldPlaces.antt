@@ -12,7 +12,6 @@ use Rattle.value_match.proofs.Common.{⊤, ◌++◌, ◌+◌, ◌-◌, ◌<◌, 
 use Rattle.value_match.proofs.CoverLives.{dequeues}
 use Rattle.value_match.proofs.TimelineLines.{earlier, earlier_later, earlier_none, timeline_at, timeline_earlier}
 use Rattle.value_match.proofs.TimelineLines.{one_later}
-use Rattle.value_match.specs.declared.violation.Source.TheVariants as source
 use Rattle.value_match.specs.declared.violation.Violation.TheVariants as violation
 
 -- ---- what stands at a place of the timeline

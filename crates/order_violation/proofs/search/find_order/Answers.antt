@@ -1,6 +1,8 @@
-use Rattle.order_violation.proofs.Common.{subst, sym, HoldsLives}
+use Rattle.order_violation.proofs.Common.{FindsFirst, subst}
+use Rattle.order_violation.proofs.Chosen.{first_found}
 use Rattle.order_violation.proofs.search.find_order.Goals as goal
 
-pub chosen_pair-requires-clause-lives : goal.chosen_pair-requires-clause-lives
-chosen_pair-requires-clause-lives c =
-    subst (HoldsLives _) (sym c.in_ok-table.ensures) c.values.ensures.values
+pub chosen_pair-requires : goal.chosen_pair-requires
+chosen_pair-requires c = first_found _ c.values.result _ c.values.ensures.clear c.values.ensures.values
+    (subst (λ values. FindsFirst values values c.first_overtaking-first.result) c.in_ok-table.ensures
+    (rw c.values-2.ensures at c.first_overtaking-first.ensures))

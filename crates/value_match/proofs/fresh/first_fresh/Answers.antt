@@ -1,4 +1,4 @@
-use Rattle.value_match.proofs.Common.{◌-◌, ◌<◌, ◌∙◌, ◌≡◌, ap, arith, Enq, false≢true, get_or, get_or_read, IsAt, IsSourceOf, length, None, Operation}
+use Rattle.value_match.proofs.Common.{◌-◌, ◌<◌, ◌∙◌, arith, Enq, false≢true, get_or, get_or_read, IsAt, IsSourceOf, length, None, Operation}
 use Rattle.value_match.proofs.Common.{slice_get-get_or, subst, sym}
 use Rattle.value_match.proofs.CallPlaces.{source_at}
 use Rattle.value_match.proofs.FreshDequeues.{first_in_range, first_more, first_of_all, first_skip}

@@ -1,4 +1,4 @@
-use Rattle.value_match.proofs.Common.{◌∙◌, ap, IsCallPlace, IsSourceOf, None, refl, slice_get_read, Some, subst, sym}
+use Rattle.value_match.proofs.Common.{◌∙◌, ap, IsCallPlace, IsSourceOf, refl, slice_get_read, Some, subst, sym}
 use Rattle.value_match.proofs.CallPlaces.{call_within}
 use Rattle.value_match.proofs.FreshDequeues.{fresh_at_none, fresh_at_some}
 use Rattle.value_match.proofs.fresh.is_fresh.Goals as goal

@@ -1,4 +1,4 @@
-use Rattle.value_match.proofs.Common.{◌≤◌, HoldsNear, length}
+use Rattle.value_match.proofs.Common.{HoldsNear}
 use Rattle.value_match.proofs.sources.near_sources.Given as goal
 
 abbrev pub invariant-loop-place : goal.invariant-loop-place

@@ -1,4 +1,4 @@
-use Rattle.value_match.proofs.Common.{◌+◌, ◌<◌, ◌∙◌, ◌≡◌, ap, AreSettled, arith, false, get_or_read, is_some, length, None, refl, slice_get_read, Some, subst, sym, TakesFrom}
+use Rattle.value_match.proofs.Common.{◌<◌, ◌∙◌, ◌≡◌, ap, AreSettled, arith, get_or_read, length, None, refl, slice_get_read, Some, subst, sym, TakesFrom}
 use Rattle.value_match.proofs.CallPlaces.{call_within, no_source, none_if}
 use Rattle.value_match.proofs.FreshDequeues.{in_time_more, no_dequeue}
 use Rattle.value_match.proofs.RepeatedDequeues.{takes_first, takes_no_source, takes_nothing}

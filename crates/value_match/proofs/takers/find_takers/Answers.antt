@@ -1,4 +1,4 @@
-use Rattle.value_match.proofs.Common.{◌-◌, ◌<◌, ◌∙◌, ◌≡◌, arith, Enq, get_or, get_or_read, IsAt, IsSourceOf, length, None, Operation, return_at}
+use Rattle.value_match.proofs.Common.{◌-◌, ◌<◌, ◌∙◌, ◌≡◌, arith, Enq, get_or, get_or_read, IsAt, IsSourceOf, length, None, Operation}
 use Rattle.value_match.proofs.Common.{slice_get-get_or, Some, subst, sym, TakesFrom}
 use Rattle.value_match.proofs.CallPlaces.{source_at}
 use Rattle.value_match.proofs.RepeatedDequeues.{Twice, found_inside, met_again, met_first, met_once, met_skip, once_taken, repeat_chosen}
