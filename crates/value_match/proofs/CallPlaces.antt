@@ -126,7 +126,7 @@ pub near_source : (wanted : BTreeSet ℕ) (operations : List Operation) (kind : 
 near_source wanted operations (Deq v) None near some = absurd (some refl)
 near_source wanted operations _ _ near some = near
 
--- an operation behind a place stands at its source's place, behind it too
+-- an operation from a place on, by its place among those from there on
 pub behind_at : (operations : List Operation) (from n : ℕ) (o : Operation) → from ≤ n → IsAt operations n o → IsAt operations (from + (n - from)) o
 behind_at operations from n o late here = let there : from + (n - from) ≡ n = omega arith in rw there here
 
@@ -201,7 +201,7 @@ none_wanted wanted operations from sources none near = record {
     settled (Deq v) None is_wanted = absurd (false≢true (sym (any_of_none _ (keys wanted) none) ∙ is_wanted))
     settled _ _ is = is
 
--- the source of an operation behind a place
+-- the source of an operation from a place on
 pub source_at : (operations : List Operation) (from n : ℕ) (o : Operation) (sources : List (Option ℕ)) → HoldsSources operations from sources
     → from ≤ n → IsAt operations n o → IsSourceOf operations o.kind (get_or sources (n - from) None)
 source_at operations from n o sources holds late here = holds.each (n - from) o (behind_at operations from n o late here)

@@ -37,8 +37,8 @@ pub(crate) enum MatchOutcome {
 ///
 /// Time O(n) for n operations of values that leave nearly in the order of their calls, or by recorder's names nearly in that
 /// of their threads' calls; else the calls of the others are sorted by value, O(n log n). The answer borrows the history and
-/// takes a word for each accepted value; beside it the work takes some two words for each operation, and a few more for each
-/// call or dequeue that is sorted.
+/// takes a word for each accepted value; beside it the work takes a word for each operation, half a word for each from the first
+/// that isn't settled at once, and a few more for each call or dequeue that is sorted.
 pub fn match_values(alloc: Global, history: &History) -> Result<Matched<'_>, AllocError>
     ensures matched { IfOk result (IsMatched history.now.initial (operations_of history.now.events)) }
     ensures complete { AreComplete (timeline history.now.initial (operations_of history.now.events)) }
