@@ -1,12 +1,12 @@
 -- Dequeues of values that were not there, told by the places of the calls.
-use Rattle.value_match.proofs.Common.{ap, AreChosenFresh, AreComplete, arith, Bool, CallsFor, cases_Bool, cond}
-use Rattle.value_match.proofs.Common.{Contains, contains_at, Deq, each_more, Enq, enqueued_value, false, false≢true}
-use Rattle.value_match.proofs.Common.{FreshPlaces, IfSome, inl, inr, is_refused, IsAt}
-use Rattle.value_match.proofs.Common.{IsCallPlace, IsEnqueuedTooLate, IsFreshFrom, IsFreshViolation, IsMaybeAt}
-use Rattle.value_match.proofs.Common.{IsSourceOf, IsTrue, length, List, lt-ltb, ltb-false, ltb-true, MatchOption}
-use Rattle.value_match.proofs.Common.{nat_lt, NoFreshViolation, None, NoneFresh, Not, one_at, Operation, OpKind}
-use Rattle.value_match.proofs.Common.{Option, place_of, refl, same_value_call, slice_get_within}
-use Rattle.value_match.proofs.Common.{Some, subst, sym, true, ℕ, ◌+◌, ◌<◌, ◌||◌, ◌↔◌, ◌≡◌, ◌≤◌, ◌⊎◌}
+use Rattle.value_match.proofs.Common.{ap, AreChosenFresh, AreComplete, arith, Bool, CallsFor, cases_lt}
+use Rattle.value_match.proofs.Common.{cond, Contains, contains_at, Deq, each_more, Enq, enqueued_value, false}
+use Rattle.value_match.proofs.Common.{false≢true, FreshPlaces, IfSome, inl, inr, is_refused, IsAt, IsCallPlace}
+use Rattle.value_match.proofs.Common.{IsEnqueuedTooLate, IsFreshFrom, IsFreshViolation, IsMaybeAt, IsSourceOf, IsTrue}
+use Rattle.value_match.proofs.Common.{le-ltb, length, List, lt-ltb, ltb-true, MatchOption, nat_lt}
+use Rattle.value_match.proofs.Common.{NoFreshViolation, None, NoneFresh, Not, one_at, Operation, OpKind, Option}
+use Rattle.value_match.proofs.Common.{place_of, refl, return_at, same_value_call, slice_get_within, Some, subst, sym}
+use Rattle.value_match.proofs.Common.{true, ℕ, ◌+◌, ◌<◌, ◌||◌, ◌↔◌, ◌≡◌, ◌≤◌, ◌⊎◌}
 use Rattle.value_match.proofs.ToldPlaces.{fresh_dequeues}
 
 -- an operation that called to enqueue a value was accepted or refused
@@ -161,7 +161,7 @@ module _ (operations : List Operation) (i : ℕ) (o : Operation) (source : Optio
   -- an operation that comes sooner is the first
   pub first_more : (first : Option FreshPlaces) (other sooner : FreshPlaces) → other.deq ≡ i → other.enq ≡ source
       → IsFreshFrom operations source o → (first ≡ None → sooner ≡ other)
-      → IfSome first (λ f. (x y : Operation) → IsAt operations f.deq x → IsAt operations other.deq y → sooner ≡ cond (nat_lt x.ret y.ret) f other)
+      → IfSome first (λ f. sooner ≡ cond (nat_lt (return_at operations f.deq) (return_at operations other.deq)) f other)
       → IsFirstFresh operations i first → IsFirstFresh operations (i + 1) (Some sooner)
   first_more first other sooner deq_is enq_is violates none some found = pick first none some found
     where
@@ -183,13 +183,15 @@ module _ (operations : List Operation) (i : ℕ) (o : Operation) (source : Optio
       )
 
       pick : (first : Option FreshPlaces) → (first ≡ None → sooner ≡ other)
-          → IfSome first (λ f. (x y : Operation) → IsAt operations f.deq x → IsAt operations other.deq y → sooner ≡ cond (nat_lt x.ret y.ret) f other)
+          → IfSome first (λ f. sooner ≡ cond (nat_lt (return_at operations f.deq) (return_at operations other.deq)) f other)
           → IsFirstFresh operations i first → IsFirstFresh operations (i + 1) (Some sooner)
       pick None none some found = rw (none refl) (soonest other o here' violates' (λ k x below at enq is'. absurd (found k x below at enq is')) (omega arith))
-      pick (Some f) none some (deq, at, from, before) = elim (cases_Bool (nat_lt deq.ret o.ret)) [
-        | inl sooner' ↦ let less = ltb-true _ _ sooner' in rw (some deq o at here', sooner') (soonest f deq at from before (omega arith))
-        | inr later ↦
-            let most = ltb-false _ _ later in
-            rw (some deq o at here', later)
-            (soonest other o here' violates' (λ k x below at enq is'. let low = before k x below at enq is' in omega arith) (omega arith))
-      ]
+      pick (Some f) none some (deq, at, from, before) =
+          let ret : return_at operations f.deq ≡ deq.ret = rw at refl in
+          let ret_o : return_at operations other.deq ≡ o.ret = rw here' refl in
+          elim (cases_lt (return_at operations f.deq) (return_at operations other.deq)) [
+            | inl less ↦ rw (some, lt-ltb _ _ less) (soonest f deq at from before (omega arith))
+            | inr most ↦
+                rw (some, le-ltb _ _ most)
+                (soonest other o here' violates' (λ k x below at enq is'. let low = before k x below at enq is' in omega arith) (omega arith))
+          ]

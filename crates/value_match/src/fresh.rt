@@ -4,11 +4,12 @@ ghost use Rattle.history_merge.specs.Complete.{AreComplete};
 ghost use Rattle.history_merge.specs.Operations.{IsAt};
 ghost use Rattle.value_match.specs.Lives.{is_refused};
 ghost use Rattle.value_match.specs.Inner.MatchOutcome.{AreChosenFresh};
-ghost use Rattle.value_match.specs.Inner.Sources.{HoldsSources, IsFreshFrom, IsSourceOf, NoneFresh};
+ghost use Rattle.value_match.specs.Inner.Sources.{HoldsSources, IsFreshFrom, IsSourceOf, NoneFresh, return_at};
 ghost use Rattle.value_match.specs.Violations.{NoFreshViolation};
 
 use crate::matching::MAX_MATCHED;
 use crate::maybe_place::MaybePlace;
+use crate::takers::return_at;
 use history_merge::{OpId, OpKind, Operation, PackedOperation};
 
 /// The places of a dequeue of a value that was not there, and of the call for this value if there is one.
@@ -81,20 +82,13 @@ fn sooner(
     requires first { IfSome first (λ f. f.deq < length operations.now) }
     requires other { other.deq < length operations.now }
     ensures none { first ≡ None → result ≡ other }
-    ensures some { IfSome first (λ f. (o x : Operation) → IsAt operations.now f.deq o → IsAt operations.now other.deq x
-        → result ≡ (if nat_lt o.ret x.ret then f else other)) }
+    ensures some { IfSome first (λ f. result
+        ≡ (if nat_lt (return_at operations.now f.deq) (return_at operations.now other.deq) then f else other)) }
 {
     match first {
-        Some(first) if returns_before(operations, first.deq.place(), other.deq.place()) => first,
+        Some(first)
+            if return_at(operations, first.deq.place())
+                < return_at(operations, other.deq.place()) => { first }
         _ => other,
     }
-}
-
-/// Whether the operation at one place returns before that at another.
-fn returns_before(operations: &[PackedOperation], place: usize, other: usize) -> bool
-    requires place { place < length operations.now }
-    requires other { other < length operations.now }
-    ensures { (o x : Operation) → IsAt operations.now place o → IsAt operations.now other x → result ≡ nat_lt o.ret x.ret }
-{
-    operations[place].unpack().ret < operations[other].unpack().ret
 }

@@ -122,7 +122,7 @@ fn sooner_of(
 }
 
 /// The return of the operation at this place.
-fn return_at(operations: &[PackedOperation], place: usize) -> u64
+pub(crate) fn return_at(operations: &[PackedOperation], place: usize) -> u64
     requires { place < length operations.now }
     ensures { result ≡ return_at operations.now place }
 {
