@@ -11,7 +11,7 @@ use crate::verdict::{Order, Verdict};
 use empty_witness::{WitnessAnswer, find_witness};
 use history_merge::History;
 use linearizer::{OrderFound, OrderedValues, linearize, order_values};
-use order_violation::{OrderPair, pair_with};
+use order_violation::{OrderPair, chosen_pair};
 use parallel_finders::find_witness_par;
 use std::alloc::{AllocError, Global};
 use std::thread::Threads;
@@ -71,7 +71,7 @@ fn decide_matching(alloc: Global, matching: &Matching) -> Result<Verdict, AllocE
             let answer = find_witness(alloc, matching)?;
             decide_in_order(alloc, matching, &values, answer)
         }
-        OrderFound::Overtaker(value) => Ok(overtaken(matching, pair_with(matching, value))),
+        OrderFound::Overtaker(value) => Ok(overtaken(matching, chosen_pair(matching, Some(value)))),
     }
 }
 
@@ -91,7 +91,7 @@ fn decide_matching_par<R: Threads + Sync>(
             let answer = find_witness_par(rt, alloc, matching, pieces)?;
             decide_in_order(alloc, matching, &values, answer)
         }
-        OrderFound::Overtaker(first) => Ok(overtaken(matching, pair_with(matching, first))),
+        OrderFound::Overtaker(first) => Ok(overtaken(matching, chosen_pair(matching, Some(first)))),
     }
 }
 
