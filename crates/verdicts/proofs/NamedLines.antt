@@ -1,19 +1,14 @@
 -- What the lines of a violation name, and what a selection by them holds.
-use Rattle.verdicts.proofs.Common.{[], AllByRecursion, ap, AreComplete, Bool, Contains, contains_cons, CoversFrom, Deq}
-use Rattle.verdicts.proofs.Common.{dequeue_of, Did, Enq, enqueue_of, filter, filter_map, flat_map, fresh}
+use Rattle.verdicts.proofs.Common.{[], AllByRecursion, ap, Bool, Contains, contains_cons, CoversFrom, Deq}
+use Rattle.verdicts.proofs.Common.{dequeue_of, Did, Enq, enqueue_of, flat_map, fresh}
 use Rattle.verdicts.proofs.Common.{FullViolation, inl, inr, IsFreshViolation, IsLife, IsOrderViolation}
-use Rattle.verdicts.proofs.Common.{IsRepeatViolation, IsTrue, IsViolationOf, keeps, kept, Life, lines_of, List, map}
-use Rattle.verdicts.proofs.Common.{mapped_from, mapped_to, MatchOption, None, NoneDid, Not, not_in_none, Operation}
+use Rattle.verdicts.proofs.Common.{IsRepeatViolation, IsViolationOf, Life, lines_of, List}
+use Rattle.verdicts.proofs.Common.{MatchOption, None, NoneDid, Not, not_in_none, Operation}
 use Rattle.verdicts.proofs.Common.{operations_of_life, OpKind, Option, option_map_or, option_to_list, order}
-use Rattle.verdicts.proofs.Common.{passed_filter, Precedes, refl, repeat, same_call, selects, Some, subst, sym, true}
-use Rattle.verdicts.proofs.Common.{value_of, witness, ℕ, ◌↔◌, ◌∙◌, ◌∷◌, ◌≡◌, ◌⊎◌}
+use Rattle.verdicts.proofs.Common.{Precedes, refl, repeat, selects, Some, subst}
+use Rattle.verdicts.proofs.Common.{value_of, witness, ℕ, ◌∙◌, ◌∷◌, ◌≡◌, ◌⊎◌}
 use Rattle.std.proofs.lemmas.List.Elements.{All-contains, All-from_recursion}
 use Rattle.linearizer.proofs.NoneTwice.{from_flat_map}
-
--- the values are those of the lines, and the calls are the lines' calls
-pub record SelectsLines (lines : List Operation) (values calls : ℕ → Bool) : Type 0 where
-  pub values_named : (v : ℕ) → IsTrue (values v) ↔ Contains (filter_map (λ o. value_of o.kind) lines) v
-  pub calls_named : (call : ℕ) → IsTrue (calls call) ↔ Contains (map (λ o. o.call) lines) call
 
 -- the operation has this value
 abbrev pub HasValue : Operation → ℕ → Type 0
@@ -144,35 +139,12 @@ selects_as_value values calls o v is = ap (λ w. option_map_or values w (calls o
 pub selects_as_call : (values calls : ℕ → Bool) (o : Operation) → value_of o.kind ≡ None → selects values calls o ≡ calls o.call
 selects_as_call values calls o is = ap (λ w. option_map_or values w (calls o.call)) is
 
-module _ (lines : List Operation) (values calls : ℕ → Bool) (named : SelectsLines lines values calls) where
-  -- each line is selected
-  pub lines_are_selected : (o : Operation) → Contains lines o → selects values calls o ≡ true
-  lines_are_selected o among = by_value (value_of o.kind) refl
-    where
-      by_value : (w : Option ℕ) → value_of o.kind ≡ w → selects values calls o ≡ true
-      by_value (Some v) is = selects_as_value values calls o v is ∙ (named.values_named v).1 (keeps (λ o. value_of o.kind) lines o v among is)
-      by_value None is = selects_as_call values calls o is ∙ (named.calls_named o.call).1 (mapped_to (λ o. o.call) lines o among)
+-- the line that an operation belongs to: of its value, or itself
+pub record IsFor (lines : List Operation) (o line : Operation) : Type 0 where
+  pub among : Contains lines line
+  pub same_value : value_of line.kind ≡ value_of o.kind
+  pub itself : value_of o.kind ≡ None → line ≡ o
 
-  -- the line for which an operation is selected: of its value, or itself
-  pub record IsSelectedFor (o line : Operation) : Type 0 where
-    pub among : Contains lines line
-    pub same_value : value_of line.kind ≡ value_of o.kind
-    pub itself : value_of o.kind ≡ None → line ≡ o
-
-  -- an operation is selected for a line
-  pub selected_for : (operations : List Operation) (o : Operation) → AreComplete operations
-      → ((l : Operation) → Contains lines l → Contains operations l) → Contains (filter (selects values calls) operations) o
-      → (line : Operation) × IsSelectedFor o line
-  selected_for operations o complete are among = by_value (value_of o.kind) refl
-    where
-      passed : Contains operations o × (selects values calls o ≡ true)
-      passed = passed_filter (selects values calls) operations o among
-
-      by_value : (w : Option ℕ) → value_of o.kind ≡ w → (line : Operation) × IsSelectedFor o line
-      by_value (Some v) is =
-          let found = kept (λ o. value_of o.kind) lines v ((named.values_named v).0 (sym (selects_as_value values calls o v is) ∙ passed.1)) in
-          (found.0, record { among = found.1; same_value = found.2 ∙ sym is; itself = λ none. let clash : Some v ≡ None = sym is ∙ none in cc })
-      by_value None is =
-          let found = mapped_from (λ o. o.call) lines o.call ((named.calls_named o.call).0 (sym (selects_as_call values calls o is) ∙ passed.1)) in
-          let one = same_call operations found.0 o complete (are found.0 found.1) passed.0 found.2 in
-          (found.0, record { among = found.1; same_value = ap (λ x. value_of x.kind) one; itself = λ _. one })
+-- each of the operations belongs to a line
+abbrev pub AreFor : List Operation → List Operation → Type 0
+AreFor lines operations = (o : Operation) → Contains operations o → (line : Operation) × IsFor lines o line

@@ -1,26 +1,25 @@
 -- The lines of a violation of a timeline as they are shown, at the places of a history that it names; the places of a violation whose
--- lines are operations, and its lines at other tickets.
+-- lines are operations.
 use Rattle.verdicts.proofs.Common.{[], All, All-cons, All-nil, AllZip, ap, AreLives, ArePlacesOf, arith, Bool, call_in}
 use Rattle.verdicts.proofs.Common.{cases_lt, ClaimLine, cond, cons_option, Contains, Contains-append_left}
 use Rattle.verdicts.proofs.Common.{Contains-append_right, contains_at, covers_are_lives, CoverStep, Deq, dequeue_of}
 use Rattle.verdicts.proofs.Common.{Did, Enq, enqueue_of, filter, flat_map, fresh, FullViolation, initial_time, inl}
 use Rattle.verdicts.proofs.Common.{inr, IsAt, IsMaybeAt, IsMaybeOperation, IsOperation, IsPlaceWithin, IsSource}
 use Rattle.verdicts.proofs.Common.{IsViolationOf, later_by, le-ltb, length, Life, line_at, LinePlace, lines_at}
-use Rattle.verdicts.proofs.Common.{lines_of, lines_of_history, List, lt-ltb, map, map-append, mapped_to, MatchOption}
+use Rattle.verdicts.proofs.Common.{lines_of, lines_of_history, List, lt-ltb, map, mapped_to, MatchOption}
 use Rattle.verdicts.proofs.Common.{MAX_INITIAL, maybe_place, Names, NamesCover, nat_lt, None, NoneDid, one_deeper}
 use Rattle.verdicts.proofs.Common.{Operation, operations_of_life, OpKind, Option, option_map, option_to_list, order}
 use Rattle.verdicts.proofs.Common.{ORIGIN, place_of, place_of_source, places_of_step, Precedes, refl, repeat}
 use Rattle.verdicts.proofs.Common.{same_operation, slice_get, slice_get_within, Some, Source, subst, sym, timeline}
 use Rattle.verdicts.proofs.Common.{timeline_at, value_in, value_of, Violation, violation_places, witness, zero, ℕ, ⊤}
 use Rattle.verdicts.proofs.Common.{◌++◌, ◌+◌, ◌-◌, ◌<◌, ◌∙◌, ◌∷◌, ◌≡◌, ◌≤◌}
-use Rattle.verdicts.proofs.Retiming.{lifted, lifted_late, lifted_rises, retimed, retimed_life, retimed_violation}
+use Rattle.verdicts.proofs.Retiming.{lifted, lifted_late, lifted_rises, retimed}
 use Rattle.verdicts.proofs.Retiming.{start}
 use Rattle.history_merge.specs.Inner.Timeline.{earlier_by}
 use Rattle.verdicts.specs.declared.shown.LinePlace.TheVariants.{Op, Initial}
 use Rattle.value_match.proofs.TimelineLines.{mapped_option}
 use Rattle.value_match.specs.Told.{told_place, told_source}
 use Rattle.value_match.proofs.ToldPlaces.{call_told, dequeue_told, empty_told, fresh_dequeues, maybe_told, source_told}
-use Rattle.verdicts.specs.Claims.{kind_of}
 use Rattle.value_match.specs.declared.violation.Source.TheVariants as source
 use Rattle.value_match.specs.declared.violation.Violation.TheVariants as violation
 use Rattle.verdicts.specs.declared.verifying.ClaimLine.TheVariants as line
@@ -265,31 +264,3 @@ module _ (initial : List ℕ) (operations : List Operation) (few : length initia
       let are = covers_are_lives all empty empty cover is.covers in
       let steps = cover_at cover are (λ x at. among x (one_deeper empty (flat_map operations_of_life cover) x at)) in
       (violation.Witness (told_place k o.0) steps.0, (empty_told initial operations few o.0 empty o.1 is.answers_empty.1, steps.1))
-
--- ---- other tickets
-
-module _ (h : ℕ → ℕ) where
-  maybe_line : (d : Option Operation) → option_to_list (option_map (retimed h) d) ≡ map (retimed h) (option_to_list d)
-  maybe_line None = refl
-  maybe_line (Some d) = refl
-
-  cover_lines : (cover : List Life) → flat_map operations_of_life (map (retimed_life h) cover) ≡ map (retimed h) (flat_map operations_of_life cover)
-  cover_lines [] = refl
-  cover_lines (life ∷ cover) =
-      ap (λ os. retimed h (enqueue_of life) ∷ (os ++ flat_map operations_of_life (map (retimed_life h) cover))) (maybe_line (dequeue_of life))
-      ∙ ap (λ os. map (retimed h) (operations_of_life life) ++ os) (cover_lines cover)
-      ∙ sym (map-append (retimed h) (operations_of_life life) (flat_map operations_of_life cover))
-
-  -- the lines of a violation at other tickets are its lines there
-  pub retimed_lines : (full : FullViolation) → lines_of (retimed_violation h full) ≡ map (retimed h) (lines_of full)
-  retimed_lines (fresh deq enq) = ap (λ os. retimed h deq ∷ os) (maybe_line enq)
-  retimed_lines (repeat enq first second) = refl
-  retimed_lines (order enq_a enq_b deq_b deq_a) = ap (λ os. retimed h enq_a ∷ retimed h enq_b ∷ retimed h deq_b ∷ os) (maybe_line deq_a)
-  retimed_lines (witness empty cover) = ap (λ os. retimed h empty ∷ os) (cover_lines cover)
-
-  -- and its kind is the same
-  pub retimed_kind : (full : FullViolation) → kind_of (retimed_violation h full) ≡ kind_of full
-  retimed_kind (fresh deq enq) = refl
-  retimed_kind (repeat enq first second) = refl
-  retimed_kind (order enq_a enq_b deq_b deq_a) = refl
-  retimed_kind (witness empty cover) = refl

@@ -1,23 +1,22 @@
 -- Two minimal selections that keep one violation, the chosen one of both, are one.
-use Rattle.verdicts.proofs.Common.{[], ap, AreComplete, AreLinearizable, arith, Bool, cases_lt, ClaimLine, Contains}
+use Rattle.verdicts.proofs.Common.{ap, AreLinearizable, Bool, cases_lt, ClaimLine, Contains}
 use Rattle.verdicts.proofs.Common.{Contains-append_cases, Contents, contents_of, false, filter, FullViolation}
-use Rattle.verdicts.proofs.Common.{HistoryView, inl, inr, IsLinearizable, IsMinimal, IsViolationOf}
+use Rattle.verdicts.proofs.Common.{few_initial, HistoryView, inl, inr, IsMinimal, IsViolationOf}
 use Rattle.verdicts.proofs.Common.{KeepsViolation, linearizable_from_exactly, lines_of, lines_of_history, List}
 use Rattle.verdicts.proofs.Common.{map, mapped_from, mapped_to, Operation, operations_of, ORIGIN, passed_filter, refl}
-use Rattle.verdicts.proofs.Common.{select, selects, some_are_complete, StaysChosen, subst, sym, timeline}
+use Rattle.verdicts.proofs.Common.{select, selects, StaysChosen, subst, sym, timeline}
 use Rattle.verdicts.proofs.Common.{timeline_of_history, true, Violation, violation_lines, violation_places}
 use Rattle.verdicts.proofs.Common.{ViolationKind, ℕ, ◌∙◌, ◌≡◌, ◌≢◌, ◌⊎◌}
 use Rattle.verdicts.specs.declared.verifying.ClaimLine.TheVariants.{Op, Initial}
 use Rattle.verdicts.proofs.Chosen.{chosen_is_violation}
 use Rattle.verdicts.proofs.Exactly.{violation_excludes_order}
-use Rattle.verdicts.proofs.Retiming.{lifted, lifted_rises, linearizable_there, start, timeline_late}
-use Rattle.verdicts.proofs.ShrunkEvents.{filters_swap, no_longer}
+use Rattle.verdicts.proofs.Retiming.{StandsAs, lifted, start, violation_back}
+use Rattle.verdicts.proofs.ShrunkEvents.{filters_swap}
 use Rattle.verdicts.proofs.Minimal.{all_or_one}
 use Rattle.verdicts.proofs.NamedLines.{lines_are_operations}
 use Rattle.verdicts.proofs.NamedPlaces.{each_shown, shown_lines, accepted_value, early_line, late_line, line_of}
-use Rattle.verdicts.proofs.Selections.{violation_in_selected}
-use Rattle.verdicts.proofs.ShrunkHistories.{IsWhole, calls_behind, among_enqueues, timeline_is_whole}
-use Rattle.verdicts.proofs.ShrunkHistories.{selection_timeline}
+use Rattle.verdicts.proofs.Selections.{mapped_violation}
+use Rattle.verdicts.proofs.ShrunkHistories.{IsWhole, calls_behind, among_enqueues, part_stands}
 use Rattle.verdicts.specs.declared.verifying.Claimed.TheVariants as claimed
 
 -- claims of a `NO` that are one have the same lines
@@ -46,6 +45,14 @@ operation_among initial operations o among = elim (Contains-append_cases (map In
       subst (Contains operations) one found.1
 ]
 
+-- a filter keeps all, or it doesn't
+same_or_not : {X : Type 0} (p : X → Bool) (xs : List X) → (filter p xs ≡ xs) ⊎ (filter p xs ≢ xs)
+same_or_not p xs = elim (all_or_one p xs) [
+  | inl all ↦ inl all
+  | inr one ↦ inr (λ same. let passed = (passed_filter p xs one.0 (subst (λ ys. Contains ys one.0) (sym same) one.1)).1 in
+      let clash : true ≡ false = sym passed ∙ one.2 in cc)
+]
+
 -- what another selection that keeps all of the violation leaves of a minimal one is the whole of it
 module _ (whole x : HistoryView) (violation : Violation) (is_x : IsWhole x) (stays : StaysChosen whole violation x) (minimal : IsMinimal (contents_of x))
     (values empties : ℕ → Bool) (kept : (line : ClaimLine) → Contains (violation_lines whole violation) line
@@ -64,13 +71,17 @@ module _ (whole x : HistoryView) (violation : Violation) (is_x : IsWhole x) (sta
   part = select values empties (contents_of x)
 
   abbrev passes : Operation → Bool
-  passes = selects values (calls_behind (contents_of x) empties)
+  passes = selects values (calls_behind empties)
 
-  complete : AreComplete (timeline_of_history x)
-  complete = timeline_is_whole x is_x
+  stands : StandsAs values (calls_behind empties) (lifted values x.initial) (start part.initial) (timeline part.initial part.operations)
+      (timeline_of_history x)
+  stands = part_stands x values empties part refl is_x
 
   is_violation : IsViolationOf (timeline_of_history x) full
-  is_violation = chosen_is_violation (timeline_of_history x) full complete stays.1.2
+  is_violation = chosen_is_violation (timeline_of_history x) full stands.complete stays.1.2
+
+  in_x : (o : Operation) → Contains (lines_of full) o → Contains (timeline_of_history x) o
+  in_x = lines_are_operations (timeline_of_history x) full is_violation
 
   same_lines : violation_lines whole violation ≡ map line_of (lines_of full)
   same_lines = sym (one_list_of_lines _ _ (violation_lines x stays.0) (violation_lines whole violation) stays.2)
@@ -80,11 +91,11 @@ module _ (whole x : HistoryView) (violation : Violation) (is_x : IsWhole x) (sta
   line_passes : (o : Operation) → Contains (lines_of full) o → passes o ≡ true
   line_passes o among = elim (cases_lt o.call ORIGIN) [
     | inl early ↦
-        let found = among_enqueues x o (lines_are_operations (timeline_of_history x) full is_violation o among) early in
+        let found = among_enqueues x o (in_x o among) early in
         let line = early_line o early ∙ ap (λ k. Initial (accepted_value k)) found.1 in
         let passed = passed_filter values whole.initial found.0 (value_among selected.initial selected.operations found.0
         (subst (Contains selected_lines) line here)) in
-        ap (λ k. selects values (calls_behind (contents_of x) empties) (record { call = o.call; ret = o.ret; thread = o.thread; kind = k })) found.1 ∙ passed.1
+        ap (λ k. selects values (calls_behind empties) (record { call = o.call; ret = o.ret; thread = o.thread; kind = k })) found.1 ∙ passed.1
     | inr late ↦ (passed_filter (selects values empties) (operations_of whole.events) _
         (operation_among selected.initial selected.operations _ (subst (Contains selected_lines) (late_line o late) here))).1
   ]
@@ -94,31 +105,23 @@ module _ (whole x : HistoryView) (violation : Violation) (is_x : IsWhole x) (sta
 
   not_linearizable : AreLinearizable part → ⊥
   not_linearizable linear =
-      let timeline_linear = (linearizable_from_exactly part.initial part.operations (omega (arith, no_longer values x.initial, is_x.few))).0 linear in
-      let moved = linearizable_there (start part.initial) (lifted values x.initial) (lifted_rises values x.initial is_x.few)
-      (timeline part.initial part.operations) (timeline_late part.initial part.operations) timeline_linear in
-      violation_excludes_order (filter passes (timeline_of_history x)) full (some_are_complete passes (timeline_of_history x) complete)
-      (violation_in_selected (timeline_of_history x) values (calls_behind (contents_of x) empties) full line_passes is_violation)
-      (subst (IsLinearizable []) (sym (selection_timeline (contents_of x) values empties is_x.few)) moved)
+      violation_excludes_order (timeline part.initial part.operations) (mapped_violation stands.back full) stands.part_complete
+      (violation_back stands full (λ o among. (in_x o among, line_passes o among)) is_violation)
+      ((linearizable_from_exactly part.initial part.operations (few_initial part.initial part.operations stands.part_complete)).0 linear)
 
   none_differs : part ≢ contents_of x → ⊥
   none_differs differs = not_linearizable (minimal.1 part (values, empties, refl) differs)
 
   -- a selection that is not linearizable is the whole
   pub part_is_whole : part ≡ contents_of x
-  part_is_whole = by_values (all_or_one values x.initial) (all_or_one (selects values empties) (operations_of x.events))
+  part_is_whole = by_lists (same_or_not values x.initial) (same_or_not (selects values empties) (operations_of x.events))
     where
-      by_values : (filter values x.initial ≡ x.initial) ⊎ ((v : ℕ) × Contains x.initial v × (values v ≡ false))
+      by_lists : (filter values x.initial ≡ x.initial) ⊎ (filter values x.initial ≢ x.initial)
           → (filter (selects values empties) (operations_of x.events) ≡ operations_of x.events)
-          ⊎ ((o : Operation) × Contains (operations_of x.events) o × (selects values empties o ≡ false)) → part ≡ contents_of x
-      by_values (inl all) (inl every) = λ i. record { initial = all i; operations = every i }
-      by_values (inr one) other = absurd (none_differs (λ same.
-          let passed = (passed_filter values x.initial one.0 (subst (λ vs. Contains vs one.0) (sym (ap (λ (z : Contents). z.initial) same)) one.1)).1 in
-          let clash : true ≡ false = sym passed ∙ one.2 in cc))
-      by_values (inl all) (inr one) = absurd (none_differs (λ same.
-          let passed = (passed_filter (selects values empties) (operations_of x.events) one.0
-          (subst (λ os. Contains os one.0) (sym (ap (λ (z : Contents). z.operations) same)) one.1)).1 in
-          let clash : true ≡ false = sym passed ∙ one.2 in cc))
+          ⊎ (filter (selects values empties) (operations_of x.events) ≢ operations_of x.events) → part ≡ contents_of x
+      by_lists (inl all) (inl every) = λ i. record { initial = all i; operations = every i }
+      by_lists (inl all) (inr other) = absurd (none_differs (λ same. other (ap (λ (z : Contents). z.operations) same)))
+      by_lists (inr other) each = absurd (none_differs (λ same. other (ap (λ (z : Contents). z.initial) same)))
 
 selections_swap : (values empties values' empties' : ℕ → Bool) (whole : Contents)
     → select values empties (select values' empties' whole) ≡ select values' empties' (select values empties whole)

@@ -1,29 +1,27 @@
--- Operations at other times in the same order: the same ones violate, the same violation is chosen, and the same orders are legal. A
--- selection of a timeline is the timeline of the selection, where initial values are enqueued at other times.
-use Rattle.verdicts.proofs.Common.{[], ap, AreComplete, arith, Bool, call_by_return, call_or_never, cases_lt}
-use Rattle.verdicts.proofs.Common.{cases_order, cond, Contains, Contains-append_cases, Contains-append_left}
-use Rattle.verdicts.proofs.Common.{Contains-append_right, Contains-get_or, Contains-permutation, Deq, dequeue_call}
-use Rattle.verdicts.proofs.Common.{dequeue_of, Did, Empty, enqueue_at, enqueue_of, enqueue_place, enqueue_return}
-use Rattle.verdicts.proofs.Common.{enqueues_from, false, filter, flat_map, fresh, FullViolation, get_or}
-use Rattle.verdicts.proofs.Common.{initial_enqueues, initial_time, inl, inr, IsAccepted, IsChosenCoverFrom}
-use Rattle.verdicts.proofs.Common.{IsChosenFullViolation, IsCovered, IsLegalOrder, IsLife, IsLinearizable}
-use Rattle.verdicts.proofs.Common.{IsOrderViolation, IsPermutation-map, IsPermutation-sym, IsViolationOf}
-use Rattle.verdicts.proofs.Common.{later_by, le-ltb, length, Life, lines_of, List, lt-ltb, ltb-true, map, map_fixed}
-use Rattle.verdicts.proofs.Common.{map_map, mapped_from, mapped_to, MatchBool, MatchOption, MAX_INITIAL, MAX_TIME}
-use Rattle.verdicts.proofs.Common.{nat_lt, NoFreshViolation, None, NoneDid, NoOrderViolation, NoRepeatViolation}
-use Rattle.verdicts.proofs.Common.{one_deeper, Operation, operations_of_life, OpKind, Option, option_map, order}
-use Rattle.verdicts.proofs.Common.{ORIGIN, Precedes, refl, repeat, return_in_range, same_operation, selects, Some}
-use Rattle.verdicts.proofs.Common.{StaysAtLeast, subst, suc, sym, timeline, true, value_of, witness, zero, ℕ, ⊤, ◌++◌}
-use Rattle.verdicts.proofs.Common.{◌+◌, ◌-◌, ◌<◌, ◌∙◌, ◌∷◌, ◌≡◌, ◌≤◌, ◌⊎◌}
+-- Operations that stand in a longer list at other times, in the same order: they have the violations of the list whose lines are among
+-- them, and the chosen one, if its lines are. The selected values of a timeline stand on it so, since their initial ones are enqueued
+-- at other times.
+use Rattle.verdicts.proofs.Common.{[], ap, AreComplete, arith, Bool, call_by_return, call_or_never, cases_lt, cond}
+use Rattle.verdicts.proofs.Common.{Contains, contains_cons, Contains-append_cases, Contains-append_left}
+use Rattle.verdicts.proofs.Common.{Contains-append_right, Covers, dequeue_call, dequeue_of, eq-eqb, eqb-true}
+use Rattle.verdicts.proofs.Common.{enqueue_at, enqueue_of, enqueue_place, enqueue_return, enqueues_from, false, filter}
+use Rattle.verdicts.proofs.Common.{flat_map, fresh, FullViolation, initial_enqueues, initial_time, inl, inr}
+use Rattle.verdicts.proofs.Common.{IsChosenCoverFrom, IsChosenFullViolation, IsClear, IsCovered, IsLife, IsOrderViolation, IsWitnessViolation}
+use Rattle.verdicts.proofs.Common.{IsViolationOf, later_by, le-ltb, length, Life, lines_of, List, lt-ltb, ltb-true}
+use Rattle.verdicts.proofs.Common.{map, map_fixed, mapped_from, mapped_to, MatchBool, MAX_INITIAL, nat_eq, nat_lt}
+use Rattle.verdicts.proofs.Common.{NoFreshViolation, None, NoOrderViolation, NoRepeatViolation, not_in_none, one_deeper, Operation}
+use Rattle.verdicts.proofs.Common.{operations_of_life, Option, option_map, option_to_list, order, ORIGIN}
+use Rattle.verdicts.proofs.Common.{passed_filter, passes_filter, refl, repeat, same_call, same_operation, selects}
+use Rattle.verdicts.proofs.Common.{Some, StaysAtLeast, subst, suc, sym, timeline, true, value_of, violation_covers}
+use Rattle.verdicts.proofs.Common.{witness, zero, ℕ, ◌++◌, ◌+◌, ◌-◌, ◌<◌, ◌∙◌, ◌∷◌, ◌≡◌, ◌≤◌}
 use Rattle.value_match.specs.declared.life.TheConstants.{NEVER}
-use Rattle.verdicts.proofs.NamedLines.{each_of, life_lines, lines_are_operations}
+use Rattle.history_merge.specs.Operations.{IsInWindow}
+use Rattle.verdicts.proofs.NamedLines.{life_lines, lines_are_operations, selects_as_value}
 use Rattle.std.proofs.lemmas.Bool.{ltb_from_iff}
+use Rattle.verdicts.proofs.Chosen.{chosen_is_violation}
 use Rattle.verdicts.proofs.CoverGaps.{match_then}
-use Rattle.verdicts.proofs.Selections.{life_from, violation_carried, violation_itself, itself, life_carried}
-use Rattle.verdicts.proofs.Selections.{life_itself, mapped_violation, mapped_life}
-use Rattle.history_merge.proofs.Later.{pairs_map}
+use Rattle.verdicts.proofs.Selections.{Carries, life_carried, mapped_life, mapped_violation, violation_carried}
 use Rattle.verdicts.proofs.ShrunkEvents.{no_longer}
-use Rattle.verdicts.proofs.Exactly.{linearizable_exactly, violation_excludes_order}
 
 -- the same operation at other times
 abbrev pub retimed : (ℕ → ℕ) → Operation → Operation
@@ -33,10 +31,6 @@ retimed h o = record { call = h o.call; ret = h o.ret; thread = o.thread; kind =
 abbrev pub retimed_life : (ℕ → ℕ) → Life → Life
 retimed_life h = mapped_life (retimed h)
 
--- those of a violation
-abbrev pub retimed_violation : (ℕ → ℕ) → FullViolation → FullViolation
-retimed_violation h = mapped_violation (retimed h)
-
 -- from a time on, later times stay later
 abbrev pub Rises : ℕ → (ℕ → ℕ) → Type 0
 Rises low h = (a b : ℕ) → low ≤ a → a < b → h a < h b
@@ -45,34 +39,18 @@ Rises low h = (a b : ℕ) → low ≤ a → a < b → h a < h b
 abbrev pub AreLate : ℕ → List Operation → Type 0
 AreLate low operations = (o : Operation) → Contains operations o → (low ≤ o.call) × (low ≤ o.ret)
 
--- one of the operations, if it is one
-abbrev IsMaybeAmong : List Operation → Option Operation → Type 0
-IsMaybeAmong operations d = MatchOption d ⊤ (Contains operations)
-
-none_mapped : {X Y : Type 0} (f : X → Y) (xs : List X) → map f xs ≡ [] → xs ≡ []
-none_mapped f [] none = refl
-none_mapped f (x ∷ xs) none = cc
-
-module _ (low : ℕ) (h : ℕ → ℕ) (rises : Rises low h) where
-  -- ---- times
-
-  below_back : (a b : ℕ) → low ≤ b → h a < h b → a < b
-  below_back a b from less = elim (cases_order a b) [
-    | inl same ↦ let images = ap h same in absurd (omega arith)
-    | inr (inl below) ↦ below
-    | inr (inr above) ↦ let more = rises b a from above in absurd (omega arith)
+module _ {low : ℕ} {h : ℕ → ℕ} (rises : Rises low h) where
+  at_most : (a b : ℕ) → low ≤ a → a ≤ b → h a ≤ h b
+  at_most a b from le = elim (cases_lt a b) [
+    | inl less ↦ let more = rises a b from less in omega arith
+    | inr more ↦ let same : a ≡ b = omega arith in let images = ap h same in omega arith
   ]
 
   at_most_back : (a b : ℕ) → low ≤ b → h a ≤ h b → a ≤ b
   at_most_back a b from le = elim (cases_lt b a) [ inl above ↦ let more = rises b a from above in absurd (omega arith) | inr most ↦ most ]
 
-  at_most : (a b : ℕ) → low ≤ a → a ≤ b → h a ≤ h b
-  at_most a b from le = elim (cases_lt (h b) (h a)) [ inl less ↦ let below = below_back b a from less in absurd (omega arith) | inr most ↦ most ]
-
-  -- two times with one image are one
-  pub same_back : (a b : ℕ) → low ≤ a → low ≤ b → h a ≡ h b → a ≡ b
-  same_back a b from_a from_b same =
-      let below = at_most_back a b from_b (omega arith) in let above = at_most_back b a from_a (omega arith) in omega arith
+  below_back : (a b : ℕ) → low ≤ b → h a < h b → a < b
+  below_back a b from less = elim (cases_lt a b) [ inl below ↦ below | inr above ↦ let more = at_most b a from above in absurd (omega arith) ]
 
   -- the last time whose image isn't later than this one
   floor_by : (n a b c : ℕ) → a + n ≡ b → h a ≤ c → c < h b → (p : ℕ) × (a ≤ p) × (p < b) × (h p ≤ c) × (c < h (p + 1))
@@ -84,276 +62,270 @@ module _ (low : ℕ) (h : ℕ → ℕ) (rises : Rises low h) where
         (found.0, omega (arith, found.1), found.2, found.3, found.4)
   ]
 
-  -- ---- operations
+  -- which of two times is the later
+  same_test : (a b a' b' : ℕ) → low ≤ a → low ≤ b → h a ≡ a' → h b ≡ b' → nat_lt a' b' ≡ nat_lt a b
+  same_test a b a' b' from_a from_b same_a same_b = ltb_from_iff (
+    λ is. below_back a b from_b (omega (arith, same_a, same_b, ltb-true a' b' is)),
+    λ less. lt-ltb a' b' (omega (arith, same_a, same_b, rises a b from_a less)),
+  )
 
-  module _ (xs : List Operation) (late : AreLate low xs) where
-    abbrev ys : List Operation
-    ys = map (retimed h) xs
+-- the first list is what is selected of the second, at other times; from a time on, which is none before the first list's, the times rise
+pub record StandsAs (values calls : ℕ → Bool) (h : ℕ → ℕ) (low : ℕ) (xs ys : List Operation) : Type 0 where
+  pub rises : Rises low h
+  pub never : (h NEVER ≡ NEVER) × (low ≤ NEVER)
+  pub late : AreLate low xs
+  pub part_complete : AreComplete xs
+  pub complete : AreComplete ys
+  pub there : (o : Operation) → Contains xs o → Contains ys (retimed h o) × (selects values calls (retimed h o) ≡ true)
+  pub back : Operation → Operation
+  pub brings : (o : Operation) → Contains ys o → selects values calls o ≡ true → Contains xs (back o) × (retimed h (back o) ≡ o)
 
-    did_there : (o : Operation) (kind : OpKind) → Contains xs o → Did xs o kind → Did ys (retimed h o) kind
-    did_there o kind among did = (mapped_to (retimed h) xs o did.0, did.1)
+module _ {values calls : ℕ → Bool} {h : ℕ → ℕ} {low : ℕ} {xs ys : List Operation} (stands : StandsAs values calls h low xs ys) where
+  -- all of these are selected
+  abbrev pub IsSelected : Operation → Type 0
+  IsSelected o = Contains ys o × (selects values calls o ≡ true)
 
-    did_back : (o : Operation) (kind : OpKind) → Contains xs o → Did ys (retimed h o) kind → Did xs o kind
-    did_back o kind among did = (among, did.1)
+  abbrev pub AreSelected : List Operation → Type 0
+  AreSelected listed = (o : Operation) → Contains listed o → IsSelected o
 
-    none_there : (x : Operation) (v : ℕ) (own kind : OpKind) → Did xs x own → value_of own ≡ Some v → value_of kind ≡ Some v → NoneDid xs kind
-        → NoneDid ys kind
-    none_there x v own kind did_x of_value is none o among did =
-        let found = mapped_from (retimed h) xs o among in none found.0 found.1 (ap (λ (x : Operation). x.kind) found.2 ∙ did)
+  -- where a selected operation stands, and at which times
+  in_part : (o : Operation) → IsSelected o → Contains xs (stands.back o)
+  in_part o is = (stands.brings o is.0 is.1).0
 
-    none_back : (x : Operation) (v : ℕ) (own kind : OpKind) → Did ys x own → value_of own ≡ Some v → value_of kind ≡ Some v → NoneDid ys kind
-        → NoneDid xs kind
-    none_back x v own kind did_x of_value is none o among did = none (retimed h o) (mapped_to (retimed h) xs o among) did
+  called : (o : Operation) → IsSelected o → h (stands.back o).call ≡ o.call
+  called o is = ap (λ (x : Operation). x.call) (stands.brings o is.0 is.1).1
 
-    precedes_there : (x y : Operation) → Contains xs x → Contains xs y → Precedes x y → Precedes (retimed h x) (retimed h y)
-    precedes_there x y in_x in_y = rises x.ret y.call (late x in_x).1
+  returned : (o : Operation) → IsSelected o → h (stands.back o).ret ≡ o.ret
+  returned o is = ap (λ (x : Operation). x.ret) (stands.brings o is.0 is.1).1
 
-    precedes_back : (x y : Operation) → Contains xs x → Contains xs y → Precedes (retimed h x) (retimed h y) → Precedes x y
-    precedes_back x y in_x in_y = below_back x.ret y.call (late y in_y).0
+  -- what stands there comes from itself
+  pub back_there : (o : Operation) → Contains xs o → stands.back (retimed h o) ≡ o
+  back_there o among =
+      let at = stands.there o among in
+      let from = (stands.late o among).0 in
+      let from' = (stands.late (stands.back (retimed h o)) (in_part (retimed h o) at)).0 in
+      let same = called (retimed h o) at in
+      let below = at_most_back stands.rises (stands.back (retimed h o)).call o.call from (omega arith) in
+      let above = at_most_back stands.rises o.call (stands.back (retimed h o)).call from' (omega arith) in
+      same_call xs (stands.back (retimed h o)) o stands.part_complete (in_part (retimed h o) at) among (omega arith)
 
-    returns_back : (x y : Operation) → Contains xs x → Contains xs y → h x.ret < h y.ret → x.ret < y.ret
-    returns_back x y in_x in_y = below_back x.ret y.ret (late y in_y).1
+  carries_there : Carries xs ys (retimed h) (Contains xs)
+  carries_there = record {
+    did = λ o kind among did. ((stands.there o among).0, did.1);
+    none_did = λ x v own kind did of_value is none y among did_y.
+        let passes = selects_as_value values calls y v (ap value_of did_y ∙ is)
+        ∙ sym (selects_as_value values calls (retimed h x) v (ap value_of did.1 ∙ of_value)) ∙ (stands.there x did.0).1 in
+        let found = stands.brings y among passes in
+        none (stands.back y) found.0 (ap (λ (o : Operation). o.kind) found.1 ∙ did_y);
+    precedes = λ x y in_x in_y. stands.rises x.ret y.call (stands.late x in_x).1;
+    in_turn = λ x y in_x in_y. stands.rises x.ret y.ret (stands.late x in_x).1;
+  }
 
-    -- these are among the operations
-    abbrev pub Among : List Operation → Type 0
-    Among listed = (o : Operation) → Contains listed o → Contains xs o
+  carries_back : Carries ys xs stands.back IsSelected
+  carries_back = record {
+    did = λ o kind is did. (in_part o is, ap (λ (x : Operation). x.kind) (stands.brings o is.0 is.1).1 ∙ did.1);
+    none_did = λ x v own kind did of_value is none o among. none (retimed h o) (stands.there o among).0;
+    precedes = λ x y is_x is_y less. below_back stands.rises (stands.back x).ret (stands.back y).call (stands.late (stands.back y) (in_part y is_y)).0
+        (omega (arith, returned x is_x, called y is_y, less));
+    in_turn = λ x y is_x is_y less. below_back stands.rises (stands.back x).ret (stands.back y).ret (stands.late (stands.back y) (in_part y is_y)).1
+        (omega (arith, returned x is_x, returned y is_y, less));
+  }
 
-    -- ---- lives
+  -- a life of these is one of the list
+  pub life_there : (life : Life) → IsLife xs life → IsLife ys (retimed_life h life)
+  life_there life is = life_carried carries_there life (λ o at. (life_lines xs life is o at).0) is
 
-    life_among : (life : Life) → IsLife xs life → Among (operations_of_life life)
-    life_among life is o at = (life_lines xs life is o at).0
+  -- a violation of these is one of the list
+  pub violation_there : (full : FullViolation) → IsViolationOf xs full → IsViolationOf ys (mapped_violation (retimed h) full)
+  violation_there full is = violation_carried carries_there full (lines_are_operations xs full is) is
 
-    life_there : (life : Life) → IsLife xs life → IsLife ys (retimed_life h life)
-    life_there life is = life_carried xs ys itself (retimed h) (Contains xs) did_there none_there precedes_there
-        (λ x y in_x in_y. rises x.ret y.ret (late x in_x).1) life (life_among life is) (subst (IsLife xs) (sym (life_itself life)) is)
+  -- and one of the list whose lines are selected is one of these
+  pub violation_back : (full : FullViolation) → AreSelected (lines_of full) → IsViolationOf ys full → IsViolationOf xs (mapped_violation stands.back full)
+  violation_back = violation_carried carries_back
 
-    life_back : (life : Life) → Among (operations_of_life life) → IsLife ys (retimed_life h life) → IsLife xs life
-    life_back life among is = subst (IsLife xs) (life_itself life) (life_carried ys xs (retimed h) itself (Contains xs) did_back none_back
-        precedes_back returns_back life among is)
+  pub no_fresh_back : NoFreshViolation ys → NoFreshViolation xs
+  no_fresh_back none deq enq is = none (retimed h deq) (option_map (retimed h) enq) (violation_there (fresh deq enq) is)
 
-    -- each life is one at its times before
-    life_before : (life : Life) → IsLife ys life → (x : Life) × (retimed_life h x ≡ life) × IsLife xs x
-    life_before life is =
-        let x = life_from (retimed h) xs life (λ o at. (life_lines ys life is o at).0) in
-        (x.0, x.1, life_back x.0 (each_of (Contains xs) (operations_of_life x.0) x.2) (subst (IsLife ys) (sym x.1) is))
+  pub no_repeat_back : NoRepeatViolation ys → NoRepeatViolation xs
+  no_repeat_back none enq first second is = none (retimed h enq) (retimed h first) (retimed h second) (violation_there (repeat enq first second) is)
 
-    -- ---- violations
+  pub no_order_back : NoOrderViolation ys → NoOrderViolation xs
+  no_order_back none enq_a enq_b deq_b deq_a is = none (retimed h enq_a) (retimed h enq_b) (retimed h deq_b) (option_map (retimed h) deq_a)
+      (violation_there (order enq_a enq_b deq_b deq_a) is)
 
-    -- a violation is one at the other times
-    pub violation_there : (full : FullViolation) → IsViolationOf xs full → IsViolationOf ys (retimed_violation h full)
-    violation_there full is = violation_carried xs ys itself (retimed h) (Contains xs) did_there none_there precedes_there
-        (λ x y in_x in_y. rises x.ret y.ret (late x in_x).1) full (lines_are_operations xs full is)
-        (subst (IsViolationOf xs) (sym (violation_itself full)) is)
+  -- where the first two kinds are absent from the list, they are absent here
+  pub clear_back : NoFreshViolation ys → NoRepeatViolation ys → IsClear xs
+  clear_back no_fresh no_repeat =
+      record { complete = stands.part_complete; no_fresh = no_fresh_back no_fresh; no_repeat = no_repeat_back no_repeat }
 
-    -- and was one before
-    full_violation_back : (full : FullViolation) → Among (lines_of full) → IsViolationOf ys (retimed_violation h full) → IsViolationOf xs full
-    full_violation_back full among is = subst (IsViolationOf xs) (violation_itself full) (violation_carried ys xs (retimed h) itself (Contains xs)
-        did_back none_back precedes_back returns_back full among is)
+  -- ---- the choice
 
-    no_fresh_back : NoFreshViolation ys → NoFreshViolation xs
-    no_fresh_back none deq enq is = none (retimed h deq) (option_map (retimed h) enq) (violation_there (fresh deq enq) is)
+  -- the call of an operation that may be missing, there and here
+  calls_there : (d : Option Operation) → h (call_or_never d) ≡ call_or_never (option_map (retimed h) d)
+  calls_there None = stands.never.0
+  calls_there (Some d) = refl
 
-    no_repeat_back : NoRepeatViolation ys → NoRepeatViolation xs
-    no_repeat_back none enq first second is = none (retimed h enq) (retimed h first) (retimed h second) (violation_there (repeat enq first second) is)
+  calls_back : (d : Option Operation) → AreSelected (option_to_list d)
+      → (h (call_or_never (option_map stands.back d)) ≡ call_or_never d) × (low ≤ call_or_never (option_map stands.back d))
+  calls_back None are = stands.never
+  calls_back (Some d) are = let is = are d (zero, omega arith, refl) in (called d is, (stands.late (stands.back d) (in_part d is)).0)
 
-    no_order_back : NoOrderViolation ys → NoOrderViolation xs
-    no_order_back none enq_a enq_b deq_b deq_a is = none (retimed h enq_a) (retimed h enq_b) (retimed h deq_b) (option_map (retimed h) deq_a)
-        (violation_there (order enq_a enq_b deq_b deq_a) is)
+  no_later : (o x : Operation) → IsSelected o → Contains xs x → o.ret ≤ h x.ret → (stands.back o).ret ≤ x.ret
+  no_later o x is among le = at_most_back stands.rises (stands.back o).ret x.ret (stands.late x among).1 (omega (arith, returned o is))
 
-    -- ---- legal orders
-
-    order_stays : (found : List Operation) → IsLegalOrder [] xs found → IsLegalOrder [] ys (map (retimed h) found)
-    order_stays found legal = record {
-      holds_each_once = IsPermutation-map (retimed h) xs found legal.holds_each_once;
-      extends_precedence = pairs_map (λ earlier later. ¬ (Precedes later earlier)) (retimed h) found
-          (λ i j d below inside precedes. legal.extends_precedence i j d below inside
-          (precedes_back (get_or found j d) (get_or found i d) (in_xs j d inside) (in_xs i d (omega arith)) precedes));
-      is_accepted = subst (IsAccepted []) (sym (map_map (retimed h) (λ o. o.kind) found)) legal.is_accepted;
-    }
-      where
-        in_xs : (k : ℕ) (d : Operation) → k < length found → Contains xs (get_or found k d)
-        in_xs k d within = Contains-permutation found xs (get_or found k d) (IsPermutation-sym xs found legal.holds_each_once)
-            (Contains-get_or found k d within)
-
-    pub linearizable_there : IsLinearizable [] xs → IsLinearizable [] ys
-    linearizable_there found = (map (retimed h) found.0, order_stays found.0 found.1)
-
-    pub linearizable_back : AreComplete xs → AreComplete ys → IsLinearizable [] ys → IsLinearizable [] xs
-    linearizable_back complete complete' found =
-        (linearizable_exactly xs complete).1 (λ full is. violation_excludes_order ys (retimed_violation h full) complete' (violation_there full is) found)
-
-    -- ---- the choice
-
-    module _ (complete : AreComplete xs) (complete' : AreComplete ys) where
-      -- a time and what becomes of it, or never both
-      abbrev Follows : ℕ → ℕ → Type 0
-      Follows t t' = ((h t ≡ t') × (low ≤ t) × (t ≤ MAX_TIME) × (t' ≤ MAX_TIME)) ⊎ ((t ≡ NEVER) × (t' ≡ NEVER))
-
-      follow_less : (a a' b b' : ℕ) → Follows a a' → Follows b b' → a < b → a' < b'
-      follow_less a a' b b' (inl x) (inl y) less = let more = rises a b x.1 less in omega (arith, x.0, y.0, more)
-      follow_less a a' b b' (inl x) (inr y) less = omega (arith, x.3, y.1)
-      follow_less a a' b b' (inr x) (inl y) less = absurd (omega (arith, x.0, y.2, less))
-      follow_less a a' b b' (inr x) (inr y) less = absurd (omega (arith, x.0, y.0, less))
-
-      follow_less_back : (a a' b b' : ℕ) → Follows a a' → Follows b b' → a' < b' → a < b
-      follow_less_back a a' b b' (inl x) (inl y) less = below_back a b y.1 (omega (arith, x.0, y.0, less))
-      follow_less_back a a' b b' (inl x) (inr y) less = omega (arith, x.2, y.0)
-      follow_less_back a a' b b' (inr x) (inl y) less = absurd (omega (arith, x.1, y.3, less))
-      follow_less_back a a' b b' (inr x) (inr y) less = absurd (omega (arith, x.1, y.1, less))
-
-      follow_most_back : (a a' b b' : ℕ) → Follows a a' → Follows b b' → a' ≤ b' → a ≤ b
-      follow_most_back a a' b b' x y le =
-          elim (cases_lt b a) [ inl above ↦ let more = follow_less b b' a a' y x above in absurd (omega arith) | inr most ↦ most ]
-
-      follow_same : (a a' b b' : ℕ) → Follows a a' → Follows b b' → a ≡ b → a' ≡ b'
-      follow_same a a' b b' x y same = let images = ap h same in omega (arith, x, y)
-
-      follow_test : (a a' b b' : ℕ) → Follows a a' → Follows b b' → nat_lt a' b' ≡ nat_lt a b
-      follow_test a a' b b' x y = ltb_from_iff
-          (λ is. follow_less_back a a' b b' x y (ltb-true a' b' is), λ less. lt-ltb a' b' (follow_less a a' b b' x y less))
-
-      call_follows : (o : Operation) → Contains xs o → Follows o.call (h o.call)
-      call_follows o among =
-          let latest = return_in_range xs o complete among in
-          let latest' = return_in_range ys (retimed h o) complete' (mapped_to (retimed h) xs o among) in
-          let by = call_by_return xs o complete among in
-          let by' = at_most o.call o.ret (late o among).0 by in
-          inl (refl, (late o among).0, omega arith, omega arith)
-
-      return_follows : (o : Operation) → Contains xs o → Follows o.ret (h o.ret)
-      return_follows o among = inl (
-        refl,
-        (late o among).1,
-        return_in_range xs o complete among,
-        return_in_range ys (retimed h o) complete' (mapped_to (retimed h) xs o among),
+  stays_back : (x y : Life) → AreSelected (operations_of_life x) → Contains xs (enqueue_of y) → StaysAtLeast x (retimed_life h y)
+      → StaysAtLeast (mapped_life stands.back x) y
+  stays_back x y are among stays =
+      let own = calls_back (dequeue_of x) (λ o at. are o (one_deeper (enqueue_of x) (option_to_list (dequeue_of x)) o at)) in
+      let other = calls_there (dequeue_of y) in (
+        at_most_back stands.rises (dequeue_call y) _ own.1 (omega (arith, own.0, other, stays.0)),
+        λ same. no_later (enqueue_of x) (enqueue_of y) (are (enqueue_of x) (zero, omega arith, refl)) among
+            (stays.1 (sym other ∙ ap h same ∙ own.0)),
       )
 
-      maybe_follows : (d : Option Operation) → IsMaybeAmong xs d → Follows (call_or_never d) (call_or_never (option_map (retimed h) d))
-      maybe_follows None none = inr (refl, refl)
-      maybe_follows (Some d) among = call_follows d among
+  -- at each gap of a covered window some life of these is definitely in the queue
+  pub covered_by : (o : Operation) → Contains xs o → IsCovered xs o → (c : ℕ) → IsInWindow (retimed h o) c
+      → (z : Life) × IsLife xs z × Covers (retimed_life h z) c
+  covered_by o among covered c window =
+      let by = call_by_return xs o stands.part_complete among in
+      let gap = floor_by stands.rises (o.ret - o.call) o.call o.ret c (omega arith) window.0 window.1 in
+      let z = covered gap.0 (gap.1, gap.2) in
+      let from = (stands.late o among).0 in
+      let entered = at_most stands.rises (enqueue_return z.0) gap.0 (stands.late (enqueue_of z.0) z.1.1.0).1 z.2.0 in
+      let stays = at_most stands.rises (gap.0 + 1) (dequeue_call z.0) (omega (arith, gap.1)) (omega (arith, z.2.1)) in
+      (z.0, z.1, (omega (arith, gap.3), omega (arith, gap.4, calls_there (dequeue_of z.0))))
 
-      dequeue_among : (v : ℕ) (d : Option Operation) → MatchOption d (NoneDid xs (Deq v)) (λ d. Did xs d (Deq v)) → IsMaybeAmong xs d
-      dequeue_among v None none = tt
-      dequeue_among v (Some d) did = did.0
+  chosen_cover_back : (empty : Operation) → IsSelected empty → (cover : List Life) (frontier time : ℕ) → h time ≡ frontier → low ≤ time
+      → AreSelected (flat_map operations_of_life cover) → IsChosenCoverFrom ys empty frontier cover
+      → IsChosenCoverFrom xs (stands.back empty) time (map (mapped_life stands.back) cover)
+  chosen_cover_back empty is [] frontier time same from are chosen = chosen
+  chosen_cover_back empty is (life ∷ rest) frontier time same from are chosen = (
+    record {
+      is_life = life_carried carries_back life own chosen.0.is_life;
+      before_frontier = below_back stands.rises _ time from
+          (omega (arith, same, returned (enqueue_of life) (own (enqueue_of life) (zero, omega arith, refl)), chosen.0.before_frontier));
+      longest = λ other is_other before. stays_back life other own is_other.1.0 (chosen.0.longest (retimed_life h other) (life_there other is_other)
+          (omega (arith, same, stands.rises (enqueue_return other) time (stands.late (enqueue_of other) is_other.1.0).1 before)));
+    },
+    match_then (nat_lt (stands.back empty).ret (dequeue_call (mapped_life stands.back life)))
+        (subst (λ test. MatchBool test (rest ≡ []) (IsChosenCoverFrom ys empty (dequeue_call life) rest))
+        (same_test stands.rises (stands.back empty).ret (dequeue_call (mapped_life stands.back life)) empty.ret (dequeue_call life)
+        (stands.late (stands.back empty) (in_part empty is)).1 dequeue.1 (returned empty is) dequeue.0) chosen.1)
+        (ap (map (mapped_life stands.back)))
+        (chosen_cover_back empty is rest (dequeue_call life) _ dequeue.0 dequeue.1
+        (λ o at. are o (Contains-append_right (operations_of_life life) (flat_map operations_of_life rest) o at))),
+  )
+    where
+      own : AreSelected (operations_of_life life)
+      own o at = are o (Contains-append_left (operations_of_life life) (flat_map operations_of_life rest) o at)
 
-      later_among : (deq_b : Operation) (v : ℕ) (d : Option Operation)
-          → MatchOption d (NoneDid xs (Deq v)) (λ d. Did xs d (Deq v) × Precedes deq_b d) → IsMaybeAmong xs d
-      later_among deq_b v None none = tt
-      later_among deq_b v (Some d) did = did.0.0
+      dequeue : (h (dequeue_call (mapped_life stands.back life)) ≡ dequeue_call life) × (low ≤ dequeue_call (mapped_life stands.back life))
+      dequeue = calls_back (dequeue_of life) (λ o at. own o (one_deeper (enqueue_of life) (option_to_list (dequeue_of life)) o at))
 
-      life_follows : (life : Life) → IsLife xs life → Follows (dequeue_call life) (dequeue_call (retimed_life h life))
-      life_follows life is = maybe_follows (dequeue_of life) (dequeue_among is.0 (dequeue_of life) is.2)
+  -- the chosen violation of the list is the chosen one of these, if its lines are selected
+  pub chosen_back : (full : FullViolation) → AreSelected (lines_of full) → IsChosenFullViolation ys full
+      → IsChosenFullViolation xs (mapped_violation stands.back full)
+  chosen_back (fresh deq enq) are chosen = record {
+    violates = violation_back (fresh deq enq) are chosen.violates;
+    first = λ deq' enq' is. no_later deq deq' (are deq (0, omega arith, refl)) (lines_are_operations xs (fresh deq' enq') is deq' (0, omega arith, refl))
+        (chosen.first (retimed h deq') (option_map (retimed h) enq') (violation_there (fresh deq' enq') is));
+  }
+  chosen_back (repeat enq first second) are chosen = (
+    no_fresh_back chosen.0,
+    record {
+      violates = violation_back (repeat enq first second) are chosen.1.violates;
+      soonest = λ enq' first' second' is. no_later second second' (are second (2, omega arith, refl)) is.dequeues_again.0
+          (chosen.1.soonest (retimed h enq') (retimed h first') (retimed h second') (violation_there (repeat enq' first' second') is));
+    },
+  )
+  chosen_back (order enq_a enq_b deq_b deq_a) are chosen = (
+    no_fresh_back chosen.0,
+    no_repeat_back chosen.1,
+    record {
+      violates = violation_back (order enq_a enq_b deq_b deq_a) are chosen.2.violates;
+      first = λ enq_a' enq_b' deq_b' deq_a' is. no_later deq_b deq_b' (are deq_b (2, omega arith, refl)) is.dequeues_b.0
+          (chosen.2.first (retimed h enq_a') (retimed h enq_b') (retimed h deq_b') (option_map (retimed h) deq_a')
+          (violation_there (order enq_a' enq_b' deq_b' deq_a') is));
+      longest = λ enq_a' deq_a' is. stays_back (record { enqueue = enq_a; dequeue = deq_a }) (record { enqueue = enq_a'; dequeue = deq_a' })
+          own is.enqueues_a.0 (chosen.2.longest (retimed h enq_a') (option_map (retimed h) deq_a') (there enq_a' deq_a' is));
+    },
+  )
+    where
+      own : AreSelected (enq_a ∷ option_to_list deq_a)
+      own o at = elim (contains_cons enq_a (option_to_list deq_a) o at) [
+        | inl same ↦ are o (0, omega arith, same)
+        | inr later ↦ are o (suc (suc (suc later.0)), omega (arith, later.1), later.2)
+      ]
 
-      stays_back : (x y : Life) → IsMaybeAmong xs (dequeue_of x) → IsMaybeAmong xs (dequeue_of y) → Contains xs (enqueue_of y)
-          → StaysAtLeast (retimed_life h x) (retimed_life h y) → StaysAtLeast x y
-      stays_back x y in_x in_y enq_y stays = (
-        follow_most_back (dequeue_call y) _ (dequeue_call x) _ (maybe_follows (dequeue_of y) in_y) (maybe_follows (dequeue_of x) in_x) stays.0,
-        λ same. at_most_back (enqueue_return x) (enqueue_return y) (late (enqueue_of y) enq_y).1
-            (stays.1 (follow_same (dequeue_call y) _ (dequeue_call x) _ (maybe_follows (dequeue_of y) in_y) (maybe_follows (dequeue_of x) in_x) same)),
-      )
+      -- the pair of b with another a
+      there : (enq_a' : Operation) (deq_a' : Option Operation) → IsOrderViolation xs enq_a' (stands.back enq_b) (stands.back deq_b) deq_a'
+          → IsOrderViolation ys (retimed h enq_a') enq_b deq_b (option_map (retimed h) deq_a')
+      there enq_a' deq_a' is =
+          let b = are enq_b (1, omega arith, refl) in
+          let d = are deq_b (2, omega arith, refl) in
+          subst (λ e. IsOrderViolation ys (retimed h enq_a') e deq_b (option_map (retimed h) deq_a')) (stands.brings enq_b b.0 b.1).1
+          (subst (λ e. IsOrderViolation ys (retimed h enq_a') (retimed h (stands.back enq_b)) e (option_map (retimed h) deq_a')) (stands.brings deq_b d.0 d.1).1
+          (violation_there (order enq_a' (stands.back enq_b) (stands.back deq_b) deq_a') is))
+  chosen_back (witness empty cover) are chosen = (
+    no_fresh_back chosen.0,
+    no_repeat_back chosen.1,
+    no_order_back chosen.2,
+    record {
+      answers_empty = is.answers_empty;
+      is_covered = violation_covers xs (stands.back empty) (map (mapped_life stands.back) cover) (clear_back chosen.0 chosen.1) is;
+      first = λ empty' did covered. no_later empty empty' own did.0 (chosen.3.first (retimed h empty') ((stands.there empty' did.0).0, did.1)
+          (λ c window. let z = covered_by empty' did.0 covered c window in (retimed_life h z.0, life_there z.0 z.1, z.2)));
+      cover_is_chosen = chosen_cover_back empty own cover empty.call (stands.back empty).call (called empty own)
+          (stands.late (stands.back empty) (in_part empty own)).0 (λ o at. are o (one_deeper empty (flat_map operations_of_life cover) o at))
+          chosen.3.cover_is_chosen;
+    },
+  )
+    where
+      own : IsSelected empty
+      own = are empty (0, omega arith, refl)
 
-      -- ---- windows
+      is : IsWitnessViolation xs (stands.back empty) (map (mapped_life stands.back) cover)
+      is = violation_back (witness empty cover) are (chosen_is_violation ys (witness empty cover) stands.complete chosen)
 
-      covered_there : (o : Operation) → Contains xs o → IsCovered xs o → IsCovered ys (retimed h o)
-      covered_there o among covered c window =
-          let by = call_by_return xs o complete among in
-          let gap = floor_by (o.ret - o.call) o.call o.ret c (omega arith) window.0 window.1 in
-          let z = covered gap.0 (gap.1, gap.2) in
-          let from = (late o among).0 in
-          let entered = at_most (enqueue_return z.0) gap.0 (late (enqueue_of z.0) z.1.1.0).1 z.2.0 in
-          let stays = at_most (gap.0 + 1) (dequeue_call z.0) (omega (arith, gap.1)) (omega (arith, z.2.1)) in
-          let latest = return_in_range ys (retimed h o) complete' (mapped_to (retimed h) xs o among) in
-          (retimed_life h z.0, life_there z.0 z.1, (omega (arith, gap.3), omega (arith, gap.4, window.1, life_follows z.0 z.1)))
+-- ---- operations by their images
 
-      covered_back : (o : Operation) → Contains xs o → IsCovered ys (retimed h o) → IsCovered xs o
-      covered_back o among covered c window =
-          let from : low ≤ c = omega (arith, (late o among).0, window.0) in
-          let z = covered (h c) (at_most o.call c (late o among).0 window.0, rises c o.ret from window.1) in
-          let x = life_before z.0 z.1 in
-          let covers = subst (λ life. (enqueue_return life ≤ h c) × (h c < dequeue_call life)) (sym x.1) z.2 in
-          let latest = return_in_range xs o complete among in
-          let latest' = return_in_range ys (retimed h o) complete' (mapped_to (retimed h) xs o among) in
-          let below = rises c o.ret from window.1 in
-          let past = follow_less_back c (h c) (dequeue_call x.0) _ (inl (refl, from, omega (arith, window.1), omega (arith, window.1))) (life_follows x.0 x.2) in
-          (x.0, x.2, (at_most_back (enqueue_return x.0) c from covers.0, past covers.1))
+-- the operation whose image has this one's call
+abbrev brought : (Operation → Operation) → List Operation → Operation → Operation
+brought f [] o = o
+brought f (x ∷ xs) o = cond (nat_eq (f x).call o.call) x (brought f xs o)
 
-      chosen_cover_back : (empty : Operation) → Contains xs empty → (cover : List Life) (frontier frontier' : ℕ) → Among (flat_map operations_of_life cover)
-          → Follows frontier frontier'
-          → IsChosenCoverFrom ys (retimed h empty) frontier' (map (retimed_life h) cover) → IsChosenCoverFrom xs empty frontier cover
-      chosen_cover_back empty among [] frontier frontier' each follows chosen = chosen
-      chosen_cover_back empty among (life ∷ rest) frontier frontier' each follows chosen = (
-        record {
-          is_life = is;
-          before_frontier = follow_less_back (enqueue_return life) (h (enqueue_return life)) frontier frontier'
-              (return_follows (enqueue_of life) is.1.0) follows chosen.0.before_frontier;
-          longest = λ other is_other before. stays_back life other (dequeue_among is.0 (dequeue_of life) is.2)
-              (dequeue_among is_other.0 (dequeue_of other) is_other.2) is_other.1.0
-              (chosen.0.longest (retimed_life h other) (life_there other is_other)
-              (follow_less (enqueue_return other) (h (enqueue_return other)) frontier frontier' (return_follows (enqueue_of other) is_other.1.0)
-              follows before));
-        },
-        match_then (nat_lt empty.ret (dequeue_call life))
-            (subst (λ test. MatchBool test (map (retimed_life h) rest ≡ [])
-            (IsChosenCoverFrom ys (retimed h empty) (dequeue_call (retimed_life h life)) (map (retimed_life h) rest)))
-            (follow_test empty.ret (h empty.ret) (dequeue_call life) (dequeue_call (retimed_life h life)) (return_follows empty among) (life_follows life is))
-            chosen.1)
-            (none_mapped (retimed_life h) rest)
-            (chosen_cover_back empty among rest (dequeue_call life) (dequeue_call (retimed_life h life))
-            (λ o at. each o (Contains-append_right (operations_of_life life) (flat_map operations_of_life rest) o at)) (life_follows life is)),
-      )
-        where
-          is : IsLife xs life
-          is = life_back life (λ o at. each o (Contains-append_left (operations_of_life life) (flat_map operations_of_life rest) o at)) chosen.0.is_life
+brought_back : (f : Operation → Operation) (xs : List Operation) (o : Operation) → Contains (map f xs) o
+    → Contains xs (brought f xs o) × ((f (brought f xs o)).call ≡ o.call)
+brought_back f [] o among = absurd (not_in_none o among)
+brought_back f (x ∷ xs) o among = pick (nat_eq (f x).call o.call) refl (brought_back f xs o)
+  where
+    pick : (b : Bool) → nat_eq (f x).call o.call ≡ b → (Contains (map f xs) o → Contains xs (brought f xs o) × ((f (brought f xs o)).call ≡ o.call))
+        → Contains (x ∷ xs) (cond b x (brought f xs o)) × ((f (cond b x (brought f xs o))).call ≡ o.call)
+    pick true test more = ((zero, omega arith, refl), eqb-true (f x).call o.call test)
+    pick false test more = elim (contains_cons (f x) (map f xs) o among) [
+      | inl same ↦ let clash : true ≡ false = sym (eq-eqb (f x).call o.call (ap (λ (y : Operation). y.call) same)) ∙ test in cc
+      | inr later ↦ let found = more later in (one_deeper x xs (brought f xs o) found.0, found.1)
+    ]
 
-      -- ---- violations that are chosen
-
-      -- where the violation at the other times is the chosen one, it was the chosen one before
-      pub chosen_back : (full : FullViolation) → Among (lines_of full) → IsChosenFullViolation ys (retimed_violation h full) → IsChosenFullViolation xs full
-      chosen_back (fresh deq enq) among chosen = record {
-        violates = full_violation_back (fresh deq enq) among chosen.violates;
-        first = λ deq' enq' is. at_most_back deq.ret deq'.ret (late deq' (lines_are_operations xs (fresh deq' enq') is deq' (0, omega arith, refl))).1
-            (chosen.first (retimed h deq') (option_map (retimed h) enq') (violation_there (fresh deq' enq') is));
-      }
-      chosen_back (repeat enq first second) among chosen = (
-        no_fresh_back chosen.0,
-        record {
-          violates = full_violation_back (repeat enq first second) among chosen.1.violates;
-          soonest = λ enq' first' second' is. at_most_back second.ret second'.ret (late second' is.dequeues_again.0).1
-              (chosen.1.soonest (retimed h enq') (retimed h first') (retimed h second') (violation_there (repeat enq' first' second') is));
-        },
-      )
-      chosen_back (order enq_a enq_b deq_b deq_a) among chosen = (
-        no_fresh_back chosen.0,
-        no_repeat_back chosen.1,
-        record {
-          violates = is;
-          first = λ enq_a' enq_b' deq_b' deq_a' is'. at_most_back deq_b.ret deq_b'.ret (late deq_b' is'.dequeues_b.0).1
-              (chosen.2.first (retimed h enq_a') (retimed h enq_b') (retimed h deq_b') (option_map (retimed h) deq_a')
-              (violation_there (order enq_a' enq_b' deq_b' deq_a') is'));
-          longest = λ enq_a' deq_a' is'. stays_back (record { enqueue = enq_a; dequeue = deq_a }) (record { enqueue = enq_a'; dequeue = deq_a' })
-              (later_among deq_b is.a deq_a is.dequeued_later) (later_among deq_b is'.a deq_a' is'.dequeued_later) is'.enqueues_a.0
-              (chosen.2.longest (retimed h enq_a') (option_map (retimed h) deq_a') (violation_there (order enq_a' enq_b deq_b deq_a') is'));
-        },
-      )
-        where
-          is : IsOrderViolation xs enq_a enq_b deq_b deq_a
-          is = full_violation_back (order enq_a enq_b deq_b deq_a) among chosen.2.violates
-      chosen_back (witness empty cover) among chosen = (
-        no_fresh_back chosen.0,
-        no_repeat_back chosen.1,
-        no_order_back chosen.2,
-        record {
-          answers_empty = did;
-          is_covered = covered_back empty did.0 chosen.3.is_covered;
-          first = λ empty' did' covered. at_most_back empty.ret empty'.ret (late empty' did'.0).1
-              (chosen.3.first (retimed h empty') (did_there empty' Empty did'.0 did') (covered_there empty' did'.0 covered));
-          cover_is_chosen = chosen_cover_back empty did.0 cover empty.call (h empty.call)
-              (λ o at. among o (one_deeper empty (flat_map operations_of_life cover) o at)) (call_follows empty did.0) chosen.3.cover_is_chosen;
-        },
-      )
-        where
-          did : Did xs empty Empty
-          did = did_back empty Empty (among empty (0, omega arith, refl)) chosen.3.answers_empty
+-- what is selected of a list, if it is another list at later times
+pub selected_stands : (values calls : ℕ → Bool) (h : ℕ → ℕ) (low : ℕ) (xs ys : List Operation) → Rises low h → (h NEVER ≡ NEVER) × (low ≤ NEVER)
+    → AreLate low xs → AreComplete xs → AreComplete ys → filter (selects values calls) ys ≡ map (retimed h) xs → StandsAs values calls h low xs ys
+selected_stands values calls h low xs ys rises never late part_complete complete same = record {
+  rises = rises;
+  never = never;
+  late = late;
+  part_complete = part_complete;
+  complete = complete;
+  there = there;
+  back = brought (retimed h) xs;
+  brings = λ o among is.
+      let found = brought_back (retimed h) xs o (subst (λ os. Contains os o) same (passes_filter (selects values calls) ys o is among)) in
+      (found.0, same_call ys (retimed h (brought (retimed h) xs o)) o complete (there (brought (retimed h) xs o) found.0).0 among found.1);
+}
+  where
+    there : (o : Operation) → Contains xs o → Contains ys (retimed h o) × (selects values calls (retimed h o) ≡ true)
+    there o among = passed_filter (selects values calls) ys (retimed h o)
+        (subst (λ os. Contains os (retimed h o)) (sym same) (mapped_to (retimed h) xs o among))
 
 -- ---- times
 
