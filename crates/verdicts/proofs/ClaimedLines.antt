@@ -5,7 +5,7 @@ use Rattle.verdicts.proofs.Common.{option_to_list, refl, Some, sym, ℕ, AreLive
 use Rattle.verdicts.proofs.Common.{Enq, enqueue_of, fresh, Life, Operation, operations_of_life, order, repeat, witness}
 use Rattle.verdicts.proofs.Common.{◌≢◌, FullViolation, lines_of, VWit, IsViolationOf, ◌↔◌, subst, CoversFrom, Did}
 use Rattle.verdicts.proofs.Common.{Empty, IsLife, IsNeverEnqueued, IsOrderViolation, IsRepeatViolation, NoneDid, Not}
-use Rattle.verdicts.proofs.Common.{Precedes, ShowsCover, ShowsViolation, VFresh, VOrd, VRepeat, ◌<◌, ◌≤◌, arith}
+use Rattle.verdicts.proofs.Common.{Precedes, VFresh, VOrd, VRepeat, ◌<◌, ◌≤◌, arith}
 use Rattle.verdicts.proofs.Common.{length-map, drop, get_or, length, map, suc, zero, ClaimLine, ShowsKind, StandFor}
 use Rattle.verdicts.proofs.Common.{StandForCover, StandForLife, stands_for, ViolationKind, ◌+◌, ◌⊎◌, add-one, AllPairs}
 use Rattle.verdicts.proofs.Common.{cases_lt, drop-cons, get_or_default, inl, inr, max, option_and_then, accept}
@@ -13,6 +13,7 @@ use Rattle.verdicts.proofs.Common.{accept_all}
 use Rattle.verdicts.specs.Claims.{kind_of}
 use Rattle.verdicts.specs.Laws.{LinesTellViolation}
 use Rattle.verdicts.specs.declared.lookup.Lookup.{Lookup}
+use Rattle.linearizer.proofs.EachPosition.{some_injective}
 
 -- no life begins with a dequeue
 no_dequeue_first : (d : Operation) (rest : List Operation) (cover : List Life) (v : ℕ) → d.kind ≡ Deq v → AreLives cover
@@ -129,124 +130,6 @@ is_order operations enq_a enq_b deq_b deq_a a b is_a is_b = (
       ),
 )
 
--- ---- lines of a length are those of one violation
-
--- the lines of a violation show it, and no other one of its kind that isn't a witness
-shown_by_lines : (operations : List Operation) (full : FullViolation) → kind_of full ≢ VWit
-    → IsViolationOf operations full ↔ ShowsViolation operations (kind_of full) (lines_of full)
-shown_by_lines operations full other = (
-  λ is. (full, refl, refl, is),
-  λ (shown, kind, lines, is). subst (IsViolationOf operations) (sym (lines_tell_others full shown (sym kind) (sym lines) other)) is,
-)
-
--- the first line of a witness is the empty answer, the others are those of its cover
-pub lines_of_witness : (operations : List Operation) (empty : Operation) (lines : List Operation)
-    → (Did operations empty Empty × ShowsCover operations empty empty lines) ↔ ShowsViolation operations VWit (empty ∷ lines)
-lines_of_witness operations empty lines = (
-  λ (did, (cover, same, covers)).
-      (witness empty cover, refl, ap (λ xs. empty ∷ xs) same, record { answers_empty = did; covers = covers }),
-  back,
-)
-  where
-    back : ShowsViolation operations VWit (empty ∷ lines) → Did operations empty Empty × ShowsCover operations empty empty lines
-    back (witness o cover, kind, same, is) =
-        let one : o ≡ empty = cc in
-        let rest : flat_map operations_of_life cover ≡ lines = cc in
-        (subst (λ x. Did operations x Empty) one is.answers_empty, (cover, rest, subst (λ x. CoversFrom operations x x cover) one is.covers))
-    back (_, kind, same, _) = cc
-
-abbrev life_of : Operation → Option Operation → Life
-life_of enqueue dequeue = record { enqueue = enqueue; dequeue = dequeue }
-
-abbrev lines_of_cover : List Life → List Operation
-lines_of_cover cover = flat_map operations_of_life cover
-
--- a life that begins before an operation
-abbrev BeginsBefore : List Operation → Operation → Life → Type 0
-BeginsBefore operations before life = IsLife operations life × Precedes (enqueue_of life) before
-
-begins_as : (operations : List Operation) (before e : Operation) (life : Life) (d : Option Operation) → enqueue_of life ≡ e → dequeue_of life ≡ d
-    → BeginsBefore operations before life → BeginsBefore operations before (life_of e d)
-begins_as operations before e life d first second begins = let same : life ≡ life_of e d = λ i. record { enqueue = first i; dequeue = second i } in
-    subst (BeginsBefore operations before) same begins
-
-module _ (operations : List Operation) (empty before : Operation) where
-  -- no lines show no cover
-  pub no_lines : ShowsCover operations empty before [] → ⊥
-  no_lines ([], same, covers) = covers
-  no_lines (life ∷ cover, same, covers) = cc
-
-  -- one line shows a cover that ends with a value never dequeued
-  pub one_covers : (e : Operation) → BeginsBefore operations before (life_of e None) ↔ ShowsCover operations empty before (e ∷ [])
-  one_covers e = (λ begins. (life_of e None ∷ [], refl, (begins.0, begins.1, tt)), back)
-    where
-      go : (life : Life) (dequeue : Option Operation) (more : List Operation) → dequeue_of life ≡ dequeue
-          → enqueue_of life ∷ (option_to_list dequeue ++ more) ≡ e ∷ [] → BeginsBefore operations before life → BeginsBefore operations before (life_of e None)
-      go life None more is same begins = begins_as operations before e life None (cc) is begins
-      go life (Some d) more is same begins = cc
-
-      back : ShowsCover operations empty before (e ∷ []) → BeginsBefore operations before (life_of e None)
-      back ([], same, covers) = absurd covers
-      back (life ∷ [], same, covers) = go life (dequeue_of life) [] refl same (covers.0, covers.1)
-      back (life ∷ next ∷ cover, same, covers) = go life (dequeue_of life) (lines_of_cover (next ∷ cover)) refl same (covers.0, covers.1)
-
-  -- two lines show a cover that ends with a value dequeued after the empty answer
-  pub two_cover : (e d : Operation) → (BeginsBefore operations before (life_of e (Some d)) × Precedes empty d) ↔ ShowsCover operations empty before (e ∷ d ∷ [])
-  two_cover e d = (λ (begins, past). (life_of e (Some d) ∷ [], refl, (begins.0, begins.1, past)), back)
-    where
-      go : (life : Life) (dequeue : Option Operation) → dequeue_of life ≡ dequeue → enqueue_of life ∷ (option_to_list dequeue ++ []) ≡ e ∷ d ∷ []
-          → BeginsBefore operations before life → MatchOption dequeue ⊤ (λ d. Precedes empty d)
-          → BeginsBefore operations before (life_of e (Some d)) × Precedes empty d
-      go life None is same begins past = cc
-      go life (Some d') is same begins past =
-          let one : d' ≡ d = cc in
-          let dequeues : dequeue_of life ≡ Some d = cc in
-          (begins_as operations before e life (Some d) (cc) dequeues begins, subst (Precedes empty) one past)
-
-      longer : (life next : Life) (cover : List Life) (dequeue : Option Operation)
-          → enqueue_of life ∷ (option_to_list dequeue ++ lines_of_cover (next ∷ cover)) ≡ e ∷ d ∷ []
-          → MatchOption dequeue ⊥ (λ d. CoversFrom operations empty d (next ∷ cover)) → ⊥
-      longer life next cover None same further = further
-      longer life next cover (Some d') same further = cc
-
-      back : ShowsCover operations empty before (e ∷ d ∷ []) → BeginsBefore operations before (life_of e (Some d)) × Precedes empty d
-      back ([], same, covers) = absurd covers
-      back (life ∷ [], same, covers) = go life (dequeue_of life) refl same (covers.0, covers.1) covers.2
-      back (life ∷ next ∷ cover, same, covers) = absurd (longer life next cover (dequeue_of life) same covers.2)
-
-  -- of more lines the first two are a value's, and the rest show a cover from its dequeue on
-  pub more_cover : (e d x : Operation) (lines : List Operation) → (BeginsBefore operations before (life_of e (Some d))
-      × ShowsCover operations empty d (x ∷ lines)) ↔ ShowsCover operations empty before (e ∷ d ∷ x ∷ lines)
-  more_cover e d x lines = (λ (begins, shown). forth begins shown, back)
-    where
-      forth : BeginsBefore operations before (life_of e (Some d)) → ShowsCover operations empty d (x ∷ lines)
-          → ShowsCover operations empty before (e ∷ d ∷ x ∷ lines)
-      forth begins ([], same, covers) = absurd covers
-      forth begins (next ∷ cover, same, covers) = (life_of e (Some d) ∷ next ∷ cover, ap (λ xs. e ∷ d ∷ xs) same, (begins.0, begins.1, covers))
-
-      shorter : (life : Life) (dequeue : Option Operation) → enqueue_of life ∷ (option_to_list dequeue ++ []) ≡ e ∷ d ∷ x ∷ lines → ⊥
-      shorter life None same = cc
-      shorter life (Some d') same = cc
-
-      go : (life next : Life) (cover : List Life) (dequeue : Option Operation) → dequeue_of life ≡ dequeue
-          → enqueue_of life ∷ (option_to_list dequeue ++ lines_of_cover (next ∷ cover)) ≡ e ∷ d ∷ x ∷ lines → BeginsBefore operations before life
-          → MatchOption dequeue ⊥ (λ d. CoversFrom operations empty d (next ∷ cover))
-          → BeginsBefore operations before (life_of e (Some d)) × ShowsCover operations empty d (x ∷ lines)
-      go life next cover None is same begins further = absurd further
-      go life next cover (Some d') is same begins further =
-          let one : d' ≡ d = cc in
-          let dequeues : dequeue_of life ≡ Some d = cc in
-          let rest : lines_of_cover (next ∷ cover) ≡ x ∷ lines = cc in (
-            begins_as operations before e life (Some d) (cc) dequeues begins,
-            (next ∷ cover, rest, subst (λ o. CoversFrom operations empty o (next ∷ cover)) one further),
-          )
-
-      back : ShowsCover operations empty before (e ∷ d ∷ x ∷ lines)
-          → BeginsBefore operations before (life_of e (Some d)) × ShowsCover operations empty d (x ∷ lines)
-      back ([], same, covers) = absurd covers
-      back (life ∷ [], same, covers) = absurd (shorter life (dequeue_of life) same)
-      back (life ∷ next ∷ cover, same, covers) = go life next cover (dequeue_of life) refl same (covers.0, covers.1) covers.2
-
 -- lists of operations are one where their somes are
 same_shown : (xs ys : List Operation) → map (λ o. Some o) xs ≡ map (λ o. Some o) ys → xs ≡ ys
 same_shown [] [] same = refl
@@ -284,11 +167,6 @@ module _ (f : Lookup) where
   none_stands (l ∷ lines) (o ∷ shown) (suc i) d within none are =
       let later : map stands lines ≡ map (λ x. Some x) shown = cc in none_stands lines shown i d (omega arith) none later
 
-  -- the lines of a claim stand for some operations: what holds of these holds of what the lines stand for
-  by_all : (Shows : List Operation → Type 0) (lines : List ClaimLine) (shown : List Operation) → StandFor f.initial.now lines shown
-      → Shows shown ↔ ((listed : List Operation) × StandFor f.initial.now lines listed × Shows listed)
-  by_all Shows lines shown are = (λ shows. (shown, are, shows), λ shows. subst Shows (same_shown shows.0 shown (sym shows.1 ∙ are)) shows.2)
-
   -- a line that stands for nothing shows nothing
   pub shown_by_none : (kind : ViolationKind) (lines : List ClaimLine) (i : ℕ) (d : ClaimLine) → i < length lines → stands (get_or lines i d) ≡ None
       → ¬ (ShowsKind f kind lines)
@@ -299,8 +177,11 @@ module _ (f : Lookup) where
   -- lines that stand for those of a violation that isn't a witness show it, and no other
   pub lines_show : (full : FullViolation) (lines : List ClaimLine) → kind_of full ≢ VWit → StandFor f.initial.now lines (lines_of full)
       → IsViolationOf f.timeline.now full ↔ ShowsKind f (kind_of full) lines
-  lines_show full lines other are = through (shown_by_lines f.timeline.now full other) (by_all (ShowsViolation f.timeline.now (kind_of full)) lines
-      (lines_of full) are)
+  lines_show full lines other are = (
+    λ is. (lines_of full, are, (full, refl, refl, is)),
+    λ (shown, are', (found, kind, lists, is)). subst (IsViolationOf f.timeline.now)
+        (sym (lines_tell_others full found (sym kind) (same_shown (lines_of full) shown (sym are ∙ are') ∙ sym lists) other)) is,
+  )
 
   -- three lines show a repeated value if and only if the two dequeues are of the enqueue's value
   pub three_lines_repeat_are : (lines : List ClaimLine) (d : ClaimLine) (x y z : Operation) → 3 ≤ length lines → length lines < 4
@@ -333,99 +214,122 @@ module _ (f : Lookup) where
       let many : length lines ≡ length shown = simp length-map at (ap length are) in
       subst (MayHave kind) (ap length lists ∙ sym many) (subst (λ k. MayHave k (length (lines_of full))) same (may_have full))
 
+  -- ---- lines of a cover
+
+  -- a life that begins before an operation
+  abbrev BeginsBefore : Operation → Operation → Option Operation → Type 0
+  BeginsBefore before e d = IsLife f.timeline.now (record { enqueue = e; dequeue = d }) × Precedes e before
+
+  -- lines that stand for those of a cover, by its lives
+  last_life : (empty before e : Operation) (d : Option Operation) (lines : List ClaimLine) → StandFor f.initial.now lines (e ∷ (option_to_list d ++ []))
+      → BeginsBefore before e d → MatchOption d ⊤ (λ d. Precedes empty d) → StandForCover f empty before lines
+  last_life empty before e None (l ∷ []) same begins past = (e, (cc), begins.0, begins.1)
+  last_life empty before e (Some d) (l ∷ m ∷ []) same begins past = (e, d, ((cc), (cc), begins.0, begins.1), past)
+  last_life empty before e None _ same begins past = cc
+  last_life empty before e (Some d) _ same begins past = cc
+
+  further_life : (empty before e : Operation) (d : Option Operation) (next : Life) (rest : List Life) (lines : List ClaimLine)
+      → StandFor f.initial.now lines (e ∷ (option_to_list d ++ flat_map operations_of_life (next ∷ rest))) → BeginsBefore before e d
+      → MatchOption d ⊥ (λ d. CoversFrom f.timeline.now empty d (next ∷ rest))
+      → ((d : Operation) (later : List ClaimLine) → StandFor f.initial.now later (flat_map operations_of_life (next ∷ rest))
+      → CoversFrom f.timeline.now empty d (next ∷ rest) → StandForCover f empty d later)
+      → StandForCover f empty before lines
+  further_life empty before e None next rest lines same begins none more = absurd none
+  further_life empty before e (Some d) next rest (l ∷ m ∷ n ∷ lines) same begins covers more =
+      (e, d, ((cc), (cc), begins.0, begins.1), more d (n ∷ lines) (cc) covers)
+  further_life empty before e (Some d) next rest _ same begins covers more = cc
+
+  cover_lines : (empty before : Operation) (cover : List Life) (lines : List ClaimLine) → StandFor f.initial.now lines (flat_map operations_of_life cover)
+      → CoversFrom f.timeline.now empty before cover → StandForCover f empty before lines
+  cover_lines empty before [] lines same covers = absurd covers
+  cover_lines empty before (life ∷ []) lines same covers =
+      last_life empty before (enqueue_of life) (dequeue_of life) lines same (covers.0, covers.1) covers.2
+  cover_lines empty before (life ∷ next ∷ rest) lines same covers =
+      further_life empty before (enqueue_of life) (dequeue_of life) next rest lines same (covers.0, covers.1) covers.2
+      (λ d later same' covers'. cover_lines empty d (next ∷ rest) later same' covers')
+
+  -- a cover that lines stand for
+  shown_cover : (empty before : Operation) (lines : List ClaimLine) → StandForCover f empty before lines
+      → (cover : List Life) × StandFor f.initial.now lines (flat_map operations_of_life cover) × CoversFrom f.timeline.now empty before cover
+  shown_cover empty before [] covers = absurd covers
+  shown_cover empty before (l ∷ []) (e, at, is, begins) = (record { enqueue = e; dequeue = None } ∷ [], λ i. at i ∷ [], (is, begins, tt))
+  shown_cover empty before (l ∷ m ∷ []) (e, d, life, past) =
+      (record { enqueue = e; dequeue = Some d } ∷ [], λ i. life.0 i ∷ life.1 i ∷ [], (life.2, life.3, past))
+  shown_cover empty before (l ∷ m ∷ n ∷ lines) (e, d, life, more) =
+      let later = shown_cover empty d (n ∷ lines) more in
+      (record { enqueue = e; dequeue = Some d } ∷ later.0, λ i. life.0 i ∷ life.1 i ∷ later.1 i, with_first later.0 later.2)
+    where
+      with_first : (cover : List Life) → CoversFrom f.timeline.now empty d cover
+          → CoversFrom f.timeline.now empty before (record { enqueue = e; dequeue = Some d } ∷ cover)
+      with_first [] covers = absurd covers
+      with_first (next ∷ rest) covers = (life.2, life.3, covers)
+
   -- the first line is the empty answer, the others stand for its cover
   pub witness_lines_are : (lines : List ClaimLine) (d : ClaimLine) (x : Operation) → 1 ≤ length lines → stands (get_or lines 0 d) ≡ Some x
       → (Did f.timeline.now x Empty × StandForCover f x x (drop 1 lines)) ↔ ShowsKind f VWit lines
   witness_lines_are [] d x long at = absurd (omega arith)
   witness_lines_are (l ∷ lines) d x long at = (
-    λ (did, (shown, are, covers)).
-        (x ∷ shown, λ i. at i ∷ are i, (lines_of_witness f.timeline.now x shown).0 (did, covers)),
-    λ (shown, are, shows). back shown are shows,
+    λ (did, covers).
+        let cover = shown_cover x x lines covers in
+        (x ∷ flat_map operations_of_life cover.0, λ i. at i ∷ cover.1 i, (witness x cover.0, refl, refl, record { answers_empty = did; covers = cover.2 })),
+    λ (shown, are, (full, kind, same, is)). back full kind (are ∙ ap (map (λ o. Some o)) (sym same)) is,
   )
     where
-      back : (shown : List Operation) → StandFor f.initial.now (l ∷ lines) shown → ShowsViolation f.timeline.now VWit shown
+      back : (full : FullViolation) → kind_of full ≡ VWit → StandFor f.initial.now (l ∷ lines) (lines_of full) → IsViolationOf f.timeline.now full
           → Did f.timeline.now x Empty × StandForCover f x x lines
-      back [] are shows = cc
-      back (o ∷ shown) are shows =
+      back (witness o cover) kind are is =
           let first : Some x ≡ Some o = sym at ∙ (cc) in
           let same : o ≡ x = cc in
-          let later : map stands lines ≡ map (λ y. Some y) shown = cc in
-          let parts = (lines_of_witness f.timeline.now o shown).1 shows in
-          (subst (λ y. Did f.timeline.now y Empty) same parts.0, (shown, later, subst (λ y. ShowsCover f.timeline.now y y shown) same parts.1))
-
-  -- ---- lines of a cover
+          let later : map stands lines ≡ map (λ y. Some y) (flat_map operations_of_life cover) = cc in (
+            subst (λ y. Did f.timeline.now y Empty) same is.answers_empty,
+            subst (λ y. StandForCover f y y lines) same (cover_lines o o cover lines later is.covers),
+          )
+      back _ kind are is = cc
 
   -- no lines stand for no cover
   pub no_lines_cover : (empty before : Operation) (lines : List ClaimLine) → length lines < 1 → ¬ (StandForCover f empty before lines)
-  no_lines_cover empty before [] short ([], are, covers) = no_lines f.timeline.now empty before covers
-  no_lines_cover empty before [] short (o ∷ shown, are, covers) = cc
+  no_lines_cover empty before [] short covers = covers
   no_lines_cover empty before (l ∷ lines) short covers = absurd (omega arith)
 
   -- one line stands for a cover if and only if its value is never dequeued and was in before
   pub one_line_covers : (empty before : Operation) (lines : List ClaimLine) (d : ClaimLine) (x : Operation) → 1 ≤ length lines → length lines < 2
       → stands (get_or lines 0 d) ≡ Some x
       → (IsLife f.timeline.now (record { enqueue = x; dequeue = None }) × Precedes x before) ↔ StandForCover f empty before lines
-  one_line_covers empty before (l ∷ []) d x long short at =
-      through (one_covers f.timeline.now empty before x) (by_all (ShowsCover f.timeline.now empty before) (l ∷ []) (x ∷ []) (λ i. at i ∷ []))
+  one_line_covers empty before (l ∷ []) d x long short at = (
+    λ (is, begins). (x, at, is, begins),
+    λ (e, at', is, begins). let same : e ≡ x = some_injective (sym at' ∙ at) in subst (λ o. BeginsBefore before o None) same (is, begins),
+  )
   one_line_covers empty before _ d x long short at = absurd (omega arith)
 
-  -- a first line that stands for nothing stands for no cover
-  pub none_stands_for_cover : (empty before : Operation) (lines : List ClaimLine) (d : ClaimLine) → 1 ≤ length lines → stands (get_or lines 0 d) ≡ None
-      → ¬ (StandForCover f empty before lines)
-  none_stands_for_cover empty before lines d long none covers = none_stands lines covers.0 0 d long none covers.1
+  -- a line that stands for nothing stands for no cover
+  pub none_stands_for_cover : (empty before : Operation) (lines : List ClaimLine) (d : ClaimLine) → 1 ≤ length lines → length lines < 2
+      → stands (get_or lines 0 d) ≡ None → ¬ (StandForCover f empty before lines)
+  none_stands_for_cover empty before (l ∷ []) d long short none (e, at, is, begins) = let clash : None ≡ Some e = sym none ∙ at in cc
+  none_stands_for_cover empty before _ d long short none covers = absurd (omega arith)
 
   -- the first two lines stand for no life, so the lines stand for no cover
   pub no_life_covers : (empty before : Operation) (lines : List ClaimLine) (d : ClaimLine) → 2 ≤ length lines
       → ((e x : Operation) → ¬ (StandForLife f before (get_or lines 0 d) (get_or lines 1 d) e x)) → ¬ (StandForCover f empty before lines)
-  no_life_covers empty before (l ∷ m ∷ lines) d long none covers = go covers.0 covers.1 covers.2
-    where
-      go : (shown : List Operation) → StandFor f.initial.now (l ∷ m ∷ lines) shown → ShowsCover f.timeline.now empty before shown → ⊥
-      go (e ∷ x ∷ []) are shows =
-          let begins = ((two_cover f.timeline.now empty before e x).1 shows).0 in
-          let first : stands l ≡ Some e = cc in
-          let second : stands m ≡ Some x = cc in
-          none e x (first, second, begins.0, begins.1)
-      go (e ∷ x ∷ y ∷ shown) are shows =
-          let begins = ((more_cover f.timeline.now empty before e x y shown).1 shows).0 in
-          let first : stands l ≡ Some e = cc in
-          let second : stands m ≡ Some x = cc in
-          none e x (first, second, begins.0, begins.1)
-      go _ are shows = cc
+  no_life_covers empty before (l ∷ m ∷ []) d long none covers = none covers.0 covers.1 covers.2
+  no_life_covers empty before (l ∷ m ∷ n ∷ lines) d long none covers = none covers.0 covers.1 covers.2
   no_life_covers empty before _ d long none covers = absurd (omega arith)
 
   -- two lines that stand for a life stand for a cover where the empty answer precedes its dequeue
   pub two_lines_cover : (empty before : Operation) (lines : List ClaimLine) (d : ClaimLine) (e x : Operation) → 2 ≤ length lines → length lines < 3
       → StandForLife f before (get_or lines 0 d) (get_or lines 1 d) e x → Precedes empty x ↔ StandForCover f empty before lines
-  two_lines_cover empty before (l ∷ m ∷ []) d e x long short life =
-      let two = two_cover f.timeline.now empty before e x in
-      through (λ past. two.0 ((life.2, life.3), past), λ shows. (two.1 shows).1)
-      (by_all (ShowsCover f.timeline.now empty before) (l ∷ m ∷ []) (e ∷ x ∷ []) (λ i. life.0 i ∷ life.1 i ∷ []))
+  two_lines_cover empty before (l ∷ m ∷ []) d e x long short life = (
+    λ past. (e, x, life, past),
+    λ (e', x', life', past). subst (Precedes empty) (some_injective (sym life'.1 ∙ life.1)) past,
+  )
   two_lines_cover empty before _ d e x long short life = absurd (omega arith)
 
   -- more lines that begin with a life stand for a cover where the later ones do, from its dequeue on
   pub more_lines_cover : (empty before : Operation) (lines : List ClaimLine) (d : ClaimLine) (e x : Operation) → 3 ≤ length lines
       → StandForLife f before (get_or lines 0 d) (get_or lines 1 d) e x → StandForCover f empty x (drop 2 lines) ↔ StandForCover f empty before lines
-  more_lines_cover empty before (l ∷ m ∷ n ∷ lines) d e x long life = (λ covers. forth covers.0 covers.1 covers.2, λ covers. back covers.0 covers.1 covers.2)
-    where
-      forth : (shown : List Operation) → StandFor f.initial.now (n ∷ lines) shown → ShowsCover f.timeline.now empty x shown
-          → StandForCover f empty before (l ∷ m ∷ n ∷ lines)
-      forth [] are shows = cc
-      forth (o ∷ shown) are shows = (
-        e ∷ x ∷ o ∷ shown,
-        λ i. life.0 i ∷ life.1 i ∷ are i,
-        (more_cover f.timeline.now empty before e x o shown).0 ((life.2, life.3), shows),
-      )
-
-      back : (shown : List Operation) → StandFor f.initial.now (l ∷ m ∷ n ∷ lines) shown → ShowsCover f.timeline.now empty before shown
-          → StandForCover f empty x (n ∷ lines)
-      back (e' ∷ x' ∷ o ∷ shown) are shows =
-          let second : stands m ≡ Some x' = cc in
-          let both : Some x ≡ Some x' = sym life.1 ∙ second in
-          let same : x' ≡ x = cc in
-          let later : map stands (n ∷ lines) ≡ map (λ y. Some y) (o ∷ shown) = cc in
-          let covers = ((more_cover f.timeline.now empty before e' x' o shown).1 shows).1 in
-          (o ∷ shown, later, subst (λ y. ShowsCover f.timeline.now empty y (o ∷ shown)) same covers)
-      back _ are shows = cc
+  more_lines_cover empty before (l ∷ m ∷ n ∷ lines) d e x long life = (
+    λ covers. (e, x, life, covers),
+    λ (e', x', life', covers). subst (λ o. StandForCover f empty o (n ∷ lines)) (some_injective (sym life'.1 ∙ life.1)) covers,
+  )
   more_lines_cover empty before _ d e x long life = absurd (omega arith)
 
 -- a list of one line, and one of two, by their elements

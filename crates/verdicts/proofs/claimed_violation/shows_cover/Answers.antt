@@ -25,7 +25,7 @@ pub returns-in-None-shown_by : goal.returns-in-None-shown_by
 returns-in-None-shown_by c = (
   λ f. cc,
   λ shows. absurd (none_stands_for_cover c.args.operations.now c.args.empty c.loop-rest.before c.loop-rest.rest.now _ c.in-len1.len_at_least
-      (sym c.shown_by.ensures ∙ c.in-None-shown_by.is) (c.loop-rest.invariant.1 shows)),
+      c.in-len1.len_below (sym c.shown_by.ensures ∙ c.in-None-shown_by.is) (c.loop-rest.invariant.1 shows)),
 )
 
 pub returns-in-Some-dequeue_from : goal.returns-in-Some-dequeue_from
