@@ -1,7 +1,7 @@
 -- A verdict shows each operation once, so it names at most half as many as the history has events; its other lines are initial values.
 use Rattle.verdicts.proofs.Common.{[], AllByRecursion, AllPairs, AllPairs-tail, AllZip, ap, AreComplete, arith, Bool}
 use Rattle.verdicts.proofs.Common.{call_before_return, ClaimLine, cond, Contains, Contains-append_cases}
-use Rattle.verdicts.proofs.Common.{Contains-append_right, contains_at, contains_cons, Deq, dequeue_call, dequeue_of}
+use Rattle.verdicts.proofs.Common.{All, Contains-permutation, MAX_TICKET, nat_tests, Contains-append_right, contains_at, contains_cons, Deq, dequeue_call, dequeue_of}
 use Rattle.verdicts.proofs.Common.{Did, Empty, Enq, enqueue_of, enqueue_place, Event, false, filter}
 use Rattle.verdicts.proofs.Common.{flat_map, fresh, FullViolation, initial_enqueues, initial_time, inl, inr}
 use Rattle.verdicts.proofs.Common.{is_operation, IsChosenCoverFrom, IsChosenFullViolation, IsClear, IsCompleteHistory}
@@ -16,8 +16,14 @@ use Rattle.verdicts.proofs.Common.{returns_at_no_call, same_call, same_enqueue, 
 use Rattle.verdicts.proofs.Common.{slice_get_within, Some, subst, suc, sym, timeline, timeline_is_complete, traced}
 use Rattle.verdicts.proofs.Common.{true, value_of, verdict_places, violation_places, witness, Yes, zero, ℕ, ◌++◌, ◌+◌}
 use Rattle.verdicts.proofs.Common.{◌<◌, ◌∙◌, ◌∷◌, ◌≡◌, ◌≤◌, ◌⊎◌}
-use Rattle.std.specs.Cmp.{unsigned_Decides, nat_eq_equiv}
-use Rattle.std.proofs.lemmas.Map.Made.{is_member-Decides, length-le_from_is_member}
+use Rattle.std.proofs.Common.{count_by}
+use Rattle.std.specs.List.{remove}
+use Rattle.std.proofs.lemmas.List.Elements.{All-head, All-tail}
+use Rattle.std.proofs.lemmas.List.Sorted.{IsPermutation-remove}
+use Rattle.std.proofs.lemmas.List.Sums.{sum_by-cons}
+use Rattle.history_merge.proofs.Distinct.{each_timed}
+use Rattle.history_merge.proofs.TheirEvents.{has_returned, length-events_of}
+use Rattle.verdicts.proofs.EventsHeld.{events_told}
 use Rattle.std.proofs.lemmas.Slice.Zip.{AllZip-long}
 use Rattle.verdicts.specs.Laws.{VerdictHasFewLines}
 use Rattle.verdicts.specs.declared.verdict.Verdict.{Verdict}
@@ -34,33 +40,18 @@ use Rattle.verdicts.specs.declared.verifying.ClaimLine.TheVariants as line
 
 -- ---- elements that stand once
 
--- where each has a key of its own, the keys stand once
-once_mapped : {X : Type 0} (key : X → ℕ) (xs : List X) → ((x y : X) → Contains xs x → Contains xs y → key x ≡ key y → x ≡ y) → NoneTwice xs
-    → NoneTwice (map key xs)
-once_mapped key [] tells once = tt
-once_mapped key (x ∷ xs) tells once = (
-  λ among.
-      let y = mapped_from key xs (key x) among in
-      once.0 (subst (Contains xs) (tells y.0 x (one_deeper x xs y.0 y.1) (zero, omega arith, refl) y.2) y.1),
-  once_mapped key xs (λ y z in_y in_z. tells y z (one_deeper x xs y in_y) (one_deeper x xs z in_z)) once.1,
-)
-
--- numbers that stand once, each one of others, are no more than those
-no_more : (xs ys : List ℕ) → NoneTwice xs → ((n : ℕ) → Contains xs n → Contains ys n) → length xs ≤ length ys
-unfolding IsDistinct
-no_more xs ys once among = length-le_from_is_member nat_eq_equiv xs ys (distinct xs once)
-    (λ n is. (is_member-Decides unsigned_Decides ys n).1 (among n ((is_member-Decides unsigned_Decides xs n).0 is)))
-  where
-    differ : (x : ℕ) (zs : List ℕ) → ¬ (Contains zs x) → AllByRecursion (λ z. nat_eq x z ≡ false) zs
-    differ x [] none = tt
-    differ x (z ∷ zs) none = (
-      ne_eqb x z (λ same. none (zero, omega arith, sym same)),
-      differ x zs (λ among'. none (one_deeper z zs x among')),
-    )
-
-    distinct : (zs : List ℕ) → NoneTwice zs → IsDistinct nat_eq zs
-    distinct [] none = tt
-    distinct (z ∷ zs) none = (differ z zs none.0, distinct zs none.1)
+-- elements that stand once, each one of others, are no more than those
+no_more : {X : Type 0} (xs ys : List X) → NoneTwice xs → ((x : X) → Contains xs x → Contains ys x) → length xs ≤ length ys
+no_more [] ys once among = omega arith
+no_more {X} (x ∷ xs) ys once among =
+    let at = among x (zero, omega arith, refl) in
+    let moved = IsPermutation-remove ys at.0 x at.1 (sym at.2) in
+    let fewer = no_more xs (remove ys at.0) once.1 (λ z later. elim (contains_cons x (remove ys at.0) z
+    (Contains-permutation ys (x ∷ remove ys at.0) z moved (among z (one_deeper x xs z later)))) [
+      | inl same ↦ absurd (once.0 (subst (Contains xs) (sym same) later))
+      | inr left ↦ left
+    ]) in
+    omega (arith, length_permutation ys (x ∷ remove ys at.0) moved)
 
 once_from_rise : (operations : List Operation) → AllPairs (λ x y. x.call < y.call) operations → NoneTwice operations
 once_from_rise [] rise = tt
@@ -70,63 +61,19 @@ once_from_rise (o ∷ rest) rise = (
   once_from_rise rest (AllPairs-tail (λ x y. x.call < y.call) o rest rise),
 )
 
-module _ (operations : List Operation) (complete : AreComplete operations) where
-  -- operations that stand once, each one of others, are no more than those
-  no_more_listed : (listed others : List Operation) → ((o : Operation) → Contains listed o → Contains others o)
-      → ((o : Operation) → Contains others o → Contains operations o) → NoneTwice listed → length listed ≤ length others
-  no_more_listed listed others among all once =
-      let few = no_more (map (λ o. o.call) listed) (map (λ o. o.call) others) (once_mapped (λ o. o.call) listed
-      (λ x y in_x in_y. same_call operations x y complete (all x (among x in_x)) (all y (among y in_y))) once) in_calls in
-      simp length-map at few
-    where
-      in_calls : (call : ℕ) → Contains (map (λ o. o.call) listed) call → Contains (map (λ o. o.call) others) call
-      in_calls call at =
-          let o = mapped_from (λ (x : Operation). x.call) listed call at in
-          subst (Contains (map (λ x. x.call) others)) o.2 (mapped_to (λ x. x.call) others o.0 (among o.0 o.1))
+all_returned : (operations : List Operation) → All (λ o. (o.call < o.ret) × (o.ret ≤ MAX_TICKET)) operations
+    → count_by has_returned operations ≡ length operations
+all_returned [] timed = refl
+all_returned (o ∷ rest) timed = grind (arith, nat_tests, sum_by-cons (λ x. cond (has_returned x) 1 0) o rest,
+    All-head (λ o. (o.call < o.ret) × (o.ret ≤ MAX_TICKET)) o rest timed, all_returned rest (All-tail (λ o. (o.call < o.ret) × (o.ret ≤ MAX_TICKET)) o rest timed))
 
--- a history has at most half as many operations as events
-half_of_events : (events : List Event) → IsCompleteHistory events → length (operations_of events) + length (operations_of events) ≤ length events
-half_of_events events complete =
-    let few = no_more (calls ++ returns) (map (λ e. e.ticket) events) (none_twice-append calls returns
-    (once_mapped (λ o. o.call) operations (λ x y in_x in_y. same_call operations x y are in_x in_y) once)
-    (once_mapped (λ o. o.ret) operations (λ x y in_x in_y. same_return operations x y are in_x in_y) once) apart) of_event in
-    simp (length-append, length-map) at few
-  where
-    operations : List Operation
-    operations = operations_of events
-
-    calls : List ℕ
-    calls = map (λ o. o.call) operations
-
-    returns : List ℕ
-    returns = map (λ o. o.ret) operations
-
-    are : AreComplete operations
-    are = operations_are_complete events complete
-
-    once : NoneTwice operations
-    once = once_from_rise operations (operations_rise operations are)
-
-    apart : (t : ℕ) → Contains calls t → ¬ (Contains returns t)
-    apart t called returned =
-        let x = mapped_from (λ (o : Operation). o.call) operations t called in
-        let y = mapped_from (λ (o : Operation). o.ret) operations t returned in
-        returns_at_no_call events y.0 x.0 complete y.1 x.1 (y.2 ∙ sym x.2)
-
-    at_event : (place : ℕ) (e : Event) (t : ℕ) → slice_get events place ≡ Some e → e.ticket ≡ t → Contains (map (λ e. e.ticket) events) t
-    at_event place e t at same = subst (Contains (map (λ e. e.ticket) events)) same (mapped_to (λ e. e.ticket) events e (contains_at events place e at))
-
-    of_event : (t : ℕ) → Contains (calls ++ returns) t → Contains (map (λ e. e.ticket) events) t
-    of_event t among = elim (Contains-append_cases calls returns t among) [
-      | inl called ↦
-          let o = mapped_from (λ (x : Operation). x.call) operations t called in
-          let seen = traced events o.0 o.1 in
-          at_event seen.called_at seen.call t seen.at_call (sym seen.made.called ∙ o.2)
-      | inr returned ↦
-          let o = mapped_from (λ (x : Operation). x.ret) operations t returned in
-          let seen = traced events o.0 o.1 in
-          at_event seen.returned_at seen.answer t seen.at_return (sym seen.made.returned ∙ o.2)
-    ]
+-- a history has two events for each operation
+two_events : (events : List Event) → IsCompleteHistory events → length events ≡ length (operations_of events) + length (operations_of events)
+two_events events complete =
+    let told = ap length (events_told events complete) in
+    let each = length-events_of (operations_of events) in
+    let returned = all_returned (operations_of events) (each_timed events complete) in
+    omega arith
 
 -- ---- the lines of a violation
 
@@ -259,7 +206,7 @@ verdict_has_few_lines initial events verdict whole few_initial few_events chosen
     complete = timeline_is_complete initial events whole few_initial
 
     few : length operations ≤ MAX_OPERATIONS
-    few = let half = half_of_events events whole.complete in omega (arith, few_events, half)
+    few = let half = two_events events whole.complete in omega (arith, few_events, half)
 
     by_verdict : (verdict : Verdict) → IsVerdict initial operations verdict
         → (length (operations_named verdict) ≤ MAX_OPERATIONS) × (length (verdict_places verdict) ≤ MAX_OPERATIONS + length initial)
@@ -286,7 +233,7 @@ verdict_has_few_lines initial events verdict whole few_initial few_events chosen
         few_shown = elim (few_or_once all is.0 complete is.2) [
           | inl short ↦ omega arith
           | inr once ↦
-              let each = no_more_listed all complete (lines_of is.0) all among (λ o at. at) once in
+              let each = no_more (lines_of is.0) all once among in
               let long = length_timeline initial operations in
               omega (arith, few)
         ]
@@ -295,10 +242,8 @@ verdict_has_few_lines initial events verdict whole few_initial few_events chosen
         few_own = elim (few_or_once all is.0 complete is.2) [
           | inl short ↦ let less = no_longer is_own (lines_of is.0) in omega arith
           | inr once ↦
-              let each = no_more_listed all complete (filter is_own (lines_of is.0)) (map (later_by ORIGIN) operations)
-              (λ o at. let passed = passed_filter is_own (lines_of is.0) o at in own_is_later initial operations o few_initial (among o passed.0) passed.1)
-              (λ o at. Contains-append_right (initial_enqueues initial) (map (later_by ORIGIN) operations) o at)
-              (none_twice-filter is_own (lines_of is.0) once) in
+              let each = no_more (filter is_own (lines_of is.0)) (map (later_by ORIGIN) operations) (none_twice-filter is_own (lines_of is.0) once)
+              (λ o at. let passed = passed_filter is_own (lines_of is.0) o at in own_is_later initial operations o few_initial (among o passed.0) passed.1) in
               let long : length (map (later_by ORIGIN) operations) ≡ length operations = simp length-map in
               omega (arith, few)
         ]

@@ -9,12 +9,13 @@ use Rattle.verdicts.proofs.Common.{holds_ticket, inl, inr, is_call, IsCompleteFr
 use Rattle.verdicts.proofs.Common.{kept, length, List, list_any-from_Any, MatchBool, MAX_INITIAL, MAX_THREAD}
 use Rattle.verdicts.proofs.Common.{MAX_TICKET, nat_eq, None, Not, not, one_deeper, Operation, operation_of}
 use Rattle.verdicts.proofs.Common.{operations_are_complete, operations_of, OpKind, Option, passed_filter}
-use Rattle.verdicts.proofs.Common.{passes_filter, projection, refl, RetDeq, RetEmpty, RetEnq, RetNot, returns_at_call}
+use Rattle.verdicts.proofs.Common.{slice_get, passes_filter, projection, refl, RetDeq, RetEmpty, RetEnq, RetNot, returns_at_call}
 use Rattle.verdicts.proofs.Common.{same_call, same_return, Some, subst, suc, sym, TakesTurns, timeline}
 use Rattle.verdicts.proofs.Common.{timeline_is_complete, true, What, zero, ℕ, ⊤, ◌++◌, ◌<◌, ◌||◌, ◌∙◌, ◌∷◌, ◌≡◌, ◌≢◌}
 use Rattle.verdicts.proofs.Common.{◌≤◌, ◌⊎◌}
 use Rattle.std.proofs.lemmas.List.Elements.{All-contains}
-use Rattle.history_merge.specs.Operations.{kind_of}
+use Rattle.history_merge.proofs.TheirEvents.{next_is_first}
+use Rattle.history_merge.specs.Forming.{operation_so_far}
 use Rattle.history_merge.proofs.Completeness.{made_of}
 use Rattle.history_merge.proofs.Turns.{answer_is_return}
 use Rattle.std.proofs.lemmas.Bool.{or_cases, or_left, or_right}
@@ -23,60 +24,21 @@ use Rattle.std.proofs.lemmas.List.Filters.{length-filter_both}
 -- two filters may change places
 pub filters_swap : {X : Type 0} (p q : X → Bool) (xs : List X) → filter p (filter q xs) ≡ filter q (filter p xs)
 filters_swap p q [] = refl
-filters_swap {X} p q (x ∷ xs) = pick (p x) (q x) refl refl (filters_swap p q xs)
-  where
-    pick : (a b : Bool) → p x ≡ a → q x ≡ b → filter p (filter q xs) ≡ filter q (filter p xs)
-        → filter p (cond b (x ∷ filter q xs) (filter q xs)) ≡ filter q (cond a (x ∷ filter p xs) (filter p xs))
-    pick true true is_p is_q more = rw (is_p, is_q) (ap (λ ys. x ∷ ys) more)
-    pick true false is_p is_q more = rw (is_q) more
-    pick false true is_p is_q more = rw (is_p) more
-    pick false false is_p is_q more = more
+filters_swap p q (x ∷ xs) = grind (arith, filters_swap p q xs)
 
 -- what is found among all is found among what is kept, if it is kept
 find_kept : {X : Type 0} (p keeps : X → Bool) (xs : List X) (r : X) → find p xs ≡ Some r → keeps r ≡ true → find p (filter keeps xs) ≡ Some r
 find_kept p keeps [] r found is = cc
-find_kept {X} p keeps (x ∷ xs) r found is = pick (p x) refl (keeps x) refl (find_kept p keeps xs r) found
-  where
-    pick : (b : Bool) → p x ≡ b → (k : Bool) → keeps x ≡ k → (find p xs ≡ Some r → keeps r ≡ true → find p (filter keeps xs) ≡ Some r)
-        → cond b (Some x) (find p xs) ≡ Some r → find p (cond k (x ∷ filter keeps xs) (filter keeps xs)) ≡ Some r
-    pick true test true kept more h = rw test h
-    pick true test false kept more h = let same : x ≡ r = cc in let clash : true ≡ false = sym is ∙ ap keeps (sym same) ∙ kept in cc
-    pick false test true kept more h = rw test (more h is)
-    pick false test false kept more h = more h is
-
--- the first that passes is found
-pub first_is_found : {X : Type 0} (p : X → Bool) (xs : List X) (r : X) (rest : List X) → filter p xs ≡ r ∷ rest → find p xs ≡ Some r
-first_is_found p [] r rest same = cc
-first_is_found {X} p (x ∷ xs) r rest same = pick (p x) (first_is_found p xs r rest) same
-  where
-    pick : (b : Bool) → (filter p xs ≡ r ∷ rest → find p xs ≡ Some r)
-        → cond b (x ∷ filter p xs) (filter p xs) ≡ r ∷ rest → cond b (Some x) (find p xs) ≡ Some r
-    pick true more h = let here : x ≡ r = cc in ap (λ y. Some y) here
-    pick false more h = more h
-
-answered_kind : (call answer : What) → answers call answer ≡ true → (k : OpKind) × (kind_of call answer ≡ Some k)
-answered_kind (CallEnq v) RetEnq is = (Enq v, refl)
-answered_kind (CallEnq v) RetNot is = (Not v, refl)
-answered_kind CallDeq (RetDeq v) is = (Deq v, refl)
-answered_kind CallDeq RetEmpty is = (Empty, refl)
-answered_kind _ _ is = cc
+find_kept p keeps (x ∷ xs) r found is = grind (arith, find_kept p keeps xs r)
 
 -- a call and a return of its kind are an operation
-pub operation_made : (call answer : Event) → answers call.what answer.what ≡ true
-    → (o : Operation) × (operation_of call (Some answer) ≡ Some o) × (o.call ≡ call.ticket) × (o.ret ≡ answer.ticket)
-operation_made call answer is =
-    let kind = answered_kind call.what answer.what is in
-    (record { call = call.ticket; ret = answer.ticket; thread = call.thread; kind = kind.0 }, rw (kind.1, operation_of) refl, refl, refl)
+operation_made : (call answer : Event) → answers call.what answer.what ≡ true
+    → operation_of call (Some answer) ≡ Some (operation_so_far call (Some answer))
+operation_made call answer is = grind arith
 
 -- a return begins no operation
 return_begins_none : (e : Event) (found : Option Event) → is_call e.what ≡ false → operation_of e found ≡ None
-return_begins_none e None is = refl
-return_begins_none e (Some answer) is = rw (no_kind e.what answer.what is, operation_of) refl
-  where
-    no_kind : (call answer : What) → is_call call ≡ false → kind_of call answer ≡ None
-    no_kind (CallEnq v) answer is = cc
-    no_kind CallDeq answer is = cc
-    no_kind _ answer is = refl
+return_begins_none e found is = grind arith
 
 -- calls and returns take turns, after a call that waits if there is one
 abbrev pub TurnsAfter : Option Event → List Event → Type 0
@@ -125,10 +87,10 @@ answered thread call later own turns = by_next (projection thread later) refl tu
     by_next : (events : List Event) → projection thread later ≡ events → TakesTurns (call ∷ events) → IsAnswered thread call later
     by_next [] same turns' = elim turns' [ ]
     by_next (answer ∷ rest) same turns' =
-        let found = first_is_found (λ r. nat_eq r.thread thread) later answer rest same in
-        let o = operation_made call answer turns'.0 in
-        let here = ap (λ t. operation_of call (find (λ r. nat_eq r.thread t) later)) own ∙ ap (operation_of call) found ∙ o.1 in
-        record { answer = answer; found = found; operation = o.0; is = here; called = o.2; returned = o.3 }
+        let found = next_is_first thread later ∙ ap (λ es. slice_get es 0) same in
+        let here = ap (λ t. operation_of call (find (λ r. nat_eq r.thread t) later)) own ∙ ap (operation_of call) found
+        ∙ operation_made call answer turns'.0 in
+        record { answer = answer; found = found; operation = operation_so_far call (Some answer); is = here; called = refl; returned = refl }
 
 -- an event that begins no operation, whatever follows it in its thread, is a return
 begins_none : (e : Event) (later : List Event) (found : Option Event) → EachTurns (e ∷ later)
