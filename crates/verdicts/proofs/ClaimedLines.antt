@@ -45,9 +45,7 @@ one_cover (x ∷ xs) (y ∷ ys) lives lives' same =
 one_cover _ _ lives lives' same = cc
 
 one_maybe : (d d' : Option Operation) → option_to_list d ≡ option_to_list d' → d ≡ d'
-one_maybe None None same = refl
-one_maybe (Some d) (Some d') same = cc
-one_maybe _ _ same = cc
+one_maybe d d' same = grind arith
 
 -- two violations of one kind with the same lines are one, if the kind isn't that of a cover
 pub lines_tell_others : (x y : FullViolation) → kind_of x ≡ kind_of y → lines_of x ≡ lines_of y → kind_of x ≢ VWit → x ≡ y
@@ -133,10 +131,7 @@ is_order operations enq_a enq_b deq_b deq_a a b is_a is_b = (
 -- lists of operations are one where their somes are
 same_shown : (xs ys : List Operation) → map (λ o. Some o) xs ≡ map (λ o. Some o) ys → xs ≡ ys
 same_shown [] [] same = refl
-same_shown (x ∷ xs) (y ∷ ys) same =
-    let first : x ≡ y = cc in
-    let later : map (λ o. Some o) xs ≡ map (λ o. Some o) ys = cc in
-    ap (λ o. o ∷ xs) first ∙ ap (λ os. y ∷ os) (same_shown xs ys later)
+same_shown (x ∷ xs) (y ∷ ys) same = grind (arith, same_shown xs ys)
 same_shown _ _ same = cc
 
 -- how many lines a violation of a kind has

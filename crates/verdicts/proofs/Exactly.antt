@@ -39,12 +39,10 @@ left_queue start kinds accepted = pick (accept_all start kinds) accepted
     pick (Some left) h = (left, refl)
 
 dequeued_front : (queue next : List ℕ) (v : ℕ) → accept queue (Deq v) ≡ Some next → queue ≡ v ∷ next
-dequeued_front [] next v e = cc
-dequeued_front (front ∷ rest) next v e = grind (arith)
+dequeued_front queue next v e = grind arith
 
 empty_queue : (queue next : List ℕ) → accept queue Empty ≡ Some next → queue ≡ []
-empty_queue [] next e = refl
-empty_queue (front ∷ rest) next e = cc
+empty_queue queue next e = grind arith
 
 abbrev kinds_of : List Operation → List OpKind
 kinds_of listed = map (λ o. o.kind) listed
@@ -98,8 +96,7 @@ module _ (operations listed : List Operation) (complete : AreComplete operations
       (stands.0, found.0, stands.1, found.1, found.2)
 
   calls_it : (v : ℕ) (k : OpKind) → (k ≡ Enq v) ⊎ (k ≡ Not v) → calls_of_kind v k ≡ 1
-  calls_it v k (inl e) = rw (e, eq-eqb v v refl)
-  calls_it v k (inr e) = rw (e, eq-eqb v v refl)
+  calls_it v k is = grind (arith, eq-eqb v v refl)
 
   no_repeat : (i j v : ℕ) (x y : Operation) → slice_get listed i ≡ Some x → slice_get listed j ≡ Some y → x.kind ≡ Deq v → y.kind ≡ Deq v → i < j → ⊥
   no_repeat i j v x y at_i at_j is_x is_y below =

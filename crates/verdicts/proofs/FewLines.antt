@@ -167,15 +167,7 @@ module _ (initial : List ℕ) (operations : List Operation) where
       → length (filter is_operation places) ≡ length (filter is_own listed)
   counted [] [] each = refl
   counted (p ∷ places) (o ∷ listed) each =
-      both (counted places listed each.1) (is_operation p) (is_own o)
-      (of_place p (line_of o) each.0.0 ∙ of_line o)
-    where
-      both : length (filter is_operation places) ≡ length (filter is_own listed) → (a b : Bool) → a ≡ b
-          → length (cond a (p ∷ filter is_operation places) (filter is_operation places))
-          ≡ length (cond b (o ∷ filter is_own listed) (filter is_own listed))
-      both rest true true same = ap suc rest
-      both rest false false same = rest
-      both rest _ _ same = cc
+      let same = of_place p (line_of o) each.0.0 ∙ of_line o in grind (arith, counted places listed each.1)
   counted _ _ each = absurd each
 
 -- the operations of a timeline that aren't the enqueues of initial values are the history's

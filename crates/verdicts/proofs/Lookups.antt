@@ -15,11 +15,7 @@ eq-Decides x y = search rules
 -- calls that rise are no lower further on
 calls_do_not_fall : (operations : List Operation) (i j : ℕ) (d : Operation) → CallsRise operations → i ≤ j → j < length operations
     → (get_or operations i d).call ≤ (get_or operations j d).call
-calls_do_not_fall operations i j d rise le within =
-    elim (cases_lt i j) [
-      | inl less ↦ let below = rise i j d less within in omega arith
-      | inr more ↦ let same : i ≡ j = omega arith in let calls = ap (λ k. (get_or operations k d).call) same in omega arith
-    ]
+calls_do_not_fall operations i j d rise le within = grind (arith, rise i j d)
 
 comparisons_rise : (operations : List Operation) (call : ℕ) → CallsRise operations → IsNonDecreasingBy (λ o. ordering_index (nat_cmp o.call call)) operations
 comparisons_rise operations call rise i j d le within = let calls = calls_do_not_fall operations i j d rise le within in grind (arith, nat_tests)
@@ -40,12 +36,7 @@ searched_by_call operations call (Err i) rise in_range parted =
 -- operations with one call stand at one place
 pub one_place_of_call : (operations : List Operation) (i j : ℕ) (d : Operation) → CallsRise operations → i < length operations → j < length operations
     → (get_or operations i d).call ≡ (get_or operations j d).call → i ≡ j
-one_place_of_call operations i j d rise within_i within_j same =
-    elim (cases_order i j) [
-      | inl here ↦ here
-      | inr (inl less) ↦ let below = rise i j d less within_j in absurd (omega arith)
-      | inr (inr more) ↦ let below = rise j i d more within_i in absurd (omega arith)
-    ]
+one_place_of_call operations i j d rise within_i within_j same = grind (arith, rise i j d, rise j i d)
 
 -- an operation is among them where it stands at the place of its call
 pub stands_at_its_call : (operations : List Operation) (o d : Operation) (i : ℕ) → CallsRise operations → i < length operations

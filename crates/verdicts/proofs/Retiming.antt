@@ -402,12 +402,7 @@ map_agree f g (x ∷ xs) same =
 
 filter_mapped : {X Y : Type 0} (p : Y → Bool) (f : X → Y) (xs : List X) → filter p (map f xs) ≡ map f (filter (λ x. p (f x)) xs)
 filter_mapped p f [] = refl
-filter_mapped {X} {Y} p f (x ∷ xs) = pick (p (f x)) (filter_mapped p f xs)
-  where
-    pick : (b : Bool) → filter p (map f xs) ≡ map f (filter (λ x. p (f x)) xs)
-        → cond b (f x ∷ filter p (map f xs)) (filter p (map f xs)) ≡ map f (cond b (x ∷ filter (λ x. p (f x)) xs) (filter (λ x. p (f x)) xs))
-    pick true more = ap (λ ys. f x ∷ ys) more
-    pick false more = more
+filter_mapped p f (x ∷ xs) = grind (arith, filter_mapped p f xs)
 
 -- the first initial value is enqueued before the others, which stay where they are
 timeline_cons : (v : ℕ) (values : List ℕ) (operations : List Operation) → AreFew (v ∷ values)

@@ -19,6 +19,7 @@ use Rattle.history_merge.specs.Forming.{operation_so_far}
 use Rattle.history_merge.proofs.Completeness.{made_of}
 use Rattle.history_merge.proofs.Turns.{answer_is_return}
 use Rattle.std.proofs.lemmas.Bool.{or_cases, or_left, or_right}
+use Rattle.std.proofs.lemmas.Bool.Decides.{same_from_decides}
 use Rattle.std.proofs.lemmas.List.Filters.{length-filter_both}
 
 -- two filters may change places
@@ -282,24 +283,19 @@ module _ (operations : List Operation) (complete : AreComplete operations) (test
   one_holder x o ticket in_x in_o (inr is_x) (inl is_o) = returns_at_call operations x o complete in_x in_o (is_x ∙ sym is_o)
   one_holder x o ticket in_x in_o (inr is_x) (inr is_o) = same_return operations x o complete in_x in_o (is_x ∙ sym is_o)
 
-  held_as_tested : (o : Operation) (ticket : ℕ) → Contains operations o → (o.call ≡ ticket) ⊎ (o.ret ≡ ticket) → (passes holds : Bool)
-      → test o ≡ passes → holds_ticket (filter test operations) ticket ≡ holds → holds ≡ passes
-  held_as_tested o ticket among is true holds passes held' = sym held'
-      ∙ held (filter test operations) o ticket (passes_filter test operations o passes among) is
-  held_as_tested o ticket among is false false passes held' = refl
-  held_as_tested o ticket among is false true passes held' =
-      let found = holder (filter test operations) ticket held' in
-      let passed = passed_filter test operations found.0 found.1 in
-      let one = one_holder found.0 o ticket passed.0 among found.2 is in
-      let clash : true ≡ false = sym passed.1 ∙ ap test one ∙ passes in
-      cc
+  held_as_tested : (o : Operation) (ticket : ℕ) → Contains operations o → (o.call ≡ ticket) ⊎ (o.ret ≡ ticket)
+      → holds_ticket (filter test operations) ticket ≡ test o
+  held_as_tested o ticket among is = same_from_decides (holds_ticket (filter test operations) ticket) (test o) (
+    λ holds.
+        let found = holder (filter test operations) ticket holds in
+        let passed = passed_filter test operations found.0 found.1 in
+        subst (λ x. test x ≡ true) (one_holder found.0 o ticket passed.0 among found.2 is) passed.1,
+    λ passes. held (filter test operations) o ticket (passes_filter test operations o passes among) is,
+  ) (λ passes. passes, λ passes. passes)
 
   -- the tickets of an operation that passes are kept, both, and of no other
   pub tickets_keep_both : KeepsBoth (holds_ticket (filter test operations)) test operations
-  tickets_keep_both o among = (
-    held_as_tested o o.call among (inl refl) (test o) (holds_ticket (filter test operations) o.call) refl refl,
-    held_as_tested o o.ret among (inr refl) (test o) (holds_ticket (filter test operations) o.ret) refl refl,
-  )
+  tickets_keep_both o among = (held_as_tested o o.call among (inl refl), held_as_tested o o.ret among (inr refl))
 
 -- the events at the tickets of some operations
 abbrev pub events_at_tickets_of : List Operation → List Event → List Event

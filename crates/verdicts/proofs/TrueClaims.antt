@@ -1,5 +1,5 @@
 -- The claim of a verdict lists the operations and the initial values that the verdict names.
-use Rattle.verdicts.proofs.Common.{[], AllPairs, AllPairs-tail, AllZip, ap, ArePlacesOf, arith, called_values, cond}
+use Rattle.verdicts.proofs.Common.{nat_tests, [], AllPairs, AllPairs-tail, AllZip, ap, ArePlacesOf, arith, called_values, cond}
 use Rattle.verdicts.proofs.Common.{cons_option, Contains, contains_at, contains_cons, eq-eqb, Event, fresh}
 use Rattle.verdicts.proofs.Common.{FullViolation, get_or_append_left, initial_enqueue, initial_time, inl, inr}
 use Rattle.verdicts.proofs.Common.{IsCompleteFrom, IsLegalOrder, le-leb, length, length-append, LinePlace, lines_of}
@@ -33,7 +33,7 @@ place_of_value : (values : List ℕ) (j v : ℕ) → AllPairs (λ v w. v ≢ w) 
 place_of_value values j v apart at =
     let within = slice_get_within values j v at in
     let first = skipped values j apart at in
-    pick (prefix_len (λ w. not (nat_eq w v)) values) first within
+    grind (arith, nat_tests)
   where
     skipped : (values : List ℕ) (j : ℕ) → AllPairs (λ v w. v ≢ w) values → slice_get values j ≡ Some v → prefix_len (λ w. not (nat_eq w v)) values ≡ j
     skipped [] j apart at = cc
@@ -41,9 +41,6 @@ place_of_value values j v apart at =
     skipped (w ∷ values) (suc j) apart at =
         let differs : w ≢ v = pairs_at (λ v w. v ≢ w) (w ∷ values) 0 (suc j) w v apart (omega arith) refl at in
         let rest = skipped values j (AllPairs-tail (λ v w. v ≢ w) w values apart) at in rw (ne_eqb w v differs) (omega (arith, rest))
-
-    pick : (n : ℕ) → n ≡ j → j < length values → cond (nat_lt n (length values)) (Some n) None ≡ Some j
-    pick n same within = rw same (rw (lt-ltb j (length values) within) refl)
 
 module _ (initial : List ℕ) (events : List Event) (whole : IsCompleteFrom initial events) (few : length initial ≤ MAX_INITIAL) where
   line_stands : (p : ℕ) (x : Operation) → slice_get (timeline initial (operations_of events)) p ≡ Some x
