@@ -95,11 +95,7 @@ one_repeat operations enq enq' first first' second second' complete x y =
 
 -- values that stay at least as long as each other leave and enter at the same tickets
 both_stay : (x y : Life) → StaysAtLeast x y → StaysAtLeast y x → (dequeue_call x ≡ dequeue_call y) × (enqueue_return x ≡ enqueue_return y)
-both_stay x y first second =
-    let calls : dequeue_call y ≡ dequeue_call x = omega (arith, first.0, second.0) in
-    let le = first.1 calls in
-    let ge = second.1 (sym calls) in
-    (sym calls, omega arith)
+both_stay x y first second = (omega arith, omega arith)
 
 one_dequeue : (operations : List Operation) (deq_b : Operation) (a b : ℕ) (d d' : Option Operation) → AreComplete operations → a ≡ b
     → MatchOption d (NoneDid operations (Deq a)) (λ d. Did operations d (Deq a) × Precedes deq_b d)

@@ -364,20 +364,10 @@ extended_at lines n greatest e within past h = record { none_precedes = none; at
     here d = get_or_default lines n d e within
 
     none : (i j : ℕ) (d : Operation) → i < j → j < n + 1 → ¬ (Precedes (get_or lines j d) (get_or lines i d))
-    none i j d less within before = elim (cases_lt j n) [
-      | inl earlier ↦ h.none_precedes i j d less earlier before
-      | inr above ↦
-          let same : j ≡ n = omega arith in
-          let precedes : Precedes line (get_or lines i d) = rw (← here d) (rw same at before) in
-          let known = h.at_most i d (omega arith) in
-          omega arith
-    ]
+    none i j d less within before = grind (arith, h.none_precedes i j d less, h.at_most i d, here d)
 
     below : (k : ℕ) (d : Operation) → k < n + 1 → (get_or lines k d).call ≤ max greatest line.call
-    below k d within = elim (cases_lt k n) [
-      | inl earlier ↦ let known = h.at_most k d earlier in omega arith
-      | inr above ↦ let same : k ≡ n = omega arith in rw (same, here d) (omega arith)
-    ]
+    below k d within = grind (arith, h.at_most k d, here d)
 
     one : (max greatest line.call ≡ 0) ⊎ ((k : ℕ) × (k < n + 1) × ((d : Operation) → (get_or lines k d).call ≡ max greatest line.call))
     one = elim (cases_lt greatest line.call) [

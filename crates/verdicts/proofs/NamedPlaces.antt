@@ -1,6 +1,6 @@
 -- The lines of a violation of a timeline as they are shown, at the places of a history that it names; the places of a violation whose
 -- lines are operations.
-use Rattle.verdicts.proofs.Common.{[], All, All-cons, All-nil, AllZip, ap, AreLives, ArePlacesOf, arith, Bool, call_in}
+use Rattle.verdicts.proofs.Common.{nat_tests, [], All, All-cons, All-nil, AllZip, ap, AreLives, ArePlacesOf, arith, Bool, call_in}
 use Rattle.verdicts.proofs.Common.{cases_lt, ClaimLine, cond, cons_option, Contains, Contains-append_left}
 use Rattle.verdicts.proofs.Common.{Contains-append_right, contains_at, covers_are_lives, CoverStep, Deq, dequeue_of}
 use Rattle.verdicts.proofs.Common.{Did, Enq, enqueue_of, filter, flat_map, fresh, FullViolation, initial_time, inl}
@@ -47,24 +47,16 @@ later_line o = late_line (later_by ORIGIN o) (omega arith) ∙ ap line.Op (same_
 
 -- the call of a line's operation, at its time
 pub call_of_line : (o : Operation) (call : ℕ) → call_in (line_of o) ≡ Some call → o.call ≡ call + ORIGIN
-call_of_line o call is = elim (cases_lt o.call ORIGIN) [
-  | inl early ↦ let clash : None ≡ Some call = sym (ap call_in (early_line o early)) ∙ is in cc
-  | inr late ↦
-      let both : Some (o.call - ORIGIN) ≡ Some call = sym (ap call_in (late_line o late)) ∙ is in
-      let same : o.call - ORIGIN ≡ call = cc in
-      omega arith
-]
+call_of_line o call is = grind (arith, nat_tests)
 
 -- the line of an operation has its call
 pub line_of_call : (o : Operation) (call : ℕ) → o.call ≡ call + ORIGIN → call_in (line_of o) ≡ Some call
-line_of_call o call is = ap call_in (late_line o (omega arith)) ∙ ap (λ t. Some t) (let e : o.call - ORIGIN ≡ call = omega arith in e)
+line_of_call o call is = grind (arith, nat_tests)
 
 -- its value, where the operations before the first ticket are accepted enqueues
 pub value_of_line : (o : Operation) → (o.call < ORIGIN → (v : ℕ) × (o.kind ≡ Enq v)) → value_in (line_of o) ≡ value_of o.kind
 value_of_line o enqueues = elim (cases_lt o.call ORIGIN) [
-  | inl early ↦
-      let found = enqueues early in
-      ap value_in (early_line o early) ∙ ap (λ k. Some (accepted_value k)) found.1 ∙ sym (ap value_of found.1)
+  | inl early ↦ let found = (enqueues early).1 in grind (arith, nat_tests)
   | inr late ↦ ap value_in (late_line o late)
 ]
 

@@ -1,7 +1,7 @@
 -- Operations that stand in a longer list at other times, in the same order: they have the violations of the list whose lines are among
 -- them, and the chosen one, if its lines are. The selected values of a timeline stand on it so, since their initial ones are enqueued
 -- at other times.
-use Rattle.verdicts.proofs.Common.{[], ap, AreComplete, arith, Bool, call_by_return, call_or_never, cases_lt, cond}
+use Rattle.verdicts.proofs.Common.{nat_tests, [], ap, AreComplete, arith, Bool, call_by_return, call_or_never, cases_lt, cond}
 use Rattle.verdicts.proofs.Common.{Contains, contains_cons, Contains-append_cases, Contains-append_left}
 use Rattle.verdicts.proofs.Common.{Contains-append_right, Covers, dequeue_call, dequeue_of, eq-eqb, eqb-true}
 use Rattle.verdicts.proofs.Common.{enqueue_at, enqueue_of, enqueue_place, enqueue_return, enqueues_from, false, filter}
@@ -41,16 +41,13 @@ AreLate low operations = (o : Operation) → Contains operations o → (low ≤ 
 
 module _ {low : ℕ} {h : ℕ → ℕ} (rises : Rises low h) where
   at_most : (a b : ℕ) → low ≤ a → a ≤ b → h a ≤ h b
-  at_most a b from le = elim (cases_lt a b) [
-    | inl less ↦ let more = rises a b from less in omega arith
-    | inr more ↦ let same : a ≡ b = omega arith in let images = ap h same in omega arith
-  ]
+  at_most a b from le = grind (arith, rises a b from)
 
   at_most_back : (a b : ℕ) → low ≤ b → h a ≤ h b → a ≤ b
-  at_most_back a b from le = elim (cases_lt b a) [ inl above ↦ let more = rises b a from above in absurd (omega arith) | inr most ↦ most ]
+  at_most_back a b from le = grind (arith, rises b a from)
 
   below_back : (a b : ℕ) → low ≤ b → h a < h b → a < b
-  below_back a b from less = elim (cases_lt a b) [ inl below ↦ below | inr above ↦ let more = at_most b a from above in absurd (omega arith) ]
+  below_back a b from less = grind (arith, at_most b a from)
 
   -- the last time whose image isn't later than this one
   floor_by : (n a b c : ℕ) → a + n ≡ b → h a ≤ c → c < h b → (p : ℕ) × (a ≤ p) × (p < b) × (h p ≤ c) × (c < h (p + 1))
@@ -345,10 +342,7 @@ AreFew initial = length initial ≤ MAX_INITIAL
 -- from the first of the values on they aren't before the first of all
 lifted_from : (keeps : ℕ → Bool) (initial : List ℕ) (t : ℕ) → start (filter keeps initial) ≤ t → start initial ≤ lifted keeps initial t
 lifted_from keeps [] t from = from
-lifted_from keeps (v ∷ rest) t from = elim (cases_lt t (start (filter keeps rest))) [
-  | inl early ↦ rw (lt-ltb t (start (filter keeps rest)) early) (omega arith)
-  | inr late ↦ let more = lifted_from keeps rest t late in rw (le-ltb t (start (filter keeps rest)) late) (omega arith)
-]
+lifted_from keeps (v ∷ rest) t from = grind (arith, nat_tests, lifted_from keeps rest t)
 
 -- the value that is kept, if it is, comes just before the others
 first_kept : (kept : Bool) (v : ℕ) (others : List ℕ) (t : ℕ) → start (cond kept (v ∷ others) others) ≤ t → start others ≤ t + 1
@@ -358,21 +352,13 @@ first_kept false v others t from = omega arith
 -- times stay in their order
 pub lifted_rises : (keeps : ℕ → Bool) (initial : List ℕ) → AreFew initial → Rises (start (filter keeps initial)) (lifted keeps initial)
 lifted_rises keeps [] few a b from less = less
-lifted_rises keeps (v ∷ rest) few a b from less = elim (cases_lt a first) [
-  | inl early ↦ elim (cases_lt b first) [
-    | inl early' ↦ let near = first_kept (keeps v) v (filter keeps rest) a from in absurd (omega arith)
-    | inr late' ↦ let more = lifted_from keeps rest b late' in rw (lt-ltb a first early, le-ltb b first late') (omega arith)
-  ]
-  | inr late ↦ rw (le-ltb a first late, le-ltb b first (omega arith)) (lifted_rises keeps rest (omega arith) a b late less)
-]
-  where
-    first : ℕ
-    first = start (filter keeps rest)
+lifted_rises keeps (v ∷ rest) few a b from less =
+    grind (arith, nat_tests, lifted_from keeps rest b, first_kept (keeps v) v (filter keeps rest) a from, lifted_rises keeps rest (omega arith) a b)
 
 -- the times of tickets stay
 pub lifted_late : (keeps : ℕ → Bool) (initial : List ℕ) (t : ℕ) → ORIGIN ≤ t → lifted keeps initial t ≡ t
 lifted_late keeps [] t late = refl
-lifted_late keeps (v ∷ rest) t late = rw (le-ltb t (start (filter keeps rest)) (omega arith)) (lifted_late keeps rest t late)
+lifted_late keeps (v ∷ rest) t late = grind (arith, nat_tests, lifted_late keeps rest t late)
 
 -- nothing on a timeline comes before the first initial value
 pub timeline_late : (initial : List ℕ) (operations : List Operation) → AreLate (start initial) (timeline initial operations)

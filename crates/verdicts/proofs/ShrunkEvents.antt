@@ -129,24 +129,14 @@ module _ (keeps : ℕ → Bool) (test : Operation → Bool) where
           → KeepsBoth keeps test (cons_option made (operations_of later))
           → operations_of (kept_events later) ≡ filter test (operations_of later)
           → operations_of (cond k (e ∷ kept_events later) (kept_events later)) ≡ filter test (cons_option made (operations_of later))
-      join None none false is both' rest = rest
-      join None none true is both' rest = rw (begins_none e later (find (λ r. nat_eq r.thread e.thread) (kept_events later)) each none) rest
+      join None none k is both' rest =
+          grind (arith, begins_none e later (find (λ r. nat_eq r.thread e.thread) (kept_events later)) each none)
       join (Some o) same k is both' rest =
           let made = made_of e (find (λ r. nat_eq r.thread e.thread) later) o same in
           let both_o = both' o (among_first (Some o) (operations_of later) o refl) in
           let passes : test o ≡ k = sym both_o.0 ∙ ap keeps made.2.called ∙ is in
           let answered : keeps made.0.ticket ≡ k = ap keeps (sym made.2.returned) ∙ both_o.1 ∙ passes in
-          rw passes (by_test k made.0 made.1 answered)
-        where
-          by_test : (k : Bool) (answer : Event) → find (λ r. nat_eq r.thread e.thread) later ≡ Some answer → keeps answer.ticket ≡ k
-              → operations_of (cond k (e ∷ kept_events later) (kept_events later)) ≡ cond k (o ∷ filter test (operations_of later))
-              (filter test (operations_of later))
-          by_test false answer found kept = rest
-          by_test true answer found kept =
-              let found' = find_kept (λ r. nat_eq r.thread e.thread) (λ r. keeps r.ticket) later answer found kept in
-              let here : operation_of e (find (λ r. nat_eq r.thread e.thread) (kept_events later)) ≡ Some o =
-              ap (operation_of e) found' ∙ ap (operation_of e) (sym found) ∙ same in
-              rw (here, rest) refl
+          grind (arith, find_kept (λ r. nat_eq r.thread e.thread) (λ r. keeps r.ticket) later made.0 made.1)
 
   -- the next event of this thread is kept as the waiting call is
   abbrev NextAsKept : ℕ → Event → List Event → Type 0
