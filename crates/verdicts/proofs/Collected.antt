@@ -43,7 +43,7 @@ held_with test seen o t passes is =
 -- one more operation that isn't selected
 pub held_same : (test : Operation → Bool) (seen : List Operation) (o : Operation) (t : ℕ) (before : Bool) → test o ≡ false
     → before ≡ holds_ticket (filter test seen) t → before ≡ holds_ticket (filter test (seen ++ o ∷ [])) t
-held_same test seen o t before is was = was ∙ sym (or-false (holds_ticket (filter test seen) t)) ∙ sym (held_with test seen o t false is)
+held_same test seen o t before is was = grind (arith, held_with test seen o t false is)
 
 -- one more that is, whose tickets are put into the set
 pub held_more : (test : Operation → Bool) (seen : List Operation) (o : Operation) (t : ℕ) (before called now : Bool)
@@ -52,10 +52,4 @@ pub held_more : (test : Operation → Bool) (seen : List Operation) (o : Operati
     → now ≡ cond (is_eq (nat_cmp o.ret t)) true called
     → now ≡ holds_ticket (filter test (seen ++ o ∷ [])) t
 held_more test seen o t before called now is was calls returns =
-    returns
-    ∙ ap₂ (λ (b c : Bool). cond b true c) (is_eq-nat_cmp o.ret t) (calls ∙ ap₂ (λ (b c : Bool). cond b true c) (is_eq-nat_cmp o.call t) was)
-    ∙ either (nat_eq o.call t) (nat_eq o.ret t) (holds_ticket (filter test seen) t)
-    ∙ sym (held_with test seen o t true is)
-  where
-    either : (c r h : Bool) → cond r true (cond c true h) ≡ (h || ((c || r) || false))
-    either c r h = grind arith
+    grind (arith, held_with test seen o t true is, is_eq-nat_cmp o.ret t, is_eq-nat_cmp o.call t)

@@ -33,12 +33,7 @@ one_list_of_places : (operations : List Operation) (ps qs : List ℕ) (listed : 
     → ArePlacesOf operations ps listed → ArePlacesOf operations qs listed → ps ≡ qs
 one_list_of_places operations [] [] listed complete at_ps at_qs = refl
 one_list_of_places operations (p ∷ ps) (q ∷ qs) (o ∷ listed) complete at_ps at_qs =
-    let here_p : slice_get operations p ≡ Some o = cc in
-    let here_q : slice_get operations q ≡ Some o = cc in
-    let later_p : map (slice_get operations) ps ≡ map (λ o. Some o) listed = cc in
-    let later_q : map (slice_get operations) qs ≡ map (λ o. Some o) listed = cc in
-    ap₂ (λ (x : ℕ) (xs : List ℕ). x ∷ xs) (one_place_at operations p q o complete here_p here_q)
-    (one_list_of_places operations ps qs listed complete later_p later_q)
+    grind (arith, one_place_at operations p q o complete, one_list_of_places operations ps qs listed complete)
 one_list_of_places operations _ _ _ complete at_ps at_qs = cc
 
 module _ (initial : List ℕ) (operations : List Operation) (complete : AreComplete (timeline initial operations)) where
@@ -101,13 +96,16 @@ module _ (initial : List ℕ) (operations : List Operation) (complete : AreCompl
   one_violation : (x y : Violation) (b c : FullViolation) → b ≡ c → Names initial operations x b → Names initial operations y c → x ≡ y
   one_violation x y b c same at at' = one_named c x y (subst (Names initial operations x) same at) at'
 
+  -- one violation is chosen
+  one_chosen : (x y : Violation) → IsChosenViolation initial operations x → IsChosenViolation initial operations y → x ≡ y
+  one_chosen x y (b, names_x, chosen_x) (c, names_y, chosen_y) =
+      one_violation x y b c (one_chosen_violation all b c complete chosen_x chosen_y) names_x names_y
+
 -- a history has one chosen violation
 pub chosen_violation_is_one : (initial : List ℕ) (events : List Event) (x y : Violation) → IsCompleteFrom initial events → length initial ≤ MAX_INITIAL
     → IsChosenViolation initial (operations_of events) x → IsChosenViolation initial (operations_of events) y → x ≡ y
-chosen_violation_is_one initial events x y complete few chosen_x chosen_y =
-    let all_complete = timeline_is_complete initial events complete few in
-    one_violation initial (operations_of events) all_complete x y chosen_x.0 chosen_y.0
-    (one_chosen_violation (timeline initial (operations_of events)) chosen_x.0 chosen_y.0 all_complete chosen_x.2 chosen_y.2) chosen_x.1 chosen_y.1
+chosen_violation_is_one initial events x y complete few =
+    one_chosen initial (operations_of events) (timeline_is_complete initial events complete few) x y
 
 -- what stands behind the same enqueues is the same
 one_behind : (initial : List ℕ) (xs ys : List Operation) → timeline initial xs ≡ timeline initial ys → xs ≡ ys
@@ -147,15 +145,9 @@ matched_is_one initial operations (matched.Repeat v) (matched.Clear m) complete 
 matched_is_one initial operations (matched.Fresh v) (matched.Repeat w) complete x y = absurd (y.4.0 x.0 x.1 x.3.violates)
 matched_is_one initial operations (matched.Repeat v) (matched.Fresh w) complete x y = absurd (x.4.0 y.0 y.1 y.3.violates)
 matched_is_one initial operations (matched.Fresh v) (matched.Fresh w) complete x y =
-    let b : FullViolation = fresh x.0 x.1 in
-    let c : FullViolation = fresh y.0 y.1 in
-    ap (λ named. matched.Fresh named)
-    (one_violation initial operations complete v w b c (one_chosen_violation (timeline initial operations) b c complete x.3 y.3) x.2 y.2)
+    ap (λ named. matched.Fresh named) (one_chosen initial operations complete v w (fresh x.0 x.1, x.2, x.3) (fresh y.0 y.1, y.2, y.3))
 matched_is_one initial operations (matched.Repeat v) (matched.Repeat w) complete x y =
-    let b : FullViolation = repeat x.0 x.1 x.2 in
-    let c : FullViolation = repeat y.0 y.1 y.2 in
-    ap (λ named. matched.Repeat named)
-    (one_violation initial operations complete v w b c (one_chosen_violation (timeline initial operations) b c complete x.4 y.4) x.3 y.3)
+    ap (λ named. matched.Repeat named) (one_chosen initial operations complete v w (repeat x.0 x.1 x.2, x.3, x.4) (repeat y.0 y.1 y.2, y.3, y.4))
 
 -- the pair that an order violation names
 abbrev pair_of : Violation → OrderPair
@@ -220,10 +212,7 @@ gap_is_one initial operations place = one
 
 gaps_told : (cs ds : List ℕ) → map time_of cs ≡ map time_of ds → cs ≡ ds
 gaps_told [] [] same = refl
-gaps_told (c ∷ cs) (d ∷ ds) same =
-    let first : time_of c ≡ time_of d = cc in
-    let rest : map time_of cs ≡ map time_of ds = cc in
-    ap₂ (λ (n : ℕ) (ns : List ℕ). n ∷ ns) (gap_told c d first) (gaps_told cs ds rest)
+gaps_told (c ∷ cs) (d ∷ ds) same = grind (arith, gaps_told cs ds)
 gaps_told _ _ same = cc
 
 -- where each empty answer has a free gap, none is covered
@@ -247,12 +236,6 @@ witness_is_one initial operations (found.Gaps cs) (found.Covered place cover) cl
 witness_is_one initial operations (found.Covered place cover) (found.Gaps cs) clear x y =
     absurd (none_covered (timeline initial operations) (map time_of cs) x.0 y x.4.answers_empty x.4.is_covered)
 witness_is_one initial operations (found.Covered p steps) (found.Covered q steps') clear x y =
-    let b : FullViolation = witness x.0 x.1 in
-    let c : FullViolation = witness y.0 y.1 in
-    let violations : b ≡ c = one_witness (timeline initial operations) x.0 y.0 x.1 y.1 clear x.4 y.4 in
-    let v : Violation = violation.Witness p steps in
-    let w : Violation = violation.Witness q steps' in
-    covered (one_violation initial operations clear.complete v w b c violations (x.2, x.3) (y.2, y.3))
-  where
-    covered : violation.Witness p steps ≡ violation.Witness q steps' → found.Covered p steps ≡ found.Covered q steps'
-    covered same = cc
+    let same : violation.Witness p steps ≡ violation.Witness q steps' = one_violation initial operations clear.complete _ _ (witness x.0 x.1)
+    (witness y.0 y.1) (one_witness (timeline initial operations) x.0 y.0 x.1 y.1 clear x.4 y.4) (x.2, x.3) (y.2, y.3) in
+    cc
