@@ -49,16 +49,9 @@ one_maybe d d' same = grind arith
 
 -- two violations of one kind with the same lines are one, if the kind isn't that of a cover
 pub lines_tell_others : (x y : FullViolation) → kind_of x ≡ kind_of y → lines_of x ≡ lines_of y → kind_of x ≢ VWit → x ≡ y
-lines_tell_others (fresh deq enq) (fresh deq' enq') kinds lines other =
-    let one : deq ≡ deq' = cc in let later : option_to_list enq ≡ option_to_list enq' = cc in let enqs = one_maybe enq enq' later in cc
+lines_tell_others (fresh deq enq) (fresh deq' enq') kinds lines other = grind (arith, one_maybe enq enq')
 lines_tell_others (repeat enq first second) (repeat enq' first' second') kinds lines other = cc
-lines_tell_others (order enq_a enq_b deq_b deq_a) (order enq_a' enq_b' deq_b' deq_a') kinds lines other =
-    let a : enq_a ≡ enq_a' = cc in
-    let b : enq_b ≡ enq_b' = cc in
-    let d : deq_b ≡ deq_b' = cc in
-    let later : option_to_list deq_a ≡ option_to_list deq_a' = cc in
-    let last = one_maybe deq_a deq_a' later in
-    cc
+lines_tell_others (order enq_a enq_b deq_b deq_a) (order enq_a' enq_b' deq_b' deq_a') kinds lines other = grind (arith, one_maybe deq_a deq_a')
 lines_tell_others (witness empty cover) y kinds lines other = absurd (other refl)
 lines_tell_others _ _ kinds lines other = cc
 

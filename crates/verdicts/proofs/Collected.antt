@@ -2,12 +2,11 @@
 use Rattle.verdicts.proofs.Common.{[], ◌++◌, ◌+◌, ◌<◌, ◌∙◌, ◌∷◌, ◌≡◌, ap, append-nil, cons_option, filter_map}
 use Rattle.verdicts.proofs.Common.{filter_map-append, get_or, length, List, None, Option, Some, sym, take, take_more}
 use Rattle.verdicts.proofs.Common.{ℕ, ◌↔◌, BTreeSet, Contains, contains, IfOk, IfOk-weaker, IsFromIterResult, IsTrue}
-use Rattle.verdicts.proofs.Common.{nat_cmp, Result, arith, ◌||◌, ap₂, Bool, cond, false, filter, is_eq}
+use Rattle.verdicts.proofs.Common.{nat_cmp, Result, arith, ◌||◌, Bool, cond, false, filter, is_eq}
 use Rattle.verdicts.proofs.Common.{list_any-append, nat_eq, true, holds_ticket, Operation}
 use Rattle.std.proofs.lemmas.Cmp.{nat_cmp_total}
 use Rattle.std.proofs.lemmas.Map.Lookups.{exact_unsigned}
 use Rattle.std.proofs.lemmas.Map.Views.{btree_set_contains_from_list}
-use Rattle.std.proofs.Math.Bool.{or-false}
 use Rattle.std.proofs.lemmas.List.Elements.{filter-append}
 use Rattle.history_merge.proofs.KnownValues.{is_eq-nat_cmp}
 

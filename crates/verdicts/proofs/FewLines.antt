@@ -1,20 +1,20 @@
 -- A verdict shows each operation once, so it names at most half as many as the history has events; its other lines are initial values.
-use Rattle.verdicts.proofs.Common.{[], AllByRecursion, AllPairs, AllPairs-tail, AllZip, ap, AreComplete, arith, Bool}
+use Rattle.verdicts.proofs.Common.{[], AllPairs, AllPairs-tail, AllZip, ap, AreComplete, arith, Bool}
 use Rattle.verdicts.proofs.Common.{call_before_return, ClaimLine, cond, Contains, Contains-append_cases}
-use Rattle.verdicts.proofs.Common.{All, Contains-permutation, MAX_TICKET, nat_tests, Contains-append_right, contains_at, contains_cons, Deq, dequeue_call, dequeue_of}
+use Rattle.verdicts.proofs.Common.{All, Contains-permutation, MAX_TICKET, nat_tests, contains_cons, Deq, dequeue_call, dequeue_of}
 use Rattle.verdicts.proofs.Common.{Did, Empty, Enq, enqueue_of, enqueue_place, Event, false, filter}
 use Rattle.verdicts.proofs.Common.{flat_map, fresh, FullViolation, initial_enqueues, initial_time, inl, inr}
 use Rattle.verdicts.proofs.Common.{is_operation, IsChosenCoverFrom, IsChosenFullViolation, IsClear, IsCompleteHistory}
-use Rattle.verdicts.proofs.Common.{IsCovered, IsDistinct, IsLife, IsVerdict, later_by, length, length-append}
+use Rattle.verdicts.proofs.Common.{IsCovered, IsLife, IsVerdict, later_by, length}
 use Rattle.verdicts.proofs.Common.{length-map, length_permutation, Life, line_at, LinePlace, lines_of, List, ltb-false}
-use Rattle.verdicts.proofs.Common.{map, mapped_from, mapped_to, MatchOption, MAX_INITIAL, MAX_OPERATIONS, nat_eq}
-use Rattle.verdicts.proofs.Common.{nat_lt, ne_eqb, No, no_enqueue, None, NoneDid, not, not-true, not_in_none}
-use Rattle.verdicts.proofs.Common.{one_deeper, one_life_of_enqueue, Operation, operations_are_complete}
-use Rattle.verdicts.proofs.Common.{operations_named, operations_of, operations_of_life, operations_rise, Option}
+use Rattle.verdicts.proofs.Common.{map, MatchOption, MAX_INITIAL, MAX_OPERATIONS}
+use Rattle.verdicts.proofs.Common.{nat_lt, No, no_enqueue, None, NoneDid, not, not-true, not_in_none}
+use Rattle.verdicts.proofs.Common.{one_deeper, one_life_of_enqueue, Operation}
+use Rattle.verdicts.proofs.Common.{operations_named, operations_of, operations_of_life, Option}
 use Rattle.verdicts.proofs.Common.{option_to_list, order, ORIGIN, pairs_at, passed_filter, place_of, refl, repeat}
-use Rattle.verdicts.proofs.Common.{returns_at_no_call, same_call, same_enqueue, same_return, slice_get}
-use Rattle.verdicts.proofs.Common.{slice_get_within, Some, subst, suc, sym, timeline, timeline_is_complete, traced}
-use Rattle.verdicts.proofs.Common.{true, value_of, verdict_places, violation_places, witness, Yes, zero, ℕ, ◌++◌, ◌+◌}
+use Rattle.verdicts.proofs.Common.{same_enqueue, slice_get}
+use Rattle.verdicts.proofs.Common.{slice_get_within, Some, subst, suc, sym, timeline, timeline_is_complete}
+use Rattle.verdicts.proofs.Common.{true, value_of, verdict_places, violation_places, witness, Yes, zero, ℕ, ◌+◌}
 use Rattle.verdicts.proofs.Common.{◌<◌, ◌∙◌, ◌∷◌, ◌≡◌, ◌≤◌, ◌⊎◌}
 use Rattle.std.proofs.Common.{count_by}
 use Rattle.std.specs.List.{remove}

@@ -1,5 +1,5 @@
 -- Operations looked up by their calls.
-use Rattle.verdicts.proofs.Common.{◌<◌, ◌↔◌, ◌∙◌, ◌≡◌, ◌≢◌, ◌≤◌, AllWithin, ap, arith, Bool, cases_lt, cases_order}
+use Rattle.verdicts.proofs.Common.{◌<◌, ◌↔◌, ◌∙◌, ◌≡◌, ◌≢◌, ◌≤◌, AllWithin, ap, arith, Bool, cases_lt}
 use Rattle.verdicts.proofs.Common.{Contains, Decides, Err, false, get_or, get_or_default, HoldsAt, inl, inr}
 use Rattle.verdicts.proofs.Common.{IsBinarySearchResult, IsNonDecreasingBy, IsSearchInRange, IsTrue, length, List}
 use Rattle.verdicts.proofs.Common.{MatchBool, MatchResult, nat_cmp, nat_tests, Ok, refl, Result, rules, sym, true, ℕ}

@@ -12,10 +12,11 @@ use Rattle.verdicts.proofs.Common.{Operation, operations_of_life, OpKind, Option
 use Rattle.verdicts.proofs.Common.{ORIGIN, place_of, place_of_source, places_of_step, Precedes, refl, repeat}
 use Rattle.verdicts.proofs.Common.{same_operation, slice_get, slice_get_within, Some, Source, subst, sym, timeline}
 use Rattle.verdicts.proofs.Common.{timeline_at, value_in, value_of, Violation, violation_places, witness, zero, ℕ, ⊤}
-use Rattle.verdicts.proofs.Common.{◌++◌, ◌+◌, ◌-◌, ◌<◌, ◌∙◌, ◌∷◌, ◌≡◌, ◌≤◌}
+use Rattle.verdicts.proofs.Common.{◌+◌, ◌-◌, ◌<◌, ◌∙◌, ◌∷◌, ◌≡◌, ◌≤◌}
 use Rattle.verdicts.proofs.Retiming.{lifted, lifted_late, lifted_rises, retimed}
 use Rattle.verdicts.proofs.Retiming.{start}
 use Rattle.history_merge.specs.Inner.Timeline.{earlier_by}
+use Rattle.linearizer.proofs.Elements.{zip_joined}
 use Rattle.verdicts.specs.declared.shown.LinePlace.TheVariants.{Op, Initial}
 use Rattle.value_match.proofs.TimelineLines.{mapped_option}
 use Rattle.value_match.specs.Told.{told_place, told_source}
@@ -63,22 +64,10 @@ value_of_line o enqueues = elim (cases_lt o.call ORIGIN) [
 -- an operation of a selection's timeline has the same line at its time in the whole
 pub same_line : (keeps : ℕ → Bool) (initial : List ℕ) → length initial ≤ MAX_INITIAL → (o : Operation) → start (filter keeps initial) ≤ o.call
     → o.call ≤ o.ret → line_of (retimed (lifted keeps initial) o) ≡ line_of o
-same_line keeps initial few o from called = elim (cases_lt o.call ORIGIN) [
-  | inl early ↦
-      let below = lifted_rises keeps initial few o.call ORIGIN from early in
-      let stays = lifted_late keeps initial ORIGIN (omega arith) in
-      early_line (retimed (lifted keeps initial) o) (omega arith) ∙ sym (early_line o early)
-  | inr late ↦
-      ap line_of (same_operation _ o (lifted_late keeps initial o.call late) (lifted_late keeps initial o.ret (omega arith)) refl refl)
-]
+same_line keeps initial few o from called = grind (arith, nat_tests, lifted_rises keeps initial few o.call ORIGIN from,
+    lifted_late keeps initial ORIGIN, lifted_late keeps initial o.call, lifted_late keeps initial o.ret)
 
 -- ---- lists, element by element
-
--- one list of pairs behind another
-zip_both : {X Y : Type 0} (P : X → Y → Type 0) (xs xs' : List X) (ys ys' : List Y) → AllZip P xs ys → AllZip P xs' ys' → AllZip P (xs ++ xs') (ys ++ ys')
-zip_both P [] xs' [] ys' first rest = rest
-zip_both P (x ∷ xs) xs' (y ∷ ys) ys' first rest = (first.0, zip_both P xs xs' ys ys' first.1 rest)
-zip_both P _ xs' _ ys' first rest = absurd first
 
 -- operations that stand at some places
 pub in_range : (operations : List Operation) (places : List ℕ) (listed : List Operation) → ArePlacesOf operations places listed
@@ -136,7 +125,8 @@ module _ (initial : List ℕ) (operations : List Operation) (few : length initia
   cover_shown [] [] names = tt
   cover_shown (step ∷ steps) (life ∷ cover) names = (
     source_shown step.source (enqueue_of life) names.0.0,
-    zip_both (IsShownAt initial operations) (maybe_place step.dequeue) (flat_map places_of_step steps) (option_to_list (dequeue_of life)) (flat_map operations_of_life cover)
+    zip_joined (IsShownAt initial operations) (maybe_place step.dequeue) (flat_map places_of_step steps) (option_to_list (dequeue_of life))
+        (flat_map operations_of_life cover)
         (maybe_shown step.dequeue (dequeue_of life) names.0.1) (cover_shown steps cover names.1),
   )
   cover_shown _ _ names = absurd names

@@ -7,7 +7,7 @@ use Rattle.verdicts.proofs.Common.{IsMaybeOperation, IsOperation, IsSource, IsVi
 use Rattle.verdicts.proofs.Common.{length, Life, linearizable_from_exactly, List, map, MAX_INITIAL, Names, NamesCover}
 use Rattle.verdicts.proofs.Common.{NamesStep, No, None, one_at, Operation, operations_are_complete, operations_of}
 use Rattle.verdicts.proofs.Common.{operations_rise, Option, order, OrderPair, ORIGIN, passes_filter, place_of, refl}
-use Rattle.verdicts.proofs.Common.{repeat, slice_get, Some, Source, subst, sym, time_of, timeline}
+use Rattle.verdicts.proofs.Common.{repeat, Some, Source, subst, sym, time_of, timeline}
 use Rattle.verdicts.proofs.Common.{timeline_is_complete, true, Violation, witness, Yes, ℕ, ◌∙◌, ◌∷◌, ◌≡◌, ◌≤◌}
 use Rattle.empty_witness.specs.declared.answer.GapAnswer.{GapAnswer}
 use Rattle.linearizer.proofs.Positions.{beside}

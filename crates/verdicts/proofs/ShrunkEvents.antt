@@ -1,24 +1,24 @@
 -- Some operations of a complete history, with both their events, make a complete history, and so do the selected initial values and the
 -- events of the selected operations; the tickets of these operations keep just these events.
 use Rattle.verdicts.proofs.Common.{[], All, All-filter, AllPairs, AllPairs-cons, AllPairs-filter, AllPairs-tail}
-use Rattle.verdicts.proofs.Common.{answers, Any-from_list_any, ap, AreComplete, AreDistinct, arith, Bool, CallDeq}
-use Rattle.verdicts.proofs.Common.{called_value, called_values, CallEnq, cond, cons_option, Contains}
+use Rattle.verdicts.proofs.Common.{answers, Any-from_list_any, ap, AreComplete, AreDistinct, arith, Bool}
+use Rattle.verdicts.proofs.Common.{called_value, called_values, cond, cons_option, Contains}
 use Rattle.verdicts.proofs.Common.{Contains-append_cases, Contains-append_left, Contains-append_right, Contains-get_or}
-use Rattle.verdicts.proofs.Common.{Deq, Empty, Enq, eq-eqb, eqb-true, Event, false, filter, filter_map, find, get_or}
+use Rattle.verdicts.proofs.Common.{eqb-true, Event, false, filter, filter_map, find, get_or}
 use Rattle.verdicts.proofs.Common.{holds_ticket, inl, inr, is_call, IsCompleteFrom, IsCompleteHistory, IsTrue, keeps}
-use Rattle.verdicts.proofs.Common.{kept, length, List, list_any-from_Any, MatchBool, MAX_INITIAL, MAX_THREAD}
-use Rattle.verdicts.proofs.Common.{MAX_TICKET, nat_eq, None, Not, not, one_deeper, Operation, operation_of}
-use Rattle.verdicts.proofs.Common.{operations_are_complete, operations_of, OpKind, Option, passed_filter}
-use Rattle.verdicts.proofs.Common.{slice_get, passes_filter, projection, refl, RetDeq, RetEmpty, RetEnq, RetNot, returns_at_call}
+use Rattle.verdicts.proofs.Common.{kept, length, List, list_any-from_Any, MAX_INITIAL, MAX_THREAD}
+use Rattle.verdicts.proofs.Common.{MAX_TICKET, nat_eq, None, not, one_deeper, Operation}
+use Rattle.verdicts.proofs.Common.{operations_are_complete, operations_of, Option, passed_filter}
+use Rattle.verdicts.proofs.Common.{nat_tests, slice_get, passes_filter, projection, refl, returns_at_call}
 use Rattle.verdicts.proofs.Common.{same_call, same_return, Some, subst, suc, sym, TakesTurns, timeline}
-use Rattle.verdicts.proofs.Common.{timeline_is_complete, true, What, zero, ℕ, ⊤, ◌++◌, ◌<◌, ◌||◌, ◌∙◌, ◌∷◌, ◌≡◌, ◌≢◌}
+use Rattle.verdicts.proofs.Common.{timeline_is_complete, true, zero, ℕ, ◌++◌, ◌<◌, ◌||◌, ◌∙◌, ◌∷◌, ◌≡◌, ◌≢◌}
 use Rattle.verdicts.proofs.Common.{◌≤◌, ◌⊎◌}
 use Rattle.std.proofs.lemmas.List.Elements.{All-contains}
 use Rattle.history_merge.proofs.TheirEvents.{next_is_first}
-use Rattle.history_merge.specs.Forming.{operation_so_far}
-use Rattle.history_merge.proofs.Completeness.{made_of}
-use Rattle.history_merge.proofs.Turns.{answer_is_return}
-use Rattle.std.proofs.lemmas.Bool.{or_cases, or_left, or_right}
+use Rattle.history_merge.specs.Forming.{operation_so_far, operations_so_far}
+use Rattle.history_merge.specs.Inner.History.{next_of}
+use Rattle.history_merge.proofs.Formed.{all_formed}
+use Rattle.history_merge.proofs.Turns.{answered_is_call}
 use Rattle.std.proofs.lemmas.Bool.Decides.{same_from_decides}
 use Rattle.std.proofs.lemmas.List.Filters.{length-filter_both}
 
@@ -32,79 +32,10 @@ find_kept : {X : Type 0} (p keeps : X → Bool) (xs : List X) (r : X) → find p
 find_kept p keeps [] r found is = cc
 find_kept p keeps (x ∷ xs) r found is = grind (arith, find_kept p keeps xs r)
 
--- a call and a return of its kind are an operation
-operation_made : (call answer : Event) → answers call.what answer.what ≡ true
-    → operation_of call (Some answer) ≡ Some (operation_so_far call (Some answer))
-operation_made call answer is = grind arith
-
--- a return begins no operation
-return_begins_none : (e : Event) (found : Option Event) → is_call e.what ≡ false → operation_of e found ≡ None
-return_begins_none e found is = grind arith
-
--- calls and returns take turns, after a call that waits if there is one
-abbrev pub TurnsAfter : Option Event → List Event → Type 0
-TurnsAfter None events = TakesTurns events
-TurnsAfter (Some call) events = TakesTurns (call ∷ events)
-
-abbrev EachTurns : List Event → Type 0
-EachTurns events = (thread : ℕ) → (pending : Option Event) × TurnsAfter pending (projection thread events)
-
-turns_later : (e : Event) (events : List Event) (pending : Option Event) → TurnsAfter pending (e ∷ events)
-    → (pending' : Option Event) × TurnsAfter pending' events
-turns_later e events None turns = (Some e, turns)
-turns_later e events (Some call) turns = (None, turns.1)
-
-each_turns_later : (e : Event) (later : List Event) → EachTurns (e ∷ later) → EachTurns later
-each_turns_later e later each thread = pick (nat_eq e.thread thread) (each thread).0 (each thread).1
-  where
-    pick : (b : Bool) (pending : Option Event) → TurnsAfter pending (cond b (e ∷ projection thread later) (projection thread later))
-        → (pending' : Option Event) × TurnsAfter pending' (projection thread later)
-    pick true pending turns = turns_later e (projection thread later) pending turns
-    pick false pending turns = (pending, turns)
-
--- among the operations after one more event, if it begins one
-pub among_later : (made : Option Operation) (later : List Operation) (o : Operation) → Contains later o → Contains (cons_option made later) o
-among_later None later o among = among
-among_later (Some x) later o among = one_deeper x later o among
-
--- the first that is made is among them
-pub among_first : (made : Option Operation) (later : List Operation) (o : Operation) → made ≡ Some o → Contains (cons_option made later) o
-among_first None later o same = cc
-among_first (Some x) later o same = let here : x ≡ o = cc in (zero, omega arith, here)
-
--- a call and the event after it in its thread are an operation
-pub record IsAnswered (thread : ℕ) (call : Event) (later : List Event) : Type 0 where
-  pub answer : Event
-  pub found : find (λ r. nat_eq r.thread thread) later ≡ Some answer
-  pub operation : Operation
-  pub is : operation_of call (find (λ r. nat_eq r.thread call.thread) later) ≡ Some operation
-  pub called : operation.call ≡ call.ticket
-  pub returned : operation.ret ≡ answer.ticket
-
-pub answered : (thread : ℕ) (call : Event) (later : List Event) → call.thread ≡ thread → TakesTurns (call ∷ projection thread later)
-    → IsAnswered thread call later
-answered thread call later own turns = by_next (projection thread later) refl turns
-  where
-    by_next : (events : List Event) → projection thread later ≡ events → TakesTurns (call ∷ events) → IsAnswered thread call later
-    by_next [] same turns' = elim turns' [ ]
-    by_next (answer ∷ rest) same turns' =
-        let found = next_is_first thread later ∙ ap (λ es. slice_get es 0) same in
-        let here = ap (λ t. operation_of call (find (λ r. nat_eq r.thread t) later)) own ∙ ap (operation_of call) found
-        ∙ operation_made call answer turns'.0 in
-        record { answer = answer; found = found; operation = operation_so_far call (Some answer); is = here; called = refl; returned = refl }
-
--- an event that begins no operation, whatever follows it in its thread, is a return
-begins_none : (e : Event) (later : List Event) (found : Option Event) → EachTurns (e ∷ later)
-    → operation_of e (find (λ r. nat_eq r.thread e.thread) later) ≡ None → operation_of e found ≡ None
-begins_none e later found each none = pick (each e.thread).0 (subst
-    (λ b. TurnsAfter (each e.thread).0 (cond b (e ∷ projection e.thread later) (projection e.thread later))) (eq-eqb e.thread e.thread refl) (each e.thread).1)
-  where
-    pick : (pending : Option Event) → TurnsAfter pending (e ∷ projection e.thread later) → operation_of e found ≡ None
-    pick None turns =
-        let a = answered e.thread e later refl turns in
-        let clash : None ≡ Some a.operation = sym none ∙ a.is in
-        cc
-    pick (Some call) turns = return_begins_none e found (answer_is_return call.what e.what turns.0)
+-- and what isn't found among all isn't found among these
+find_none_kept : {X : Type 0} (p keeps : X → Bool) (xs : List X) → find p xs ≡ None → find p (filter keeps xs) ≡ None
+find_none_kept p keeps [] none = none
+find_none_kept p keeps (x ∷ xs) none = grind (arith, find_none_kept p keeps xs)
 
 -- both tickets of each operation are kept, or neither
 abbrev pub KeepsBoth : (ℕ → Bool) → (Operation → Bool) → List Operation → Type 0
@@ -114,91 +45,72 @@ module _ (keeps : ℕ → Bool) (test : Operation → Bool) where
   abbrev kept_events : List Event → List Event
   kept_events events = filter (λ e. keeps e.ticket) events
 
-  kept_later : (made : Option Operation) (later : List Operation) → KeepsBoth keeps test (cons_option made later) → KeepsBoth keeps test later
-  kept_later made later both o among = both o (among_later made later o among)
-
   -- the operations of the kept events are the operations that pass
-  kept_operations : (events : List Event) → EachTurns events → KeepsBoth keeps test (operations_of events)
-      → operations_of (kept_events events) ≡ filter test (operations_of events)
-  kept_operations [] each both = refl
-  kept_operations (e ∷ later) each both =
-      let made = operation_of e (find (λ r. nat_eq r.thread e.thread) later) in
-      join made refl (keeps e.ticket) refl both (kept_operations later (each_turns_later e later each) (kept_later made (operations_of later) both))
+  kept_operations : (events : List Event) → KeepsBoth keeps test (operations_so_far events)
+      → operations_so_far (kept_events events) ≡ filter test (operations_so_far events)
+  kept_operations [] both = refl
+  kept_operations (e ∷ later) both = join (is_call e.what) refl (next_of e.thread later) refl both (kept_operations later)
     where
-      join : (made : Option Operation) → operation_of e (find (λ r. nat_eq r.thread e.thread) later) ≡ made → (k : Bool) → keeps e.ticket ≡ k
-          → KeepsBoth keeps test (cons_option made (operations_of later))
-          → operations_of (kept_events later) ≡ filter test (operations_of later)
-          → operations_of (cond k (e ∷ kept_events later) (kept_events later)) ≡ filter test (cons_option made (operations_of later))
-      join None none k is both' rest =
-          grind (arith, begins_none e later (find (λ r. nat_eq r.thread e.thread) (kept_events later)) each none)
-      join (Some o) same k is both' rest =
-          let made = made_of e (find (λ r. nat_eq r.thread e.thread) later) o same in
-          let both_o = both' o (among_first (Some o) (operations_of later) o refl) in
-          let passes : test o ≡ k = sym both_o.0 ∙ ap keeps made.2.called ∙ is in
-          let answered : keeps made.0.ticket ≡ k = ap keeps (sym made.2.returned) ∙ both_o.1 ∙ passes in
-          grind (arith, find_kept (λ r. nat_eq r.thread e.thread) (λ r. keeps r.ticket) later made.0 made.1)
+      join : (b : Bool) → is_call e.what ≡ b → (next : Option Event) → next_of e.thread later ≡ next
+          → KeepsBoth keeps test (cond b (operation_so_far e next ∷ operations_so_far later) (operations_so_far later))
+          → (KeepsBoth keeps test (operations_so_far later) → operations_so_far (kept_events later) ≡ filter test (operations_so_far later))
+          → operations_so_far (cond (keeps e.ticket) (e ∷ kept_events later) (kept_events later))
+          ≡ filter test (cond b (operation_so_far e next ∷ operations_so_far later) (operations_so_far later))
+      join false is next found both' rest = let more = rest both' in grind arith
+      join true is None found both' rest =
+          let own = both' (operation_so_far e None) (zero, omega arith, refl) in
+          let more = rest (λ o among. both' o (one_deeper (operation_so_far e None) (operations_so_far later) o among)) in
+          grind (arith, find_none_kept (λ r. nat_eq r.thread e.thread) (λ r. keeps r.ticket) later found)
+      join true is (Some a) found both' rest =
+          let own = both' (operation_so_far e (Some a)) (zero, omega arith, refl) in
+          let more = rest (λ o among. both' o (one_deeper (operation_so_far e (Some a)) (operations_so_far later) o among)) in
+          grind (arith, find_kept (λ r. nat_eq r.thread e.thread) (λ r. keeps r.ticket) later a found)
 
-  -- the next event of this thread is kept as the waiting call is
-  abbrev NextAsKept : ℕ → Event → List Event → Type 0
-  NextAsKept thread call events = (r : Event) → find (λ r. nat_eq r.thread thread) events ≡ Some r → keeps r.ticket ≡ keeps call.ticket
-
-  abbrev IsAsKept : ℕ → Option Event → List Event → Type 0
-  IsAsKept thread None events = ⊤
-  IsAsKept thread (Some call) events = NextAsKept thread call events
-
-  -- the events that are kept of a thread take turns, after its waiting call if that is kept
-  abbrev KeptTurns : Option Event → List Event → Type 0
-  KeptTurns None events = TakesTurns events
-  KeptTurns (Some call) events = MatchBool (keeps call.ticket) (TakesTurns (call ∷ events)) (TakesTurns events)
-
-  -- a call is kept as its return is
-  answer_as_kept : (e : Event) (later : List Event) (thread : ℕ) → e.thread ≡ thread → TakesTurns (e ∷ projection thread later)
-      → KeepsBoth keeps test (operations_of (e ∷ later)) → NextAsKept thread e later
-  answer_as_kept e later thread own turns both r found =
-      let a = answered thread e later own turns in
-      let one : a.answer ≡ r = let both_found : Some a.answer ≡ Some r = sym a.found ∙ found in cc in
-      let kept = both a.operation (among_first (operation_of e (find (λ r. nat_eq r.thread e.thread) later)) (operations_of later) a.operation a.is) in
-      ap (λ x. keeps x.ticket) (sym one) ∙ ap keeps (sym a.returned) ∙ kept.1 ∙ sym kept.0 ∙ ap keeps a.called
-
-  kept_turns : (thread : ℕ) (events : List Event) (pending : Option Event) → TurnsAfter pending (projection thread events)
-      → KeepsBoth keeps test (operations_of events) → IsAsKept thread pending events
-      → KeptTurns pending (kept_events (projection thread events))
-  kept_turns thread [] None turns both next = tt
-  kept_turns thread [] (Some call) turns both next = elim turns [ ]
-  kept_turns thread (e ∷ later) pending turns both next =
-      own (nat_eq e.thread thread) refl pending turns next
-      (λ pending' turns' next'. kept_turns thread later pending' turns'
-      (kept_later (operation_of e (find (λ r. nat_eq r.thread e.thread) later)) (operations_of later) both) next')
+  -- where a call is kept as its return is, what is kept takes turns
+  kept_turns : (events : List Event) → TakesTurns events
+      → ((before : List Event) (c a : Event) (rest : List Event) → events ≡ before ++ c ∷ a ∷ rest → IsTrue (answers c.what a.what)
+      → keeps c.ticket ≡ keeps a.ticket) → TakesTurns (kept_events events)
+  kept_turns [] turns alike = tt
+  kept_turns (c ∷ []) turns alike = elim turns [ ]
+  kept_turns (c ∷ a ∷ rest) turns alike = pick (keeps c.ticket) (keeps a.ticket) (alike [] c a rest refl turns.0) (kept_turns rest turns.1
+      (λ before c' a' rest' same. alike (c ∷ a ∷ before) c' a' rest' (ap (λ xs. c ∷ a ∷ xs) same)))
     where
-      -- the kept events after this one
-      after : List Event
-      after = kept_events (projection thread later)
+      pick : (k l : Bool) → k ≡ l → TakesTurns (kept_events rest)
+          → TakesTurns (cond k (c ∷ cond l (a ∷ kept_events rest) (kept_events rest)) (cond l (a ∷ kept_events rest) (kept_events rest)))
+      pick true true same more = (turns.0, more)
+      pick false false same more = more
+      pick _ _ same more = cc
 
-      not_next : (pending : Option Event) → nat_eq e.thread thread ≡ false → IsAsKept thread pending (e ∷ later) → IsAsKept thread pending later
-      not_next None test next = tt
-      not_next (Some call) test next = λ r found. next r (rw test found)
+-- a call and the return that follows it in its thread are an operation
+made_in : (thread : ℕ) (events before : List Event) (c a : Event) (rest : List Event) → projection thread events ≡ before ++ c ∷ a ∷ rest
+    → IsTrue (answers c.what a.what) → Contains (operations_so_far events) (operation_so_far c (Some a))
+made_in thread [] [] c a rest same is = cc
+made_in thread [] (b ∷ before) c a rest same is = cc
+made_in thread (e ∷ later) before c a rest same is =
+    pick (nat_eq e.thread thread) refl before same (λ before' same'. made_in thread later before' c a rest same' is)
+  where
+    o : Operation
+    o = operation_so_far c (Some a)
 
-      -- an event of this thread waits for its return, if it is kept
-      begins : (k : Bool) → MatchBool k (TakesTurns (e ∷ after)) (TakesTurns after) → TakesTurns (cond k (e ∷ after) after)
-      begins true turns = turns
-      begins false turns = turns
+    deeper : (b : Bool) → Contains (operations_so_far later) o
+        → Contains (cond b (operation_so_far e (next_of e.thread later) ∷ operations_so_far later) (operations_so_far later)) o
+    deeper true among = one_deeper (operation_so_far e (next_of e.thread later)) (operations_so_far later) o among
+    deeper false among = among
 
-      -- or answers the waiting call, and is kept as that is
-      ends : (call : Event) (k : Bool) → IsTrue (answers call.what e.what) → TakesTurns after
-          → MatchBool k (TakesTurns (call ∷ cond k (e ∷ after) after)) (TakesTurns (cond k (e ∷ after) after))
-      ends call true answered turns = (answered, turns)
-      ends call false answered turns = turns
-
-      own : (b : Bool) → nat_eq e.thread thread ≡ b → (pending : Option Event)
-          → TurnsAfter pending (cond b (e ∷ projection thread later) (projection thread later)) → IsAsKept thread pending (e ∷ later)
-          → ((pending' : Option Event) → TurnsAfter pending' (projection thread later) → IsAsKept thread pending' later → KeptTurns pending' after)
-          → KeptTurns pending (kept_events (cond b (e ∷ projection thread later) (projection thread later)))
-      own false test pending turns' next' rest = rest pending turns' (not_next pending test next')
-      own true test None turns' next' rest =
-          begins (keeps e.ticket) (rest (Some e) turns' (answer_as_kept e later thread (eqb-true e.thread thread test) turns' both))
-      own true test (Some call) turns' next' rest =
-          subst (λ k. MatchBool k (TakesTurns (call ∷ cond (keeps e.ticket) (e ∷ after) after)) (TakesTurns (cond (keeps e.ticket) (e ∷ after) after)))
-          (next' e (rw test refl)) (ends call (keeps e.ticket) turns'.0 (rest None turns'.1 tt))
+    pick : (b : Bool) → nat_eq e.thread thread ≡ b → (before : List Event)
+        → cond b (e ∷ projection thread later) (projection thread later) ≡ before ++ c ∷ a ∷ rest
+        → ((before : List Event) → projection thread later ≡ before ++ c ∷ a ∷ rest → Contains (operations_so_far later) o)
+        → Contains (operations_so_far (e ∷ later)) o
+    pick false test before same more = deeper (is_call e.what) (more before same)
+    pick true test (x ∷ before) same more =
+        let others : projection thread later ≡ before ++ c ∷ a ∷ rest = cc in deeper (is_call e.what) (more before others)
+    pick true test [] same more =
+        let here : e ≡ c = cc in
+        let others : projection thread later ≡ a ∷ rest = cc in
+        let found : next_of e.thread later ≡ Some a = ap (λ t. next_of t later) (eqb-true e.thread thread test) ∙ next_is_first thread later
+        ∙ ap (λ es. slice_get es 0) others in
+        let calls : is_call e.what ≡ true = ap (λ (x : Event). is_call x.what) here ∙ answered_is_call c.what a.what is in
+        rw calls (zero, omega arith, ap (operation_so_far e) found ∙ ap (λ (x : Event). operation_so_far x (Some a)) here)
 
 -- what holds of all values of a list holds of those of its kept elements
 All-kept : {X Y : Type 0} (P : Y → Type 0) (f : X → Option Y) (keeps : X → Bool) (xs : List X) → All P (filter_map f xs)
@@ -228,41 +140,29 @@ AllPairs-kept {X} {Y} R f keeps (x ∷ xs) pairs = pick (f x) refl (keeps x) pai
 
 -- where both events of an operation are kept, or neither, the kept events are a complete history
 pub kept_is_complete : (keeps : ℕ → Bool) (test : Operation → Bool) (events : List Event) → IsCompleteHistory events
-    → KeepsBoth keeps test (operations_of events) → IsCompleteHistory (filter (λ e. keeps e.ticket) events)
+    → KeepsBoth keeps test (operations_so_far events) → IsCompleteHistory (filter (λ e. keeps e.ticket) events)
 kept_is_complete keeps test events complete both = record {
   tickets_rise = AllPairs-filter (λ x y. x.ticket < y.ticket) (λ e. keeps e.ticket) events complete.tickets_rise;
   tickets_in_range = All-filter (λ e. keeps e.ticket) (λ e. e.ticket ≤ MAX_TICKET) events complete.tickets_in_range;
   threads_in_range = All-filter (λ e. keeps e.ticket) (λ e. e.thread ≤ MAX_THREAD) events complete.threads_in_range;
   threads_take_turns = λ thread. subst TakesTurns (filters_swap (λ e. keeps e.ticket) (λ e. nat_eq e.thread thread) events)
-      (kept_turns keeps test thread events None (complete.threads_take_turns thread) both tt);
+      (kept_turns keeps test (projection thread events) (complete.threads_take_turns thread) (λ before c a rest same is.
+      let own = both (operation_so_far c (Some a)) (made_in thread events before c a rest same is) in own.0 ∙ sym own.1));
   values_are_distinct = AllPairs-kept (λ v w. v ≢ w) (λ e. called_value e.what) (λ e. keeps e.ticket) events complete.values_are_distinct;
 }
 
 -- a ticket is held where it is that of a call or a return
 held : (operations : List Operation) (o : Operation) (ticket : ℕ) → Contains operations o → (o.call ≡ ticket) ⊎ (o.ret ≡ ticket)
     → holds_ticket operations ticket ≡ true
-held operations o ticket among is = list_any-from_Any (λ o. nat_eq o.call ticket || nat_eq o.ret ticket) operations (
-  among.0,
-  o,
-  among.1,
-  among.2,
-  elim is [
-    | inl called ↦ or_left _ _ (eq-eqb o.call ticket called)
-    | inr returned ↦ or_right _ _ (eq-eqb o.ret ticket returned)
-  ],
-)
+held operations o ticket among is =
+    list_any-from_Any (λ o. nat_eq o.call ticket || nat_eq o.ret ticket) operations (among.0, o, among.1, among.2, grind (arith, nat_tests))
 
 holder : (operations : List Operation) (ticket : ℕ) → holds_ticket operations ticket ≡ true
     → (o : Operation) × Contains operations o × ((o.call ≡ ticket) ⊎ (o.ret ≡ ticket))
 holder operations ticket holds =
-    let found = Any-from_list_any (λ o. nat_eq o.call ticket || nat_eq o.ret ticket) operations holds in (
-      found.1,
-      (found.0, found.2, found.3),
-      elim (or_cases (nat_eq found.1.call ticket) (nat_eq found.1.ret ticket) found.4) [
-        | inl called ↦ inl (eqb-true found.1.call ticket called)
-        | inr returned ↦ inr (eqb-true found.1.ret ticket returned)
-      ],
-    )
+    let found = Any-from_list_any (λ o. nat_eq o.call ticket || nat_eq o.ret ticket) operations holds in
+    let test = found.4 in
+    (found.1, (found.0, found.2, found.3), grind (arith, nat_tests))
 
 module _ (operations : List Operation) (complete : AreComplete operations) (test : Operation → Bool) where
   -- who holds a ticket of an operation is that operation
@@ -291,19 +191,20 @@ module _ (operations : List Operation) (complete : AreComplete operations) (test
 abbrev pub events_at_tickets_of : List Operation → List Event → List Event
 events_at_tickets_of selected events = filter (λ e. holds_ticket selected e.ticket) events
 
--- the events of selected operations are a complete history
-pub selected_events_are_complete : (test : Operation → Bool) (events : List Event) → IsCompleteHistory events
-    → IsCompleteHistory (events_at_tickets_of (filter test (operations_of events)) events)
-selected_events_are_complete test events complete =
-    kept_is_complete (holds_ticket (filter test (operations_of events))) test events complete
-    (tickets_keep_both (operations_of events) (operations_are_complete events complete) test)
+module _ (test : Operation → Bool) (events : List Event) (complete : IsCompleteHistory events) where
+  keep_both : KeepsBoth (holds_ticket (filter test (operations_of events))) test (operations_so_far events)
+  keep_both = subst (KeepsBoth (holds_ticket (filter test (operations_of events))) test) (sym (all_formed events complete))
+      (tickets_keep_both (operations_of events) (operations_are_complete events complete) test)
 
--- the operations of these events are the selected ones
-pub operations_of_selected : (test : Operation → Bool) (events : List Event) → IsCompleteHistory events
-    → operations_of (events_at_tickets_of (filter test (operations_of events)) events) ≡ filter test (operations_of events)
-operations_of_selected test events complete =
-    kept_operations (holds_ticket (filter test (operations_of events))) test events (λ thread. (None, complete.threads_take_turns thread))
-    (tickets_keep_both (operations_of events) (operations_are_complete events complete) test)
+  -- the events of selected operations are a complete history
+  pub selected_events_are_complete : IsCompleteHistory (events_at_tickets_of (filter test (operations_of events)) events)
+  selected_events_are_complete = kept_is_complete (holds_ticket (filter test (operations_of events))) test events complete keep_both
+
+  -- the operations of these events are the selected ones
+  pub operations_of_selected : operations_of (events_at_tickets_of (filter test (operations_of events)) events) ≡ filter test (operations_of events)
+  operations_of_selected =
+      sym (all_formed (events_at_tickets_of (filter test (operations_of events)) events) selected_events_are_complete)
+      ∙ kept_operations (holds_ticket (filter test (operations_of events))) test events keep_both ∙ ap (filter test) (all_formed events complete)
 
 -- some elements of a list are no more than all
 pub no_longer : {X : Type 0} (p : X → Bool) (xs : List X) → length (filter p xs) ≤ length xs

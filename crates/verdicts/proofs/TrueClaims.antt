@@ -1,14 +1,14 @@
 -- The claim of a verdict lists the operations and the initial values that the verdict names.
-use Rattle.verdicts.proofs.Common.{nat_tests, [], AllPairs, AllPairs-tail, AllZip, ap, ArePlacesOf, arith, called_values, cond}
+use Rattle.verdicts.proofs.Common.{nat_tests, [], AllPairs, AllPairs-tail, AllZip, ap, ArePlacesOf, arith, called_values}
 use Rattle.verdicts.proofs.Common.{cons_option, Contains, contains_at, contains_cons, eq-eqb, Event, fresh}
 use Rattle.verdicts.proofs.Common.{FullViolation, get_or_append_left, initial_enqueue, initial_time, inl, inr}
 use Rattle.verdicts.proofs.Common.{IsCompleteFrom, IsLegalOrder, le-leb, length, length-append, LinePlace, lines_of}
-use Rattle.verdicts.proofs.Common.{List, lt-ltb, map, MAX_INITIAL, MAX_TICKET, Names, nat_eq, nat_lt, ne_eqb, None}
+use Rattle.verdicts.proofs.Common.{List, map, MAX_INITIAL, MAX_TICKET, Names, nat_eq, ne_eqb}
 use Rattle.verdicts.proofs.Common.{not, not_in_none, one_deeper, Operation, operation_within, operations_at}
 use Rattle.verdicts.proofs.Common.{operations_of, Option, option_map, order, pairs_at, place_of, position, prefix_len}
 use Rattle.verdicts.proofs.Common.{refl, repeat, slice_get, slice_get_within, Some, stands_for, subst, suc, sym}
 use Rattle.verdicts.proofs.Common.{timeline, timeline_at, Violation, violation_kind, violation_places, witness, zero}
-use Rattle.verdicts.proofs.Common.{ℕ, ◌-◌, ◌<◌, ◌∙◌, ◌∷◌, ◌≡◌, ◌≢◌, ◌≤◌}
+use Rattle.verdicts.proofs.Common.{ℕ, ◌-◌, ◌∙◌, ◌∷◌, ◌≡◌, ◌≢◌, ◌≤◌}
 use Rattle.value_match.specs.declared.violation.Violation.TheVariants.{Fresh, Repeat, Order, Witness}
 use Rattle.verdicts.specs.declared.verifying.ClaimLine.TheVariants.{Initial}
 use Rattle.verdicts.specs.Claims.{kind_of}
