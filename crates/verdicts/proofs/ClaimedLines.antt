@@ -6,10 +6,9 @@ use Rattle.verdicts.proofs.Common.{Enq, enqueue_of, fresh, Life, Operation, oper
 use Rattle.verdicts.proofs.Common.{◌≢◌, FullViolation, lines_of, VWit, IsViolationOf, ◌↔◌, subst, CoversFrom, Did}
 use Rattle.verdicts.proofs.Common.{Empty, IsLife, IsNeverEnqueued, IsOrderViolation, IsRepeatViolation, NoneDid, Not}
 use Rattle.verdicts.proofs.Common.{Precedes, VFresh, VOrd, VRepeat, ◌<◌, ◌≤◌, arith}
-use Rattle.verdicts.proofs.Common.{length-map, drop, get_or, length, map, suc, zero, ClaimLine, ShowsKind, StandFor}
-use Rattle.verdicts.proofs.Common.{StandForCover, StandForLife, stands_for, ViolationKind, ◌+◌, ◌⊎◌, add-one, AllPairs}
-use Rattle.verdicts.proofs.Common.{cases_lt, drop-cons, get_or_default, inl, inr, max, option_and_then, accept}
-use Rattle.verdicts.proofs.Common.{accept_all}
+use Rattle.verdicts.proofs.Common.{length-map, drop, get_or, length, map, ClaimLine, ShowsKind, StandFor}
+use Rattle.verdicts.proofs.Common.{StandForCover, StandForLife, stands_for, ViolationKind, ◌+◌, ◌⊎◌}
+use Rattle.verdicts.proofs.Common.{cases_lt, get_or_default, inl, inr, max}
 use Rattle.verdicts.specs.Claims.{kind_of}
 use Rattle.verdicts.specs.Laws.{LinesTellViolation}
 use Rattle.verdicts.specs.declared.lookup.Lookup.{Lookup}
@@ -147,19 +146,6 @@ module _ (f : Lookup) where
   abbrev pub stands : ClaimLine → Option Operation
   stands line = stands_for f.initial.now line
 
-  none_stands : (lines : List ClaimLine) (shown : List Operation) (i : ℕ) (d : ClaimLine) → i < length lines → stands (get_or lines i d) ≡ None
-      → ¬ (StandFor f.initial.now lines shown)
-  none_stands [] shown i d within none are = absurd (omega arith)
-  none_stands (l ∷ lines) [] i d within none are = cc
-  none_stands (l ∷ lines) (o ∷ shown) zero d within none are = let first : stands l ≡ Some o = cc in let clash : None ≡ Some o = sym none ∙ first in cc
-  none_stands (l ∷ lines) (o ∷ shown) (suc i) d within none are =
-      let later : map stands lines ≡ map (λ x. Some x) shown = cc in none_stands lines shown i d (omega arith) none later
-
-  -- a line that stands for nothing shows nothing
-  pub shown_by_none : (kind : ViolationKind) (lines : List ClaimLine) (i : ℕ) (d : ClaimLine) → i < length lines → stands (get_or lines i d) ≡ None
-      → ¬ (ShowsKind f kind lines)
-  shown_by_none kind lines i d within none shows = none_stands lines shows.0 i d within none shows.1
-
   -- ---- lines that show a violation, by what they stand for
 
   -- lines that stand for those of a violation that isn't a witness show it, and no other
@@ -274,43 +260,6 @@ module _ (f : Lookup) where
           )
       back _ kind are is = cc
 
-  -- no lines stand for no cover
-  pub no_lines_cover : (empty before : Operation) (lines : List ClaimLine) → length lines < 1 → ¬ (StandForCover f empty before lines)
-  no_lines_cover empty before [] short covers = covers
-  no_lines_cover empty before (l ∷ lines) short covers = absurd (omega arith)
-
-  -- one line stands for a cover if and only if its value is never dequeued and was in before
-  pub one_line_covers : (empty before : Operation) (lines : List ClaimLine) (d : ClaimLine) (x : Operation) → 1 ≤ length lines → length lines < 2
-      → stands (get_or lines 0 d) ≡ Some x
-      → (IsLife f.timeline.now (record { enqueue = x; dequeue = None }) × Precedes x before) ↔ StandForCover f empty before lines
-  one_line_covers empty before (l ∷ []) d x long short at = (
-    λ (is, begins). (x, at, is, begins),
-    λ (e, at', is, begins). let same : e ≡ x = some_injective (sym at' ∙ at) in subst (λ o. BeginsBefore before o None) same (is, begins),
-  )
-  one_line_covers empty before _ d x long short at = absurd (omega arith)
-
-  -- a line that stands for nothing stands for no cover
-  pub none_stands_for_cover : (empty before : Operation) (lines : List ClaimLine) (d : ClaimLine) → 1 ≤ length lines → length lines < 2
-      → stands (get_or lines 0 d) ≡ None → ¬ (StandForCover f empty before lines)
-  none_stands_for_cover empty before (l ∷ []) d long short none (e, at, is, begins) = let clash : None ≡ Some e = sym none ∙ at in cc
-  none_stands_for_cover empty before _ d long short none covers = absurd (omega arith)
-
-  -- the first two lines stand for no life, so the lines stand for no cover
-  pub no_life_covers : (empty before : Operation) (lines : List ClaimLine) (d : ClaimLine) → 2 ≤ length lines
-      → ((e x : Operation) → ¬ (StandForLife f before (get_or lines 0 d) (get_or lines 1 d) e x)) → ¬ (StandForCover f empty before lines)
-  no_life_covers empty before (l ∷ m ∷ []) d long none covers = none covers.0 covers.1 covers.2
-  no_life_covers empty before (l ∷ m ∷ n ∷ lines) d long none covers = none covers.0 covers.1 covers.2
-  no_life_covers empty before _ d long none covers = absurd (omega arith)
-
-  -- two lines that stand for a life stand for a cover where the empty answer precedes its dequeue
-  pub two_lines_cover : (empty before : Operation) (lines : List ClaimLine) (d : ClaimLine) (e x : Operation) → 2 ≤ length lines → length lines < 3
-      → StandForLife f before (get_or lines 0 d) (get_or lines 1 d) e x → Precedes empty x ↔ StandForCover f empty before lines
-  two_lines_cover empty before (l ∷ m ∷ []) d e x long short life = (
-    λ past. (e, x, life, past),
-    λ (e', x', life', past). subst (Precedes empty) (some_injective (sym life'.1 ∙ life.1)) past,
-  )
-  two_lines_cover empty before _ d e x long short life = absurd (omega arith)
-
   -- more lines that begin with a life stand for a cover where the later ones do, from its dequeue on
   pub more_lines_cover : (empty before : Operation) (lines : List ClaimLine) (d : ClaimLine) (e x : Operation) → 3 ≤ length lines
       → StandForLife f before (get_or lines 0 d) (get_or lines 1 d) e x → StandForCover f empty x (drop 2 lines) ↔ StandForCover f empty before lines
@@ -320,15 +269,6 @@ module _ (f : Lookup) where
   )
   more_lines_cover empty before _ d e x long life = absurd (omega arith)
 
--- a list of one line, and one of two, by their elements
-pub one_line : (lines : List ClaimLine) (d : ClaimLine) → 1 ≤ length lines → length lines < 2 → get_or lines 0 d ∷ [] ≡ lines
-one_line (l ∷ []) d long short = refl
-one_line _ d long short = absurd (omega arith)
-
-pub two_lines : (lines : List ClaimLine) (d : ClaimLine) → 2 ≤ length lines → length lines < 3 → get_or lines 0 d ∷ get_or lines 1 d ∷ [] ≡ lines
-two_lines (l ∷ m ∷ []) d long short = refl
-two_lines _ d long short = absurd (omega arith)
-
 -- ---- precedence
 
 -- none of the first n lines precedes an earlier one, and this is the greatest call among them
@@ -336,14 +276,6 @@ pub record HasExtended (lines : List Operation) (n greatest : ℕ) : Type 0 wher
   pub none_precedes : (i j : ℕ) (d : Operation) → i < j → j < n → ¬ (Precedes (get_or lines j d) (get_or lines i d))
   pub at_most : (k : ℕ) (d : Operation) → k < n → (get_or lines k d).call ≤ greatest
   pub is_one : (greatest ≡ 0) ⊎ ((k : ℕ) × (k < n) × ((d : Operation) → (get_or lines k d).call ≡ greatest))
-
--- no line extends nothing
-pub extended_none : (lines : List Operation) → HasExtended lines 0 0
-extended_none lines = record {
-  none_precedes = λ i j d below within. absurd (omega arith);
-  at_most = λ k d within. absurd (omega arith);
-  is_one = inl (omega arith);
-}
 
 -- one line more that keeps to precedence
 pub extended_at : (lines : List Operation) (n greatest : ℕ) (e : Operation) → n < length lines → greatest ≤ (get_or lines n e).ret
@@ -370,22 +302,3 @@ extended_at lines n greatest e within past h = record { none_precedes = none; at
         | inr found ↦ inr (found.0, omega (arith, found.1), λ d. let known = found.2 d in omega arith)
       ]
     ]
-
--- one line that returned before the greatest call precedes an earlier one
-pub not_extended_at : (lines : List Operation) (n greatest : ℕ) (d : Operation) → n < length lines → (get_or lines n d).ret < greatest
-    → HasExtended lines n greatest → ¬ (AllPairs (λ earlier later. ¬ (Precedes later earlier)) lines)
-not_extended_at lines n greatest d within before h extends = elim h.is_one [
-  | inl none ↦ omega arith
-  | inr found ↦ extends found.0 n d found.1 within (let known = found.2 d in omega arith)
-]
-
--- ---- the sequential specification
-
--- one more line is accepted
-pub accepted_more : (lines : List Operation) (i : ℕ) (d : Operation) (queue next : List ℕ) (all : Option (List ℕ)) → i < length lines
-    → all ≡ accept_all queue (map (λ o. o.kind) (drop i lines)) → accept queue (get_or lines i d).kind ≡ Some next
-    → all ≡ accept_all next (map (λ o. o.kind) (drop (i + 1) lines))
-accepted_more lines i d queue next all within was takes =
-    was ∙ ap (λ (rest : List Operation). accept_all queue (map (λ o. o.kind) rest)) (drop-cons lines i d within)
-    ∙ ap (option_and_then (λ q. accept_all q (map (λ o. o.kind) (drop (suc i) lines)))) takes
-    ∙ ap (λ (n : ℕ). accept_all next (map (λ o. o.kind) (drop n lines))) (sym (add-one i))

@@ -1,16 +1,11 @@
 -- Operations looked up by their calls.
 use Rattle.verdicts.proofs.Common.{◌<◌, ◌↔◌, ◌∙◌, ◌≡◌, ◌≢◌, ◌≤◌, AllWithin, ap, arith, Bool, cases_lt}
-use Rattle.verdicts.proofs.Common.{Contains, Decides, Err, false, get_or, get_or_default, HoldsAt, inl, inr}
+use Rattle.verdicts.proofs.Common.{Contains, Err, false, get_or, get_or_default, HoldsAt, inl, inr}
 use Rattle.verdicts.proofs.Common.{IsBinarySearchResult, IsNonDecreasingBy, IsSearchInRange, IsTrue, length, List}
-use Rattle.verdicts.proofs.Common.{MatchBool, MatchResult, nat_cmp, nat_tests, Ok, refl, Result, rules, sym, true, ℕ}
+use Rattle.verdicts.proofs.Common.{MatchBool, MatchResult, nat_cmp, nat_tests, Ok, refl, Result, sym, true, ℕ}
 use Rattle.verdicts.proofs.Common.{CallsRise, NoneDid, Operation, OpKind}
 use Rattle.std.specs.Ordering.{ordering_index}
 use Rattle.std.proofs.lemmas.Cmp.{ranked}
-use Rattle.history_merge.specs.contracts.operation.OperationPartialEq.TheImpl.{ghosts}
-
--- `==` says whether two operations are the same
-pub eq-Decides : (x y : Operation) → Decides (ghosts.eq x y) (x ≡ y)
-eq-Decides x y = search rules
 
 -- calls that rise are no lower further on
 calls_do_not_fall : (operations : List Operation) (i j : ℕ) (d : Operation) → CallsRise operations → i ≤ j → j < length operations

@@ -1,14 +1,10 @@
--- Lists of which the keys rise, with the same elements, are one list; so are lists of what stands beside the same elements, and lists
--- that are the same one by one.
-use Rattle.verdicts.proofs.Common.{[], ◌+◌, ◌++◌, ◌<◌, ◌↔◌, ◌∙◌, ◌∷◌, ◌≡◌, ◌≤◌, ◌⊎◌, AllPairs, AllZip, ap, ap₂}
-use Rattle.verdicts.proofs.Common.{append-nil, append_assoc, arith, cases_lt, Contains, length, length-append}
-use Rattle.verdicts.proofs.Common.{take, take_all, take_more, Contains-permutation, get_or, inl, inr}
+-- Lists of which the keys rise, with the same elements, are one list; so are lists of what stands beside the same elements.
+use Rattle.verdicts.proofs.Common.{[], ◌<◌, ◌↔◌, ◌∷◌, ◌≡◌, ◌⊎◌, AllPairs, AllZip, ap, ap₂}
+use Rattle.verdicts.proofs.Common.{arith, cases_lt, Contains}
+use Rattle.verdicts.proofs.Common.{Contains-permutation, get_or, inl, inr}
 use Rattle.verdicts.proofs.Common.{IsNonDecreasingBy, IsPermutation, IsPermutation-sym, IsPermutation-trans, List}
 use Rattle.verdicts.proofs.Common.{refl, slice_get-get_or, subst, suc, sym, zero, ℕ, AllPairs-tail, contains_cons}
 use Rattle.verdicts.proofs.Common.{not_in_none, one_place, pairs_at, place_of}
-use Rattle.std.proofs.Common.{length-take-le}
-use Rattle.std.proofs.Math.Seq.{get_or-append_seam}
-use Rattle.std.proofs.lemmas.List.{nil_from_length}
 
 -- the keys rise from each element to each later one
 abbrev pub KeysRise : {X : Type 0} → (X → ℕ) → List X → Type 0
@@ -80,33 +76,3 @@ one_beside R one [] [] [] first second = refl
 one_beside {X} {Y} R one (x ∷ xs) (y ∷ ys) (z ∷ zs) first second =
     ap₂ (λ (w : Y) (ws : List Y). w ∷ ws) (one x y z first.0 second.0) (one_beside R one xs ys zs first.1 second.1)
 one_beside R one _ _ _ first second = absurd assumption
-
--- ---- one by one: the first elements of a list, followed by the others of another list
-
--- one more element is the same
-pub same_more : {X : Type 0} (xs ys others rest : List X) (i : ℕ) (x d : X) → i < length xs → x ≡ get_or xs i d → others ≡ x ∷ rest
-    → take i xs ++ others ≡ ys → take (i + 1) xs ++ rest ≡ ys
-same_more xs ys others rest i x d within here first is =
-    ap (λ zs. zs ++ rest) (take_more xs i d within) ∙ append_assoc (take i xs) (get_or xs i d ∷ []) rest
-    ∙ ap (λ z. take i xs ++ z ∷ rest) (sym here) ∙ ap (λ zs. take i xs ++ zs) (sym first) ∙ is
-
--- the element at the place is that of the same list
-pub same_here : {X : Type 0} (xs ys others rest : List X) (i : ℕ) (x d : X) → i < length xs → others ≡ x ∷ rest → take i xs ++ others ≡ ys
-    → xs ≡ ys → x ≡ get_or xs i d
-same_here xs ys others rest i x d within first is same =
-    let long = length-take-le i xs (omega (arith, within)) in
-    sym (get_or-append_seam (take i xs) x rest d) ∙ ap (λ zs. get_or (take i xs ++ zs) (length (take i xs)) d) (sym first)
-    ∙ ap (λ zs. get_or zs (length (take i xs)) d) (is ∙ sym same) ∙ ap (λ n. get_or xs n d) long
-
--- a list as long has another element
-pub never_short : {X : Type 0} (xs ys others : List X) (i : ℕ) → i < length xs → length xs ≡ length ys → others ≡ [] → take i xs ++ others ≡ ys → ⊥
-never_short xs ys others i within long none is =
-    let front = length-take-le i xs (omega (arith, within)) in
-    omega (arith, within, long, front, simp length-append at (ap length is), ap length none)
-
--- at the end the lists are the same
-pub same_all : {X : Type 0} (xs ys others : List X) (i : ℕ) → length xs ≤ i → length xs ≡ length ys → take i xs ++ others ≡ ys → xs ≡ ys
-same_all xs ys others i end long is =
-    let whole = take_all i xs end in
-    let none = nil_from_length others (omega (arith, long, simp length-append at (ap length is), ap length whole)) in
-    sym (ap (λ zs. take i xs ++ zs) none ∙ append-nil (take i xs) ∙ whole) ∙ is

@@ -16,16 +16,3 @@ returns-then-did c =
           )
       | else-are_enqueued_in_turn w ↦ cc
     ]
-
-pub returns-else-did : goal.returns-else-did
-returns-else-did c =
-    let is = is_order c.args.operations.now.timeline.now c.args.enq_a c.args.enq_b c.args.deq_b c.args.deq_a c.in-Enq-Enq.a c.in-Enq-Enq.b
-    c.in-Enq-Enq.is-0 c.in-Enq-Enq.is-1 in (
-      λ t. cc,
-      λ violation.
-          let parts = is.1 violation in
-          elim c.if-are_enqueued_in_turn.branch [
-            | then-are_enqueued_in_turn w ↦ w.value-is ∙ w.did.ensures.1 parts.2
-            | else-are_enqueued_in_turn w ↦ let turn = c.are_enqueued_in_turn.ensures.1 (parts.0, parts.1, parts.3) in cc
-          ],
-    )

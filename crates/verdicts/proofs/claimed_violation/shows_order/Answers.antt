@@ -27,9 +27,3 @@ returns-in_default-rest c =
       λ f. cc,
       λ shows. absurd (let few = (has_lines c.args.operations.now VOrd c.args.lines.now shows).1 in omega (arith, few, long, rest)),
     )
-
-pub returns-in_default : goal.returns-in_default
-returns-in_default c = (
-  λ f. cc,
-  λ shows. absurd (let few = (has_lines c.args.operations.now VOrd c.args.lines.now shows).0 in omega (arith, few, c.in_default.len_below)),
-)

@@ -1,5 +1,5 @@
-use Rattle.verdicts.proofs.Common.{VRepeat, ◌∙◌, arith, sym}
-use Rattle.verdicts.proofs.ClaimedLines.{through, has_lines, three_lines_repeat_are}
+use Rattle.verdicts.proofs.Common.{◌∙◌, sym}
+use Rattle.verdicts.proofs.ClaimedLines.{through, three_lines_repeat_are}
 use Rattle.verdicts.proofs.claimed_violation.shows_repeat.Goals as goal
 
 pub returns : goal.returns
@@ -8,9 +8,3 @@ returns c =
     through c.is_repeat.ensures
     (three_lines_repeat_are c.args.operations.now c.args.lines.now _ shown.enq shown.first shown.second c.in-len3.len_at_least c.in-len3.len_below
     (sym c.shown_by.ensures ∙ shown.is-0) (sym c.shown_by-2.ensures ∙ shown.is-1) (sym c.shown_by-3.ensures ∙ shown.is-2))
-
-pub returns-in_default : goal.returns-in_default
-returns-in_default c = (
-  λ f. cc,
-  λ shows. absurd (let three = has_lines c.args.operations.now VRepeat c.args.lines.now shows in omega (arith, three, c.in_default.len_below)),
-)

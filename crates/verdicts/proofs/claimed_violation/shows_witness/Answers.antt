@@ -8,9 +8,3 @@ returns-then-did c =
     (sym c.shown_by.ensures ∙ c.in-Some.is) in
     let shows = rw take_rest at c.shows_cover.ensures in
     (λ t. witness.0 (c.did.ensures.0 c.if-did.true, shows.0 t), λ shown. shows.1 (witness.1 shown).1)
-
-pub returns-else-did : goal.returns-else-did
-returns-else-did c =
-    let witness = witness_lines_are c.args.operations.now c.args.lines.now _ c.in-Some.empty c.in-len1-up.len_at_least
-    (sym c.shown_by.ensures ∙ c.in-Some.is) in
-    (λ t. cc, λ shown. let did = c.did.ensures.1 (witness.1 shown).0 in cc)

@@ -1,13 +1,7 @@
-use Rattle.verdicts.proofs.Common.{[], ◌++◌, ◌∙◌, ◌∷◌, ◌≡◌, ap, append_assoc, append-nil, contains, filter, List, nat_cmp, rules, sym, holds_ticket}
+use Rattle.verdicts.proofs.Common.{[], ◌++◌, ◌∙◌, ◌∷◌, ◌≡◌, ap, append_assoc, contains, List, nat_cmp, sym}
 use Rattle.verdicts.proofs.Common.{Operation, selects}
 use Rattle.verdicts.proofs.Collected.{held_more, held_same}
 use Rattle.verdicts.proofs.selection.Selection.tickets.Goals as goal
-
-pub loop-operation-init : goal.loop-operation-init
-loop-operation-init c = (
-  [],
-  record { all = c.into_iter-operation-iterator.ensures.into_iter_gives ∙ c.iter-operation-items.ensures; held = λ t. search rules },
-)
 
 -- what was seen, and one more
 gone_over : (seen left rest all : List Operation) (o : Operation) → left ≡ o ∷ rest → seen ++ left ≡ all → (seen ++ o ∷ []) ++ rest ≡ all
@@ -36,10 +30,3 @@ loop-operation-preserved-in_ok-insert-2 c =
             (sym c.selects.ensures ∙ c.if-selects.true) (old.1.held t) (c.in_ok-insert.ensures.updates.0 t) (c.in_ok-insert-2.ensures.updates.0 t);
       },
     )
-
-pub returns : goal.returns
-returns c = λ t.
-    let old = c.loop-operation.invariant in
-    let all = sym (append-nil old.0) ∙ ap (λ os. old.0 ++ os) (sym c.in-None.ensures.steps.0) ∙ old.1.all in
-    old.1.held t
-    ∙ ap (λ os. holds_ticket (filter (selects (contains nat_cmp c.args.self.now.values) (contains nat_cmp c.args.self.now.calls)) os) t) all
