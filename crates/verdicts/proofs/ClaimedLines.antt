@@ -4,12 +4,12 @@ use Rattle.verdicts.proofs.Common.{[], ⊤, ◌++◌, ◌∙◌, ◌∷◌, ◌�
 use Rattle.verdicts.proofs.Common.{option_to_list, refl, Some, sym, ℕ, AreLives, covers_are_lives, Deq, dequeue_of}
 use Rattle.verdicts.proofs.Common.{Enq, enqueue_of, fresh, Life, Operation, operations_of_life, order, repeat, witness}
 use Rattle.verdicts.proofs.Common.{◌≢◌, FullViolation, lines_of, VWit, IsViolationOf, ◌↔◌, subst, CoversFrom, Did}
-use Rattle.verdicts.proofs.Common.{Empty, IsLife, IsNeverEnqueued, IsOrderViolation, IsRepeatViolation, NoneDid, Not}
+use Rattle.verdicts.proofs.Common.{Empty, IsLife, IsNeverEnqueued, IsOrderViolation, NoneDid, Not}
 use Rattle.verdicts.proofs.Common.{Precedes, VFresh, VOrd, VRepeat, ◌<◌, ◌≤◌, arith}
-use Rattle.verdicts.proofs.Common.{length-map, drop, get_or, length, map, ClaimLine, ShowsKind, StandFor}
+use Rattle.verdicts.proofs.Common.{drop, get_or, length, map, ClaimLine, ShowsKind, StandFor}
 use Rattle.verdicts.proofs.Common.{StandForCover, StandForLife, stands_for, ViolationKind, ◌+◌, ◌⊎◌}
 use Rattle.verdicts.proofs.Common.{cases_lt, get_or_default, inl, inr, max}
-use Rattle.verdicts.specs.Claims.{kind_of}
+use Rattle.verdicts.specs.Claims.{kind_of, ShowsViolation}
 use Rattle.verdicts.specs.Laws.{LinesTellViolation}
 use Rattle.verdicts.specs.declared.lookup.Lookup.{Lookup}
 use Rattle.linearizer.proofs.EachPosition.{some_injective}
@@ -120,73 +120,10 @@ is_order operations enq_a enq_b deq_b deq_a a b is_a is_b = (
       ),
 )
 
--- lists of operations are one where their somes are
-same_shown : (xs ys : List Operation) → map (λ o. Some o) xs ≡ map (λ o. Some o) ys → xs ≡ ys
-same_shown [] [] same = refl
-same_shown (x ∷ xs) (y ∷ ys) same = grind (arith, same_shown xs ys)
-same_shown _ _ same = cc
-
--- how many lines a violation of a kind has
-abbrev pub MayHave : ViolationKind → ℕ → Type 0
-MayHave VFresh n = (1 ≤ n) × (n ≤ 2)
-MayHave VRepeat n = n ≡ 3
-MayHave VOrd n = (3 ≤ n) × (n ≤ 4)
-MayHave VWit n = 1 ≤ n
-
-may_have : (full : FullViolation) → MayHave (kind_of full) (length (lines_of full))
-may_have (fresh o None) = (omega arith, omega arith)
-may_have (fresh o (Some e)) = (omega arith, omega arith)
-may_have (repeat e a b) = refl
-may_have (order a b o None) = (omega arith, omega arith)
-may_have (order a b o (Some d)) = (omega arith, omega arith)
-may_have (witness o cover) = omega arith
-
 module _ (f : Lookup) where
   -- what a line stands for
   abbrev pub stands : ClaimLine → Option Operation
   stands line = stands_for f.initial.now line
-
-  -- ---- lines that show a violation, by what they stand for
-
-  -- lines that stand for those of a violation that isn't a witness show it, and no other
-  pub lines_show : (full : FullViolation) (lines : List ClaimLine) → kind_of full ≢ VWit → StandFor f.initial.now lines (lines_of full)
-      → IsViolationOf f.timeline.now full ↔ ShowsKind f (kind_of full) lines
-  lines_show full lines other are = (
-    λ is. (lines_of full, are, (full, refl, refl, is)),
-    λ (shown, are', (found, kind, lists, is)). subst (IsViolationOf f.timeline.now)
-        (sym (lines_tell_others full found (sym kind) (same_shown (lines_of full) shown (sym are ∙ are') ∙ sym lists) other)) is,
-  )
-
-  -- three lines show a repeated value if and only if the two dequeues are of the enqueue's value
-  pub three_lines_repeat_are : (lines : List ClaimLine) (d : ClaimLine) (x y z : Operation) → 3 ≤ length lines → length lines < 4
-      → stands (get_or lines 0 d) ≡ Some x → stands (get_or lines 1 d) ≡ Some y → stands (get_or lines 2 d) ≡ Some z
-      → IsRepeatViolation f.timeline.now x y z ↔ ShowsKind f VRepeat lines
-  three_lines_repeat_are (l ∷ m ∷ n ∷ []) d x y z long short a b c =
-      lines_show (repeat x y z) (l ∷ m ∷ n ∷ []) (λ same. cc) (λ i. a i ∷ b i ∷ c i ∷ [])
-  three_lines_repeat_are _ d x y z long short a b c = absurd (omega arith)
-
-  -- three lines show two values out of order if and only if the first is never dequeued
-  pub three_lines_order_are : (lines : List ClaimLine) (d : ClaimLine) (x y z : Operation) → 3 ≤ length lines → length (drop 3 lines) < 1
-      → stands (get_or lines 0 d) ≡ Some x → stands (get_or lines 1 d) ≡ Some y → stands (get_or lines 2 d) ≡ Some z
-      → IsOrderViolation f.timeline.now x y z None ↔ ShowsKind f VOrd lines
-  three_lines_order_are (l ∷ m ∷ n ∷ []) d x y z long short a b c =
-      lines_show (order x y z None) (l ∷ m ∷ n ∷ []) (λ same. cc) (λ i. a i ∷ b i ∷ c i ∷ [])
-  three_lines_order_are _ d x y z long short a b c = absurd (omega arith)
-
-  -- four lines show two values out of order if and only if the first is dequeued later
-  pub four_lines_order_are : (lines : List ClaimLine) (d e : ClaimLine) (x y z v : Operation) → 3 ≤ length lines → 1 ≤ length (drop 3 lines)
-      → length (drop 3 lines) < 2
-      → stands (get_or lines 0 d) ≡ Some x → stands (get_or lines 1 d) ≡ Some y → stands (get_or lines 2 d) ≡ Some z
-      → stands (get_or (drop 3 lines) 0 e) ≡ Some v → IsOrderViolation f.timeline.now x y z (Some v) ↔ ShowsKind f VOrd lines
-  four_lines_order_are (l ∷ m ∷ n ∷ k ∷ []) d e x y z v long more short a b c last =
-      lines_show (order x y z (Some v)) (l ∷ m ∷ n ∷ k ∷ []) (λ same. cc) (λ i. a i ∷ b i ∷ c i ∷ last i ∷ [])
-  four_lines_order_are _ d e x y z v long more short a b c last = absurd (omega arith)
-
-  -- lines that show a violation are as many as one of its kind has
-  pub has_lines : (kind : ViolationKind) (lines : List ClaimLine) → ShowsKind f kind lines → MayHave kind (length lines)
-  has_lines kind lines (shown, are, (full, same, lists, is)) =
-      let many : length lines ≡ length shown = simp length-map at (ap length are) in
-      subst (MayHave kind) (ap length lists ∙ sym many) (subst (λ k. MayHave k (length (lines_of full))) same (may_have full))
 
   -- ---- lines of a cover
 
@@ -238,27 +175,48 @@ module _ (f : Lookup) where
       with_first [] covers = absurd covers
       with_first (next ∷ rest) covers = (life.2, life.3, covers)
 
+  -- lines of a violation's kind are those of one
+  kind_lines : (full : FullViolation) (kind : ViolationKind) (lines : List ClaimLine) → kind_of full ≡ kind → StandFor f.initial.now lines (lines_of full)
+      → IsViolationOf f.timeline.now full → ShowsKind f kind lines
+  kind_lines (fresh d None) VFresh (l ∷ []) same are is = (d, (cc), is)
+  kind_lines (fresh d (Some e)) VFresh (l ∷ m ∷ []) same are is = (d, e, (cc), (cc), is)
+  kind_lines (repeat x y z) VRepeat (l ∷ m ∷ n ∷ []) same are is = (x, y, z, (cc), (cc), (cc), is)
+  kind_lines (order a b d None) VOrd (l ∷ m ∷ n ∷ []) same are is = (a, b, d, (cc), (cc), (cc), is)
+  kind_lines (order a b d (Some c)) VOrd (l ∷ m ∷ n ∷ k ∷ []) same are is = (a, b, d, c, (cc), (cc), (cc), (cc), is)
+  kind_lines (witness o cover) VWit (l ∷ lines) same are is = (o, (cc), is.answers_empty, cover_lines o o cover lines (cc) is.covers)
+  kind_lines _ _ _ same are is = cc
+
+  shown_kind : (kind : ViolationKind) (lines : List ClaimLine) → ShowsKind f kind lines
+      → (shown : List Operation) × StandFor f.initial.now lines shown × ShowsViolation f.timeline.now kind shown
+  shown_kind VFresh (l ∷ []) (d, at, is) = (d ∷ [], λ i. at i ∷ [], (fresh d None, refl, refl, is))
+  shown_kind VFresh (l ∷ m ∷ []) (d, e, at, at', is) = (d ∷ e ∷ [], λ i. at i ∷ at' i ∷ [], (fresh d (Some e), refl, refl, is))
+  shown_kind VRepeat (l ∷ m ∷ n ∷ []) (x, y, z, at, at', at'', is) =
+      (x ∷ y ∷ z ∷ [], λ i. at i ∷ at' i ∷ at'' i ∷ [], (repeat x y z, refl, refl, is))
+  shown_kind VOrd (l ∷ m ∷ n ∷ []) (a, b, d, at, at', at'', is) =
+      (a ∷ b ∷ d ∷ [], λ i. at i ∷ at' i ∷ at'' i ∷ [], (order a b d None, refl, refl, is))
+  shown_kind VOrd (l ∷ m ∷ n ∷ k ∷ []) (a, b, d, c, at, at', at'', last, is) =
+      (a ∷ b ∷ d ∷ c ∷ [], λ i. at i ∷ at' i ∷ at'' i ∷ last i ∷ [], (order a b d (Some c), refl, refl, is))
+  shown_kind VWit (l ∷ lines) (e, at, did, covers) =
+      let cover = shown_cover e e lines covers in
+      (e ∷ flat_map operations_of_life cover.0, λ i. at i ∷ cover.1 i, (witness e cover.0, refl, refl, record { answers_empty = did; covers = cover.2 }))
+  shown_kind _ _ shows = absurd shows
+
+  -- lines that stand for those of a violation, by what they stand for
+  pub kind_is_shown : (kind : ViolationKind) (lines : List ClaimLine) → ShowsKind f kind lines
+      ↔ ((shown : List Operation) × StandFor f.initial.now lines shown × ShowsViolation f.timeline.now kind shown)
+  kind_is_shown kind lines = (
+    shown_kind kind lines,
+    λ (shown, are, (full, same, lists, is)). kind_lines full kind lines same (are ∙ ap (map (λ o. Some o)) (sym lists)) is,
+  )
+
   -- the first line is the empty answer, the others stand for its cover
   pub witness_lines_are : (lines : List ClaimLine) (d : ClaimLine) (x : Operation) → 1 ≤ length lines → stands (get_or lines 0 d) ≡ Some x
       → (Did f.timeline.now x Empty × StandForCover f x x (drop 1 lines)) ↔ ShowsKind f VWit lines
   witness_lines_are [] d x long at = absurd (omega arith)
   witness_lines_are (l ∷ lines) d x long at = (
-    λ (did, covers).
-        let cover = shown_cover x x lines covers in
-        (x ∷ flat_map operations_of_life cover.0, λ i. at i ∷ cover.1 i, (witness x cover.0, refl, refl, record { answers_empty = did; covers = cover.2 })),
-    λ (shown, are, (full, kind, same, is)). back full kind (are ∙ ap (map (λ o. Some o)) (sym same)) is,
+    λ (did, covers). (x, at, did, covers),
+    λ (e, at', did, covers). subst (λ o. Did f.timeline.now o Empty × StandForCover f o o lines) (some_injective (sym at' ∙ at)) (did, covers),
   )
-    where
-      back : (full : FullViolation) → kind_of full ≡ VWit → StandFor f.initial.now (l ∷ lines) (lines_of full) → IsViolationOf f.timeline.now full
-          → Did f.timeline.now x Empty × StandForCover f x x lines
-      back (witness o cover) kind are is =
-          let first : Some x ≡ Some o = sym at ∙ (cc) in
-          let same : o ≡ x = cc in
-          let later : map stands lines ≡ map (λ y. Some y) (flat_map operations_of_life cover) = cc in (
-            subst (λ y. Did f.timeline.now y Empty) same is.answers_empty,
-            subst (λ y. StandForCover f y y lines) same (cover_lines o o cover lines later is.covers),
-          )
-      back _ kind are is = cc
 
   -- more lines that begin with a life stand for a cover where the later ones do, from its dequeue on
   pub more_lines_cover : (empty before : Operation) (lines : List ClaimLine) (d : ClaimLine) (e x : Operation) → 3 ≤ length lines

@@ -5,9 +5,12 @@ use Rattle.history_merge.specs.declared.operation.Operation.{Operation}
 use Rattle.verdicts.specs.declared.lookup.Lookup.{Lookup}
 use Rattle.verdicts.specs.declared.verifying.ClaimLine.{ClaimLine}
 use Rattle.verdicts.specs.declared.verifying.ViolationKind.{ViolationKind}
-use Rattle.verdicts.specs.Claims.{ShowsViolation, StandFor, stands_for}
+use Rattle.history_merge.specs.declared.operation.OpKind.TheVariants.{Empty}
+use Rattle.value_match.specs.Violations.{IsEnqueuedTooLate, IsNeverEnqueued, IsOrderViolation, IsRepeatViolation}
+use Rattle.verdicts.specs.declared.verifying.ViolationKind.TheVariants.{VFresh, VOrd, VRepeat, VWit}
+use Rattle.verdicts.specs.Claims.{stands_for}
 use Rattle.value_match.specs.Lives.{IsLife}
-use Rattle.history_merge.specs.Operations.{Precedes}
+use Rattle.history_merge.specs.Operations.{Did, Precedes}
 
 -- each operation is called before the later ones
 abbrev pub CallsRise : List Operation → Type 0
@@ -17,10 +20,6 @@ CallsRise operations = AllPairs (λ earlier later. earlier.call < later.call) op
 pub record IsLookedUp (f : Lookup) : Type 0 where
   pub calls_rise : CallsRise f.timeline.now
   pub few : length f.initial.now ≤ MAX_INITIAL
-
--- the lines stand for those of a violation of this kind
-abbrev pub ShowsKind : Lookup → ViolationKind → List ClaimLine → Type 0
-ShowsKind f kind lines = (shown : List Operation) × StandFor f.initial.now lines shown × ShowsViolation f.timeline.now kind shown
 
 -- the lines stand for a life that begins before an operation
 abbrev pub StandForLife : Lookup → Operation → ClaimLine → ClaimLine → Operation → Operation → Type 0
@@ -36,6 +35,23 @@ StandForCover f empty before (enqueue ∷ dequeue ∷ []) =
     (e : Operation) × (d : Operation) × StandForLife f before enqueue dequeue e d × Precedes empty d
 StandForCover f empty before (enqueue ∷ dequeue ∷ next ∷ rest) =
     (e : Operation) × (d : Operation) × StandForLife f before enqueue dequeue e d × StandForCover f empty d (next ∷ rest)
+
+-- the lines stand for the operations of a violation of this kind, line by line
+abbrev pub ShowsKind : Lookup → ViolationKind → List ClaimLine → Type 0
+ShowsKind f VFresh (deq ∷ []) = (d : Operation) × (stands_for f.initial.now deq ≡ Some d) × IsNeverEnqueued f.timeline.now d
+ShowsKind f VFresh (deq ∷ enq ∷ []) = (d : Operation) × (e : Operation) × (stands_for f.initial.now deq ≡ Some d)
+    × (stands_for f.initial.now enq ≡ Some e) × IsEnqueuedTooLate f.timeline.now d e
+ShowsKind f VRepeat (enq ∷ first ∷ second ∷ []) = (x : Operation) × (y : Operation) × (z : Operation)
+    × (stands_for f.initial.now enq ≡ Some x) × (stands_for f.initial.now first ≡ Some y) × (stands_for f.initial.now second ≡ Some z)
+    × IsRepeatViolation f.timeline.now x y z
+ShowsKind f VOrd (enq_a ∷ enq_b ∷ deq_b ∷ []) = (a : Operation) × (b : Operation) × (d : Operation)
+    × (stands_for f.initial.now enq_a ≡ Some a) × (stands_for f.initial.now enq_b ≡ Some b) × (stands_for f.initial.now deq_b ≡ Some d)
+    × IsOrderViolation f.timeline.now a b d None
+ShowsKind f VOrd (enq_a ∷ enq_b ∷ deq_b ∷ deq_a ∷ []) = (a : Operation) × (b : Operation) × (d : Operation) × (c : Operation)
+    × (stands_for f.initial.now enq_a ≡ Some a) × (stands_for f.initial.now enq_b ≡ Some b) × (stands_for f.initial.now deq_b ≡ Some d)
+    × (stands_for f.initial.now deq_a ≡ Some c) × IsOrderViolation f.timeline.now a b d (Some c)
+ShowsKind f VWit (empty ∷ cover) = (e : Operation) × (stands_for f.initial.now empty ≡ Some e) × Did f.timeline.now e Empty × StandForCover f e e cover
+ShowsKind f _ _ = ⊥
 
 -- this is the dequeue of that life, or the lines stand for none
 abbrev pub IsDequeueFrom : Lookup → Operation → ClaimLine → ClaimLine → Option Operation → Type 0
