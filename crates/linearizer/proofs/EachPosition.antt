@@ -1,5 +1,5 @@
 -- Each operation has one position, and no two operations have the same.
-use Rattle.linearizer.proofs.Common.{[], ap, AreLeastFreeGaps, arith, cases_eq, Contains, contains_cons, Deq}
+use Rattle.linearizer.proofs.Common.{[], ap, AreLeastFreeGaps, arith, Contains, contains_cons, Deq}
 use Rattle.linearizer.proofs.Common.{dequeue_of, dequeue_position, Did, Empty, Enq, enqueue_of, enqueue_position}
 use Rattle.linearizer.proofs.Common.{filter, find, found_dequeue, inl, inr, is_dequeue_of, is_empty_answer, IsClear}
 use Rattle.linearizer.proofs.Common.{IsLeastFreeGap, IsLife, IsPositionFor, IsPositionOf, IsValueOrder, Life, List}
@@ -14,11 +14,7 @@ use Rattle.linearizer.proofs.Positions.{are_gaps}
 use Rattle.linearizer.proofs.Runs.{enqueue_is_no_dequeue, noop_is_no_enqueue, noop_is_no_dequeue}
 
 same_kind : (k l : OpKind) → (k ≡ l) ⊎ ¬ (k ≡ l)
-same_kind (Enq v) (Enq w) = elim (cases_eq v w) [ inl same ↦ inl (ap (λ u. Enq u) same) | inr differ ↦ inr (λ e. let same : v ≡ w = cc in differ same) ]
-same_kind (Deq v) (Deq w) = elim (cases_eq v w) [ inl same ↦ inl (ap (λ u. Deq u) same) | inr differ ↦ inr (λ e. let same : v ≡ w = cc in differ same) ]
-same_kind (Not v) (Not w) = elim (cases_eq v w) [ inl same ↦ inl (ap (λ u. Not u) same) | inr differ ↦ inr (λ e. let same : v ≡ w = cc in differ same) ]
-same_kind Empty Empty = inl refl
-same_kind _ _ = inr (λ e. cc)
+same_kind k l = grind arith
 
 -- an operation did this, or none did
 one_did : (kind : OpKind) (operations : List Operation) → ((o : Operation) × Did operations o kind) ⊎ NoneDid operations kind

@@ -4,8 +4,8 @@ use Rattle.linearizer.proofs.Common.{[], All, ap, AreCalledInTime, arith, cases_
 use Rattle.linearizer.proofs.Common.{dequeue_call, dequeue_return, enqueue_call, entered_by, filter_map, HoldsLives}
 use Rattle.linearizer.proofs.Common.{inl, inr, IsChoice, IsClear, IsFirstOvertaker, IsLife, IsPassedOver, IsValueOrder}
 use Rattle.linearizer.proofs.Common.{leaves_from, length, length-map, Life, life_a, life_from, life_of_contained, List}
-use Rattle.linearizer.proofs.Common.{lives_of, MatchedValue, MAX_MATCHED, None, none_overtakes, NoOrderViolation}
-use Rattle.linearizer.proofs.Common.{Operation, Option, Overtakes, place_of, PLACES, places_of_value, refl, Some}
+use Rattle.linearizer.proofs.Common.{lives_of, MatchedValue, MAX_MATCHED, none_overtakes, NoOrderViolation}
+use Rattle.linearizer.proofs.Common.{Operation, Option, Overtakes, place_of, PLACES, places_of_value, Some}
 use Rattle.linearizer.proofs.Common.{subst, sym, value_is_life, value_of_life, violation_overtakes, ◌<◌, ◌∙◌, ◌∷◌, ◌≡◌}
 use Rattle.linearizer.proofs.Common.{◌≤◌}
 use Rattle.linearizer.proofs.Choices.{least_at, made, turn_of}
@@ -104,11 +104,7 @@ each_has_times operations values clear holds k d within =
 
 some_of : {X Y : Type 0} (f : X → Option Y) (xs : List X) → length (filter_map f xs) ≤ length xs
 some_of f [] = omega arith
-some_of {Y = Y} f (x ∷ xs) = one_of (f x) refl (some_of f xs)
-  where
-    one_of : (o : Option Y) → f x ≡ o → length (filter_map f xs) ≤ length xs → length (filter_map f (x ∷ xs)) ≤ length (x ∷ xs)
-    one_of None is rest = rw is (omega (arith, rest))
-    one_of (Some y) is rest = rw is (omega (arith, rest))
+some_of f (x ∷ xs) = grind (arith, some_of f xs)
 
 -- there are no more values than places
 pub few_values : (operations : List Operation) (values : List MatchedValue) → HoldsLives operations values → length operations ≤ MAX_MATCHED

@@ -1,6 +1,6 @@
 -- Elements with different keys stand at one place each, in any order of the list.
-use Rattle.linearizer.proofs.Common.{[], All, AllPairs, AllPairs-cons, ap, arith, cases_eq, cases_order, cons_option}
-use Rattle.linearizer.proofs.Common.{Contains-get_or, filter_map, get_or, get_or_from_slice_get, inl, inr}
+use Rattle.linearizer.proofs.Common.{[], All, AllPairs, AllPairs-cons, ap, arith, cases_eq, cons_option}
+use Rattle.linearizer.proofs.Common.{Contains-get_or, filter_map, get_or, get_or_from_slice_get}
 use Rattle.linearizer.proofs.Common.{IsPermutation, IsPermutation-keeps, kept, length, length-swap, List, None, Option}
 use Rattle.linearizer.proofs.Common.{pairs_at, place_of, refl, slice_get, slice_get_within, Some, suc, swap, Swapped}
 use Rattle.linearizer.proofs.Common.{swapped_from_swap, sym, zero, ℕ, ◌<◌, ◌∙◌, ◌∷◌, ◌≡◌}
@@ -37,11 +37,7 @@ pub one_place : {X : Type 0} (key : X → ℕ) (xs ys : List X) (i j : ℕ) (x y
 one_place key xs ys i j x y rises moved at_x at_y same = once_in_other_order key xs ys x once moved i j x y at_x at_y same
   where
     once : OnePlaceEach (λ k. key (get_or xs k x)) (length xs)
-    once i j in_i in_j same = elim (cases_order i j) [
-      | inl here ↦ here
-      | inr (inl below) ↦ let less = rises i j x below in_j in absurd (omega arith)
-      | inr (inr above) ↦ let less = rises j i x above in_i in absurd (omega arith)
-    ]
+    once i j in_i in_j same = grind (arith, rises i j x, rises j i x)
 
 -- what is kept of a list with rising keys, where each keeps its key, has rising keys
 pub kept_rises : {X Y : Type 0} (h : X → Option Y) (key : X → ℕ) (key' : Y → ℕ) (xs : List X) → ((x : X) (y : Y) → h x ≡ Some y → key' y ≡ key x)

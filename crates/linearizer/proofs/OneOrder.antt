@@ -15,13 +15,7 @@ use Rattle.linearizer.proofs.EachPosition.{has_position, one_position, one_opera
 
 -- of two positions one stands before the other, or they are one
 compared : (p q : Position) → StandsBefore p q ⊎ ((p ≡ q) ⊎ StandsBefore q p)
-compared p q =
-    let cases : StandsBefore p q ⊎ (StandsBefore q p ⊎ ((p.gap ≡ q.gap) × (p.class ≡ q.class) × (p.rank ≡ q.rank))) = grind arith in
-    elim cases [
-      | inl before ↦ inl before
-      | inr (inl after) ↦ inr (inr after)
-      | inr (inr same) ↦ inr (inl (λ i. record { gap = same.0 i; class = same.1 i; rank = same.2 i }))
-    ]
+compared p q = grind arith
 
 -- the second of two operations with their positions doesn't stand before the first
 abbrev NotAfter : Operation × Position → Operation × Position → Type 0
@@ -123,7 +117,7 @@ chosen_order_exists operations gaps clear none free =
     )
 
 -- a list of which each element comes before those after it is the only one of its elements, where no two come before each other
-one_list : {X : Type 0} (Before : X → X → Type 0) → ((x y : X) → Before x y → Before y x → ⊥) → (xs ys : List X) → AllPairs Before xs
+pub one_list : {X : Type 0} (Before : X → X → Type 0) → ((x y : X) → Before x y → Before y x → ⊥) → (xs ys : List X) → AllPairs Before xs
     → AllPairs Before ys → ((x : X) → Contains xs x → Contains ys x) → ((x : X) → Contains ys x → Contains xs x) → xs ≡ ys
 one_list Before one_way [] [] rise_x rise_y into back = refl
 one_list Before one_way [] (y ∷ ys) rise_x rise_y into back = absurd (not_in_none y (back y (zero, omega arith, refl)))

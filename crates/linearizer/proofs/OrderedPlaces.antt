@@ -1,8 +1,8 @@
 -- The values at the places of their order.
 use Rattle.linearizer.proofs.Common.{[], All, All-contains, All-head, All-tail, ap, arith, cons_option, contains_at}
 use Rattle.linearizer.proofs.Common.{elements_at, filter_map-append, HasPlaces, HoldsLives, IsOrderOfPlaces}
-use Rattle.linearizer.proofs.Common.{length, length-map, List, lives_at, lives_in, lives_of, map, MatchedValue, None}
-use Rattle.linearizer.proofs.Common.{Operation, Option, option_map, refl, slice_get, slice_get-map}
+use Rattle.linearizer.proofs.Common.{length, length-map, List, lives_at, lives_in, lives_of, map, MatchedValue}
+use Rattle.linearizer.proofs.Common.{Operation, option_map, refl, slice_get, slice_get-map}
 use Rattle.linearizer.proofs.Common.{Some, suc, sym, zero, ℕ, ◌++◌, ◌<◌, ◌∙◌, ◌∷◌, ◌≡◌}
 use Rattle.linearizer.proofs.Elements.{at_place}
 
@@ -14,13 +14,7 @@ elements_push xs places p x at = filter_map-append (slice_get xs) places (p ∷ 
 -- what becomes of the elements at places
 pub elements_mapped : {X Y : Type 0} (f : X → Y) (xs : List X) (places : List ℕ) → elements_at (map f xs) places ≡ map f (elements_at xs places)
 elements_mapped f xs [] = refl
-elements_mapped {X} {Y} f xs (p ∷ places) = ap (λ o. cons_option o (elements_at (map f xs) places)) (slice_get-map f xs p)
-    ∙ step (slice_get xs p) (elements_mapped f xs places)
-  where
-    step : (o : Option X) → elements_at (map f xs) places ≡ map f (elements_at xs places)
-        → cons_option (option_map f o) (elements_at (map f xs) places) ≡ map f (cons_option o (elements_at xs places))
-    step None more = more
-    step (Some x) more = ap (λ ys. f x ∷ ys) more
+elements_mapped f xs (p ∷ places) = grind (arith, slice_get-map f xs p, elements_mapped f xs places)
 
 -- places in range give one element each
 first_of : {X : Type 0} (xs : List X) (p : ℕ) (places : List ℕ) → p < length xs

@@ -80,7 +80,7 @@ module _ (operations : List Operation) (clear : IsClear operations) where
       alone None = tt
       alone (Some d) = (not_in_none d, tt)
 
-  none_twice_in_lives : (lives : List Life) → NoneTwice lives → ((x : Life) → Contains lives x → IsLife operations x)
+  pub none_twice_in_lives : (lives : List Life) → NoneTwice lives → ((x : Life) → Contains lives x → IsLife operations x)
       → NoneTwice (flat_map operations_of_life lives)
   none_twice_in_lives [] none are = tt
   none_twice_in_lives (life ∷ lives) none are =

@@ -9,7 +9,7 @@ use Rattle.linearizer.proofs.Common.{suc, sym, zero, ℕ, ◌<◌, ◌∙◌, �
 use Rattle.linearizer.proofs.Choices.{least_at, made, turn_of}
 use Rattle.linearizer.proofs.Times.{times_of_life, returned_in_time}
 use Rattle.linearizer.proofs.Opposites.{is_life, is_life_at, may_stand_before}
-use Rattle.linearizer.proofs.Elements.{at_place, beside_first}
+use Rattle.linearizer.proofs.Elements.{at_place}
 use Rattle.linearizer.proofs.Windows.{below_greatest, gaps_rise}
 use Rattle.linearizer.proofs.Runs.{AreGaps, IsItem}
 
@@ -136,8 +136,3 @@ module _ (operations : List Operation) (lives : List Life) (clear : IsClear oper
     item_of o (among o (zero, omega arith, refl)) o.kind refl p stands.0,
     items_of os positions (λ x there. among x (one_deeper o os x there)) stands.1,
   )
-
--- the element beside one of a zipped list
-pub beside : {A B : Type 0} (R : A → B → Type 0) (xs : List A) (ys : List B) (i : ℕ) (x : A) → AllZip R xs ys → slice_get xs i ≡ Some x
-    → (y : B) × (slice_get ys i ≡ Some y) × R x y
-beside R xs ys i x zip at = beside_first R xs ys i x zip at

@@ -1,5 +1,5 @@
 -- Sorted by gap and place, the operations that change nothing never fall.
-use Rattle.linearizer.proofs.Common.{[], Adds, All, All-permutation, AllZip, ap, AreComplete, arith, cases_lt, Enq}
+use Rattle.linearizer.proofs.Common.{[], Adds, All, All-permutation, AllZip, ap, AreComplete, arith, Enq}
 use Rattle.linearizer.proofs.Common.{filter, get_or, get_or-map, get_or_from_slice_get, HoldsNoops, inl, inr}
 use Rattle.linearizer.proofs.Common.{is_empty_answer, is_refused, IsNonDecreasingBy, IsNoopAt, IsPermutation}
 use Rattle.linearizer.proofs.Common.{IsPermutation-map, IsPlaced, IsPositionOf, length, length-map, Life, List, map}
@@ -12,10 +12,8 @@ use Rattle.linearizer.proofs.OneOrder.{operations_rise}
 -- operations come in the order of their calls
 calls_by_place : (operations : List Operation) (p q : ℕ) → AreComplete operations → p ≤ q → q < length operations
     → (operation_at operations p).call ≤ (operation_at operations q).call
-calls_by_place operations p q complete at_most within = elim (cases_lt p q) [
-  | inl before ↦ omega (arith, operations_rise operations complete p q (record { call = 0; ret = 0; thread = 0; kind = Enq 0 }) before within)
-  | inr more ↦ let same : p ≡ q = omega arith in omega (arith, ap (λ r. (operation_at operations r).call) same)
-]
+calls_by_place operations p q complete at_most within =
+    grind (arith, operations_rise operations complete p q (record { call = 0; ret = 0; thread = 0; kind = Enq 0 }))
 
 -- sorted by gap and place, none stands before an earlier one
 pub noops_never_fall : (operations : List Operation) (sorted : List Timed) → AreComplete operations → length operations ≤ MAX_MATCHED

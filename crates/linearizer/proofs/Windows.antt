@@ -31,9 +31,7 @@ at_most_least (x ∷ lives) (suc i) b le each = at_most_least lives i b le (λ j
 
 least_at_most : (a : ℕ) (xs : List Life) (j : ℕ) (y : Life) → slice_get xs j ≡ Some y → fold min a (map entered_by xs) ≤ entered_by y
 least_at_most a [] j y at = cc
-least_at_most a (x ∷ xs) zero y at =
-    let same : x ≡ y = cc in let entries = ap entered_by same in
-    let below = least_below_start (min a (entered_by x)) (map entered_by xs) in omega arith
+least_at_most a (x ∷ xs) zero y at = grind (arith, least_below_start (min a (entered_by x)) (map entered_by xs))
 least_at_most a (x ∷ xs) (suc j) y at = least_at_most (min a (entered_by x)) xs j y at
 
 -- the least from place i on is at most the entry of each value from there on
@@ -61,8 +59,7 @@ greatest_at_least : (a : ℕ) (lives : List Life) (k j : ℕ) (y : Life) → j <
 greatest_at_least a lives zero j y below at = absurd (omega arith)
 greatest_at_least a [] (suc k) j y below at = cc
 greatest_at_least a (x ∷ lives) (suc k) zero y below at =
-    let same : x ≡ y = cc in let leaves = ap leaves_from same in
-    let above = greatest_above_start (max a (leaves_from x)) (map leaves_from (take k lives)) in omega arith
+    grind (arith, greatest_above_start (max a (leaves_from x)) (map leaves_from (take k lives)))
 greatest_at_least a (x ∷ lives) (suc k) (suc j) y below at = greatest_at_least (max a (leaves_from x)) lives k j y (omega arith) at
 
 -- a value of the first ones leaves no later than the greatest

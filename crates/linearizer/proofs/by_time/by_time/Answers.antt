@@ -1,5 +1,5 @@
 use Rattle.linearizer.proofs.Common.{All-contains, arith, contains_at, dequeue_return, entered_by, NEVER, refl}
-use Rattle.linearizer.proofs.Common.{slice_get_read, ◌+◌, ◌<◌}
+use Rattle.linearizer.proofs.Common.{slice_get_read, ◌<◌}
 use Rattle.linearizer.proofs.Choosing.{moved_so_far, none_more_timed, none_timed, one_more_timed, sorted_by_time}
 use Rattle.linearizer.proofs.by_time.by_time.Goals as goal
 use Rattle.linearizer.proofs.by_time.by_time.Goals.{then-time-lt-NEVER+in_ok-add-2, else-time-lt-NEVER}
