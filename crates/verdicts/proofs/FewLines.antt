@@ -1,18 +1,18 @@
 -- A verdict shows each operation once, so it names at most half as many as the history has events; its other lines are initial values.
 use Rattle.verdicts.proofs.Common.{[], AllPairs, AllPairs-tail, AllZip, ap, AreComplete, arith, Bool}
 use Rattle.verdicts.proofs.Common.{call_before_return, ClaimLine, cond, Contains, Contains-append_cases}
-use Rattle.verdicts.proofs.Common.{All, Contains-permutation, MAX_TICKET, nat_tests, contains_cons, Deq, dequeue_call, dequeue_of}
-use Rattle.verdicts.proofs.Common.{Did, Empty, Enq, enqueue_of, enqueue_place, Event, false, filter}
-use Rattle.verdicts.proofs.Common.{flat_map, fresh, FullViolation, initial_enqueues, initial_time, inl, inr}
+use Rattle.verdicts.proofs.Common.{All, Contains-permutation, MAX_TICKET, nat_tests, contains_cons}
+use Rattle.verdicts.proofs.Common.{Did, Empty, enqueue_place, Event, false, filter}
+use Rattle.verdicts.proofs.Common.{fresh, FullViolation, initial_enqueues, initial_time, inl, inr}
 use Rattle.verdicts.proofs.Common.{is_operation, IsChosenCoverFrom, IsChosenFullViolation, IsClear, IsCompleteHistory}
-use Rattle.verdicts.proofs.Common.{IsCovered, IsLife, IsVerdict, later_by, length}
+use Rattle.verdicts.proofs.Common.{IsCovered, IsVerdict, later_by, length}
 use Rattle.verdicts.proofs.Common.{length-map, length_permutation, Life, line_at, LinePlace, lines_of, List, ltb-false}
-use Rattle.verdicts.proofs.Common.{map, MatchOption, MAX_INITIAL, MAX_OPERATIONS}
-use Rattle.verdicts.proofs.Common.{nat_lt, No, no_enqueue, None, NoneDid, not, not-true, not_in_none}
-use Rattle.verdicts.proofs.Common.{one_deeper, one_life_of_enqueue, Operation}
-use Rattle.verdicts.proofs.Common.{operations_named, operations_of, operations_of_life, Option}
-use Rattle.verdicts.proofs.Common.{option_to_list, order, ORIGIN, pairs_at, passed_filter, place_of, refl, repeat}
-use Rattle.verdicts.proofs.Common.{same_enqueue, slice_get}
+use Rattle.verdicts.proofs.Common.{map, MAX_INITIAL, MAX_OPERATIONS}
+use Rattle.verdicts.proofs.Common.{nat_lt, No, no_enqueue, None, not, not-true, not_in_none}
+use Rattle.verdicts.proofs.Common.{one_deeper, Operation}
+use Rattle.verdicts.proofs.Common.{operations_named, operations_of}
+use Rattle.verdicts.proofs.Common.{order, ORIGIN, pairs_at, passed_filter, place_of, refl, repeat}
+use Rattle.verdicts.proofs.Common.{slice_get}
 use Rattle.verdicts.proofs.Common.{slice_get_within, Some, subst, suc, sym, timeline, timeline_is_complete}
 use Rattle.verdicts.proofs.Common.{true, value_of, verdict_places, violation_places, witness, Yes, zero, ℕ, ◌+◌}
 use Rattle.verdicts.proofs.Common.{◌<◌, ◌∙◌, ◌∷◌, ◌≡◌, ◌≤◌, ◌⊎◌}
@@ -30,10 +30,11 @@ use Rattle.verdicts.specs.declared.verdict.Verdict.{Verdict}
 use Rattle.verdicts.proofs.CoverGaps.{IsCalledInside, chosen_are_lives, handover, all_stay}
 use Rattle.history_merge.proofs.TimelineOperations.{length_timeline}
 use Rattle.verdicts.proofs.NamedPlaces.{IsShownAt, each_shown, line_of}
-use Rattle.verdicts.proofs.NamedLines.{cover_lines, life_lines, lines_are_operations}
+use Rattle.verdicts.proofs.NamedLines.{cover_lines, lines_are_operations}
 use Rattle.verdicts.proofs.Chosen.{chosen_is_violation}
 use Rattle.verdicts.proofs.ShrunkEvents.{no_longer}
-use Rattle.linearizer.proofs.NoneTwice.{NoneTwice, none_twice-append, none_twice-filter}
+use Rattle.linearizer.proofs.Partition.{none_twice_in_lives}
+use Rattle.linearizer.proofs.NoneTwice.{NoneTwice, none_twice-filter}
 use Rattle.value_match.proofs.TimelineLines.{mapped_option}
 use Rattle.verdicts.specs.declared.shown.LinePlace.TheVariants as place
 use Rattle.verdicts.specs.declared.verifying.ClaimLine.TheVariants as line
@@ -79,47 +80,17 @@ two_events events complete =
 
 module _ (operations : List Operation) (empty : Operation) (clear : IsClear operations) (did : Did operations empty Empty)
     (covered : IsCovered operations empty) where
-  -- the lines of the first value of a cover are none of the others'
-  first_once : (life : Life) (rest : List Life) → IsLife operations life → ((y : Life) → Contains rest y → IsLife operations y)
-      → ((y : Life) → Contains rest y → dequeue_call life < dequeue_call y)
-      → NoneTwice (flat_map operations_of_life rest) → NoneTwice (flat_map operations_of_life (life ∷ rest))
-  first_once life rest is are later once =
-      none_twice-append (operations_of_life life) (flat_map operations_of_life rest) (in_life (dequeue_of life) is.2) once shared
-    where
-      in_life : (d : Option Operation) → MatchOption d (NoneDid operations (Deq is.0)) (λ d. Did operations d (Deq is.0))
-          → NoneTwice (enqueue_of life ∷ option_to_list d)
-      in_life None none = (not_in_none (enqueue_of life), tt)
-      in_life (Some d) dequeues = (
-        λ among. elim (contains_cons d [] (enqueue_of life) among) [
-          | inl same ↦ let kinds : Deq is.0 ≡ Enq is.0 = sym dequeues.1 ∙ ap (λ o. o.kind) same ∙ is.1.1 in cc
-          | inr nowhere ↦ not_in_none (enqueue_of life) nowhere
-        ],
-        (not_in_none d, tt),
-      )
-
-      shared : (o : Operation) → Contains (operations_of_life life) o → ¬ (Contains (flat_map operations_of_life rest) o)
-      shared o here there =
-          let y = cover_lines operations rest are o there in
-          let both : Some is.0 ≡ Some y.is_life.0 = sym (life_lines operations life is o here).1 ∙ y.is_of.1 in
-          let value : is.0 ≡ y.is_life.0 = cc in
-          let enqueues = same_enqueue operations (enqueue_of life) (enqueue_of y.life) y.is_life.0 clear.complete
-          (subst (λ v. Did operations (enqueue_of life) (Enq v)) value is.1) y.is_life.1 in
-          let calls = ap dequeue_call (one_life_of_enqueue operations life y.life clear is y.is_life enqueues) in
-          let less = later y.life y.among in
-          omega arith
-
+  -- no value of a chosen cover stands in it twice, as each leaves before the later ones
   cover_once : (cover : List Life) (before : Operation) → IsCalledInside operations empty clear did covered before
-      → IsChosenCoverFrom operations empty before.call cover → NoneTwice (flat_map operations_of_life cover)
+      → IsChosenCoverFrom operations empty before.call cover → NoneTwice cover
   cover_once [] before inside chosen = absurd chosen
-  cover_once (life ∷ []) before inside chosen = first_once life [] chosen.0.is_life (λ y among. absurd (not_in_none y among))
-      (λ y among. absurd (not_in_none y among)) tt
+  cover_once (life ∷ []) before inside chosen = (not_in_none life, tt)
   cover_once (life ∷ next ∷ rest) before inside chosen =
-      let after = handover operations empty clear did covered before life (next ∷ rest) next inside chosen (zero, omega arith, refl) in
-      first_once life (next ∷ rest) chosen.0.is_life
-      (λ y among. chosen_are_lives operations empty (next ∷ rest) after.0.call y after.1.further among)
-      (λ y among. let stays = all_stay operations empty clear did covered (next ∷ rest) after.0 y after.1.inside after.1.further among in
-      omega (arith, after.1.calls))
-      (cover_once (next ∷ rest) after.0 after.1.inside after.1.further)
+      let after = handover operations empty clear did covered before life (next ∷ rest) next inside chosen (zero, omega arith, refl) in (
+        λ among. let stays = all_stay operations empty clear did covered (next ∷ rest) after.0 life after.1.inside after.1.further among in
+            omega (arith, after.1.calls),
+        cover_once (next ∷ rest) after.0 after.1.inside after.1.further,
+      )
 
 -- a chosen violation has up to four lines, or each operation of its lines stands once
 few_or_once : (operations : List Operation) (full : FullViolation) → AreComplete operations → IsChosenFullViolation operations full
@@ -139,8 +110,9 @@ few_or_once operations (witness empty cover) complete chosen =
           empty among in
           let clash : None ≡ Some line.is_life.0 = sym (ap value_of did.1) ∙ line.is_of.1 in
           cc,
-      cover_once operations empty clear did chosen.3.is_covered cover empty
-          (record { among = did.0; after_call = omega arith; before_return = window; is_other = other }) chosen.3.cover_is_chosen,
+      none_twice_in_lives operations clear cover (cover_once operations empty clear did chosen.3.is_covered cover empty
+          (record { among = did.0; after_call = omega arith; before_return = window; is_other = other }) chosen.3.cover_is_chosen)
+          (λ y in_cover. chosen_are_lives operations empty cover empty.call y chosen.3.cover_is_chosen in_cover),
     )
 
 -- ---- the operations among the lines

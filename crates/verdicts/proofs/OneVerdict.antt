@@ -10,7 +10,7 @@ use Rattle.verdicts.proofs.Common.{operations_rise, Option, order, OrderPair, OR
 use Rattle.verdicts.proofs.Common.{repeat, Some, Source, subst, sym, time_of, timeline}
 use Rattle.verdicts.proofs.Common.{timeline_is_complete, true, Violation, witness, Yes, ℕ, ◌∙◌, ◌∷◌, ◌≡◌, ◌≤◌}
 use Rattle.empty_witness.specs.declared.answer.GapAnswer.{GapAnswer}
-use Rattle.linearizer.proofs.Positions.{beside}
+use Rattle.linearizer.proofs.Elements.{beside_first}
 use Rattle.verdicts.specs.Laws.{VerdictIsOne, MatchedIsOne, PairIsOne, GapIsOne, WitnessIsOne}
 use Rattle.verdicts.proofs.Chosen.{one_chosen_violation, one_order, one_cover, one_witness}
 use Rattle.verdicts.proofs.SameLists.{one_beside}
@@ -221,7 +221,7 @@ none_covered : (operations : List Operation) (gaps : List ℕ) (o : Operation)
 none_covered operations gaps o each did covered =
     let passes : is_empty_answer o ≡ true = rw did.1 refl in
     let place = place_of (filter is_empty_answer operations) o (passes_filter is_empty_answer operations o passes did.0) in
-    let free = beside (λ o c. IsLeastFreeGap operations o c) (filter is_empty_answer operations) gaps place.0 o each place.1 in
+    let free = beside_first (λ o c. IsLeastFreeGap operations o c) (filter is_empty_answer operations) gaps place.0 o each place.1 in
     free_or_covered operations o free.0 free.2 covered
 
 -- one answer of the search for covered windows is found
