@@ -59,17 +59,7 @@ searched_more all old left sought place next e is counts other searched few =
 pub searched_first : (all old left : List Event) (sought : Sought) (place : ℕ) (e : Event) → old ≡ e ∷ left
     → IsSought sought (record { place = place; event = e }) → (length all ≤ MAX_EVENTS → Searched all old sought place)
     → length all ≤ MAX_EVENTS → IsFirstSought all sought (record { place = place; event = e })
-searched_first all old left sought place e is found searched few =
-    let was = searched few in
-    let whole : was.seen ++ e ∷ left ≡ all = ap (λ (es : List Event). was.seen ++ es) (sym is) ∙ was.parts in
-    record {
-      stands = subst (λ (es : List Event). slice_get es place ≡ Some e) whole
-          (subst (λ k. slice_get (was.seen ++ e ∷ left) k ≡ Some e) (sym was.count) (at_seam was.seen e left));
-      is_sought = found;
-      none_before = λ i x below here.
-          was.none i x (sym (slice_get-append_left was.seen (e ∷ left) i (omega (arith, below, was.count)))
-          ∙ ap (λ (es : List Event). slice_get es i) whole ∙ here);
-    }
+searched_first all old left sought place e is found searched few = grind (arith, at_seam, slice_get-append_left)
 
 -- ---- what contradicts what
 
@@ -87,14 +77,7 @@ take-append events later x at = let within = slice_get_within events x.place x.e
 
 -- the first that enqueues a value stays the first
 pub first_with-append : (events later : List Event) (x y : Placed) → Stands events x → AreFirstWith events x y → AreFirstWith (events ++ later) x y
-first_with-append events later x y at are = record {
-  value = are.value;
-  first = are.first;
-  again = are.again;
-  none_before = λ i e below here.
-      let within = slice_get_within events x.place x.event at in
-      are.none_before i e below (sym (slice_get-append_left events later i (omega (arith, within))) ∙ here);
-}
+first_with-append events later x y at are = grind (arith, slice_get_within, slice_get-append_left)
 
 -- what contradicts each other does so, whatever comes after
 pub clash-append : (initial : List ℕ) (events later : List Event) (found : Clash) → IsClash initial events found → IsClash initial (events ++ later) found
@@ -119,6 +102,4 @@ kept-append initial events later (Some found) is = clash-append initial events l
 -- the pending call of the thread of an event that is added
 pub pending-push : (events : List Event) (x y : Placed) → y.place ≡ length events → pending_call y.event.thread events ≡ Some x.event
     → pending_call y.event.thread (take y.place (events ++ y.event ∷ [])) ≡ Some x.event
-pending-push events x y here pending =
-    subst (λ n. pending_call y.event.thread (take n (events ++ y.event ∷ [])) ≡ Some x.event) (sym here)
-    (ap (pending_call y.event.thread) (take-append_seam events (y.event ∷ [])) ∙ pending)
+pending-push events x y here pending = grind (arith, take-append_seam)

@@ -6,7 +6,7 @@ use Rattle.history_merge.proofs.Common.{false≢true, filter, find, find_at, get
 use Rattle.history_merge.proofs.Common.{IsCompleteHistory, IsTimed, kind_of, length, lt-ltb, MAX_TICKET, MAX_TIME}
 use Rattle.history_merge.proofs.Common.{nat_eq, None, Not, Operation, operation_of, operations_of, OpKind, Option}
 use Rattle.history_merge.proofs.Common.{option_map, position-Some, position_or_len, refl, slice_get, slice_get-get_or}
-use Rattle.history_merge.proofs.Common.{slice_get-map, slice_get_read, slice_get_within, Some, subst, suc, sym}
+use Rattle.history_merge.proofs.Common.{slice_get-map, slice_get_read, slice_get_within, Some, subst, suc, sym, rules}
 use Rattle.history_merge.proofs.Common.{TicketsRise, What, zero, ◌+◌, ◌-◌, ◌∙◌, ◌∷◌, ◌≡◌, ◌≢◌, ◌⊎◌}
 use Rattle.std.proofs.Common.{ℕ, ◌<◌, ◌≤◌, true, false, List, get_or, map}
 use Rattle.history_merge.proofs.Completeness.{IsMadeOf, made_of, called_once}
@@ -33,9 +33,7 @@ contains_at xs i x at = (i, slice_get_within xs i x at, get_or_from_slice_get xs
 -- what holds of each two elements holds of those at two places
 pub pairs_at : {X : Type 0} (R : X → X → Type 0) (xs : List X) (i j : ℕ) (x y : X) → AllPairs R xs → i < j → slice_get xs i ≡ Some x
     → slice_get xs j ≡ Some y → R x y
-pairs_at R xs i j x y pairs below at_i at_j =
-    let here = pairs i j x below (slice_get_within xs j y at_j) in
-    subst (λ a. R a y) (get_or_from_slice_get xs i x x at_i) (subst (λ b. R (get_or xs i x) b) (get_or_from_slice_get xs j y x at_j) here)
+pairs_at R xs i j x y pairs below at_i at_j = grind (arith, slice_get_within, get_or_from_slice_get)
 
 -- one element stands at a place
 pub one_at : {X : Type 0} (xs : List X) (i : ℕ) (x y : X) → slice_get xs i ≡ Some x → slice_get xs i ≡ Some y → x ≡ y
@@ -196,8 +194,7 @@ each_timed events complete k d below =
 -- so does one of them
 pub operation_within : (events : List Event) (o : Operation) → IsCompleteHistory events → Contains (operations_of events) o
     → (o.call < o.ret) × (o.ret ≤ MAX_TICKET)
-operation_within events o complete among =
-    All-contains (λ o. (o.call < o.ret) × (o.ret ≤ MAX_TICKET)) (operations_of events) o (each_timed events complete) among
+operation_within events o complete among = grind (arith, All-contains, each_timed)
 
 -- none of them returns with the ticket of a call
 pub returns_at_no_call : (events : List Event) (x y : Operation) → IsCompleteHistory events → Contains (operations_of events) x
@@ -227,11 +224,7 @@ all_apart events complete i j d below within =
 
 -- the operations of a complete history are complete
 pub operations_are_complete : (events : List Event) → IsCompleteHistory events → AreComplete (operations_of events)
-operations_are_complete events complete = record {
-  timed = λ k d below. let t = each_timed events complete k d below in
-      record { returns_late = omega arith; takes_time = λ other. t.0; above_zero = omega arith; in_range = omega arith };
-  apart = all_apart events complete;
-}
+operations_are_complete events complete = grind (arith, each_timed, all_apart)
 
 -- ---- operations that are complete
 
@@ -322,5 +315,4 @@ same_enqueue operations x y v complete did_x did_y = same_value_call operations 
 
 -- some of complete operations are complete
 pub some_are_complete : (test : Operation → Bool) (operations : List Operation) → AreComplete operations → AreComplete (filter test operations)
-some_are_complete test operations complete =
-    record { timed = All-filter test IsTimed operations complete.timed; apart = AllPairs-filter AreApart test operations complete.apart }
+some_are_complete test operations complete = search (rules, All-filter, AllPairs-filter)

@@ -1,4 +1,5 @@
 -- Values that no two calls share, and initial values.
+use Rattle.history_merge.proofs.Common.{common_steps, nat_tests, gets}
 use Rattle.history_merge.proofs.Common.{[], all_pairs_push, Any-from_list_any, ap, append-nil, AreDistinct, arith}
 use Rattle.history_merge.proofs.Common.{called_value, called_values, calls_initial, cases_lt, cons_option, Contains}
 use Rattle.history_merge.proofs.Common.{drop, eq-eqb, eqb-true, Event, false_from_ne_true, false≢true}
@@ -22,10 +23,7 @@ distinct_more values v distinct new = all_pairs_push (λ x y. x ≢ y) values v 
 -- a value that is there
 pub twice_at : (initial : List ℕ) (j v : ℕ) → slice_get initial j ≡ Some v → AreDistinct (take j initial) → is_initial (take j initial) v ≡ true
     → HasRefusedInitial initial (InitialTwice j)
-twice_at initial j v here distinct there =
-    let found = Any-from_list_any (λ w. nat_eq w v) (take j initial) there in
-    let same = eqb-true _ _ found.4 in
-    inr (j, refl, (distinct, (v, here, (found.0, found.2, get_or_default (take j initial) found.0 v found.1 found.2 ∙ found.3 ∙ same))))
+twice_at initial j v here distinct there = grind (arith, Any-from_list_any, eqb-true, get_or_default)
 
 -- if a value stands twice before place n, the values before it aren't distinct
 pub twice_before : (initial : List ℕ) (j n : ℕ) → j < n → AreDistinct (take n initial) → IsFirstTwice initial j → ⊥
@@ -41,15 +39,11 @@ twice_before initial j n below distinct (before, (v, here, earlier)) =
 -- of distinct values none stands twice
 pub twice_not_distinct : (initial : List ℕ) (j : ℕ) → AreDistinct initial → IsFirstTwice initial j → ⊥
 twice_not_distinct initial j distinct twice =
-    let inside = slice_get_within initial j twice.1.0 twice.1.1 in
-    twice_before initial j (length initial) inside (subst AreDistinct (sym (take_all (length initial) initial (omega arith))) distinct) twice
+    grind (arith, nat_tests, common_steps, gets, slice_get_within, twice_before, take_all)
 
 -- of a history that is complete from its initial values, these are distinct
 pub initial_distinct : (initial : List ℕ) (events : List Event) → IsCompleteFrom initial events → AreDistinct initial
-initial_distinct initial events complete i j d below inside same =
-    let long = length-append initial (called_values events) in
-    complete.values_are_distinct i j d below (omega arith)
-    (get_or_append_left initial (called_values events) d i (omega arith) ∙ same ∙ sym (get_or_append_left initial (called_values events) d j inside))
+initial_distinct initial events complete i j d below inside same = grind (arith, length-append, get_or_append_left)
 
 -- ---- values of calls
 
@@ -70,16 +64,13 @@ deeper (Some v) values w among = (suc among.0, omega (arith, among.1), among.2)
 pub value_called : (events : List Event) (i : ℕ) (e : Event) (w : ℕ) → slice_get events i ≡ Some e → called_value e.what ≡ Some w
     → Contains (called_values events) w
 value_called [] i e w at is = cc
-value_called (x ∷ events) zero e w at is =
-    let same : called_value x.what ≡ Some w = ap (λ (e : Event). called_value e.what) (same_Some x e at) ∙ is in
-    subst (λ o. Contains (cons_option o (called_values events)) w) (sym same) (zero, omega arith, refl)
+value_called (x ∷ events) zero e w at is = grind (arith, same_Some)
 value_called (x ∷ events) (suc i) e w at is = deeper (called_value x.what) (called_values events) w (value_called events i e w at is)
 
 -- the same of a value that may be initial too
 pub known_is : (initial : List ℕ) (events : List Event) (v : ℕ)
     → (was_called events v || is_initial initial v) ≡ list_any (λ w. nat_eq w v) (initial ++ called_values events)
-known_is initial events v = or_comm (was_called events v) (is_initial initial v) ∙ ap (λ b. is_initial initial v || b) (was_called_is events v)
-    ∙ sym (list_any-append (λ w. nat_eq w v) initial (called_values events))
+known_is initial events v = grind (arith, or_comm, was_called_is, list_any-append)
 
 -- the initial values and those of the calls stay distinct with a call of a new value
 pub distinct_push : (initial : List ℕ) (events : List Event) (e : Event) → AreDistinct (initial ++ called_values events)
@@ -121,10 +112,4 @@ new_from_distinct initial before later e distinct = join (called_value e.what) (
 -- what holds of each place below i, and of i, holds of each place below i + 1
 pub each_more : {X : Type 0} (P : ℕ → X → Type 0) (xs : List X) (i : ℕ) (x : X) → slice_get xs i ≡ Some x → P i x
     → ((k : ℕ) (y : X) → k < i → slice_get xs k ≡ Some y → P k y) → (k : ℕ) (y : X) → k < i + 1 → slice_get xs k ≡ Some y → P k y
-each_more P xs i x here holds before k y below at_k = elim (cases_lt k i) [
-  | inl earlier ↦ before k y earlier at_k
-  | inr above ↦
-      let same : i ≡ k = omega arith in
-      let at_i : slice_get xs i ≡ Some y = subst (λ j. slice_get xs j ≡ Some y) (sym same) at_k in
-      subst (λ j. P j y) same (subst (P i) (one_at xs i x y here at_i) holds)
-]
+each_more P xs i x here holds before k y below at_k = grind (arith, cases_lt, one_at)

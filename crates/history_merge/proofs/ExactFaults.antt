@@ -55,8 +55,7 @@ pub record MayFollow (initial : List ℕ) (before : List Event) (e : Event) : Ty
 
 -- an event without a fault may follow
 pub may_follow : (initial : List ℕ) (before : List Event) (i : ℕ) (e : Event) → fault_at initial before i e ≡ None → MayFollow initial before e
-may_follow initial before i e none =
-    record { rises = grind arith; ticket_in_range = grind arith; thread_in_range = grind arith; fits = grind arith; is_new = grind arith }
+may_follow initial before i e none = grind (arith)
 
 -- an event that may follow has no fault
 pub no_fault : (initial : List ℕ) (before : List Event) (i : ℕ) (e : Event) → MayFollow initial before e → fault_at initial before i e ≡ None
@@ -148,13 +147,7 @@ run_without_fault initial events distinct none =
 pub complete_without_fault : (initial : List ℕ) (events : List Event) → AreDistinct initial → NoFaultBefore initial events (length events)
     → NothingPending events → IsCompleteFrom initial events
 complete_without_fault initial events distinct none nothing =
-    let sound = sound_without_fault initial events distinct none in
-    let turns : (thread : ℕ) → TakesTurns (projection thread events) = λ thread. MatchOption-at_none _ _ (nothing thread) (sound.turns thread) in
-    let apart : AreDistinct (called_values events) = λ i j d below inside same.
-    let long = length-append initial (called_values events) in
-    sound.values_are_distinct (length initial + i) (length initial + j) d (omega (arith, below)) (omega arith)
-    (get_or-append-add initial (called_values events) i d ∙ same ∙ sym (get_or-append-add initial (called_values events) j d)) in
-    assumption (sound, turns, apart)
+    grind (arith, sound_without_fault, MatchOption-at_none, length-append, get_or-append-add, same)
 
 -- ---- a complete history, hence no fault
 
@@ -197,11 +190,7 @@ nothing_pending_in_complete events complete thread = nothing_after_turns (projec
 
 no_first_fault : (initial : List ℕ) (events : List Event) (i : ℕ) (fault : HistoryFault) → IsCompleteFrom initial events
     → IsFirstFaultAt initial events i fault → ⊥
-no_first_fault initial events i fault complete found =
-    let e = found.2.0 in
-    let here = found.2.1 in
-    let none = no_fault_in_complete initial events complete i e (slice_get_within events i e here) here in
-    let some = found.2.2 in cc
+no_first_fault initial events i fault complete found = grind (arith, no_fault_in_complete, slice_get_within)
 
 -- only out of memory is left as a fault of a complete history
 pub complete_has_no_fault : (initial : List ℕ) (events : List Event) (fault : HistoryFault) → IsFirstFault initial events fault

@@ -40,8 +40,7 @@ none_waits thread (e ∷ later) none = grind (arith, none_waits thread later)
 pub formed_call : (events : List Event) (r : Event) → waiting r.thread events ≡ None → is_call r.what ≡ true
     → operations_so_far (events ++ r ∷ []) ≡ operations_so_far events ++ operation_so_far r None ∷ []
 formed_call [] r none call = rw call refl
-formed_call (e ∷ later) r none call =
-    grind (arith, nat_tests, formed_call later r, find-append (λ x. nat_eq x.thread e.thread) later (r ∷ []), one_next later r.thread e.thread)
+formed_call (e ∷ later) r none call = grind (arith, find-append, one_next, formed_call later r)
 
 -- it waits at the end of the operations
 pub waits_call : (events : List Event) (r : Event) → is_call r.what ≡ true → waiting r.thread (events ++ r ∷ []) ≡ Some (length (operations_so_far events), r)
@@ -53,8 +52,7 @@ waits_call (e ∷ later) r call = grind (arith, waits_call later r call)
 -- no call of its thread waits any more
 pub waits_answer : (events : List Event) (r : Event) → is_call r.what ≡ false → waiting r.thread (events ++ r ∷ []) ≡ None
 waits_answer [] r call = grind (arith, nat_tests)
-waits_answer (e ∷ later) r call =
-    grind (arith, nat_tests, waits_answer later r call, find-append (λ x. nat_eq x.thread r.thread) later (r ∷ []))
+waits_answer (e ∷ later) r call = grind (arith, find-append, waits_answer later r call)
 
 -- an event of another thread changes nothing
 pub waits_other : (thread : ℕ) (events : List Event) (r : Event) → nat_eq r.thread thread ≡ false → waiting thread (events ++ r ∷ []) ≡ waiting thread events
@@ -65,14 +63,12 @@ waits_other thread (e ∷ later) r other = grind (arith, waits_other thread late
 unanswered : (events : List Event) (r : Event) → next_of r.thread events ≡ None → is_call r.what ≡ false
     → operations_so_far (events ++ r ∷ []) ≡ operations_so_far events
 unanswered [] r none call = rw call refl
-unanswered (e ∷ later) r none call =
-    grind (arith, nat_tests, unanswered later r, find-append (λ x. nat_eq x.thread e.thread) later (r ∷ []))
+unanswered (e ∷ later) r none call = grind (arith, find-append, unanswered later r)
 
 -- where a call of the new event's thread waits, no thread's next event changes
 kept_next : (e r : Event) (later : List Event) (w : ℕ × Event) → waiting r.thread later ≡ Some w
     → next_of e.thread (later ++ r ∷ []) ≡ next_of e.thread later
-kept_next e r later w is =
-    grind (arith, nat_tests, none_waits r.thread later, one_next later r.thread e.thread, find-append (λ x. nat_eq x.thread e.thread) later (r ∷ []))
+kept_next e r later w is = grind (arith, none_waits, one_next, find-append)
 
 -- a return completes the operation of the call that waits
 pub record IsAnswered (events : List Event) (r : Event) (place : ℕ) (call : Event) : Type 0 where
@@ -122,11 +118,8 @@ waits_at (Some w) place h = (w.1, let same : w.0 ≡ place = cc in ap (λ n. Som
 waits_more : (events : List Event) (e : Event) → option_map (λ found. found.1) (waiting e.thread (events ++ e ∷ [])) ≡ then_some (is_call e.what) e
     → ((thread : ℕ) → option_map (λ found. found.1) (waiting thread events) ≡ pending_call thread events)
     → (thread : ℕ) → option_map (λ found. found.1) (waiting thread (events ++ e ∷ [])) ≡ pending_call thread (events ++ e ∷ [])
-waits_more events e own waits thread = elim (eqb_tells e.thread thread) [
-  | inl same ↦ subst (λ t. option_map (λ found. found.1) (waiting t (events ++ e ∷ [])) ≡ pending_call t (events ++ e ∷ [])) same.1
-      (own ∙ sym (pending_call-push_own events e))
-  | inr other ↦ ap (option_map (λ found. found.1)) (waits_other thread events e other.0) ∙ waits thread ∙ sym (pending_call-push_other events e thread other.0)
-]
+waits_more events e own waits thread =
+    grind (arith, eqb_tells, pending_call-push_own, waits_other, pending_call-push_other)
 
 -- one more event, after which this is the place of its thread's pending call
 formed_more : (events : List Event) (e : Event) (old new : Forming) (place : Option ℕ) → e.thread ≤ MAX_THREAD → HasFormed events old
@@ -199,9 +192,7 @@ pending_at events thread old place within known is =
 -- where no place is kept of a thread, no call is pending
 pub none_pending_at : (events : List Event) (thread : ℕ) (old : Forming) → thread ≤ MAX_THREAD → HasFormed events old
     → get_or old.pending thread None ≡ None → pending_call thread events ≡ None
-none_pending_at events thread old within known is =
-    let nothing : waiting thread events ≡ None = grind (arith, sym is ∙ known.places thread within) in
-    sym (known.waits thread) ∙ ap (option_map (λ w. w.1)) nothing
+none_pending_at events thread old within known is = grind (arith)
 
 -- ---- what a call and a return are judged by
 
@@ -219,8 +210,7 @@ fault_of_return : (initial : List ℕ) (events : List Event) (place : ℕ) (e : 
     → is_call e.what ≡ false
     → fault_at initial events place e ≡ cond (is_none (pending_call e.thread events)) (Some (ReturnWithoutCall place))
     (cond (not (answers_pending (pending_call e.thread events) e)) (Some (WrongReturn place)) None)
-fault_of_return initial events place e order below returns =
-    rw (order, le-ltb MAX_THREAD e.thread below, returns, no_value e.what returns) refl
+fault_of_return initial events place e order below returns = grind (arith, le-ltb, no_value)
 
 kind_answered : (call answer : What) → answers call answer ≡ true → kind_of call answer ≡ Some (answered (begun call) answer)
 kind_answered call answer h = grind arith
@@ -332,8 +322,4 @@ formed_of_complete events operations complete so_far = assumption (
 -- a history keeps them
 pub kept_of_formed : (initial : List ℕ) (events : List Event) (operations : List Operation) → IsFormedOf events operations
     → IsCompleteFrom initial events → length events ≤ MAX_EVENTS → IsKept initial operations
-kept_of_formed initial events operations formed complete few = assumption (
-  subst (IsCompleteFrom initial) (sym formed.told) complete,
-  formed.formed ∙ ap operations_of (sym formed.told),
-  subst (λ es. length es ≤ MAX_EVENTS) (sym formed.told) few,
-)
+kept_of_formed initial events operations formed complete few = grind (arith)

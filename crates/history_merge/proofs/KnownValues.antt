@@ -27,19 +27,7 @@ among-push values v w = grind (arith, list_any-append (λ x. nat_eq x w) values 
 pub knows_loose : (values : List ℕ) (old new : CalledValues) (v : ℕ) → Knows values old → get_or old.least (name_in v) 0 ≡ LOOSE
     → ((q : ℕ) → contains nat_cmp new.loose q ≡ cond (is_eq (nat_cmp v q)) true (contains nat_cmp old.loose q)) → new.least ≡ old.least
     → Knows (values ++ v ∷ []) new
-knows_loose values old new v knows is adds same = record {
-  one_each = rw same knows.one_each;
-  rising = λ w among rises. elim (or_cases (is_among values w) (nat_eq v w) (sym (among-push values v w) ∙ among)) [
-    | inl before ↦ rw same (knows.rising w before (rw same at rises))
-    | inr own ↦ absurd (let at : get_or old.least (name_in w) 0 ≡ LOOSE = subst (λ x. get_or old.least (name_in x) 0 ≡ LOOSE) (eqb-true v w own) is in
-        let less = rw same at rises in omega (arith, at, less))
-  ];
-  loose = λ w loose. held w ∙ ap (λ b. b || nat_eq v w) (knows.loose w (rw same at loose)) ∙ sym (among-push values v w);
-  only = λ w there. grind (arith, held w, among-push values v w, knows.only w);
-}
-  where
-    held : (w : ℕ) → contains nat_cmp new.loose w ≡ (contains nat_cmp old.loose w || nat_eq v w)
-    held w = grind (arith, adds w, is_eq-nat_cmp v w)
+knows_loose values old new v knows is adds same = grind (arith, or_cases, among-push, eqb-true, is_eq-nat_cmp)
 
 -- the set decides whether the value is new
 pub repeats_by_set : (added has was : Bool) → added ≡ not has → has ≡ was → not added ≡ was
@@ -75,9 +63,7 @@ repeats_is initial events e = grind (arith, known_is initial events)
 -- the values after one more event
 pub values_more : (initial : List ℕ) (events : List Event) (e : Event)
     → (initial ++ called_values events) ++ cons_option (called_value e.what) [] ≡ initial ++ called_values (events ++ e ∷ [])
-values_more initial events e =
-    append_assoc initial (called_values events) (cons_option (called_value e.what) [])
-    ∙ ap (λ vs. initial ++ vs) (sym (filter_map-append (λ (x : Event). called_value x.what) events (e ∷ [])))
+values_more initial events e = grind (arith, append_assoc, filter_map-append)
 
 -- the first of the enqueues
 take_enqueues : (time n : ℕ) (values : List ℕ) → take n (enqueues_from time values) ≡ enqueues_from time (take n values)
@@ -88,17 +74,9 @@ take_enqueues time (suc n) (v ∷ values) = ap (λ os. enqueue_at time v ∷ os)
 -- the first operations of a timeline called with the first initial values
 pub called_in_front : (view : Contents) (all : List Operation) (n : ℕ) → all ≡ timeline view.initial view.operations → n < length view.initial
     → AreCalledIn (take n all) (take n view.initial)
-called_in_front view all n is few = λ v.
-    let later = map (later_by ORIGIN) view.operations in
-    let many = length_enqueues (ORIGIN - length view.initial) view.initial in
-    ap (λ os. is_called_in (take n os) v) is
-    ∙ ap (λ os. is_called_in os v) (take-append-le n (initial_enqueues view.initial) later (omega arith) ∙ take_enqueues _ n view.initial)
-    ∙ called_in_enqueues _ (take n view.initial) v
+called_in_front view all n is few = grind (arith, length_enqueues, take-append-le, take_enqueues, called_in_enqueues)
 
 -- those of what a builder has
 pub called_so_far : (initial : List ℕ) (events : List Event) (view same : Contents) (all : List Operation) → all ≡ timeline view.initial view.operations
     → view ≡ same → same.initial ≡ initial → same.operations ≡ operations_so_far events → AreCalledIn all (initial ++ called_values events)
-called_so_far initial events view same all is are initial_is operations_are =
-    subst (λ os. AreCalledIn os (initial ++ called_values events))
-    (sym (is ∙ ap (λ (v : Contents). timeline v.initial v.operations) are ∙ ap (λ values. timeline values same.operations) initial_is))
-    (called_in_timeline initial events same.operations operations_are)
+called_so_far initial events view same all is are initial_is operations_are = grind (arith, called_in_timeline)

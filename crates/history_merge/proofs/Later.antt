@@ -17,8 +17,7 @@ map_map f g (x ∷ xs) = ap (λ zs. g (f x) ∷ zs) (map_map f g xs)
 
 -- what comes later and then earlier is as it was
 pub all_back : (n : ℕ) (operations : List Operation) → map (earlier_by n) (map (later_by n) operations) ≡ operations
-all_back n operations =
-    map_map (later_by n) (earlier_by n) operations ∙ map_fixed (λ o. earlier_by n (later_by n o)) operations (λ k d below. there_and_back n _)
+all_back n operations = grind (arith, map_map, map_fixed, there_and_back)
 
 -- operations that are the same when moved were the same
 pub later_injective : (n : ℕ) (xs ys : List Operation) → map (later_by n) xs ≡ map (later_by n) ys → xs ≡ ys
@@ -66,7 +65,4 @@ legal_earlier n queue operations found legal = (
 
 -- no later at all
 pub not_later : (operations : List Operation) → map (later_by 0) operations ≡ operations
-not_later operations = map_fixed (later_by 0) operations (λ k d below. same _)
-  where
-    same : (o : Operation) → later_by 0 o ≡ o
-    same o = grind arith
+not_later operations = grind (arith, map_fixed)

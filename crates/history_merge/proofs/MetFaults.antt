@@ -1,6 +1,6 @@
 -- The faults of events to which more are added.
 use Rattle.history_merge.proofs.Common.{[], ◌++◌, ◌∙◌, ◌∷◌, ◌≡◌, ◌⊎◌, append-nil, AreDistinct, arith, CalledValues}
-use Rattle.history_merge.proofs.Common.{common_steps, Event, fault_at, Forming, Gathering, gets, HasFormed}
+use Rattle.history_merge.proofs.Common.{common_steps, Event, fault_at, Forming, Gathering, gets, HasFormed, rules}
 use Rattle.history_merge.proofs.Common.{HasGathered, HasMetFault, HasRefusedInitial, HistoryFault, IfErr, IfOk}
 use Rattle.history_merge.proofs.Common.{IfSome, inl, inr, is_some, IsClash, IsErrAnd, IsFirstFault, IsForming}
 use Rattle.history_merge.proofs.Common.{IsRunOf, Knows, length, MatchOption, MatchOption-at_none, MatchOption-at_some}
@@ -54,14 +54,8 @@ pub met_fault-push : (initial : List ℕ) (events : List Event) (e : Event) (fau
     → NoFaultBefore initial events (length events) → (fault ≡ Memory) ⊎ (fault_at initial events (length events) e ≡ Some fault)
     → HasMetFault initial (events ++ e ∷ []) fault
 met_fault-push initial events e fault distinct none (inl memory) = inl (inl memory)
-met_fault-push initial events e fault distinct none (inr found) = inr (
-  length events,
-  (
-    distinct,
-    no_fault-append initial events (e ∷ []) (length events) (omega arith) none,
-    (e, slice_get-append_seam events e, rw take-append_seam found),
-  ),
-)
+met_fault-push initial events e fault distinct none (inr found) =
+    grind (arith, no_fault-append, slice_get-append_seam, take-append_seam)
 
 -- a fault that was met is the first, at the end too
 pub met_fault_is_first : (initial : List ℕ) (events : List Event) (fault : HistoryFault) → HasMetFault initial events fault → IsFirstFault initial events fault
@@ -120,21 +114,4 @@ pub begun : (g : Gathering) (initial : List ℕ) (called : CalledValues) (r : Re
     → HasFormed [] g.forming → g.count ≡ 0 → g.forming.timeline.initial ≡ initial → g.called ≡ called → g.fault ≡ result_err r
     → IfOk r (λ _. Knows initial called × AreDistinct initial) → IfErr r (HasRefusedInitial initial) → IfSome g.clash (IsClash initial [])
     → HasGathered initial [] g
-begun g initial called r few formed count is same fault noted refused clash = record {
-  few_initial = few;
-  few = omega arith;
-  gathered = subst (λ f. MatchOption f (IsForming initial [] g) (HasMetFault initial [])) (sym fault) (by_result r noted refused);
-  clash = clash;
-}
-  where
-    by_result : (r : Result (Unit {0}) HistoryFault) → IfOk r (λ _. Knows initial called × AreDistinct initial) → IfErr r (HasRefusedInitial initial)
-        → MatchOption (result_err r) (IsForming initial [] g) (HasMetFault initial [])
-    by_result (Err f) noted' refused' = inl refused'
-    by_result (Ok t) noted' refused' = record {
-      initial_is = is;
-      distinct = noted'.1;
-      called = subst (λ values. Knows values g.called) (sym (append-nil initial)) (subst (Knows initial) (sym same) noted'.0);
-      formed = formed;
-      count = count;
-      no_fault = λ i e below. absurd (omega arith);
-    }
+begun g initial called r few formed count is same fault noted refused clash = search (rules, append-nil)

@@ -10,10 +10,7 @@ use Rattle.history_merge.proofs.DistinctValues.{twice_before, twice_not_distinct
 
 -- there is one least ticket
 pub one_least : (events : List Event) (t u : ℕ) → IsLeastPending events t → IsLeastPending events u → t ≡ u
-one_least events t u least_t least_u =
-    let a = least_t.0 in
-    let b = least_u.0 in
-    omega (arith, least_t.1 b.0 b.1 b.2, least_u.1 a.0 a.1 a.2, a.3, b.3)
+one_least events t u least_t least_u = grind (arith)
 
 -- what holds of each first fault of an event, of a pending call and of an initial value holds of each that isn't out of memory
 by_first : (P : HistoryFault → Type 0) (initial : List ℕ) (events : List Event) → ((i : ℕ) (f : HistoryFault) → IsFirstFaultAt initial events i f → P f)
@@ -35,18 +32,11 @@ not_among initial events i fault at none = not_before initial events i (length e
 -- the fault at one place is one
 one_here : (initial : List ℕ) (events : List Event) (i : ℕ) (f g : HistoryFault) → IsFirstFaultAt initial events i f
     → IsFirstFaultAt initial events i g → f ≡ g
-one_here initial events i f g at_f at_g =
-    let same = one_at events i at_g.2.0 at_f.2.0 at_g.2.1 at_f.2.1 in
-    let found : fault_at initial (take i events) i at_f.2.0 ≡ Some g = subst (λ e. fault_at initial (take i events) i e ≡ Some g) same at_g.2.2 in
-    let other = at_f.2.2 in cc
+one_here initial events i f g at_f at_g = grind (arith, one_at)
 
 one_place : (initial : List ℕ) (events : List Event) (i j : ℕ) (f g : HistoryFault) → IsFirstFaultAt initial events i f
     → IsFirstFaultAt initial events j g → f ≡ g
-one_place initial events i j f g at_f at_g = elim (cases_order i j) [
-  | inl same ↦ one_here initial events j f g (subst (λ k. IsFirstFaultAt initial events k f) same at_f) at_g
-  | inr (inl earlier) ↦ absurd (not_before initial events i j f at_f at_g.1 earlier)
-  | inr (inr later) ↦ absurd (not_before initial events j i g at_g at_f.1 later)
-]
+one_place initial events i j f g at_f at_g = grind (arith, cases_order, one_here, not_before)
 
 -- there is one first place of a value that stands twice
 one_twice : (initial : List ℕ) (j k : ℕ) → IsFirstTwice initial j → IsFirstTwice initial k → j ≡ k

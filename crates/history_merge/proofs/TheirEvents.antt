@@ -5,7 +5,7 @@ use Rattle.history_merge.proofs.Common.{comes_by_ticket, cond, count_by, drop, d
 use Rattle.history_merge.proofs.Common.{events_of, false≢true, FollowsInTurn, get_or-set_other, get_or-set_same}
 use Rattle.history_merge.proofs.Common.{get_or-take, get_or_past, IfSome, inl, inr, is_call, IsFirstDue, IsRunOf}
 use Rattle.history_merge.proofs.Common.{leb-true, length, length-replicate, length-set, lt-ltb, MAX_THREAD}
-use Rattle.history_merge.proofs.Common.{maybe_return, nat_eq, nat_tests, next_of, None, not, Operation}
+use Rattle.history_merge.proofs.Common.{maybe_return, nat_eq, nat_tests, next_of, None, not, Operation, common_steps}
 use Rattle.history_merge.proofs.Common.{operation_so_far, operations_so_far, Option, option_and_then, projection}
 use Rattle.history_merge.proofs.Common.{put_by_ticket, put_each, put_maybe, refl, replicate, return_event, set}
 use Rattle.history_merge.proofs.Common.{set-get_or, slice_get, Some, subst, suc, sum_by-cons, sym, take, TakesTurns}
@@ -144,8 +144,7 @@ some_within due k f at = grind (arith, get_or_past)
 -- what is due is so of its thread
 due_at : (events : List Event) (by_call : List Operation) (due : List (Option Event)) (k : ℕ) (f : Event) → AreLeft events by_call due
     → get_or due k None ≡ Some f → due_in k events ≡ Some f
-due_at events by_call due k f left at =
-    let within = some_within due k f at in sym (left.due k (omega (arith, within, left.one_per_thread))) ∙ at
+due_at events by_call due k f left at = grind (arith, some_within)
 
 -- after its first event
 step : (e : Event) (later : List Event) (by_call : List Operation) (due : List (Option Event)) → AreLeft (e ∷ later) by_call due
@@ -178,8 +177,7 @@ none_due_after e later turns returns = grind (arith, turns.0)
 -- if a return comes first it is due
 due_first : (e : Event) (later : List Event) (by_call : List Operation) (due : List (Option Event)) → AreLeft (e ∷ later) by_call due
     → is_call e.what ≡ false → get_or due e.thread None ≡ Some e
-due_first e later by_call due left returns =
-    left.due e.thread (thread_within e later by_call due left) ∙ rw (next_own e later, returns) refl
+due_first e later by_call due left returns = grind (arith, thread_within, next_own)
 
 -- if a call comes first, what is due comes later
 due_later : (e : Event) (later : List Event) (by_call : List Operation) (due : List (Option Event)) (k : ℕ) (f : Event)
@@ -244,8 +242,7 @@ told_call e later by_call due left call more =
 -- the operations and the returns that are due tell what is left
 pub told : (events : List Event) (by_call : List Operation) (due : List (Option Event)) → AreLeft events by_call due
     → put_each due (events_of by_call) ≡ events
-told [] by_call due left = ap (λ os. put_each due (events_of os)) left.calls
-    ∙ put_none due [] (λ k. grind (arith, get_or_past due k None, left.due k, left.one_per_thread))
+told [] by_call due left = grind (arith, put_none, get_or_past)
 told (e ∷ later) by_call due left =
     let more = told later (operations_so_far later) (set due e.thread (due_in e.thread later)) (step e later by_call due left) in
     elim (cases_Bool (is_call e.what)) [
@@ -331,8 +328,7 @@ pub record GivesReturn (events : List Event) (r : Event) (by_call : List Operati
 pub gives_return : (events : List Event) (by_call : List Operation) (due : List (Option Event)) (r : Event) → AreLeft events by_call due
     → IsFirstOfAll due (Some r) → ((o : Operation) (rest : List Operation) → by_call ≡ o ∷ rest → comes_by_ticket (Some r) o.call ≡ true)
     → GivesReturn events r by_call due
-gives_return [] by_call due r left first by =
-    let k = first.0 in let some = due_at [] by_call due k.0 r left k.1 in cc
+gives_return [] by_call due r left first by = grind (arith, nat_tests, common_steps, due_at)
 gives_return (e ∷ later) by_call due r left first by = pick (is_call e.what) refl
   where
     k : (n : ℕ) × (get_or due n None ≡ Some r)
@@ -371,8 +367,7 @@ gives_nothing (e ∷ later) by_call due left none by = pick (is_call e.what) ref
 -- what is left after a call, by the number of its thread and its return
 pub left_after_call : (events : List Event) (o : Operation) (rest : List Operation) (due : List (Option Event)) (given : GivesCall events o rest due)
     (t : ℕ) (p : Option Event) → t ≡ o.thread → p ≡ maybe_return o → AreLeft given.later rest (set due t p)
-left_after_call events o rest due given t p own returned =
-    subst (λ q. AreLeft given.later rest (set due t q)) (sym returned) (subst (λ n. AreLeft given.later rest (set due n (maybe_return o))) (sym own) given.left)
+left_after_call events o rest due given t p own returned = grind (arith)
 
 -- the same after a return
 pub left_after_return : (events : List Event) (r : Event) (by_call : List Operation) (due : List (Option Event)) (given : GivesReturn events r by_call due)
@@ -390,10 +385,7 @@ pub still_none : (due : List (Option Event)) (n t k : ℕ) (p : Option Event) �
 still_none due n t k p none past apart = rw (get_or-set_other due t k p None apart) (none k past)
 
 pub stays_none : (due : List (Option Event)) (t k : ℕ) → get_or due k None ≡ None → get_or (set due t None) k None ≡ None
-stays_none due t k none = elim (cases_eq k t) [
-  | inl same ↦ rw (set_none due t (rw same at none)) none
-  | inr other ↦ rw (get_or-set_other due t k None None other) none
-]
+stays_none due t k none = grind (arith, cases_eq, set_none, get_or-set_other)
 
 -- ---- how many there are
 
@@ -408,8 +400,7 @@ has_returned o = not (nat_eq o.ret 0)
 -- a call for each operation, and a return for each that isn't pending
 pub length-events_of : (operations : List Operation) → length (events_of operations) ≡ length operations + count_by has_returned operations
 length-events_of [] = refl
-length-events_of (o ∷ later) =
-    grind (arith, sum_by-cons (λ x. cond (has_returned x) 1 0) o later, length-put (return_event o) (events_of later), length-events_of later)
+length-events_of (o ∷ later) = grind (arith, nat_tests, common_steps, sum_by-cons, length-put, length-events_of later)
 
 -- ---- which events threads make
 
@@ -465,8 +456,7 @@ run_of events rise threads turns = assumption (in_turn [] events turns, none_due
 -- at the beginning all of them are left, and none is due
 pub all_left : (events : List Event) (operations : List Operation) (due : List (Option Event)) → IsRunOf events operations
     → length due ≡ MAX_THREAD + 1 → ((k : ℕ) → get_or due k None ≡ None) → AreLeft events operations due
-all_left events operations due is long none =
-    record { run = is.run; calls = is.calls; one_per_thread = long; due = λ thread within. none thread ∙ sym (is.begins thread) }
+all_left events operations due is long none = grind (arith)
 
 -- the operations of a run tell its events
 pub told_of_run : (events : List Event) (operations : List Operation) → IsRunOf events operations → events_of operations ≡ events

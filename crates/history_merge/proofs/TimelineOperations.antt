@@ -5,7 +5,7 @@ use Rattle.history_merge.proofs.Common.{later_by, length, length-map, map-append
 use Rattle.history_merge.proofs.Common.{nil_from_length, None, OnErr, OnOk, Operation, operations_on, OpKind, Option}
 use Rattle.history_merge.proofs.Common.{option_map, ORIGIN, refl, set, set-append_right, slice_get, slice_get-map}
 use Rattle.history_merge.proofs.Common.{Some, subst, suc, sym, take, take_more, timeline, ◌++◌, ◌+◌, ◌-◌, ◌==◌, ◌∙◌}
-use Rattle.history_merge.proofs.Common.{◌∷◌, ◌≡◌, ◌⊎◌}
+use Rattle.history_merge.proofs.Common.{◌∷◌, ◌≡◌, ◌⊎◌, common_steps}
 use Rattle.std.proofs.Common.{true, ℕ, ◌<◌, ◌≤◌, List, get_or, map, append_assoc, length-take-le, Result, Ok, Err}
 use Rattle.std.proofs.lemmas.List.{length-append}
 use Rattle.history_merge.proofs.Later.{all_back}
@@ -21,25 +21,17 @@ length_enqueues n (v ∷ rest) = ap suc (length_enqueues (n + 1) rest)
 
 -- and all operations
 pub length_timeline : (initial : List ℕ) (operations : List Operation) → length (timeline initial operations) ≡ length initial + length operations
-length_timeline initial operations =
-    let front = length_enqueues (ORIGIN - length initial) initial in
-    let both = length-append (initial_enqueues initial) (map (later_by ORIGIN) operations) in
-    let behind : length (map (later_by ORIGIN) operations) ≡ length operations = simp length-map in
-    omega arith
+length_timeline initial operations = grind (arith, length_enqueues, length-append, length-map)
 
 -- behind the enqueues stand the operations, later
 pub behind_enqueues : (initial : List ℕ) (all operations : List Operation) → all ≡ timeline initial operations
     → drop (length initial) all ≡ map (later_by ORIGIN) operations
-behind_enqueues initial all operations is =
-    let many = length_enqueues (ORIGIN - length initial) initial in
-    ap (drop (length initial)) is ∙ ap (λ n. drop n (timeline initial operations)) (sym many)
-    ∙ drop-append_seam (initial_enqueues initial) (map (later_by ORIGIN) operations)
+behind_enqueues initial all operations is = grind (arith, length_enqueues, drop-append_seam)
 
 -- which are there by their tickets
 pub operations_back : (initial : List ℕ) (all operations : List Operation) → all ≡ timeline initial operations
     → operations_on (length initial) all ≡ operations
-operations_back initial all operations is =
-    ap (map (earlier_by ORIGIN)) (behind_enqueues initial all operations is) ∙ all_back ORIGIN operations
+operations_back initial all operations is = grind (arith, behind_enqueues, all_back)
 
 -- none of them comes before the first ticket
 pub all_late : (n : ℕ) (operations late : List Operation) → late ≡ map (later_by n) operations → All (λ o. (n ≤ o.call) × (n ≤ o.ret)) late
@@ -56,25 +48,17 @@ is_timeline initial all operations few is = record { few = few; is = is ∙ ap (
 enqueues_push : (time : ℕ) (values : List ℕ) (v : ℕ)
     → enqueues_from time (values ++ v ∷ []) ≡ enqueues_from time values ++ enqueue_at (time + length values) v ∷ []
 enqueues_push time [] v = ap (λ n. enqueue_at n v ∷ []) (let same : time ≡ time + 0 = omega arith in same)
-enqueues_push time (w ∷ values) v =
-    let same : time + 1 + length values ≡ time + length (w ∷ values) = omega arith in
-    let rest = enqueues_push (time + 1) values v in
-    ap (λ os. enqueue_at time w ∷ os) (rest ∙ ap (λ n. enqueues_from (time + 1) values ++ enqueue_at n v ∷ []) same)
+enqueues_push time (w ∷ values) v = grind (arith, enqueues_push (time + 1) values v)
 
 -- one value more
 pub enqueues_more : (time : ℕ) (values : List ℕ) (i : ℕ) → i < length values
     → enqueues_from time (take (i + 1) values) ≡ enqueues_from time (take i values) ++ enqueue_at (time + i) (get_or values i 0) ∷ []
-enqueues_more time values i below =
-    let long = length-take-le i values (omega arith) in
-    ap (enqueues_from time) (take_more values i 0 below) ∙ enqueues_push time (take i values) (get_or values i 0)
-    ∙ ap (λ n. enqueues_from time (take i values) ++ enqueue_at (time + n) (get_or values i 0) ∷ []) long
+enqueues_more time values i below = grind (arith, nat_tests, common_steps, length-take-le, take_more, enqueues_push)
 
 -- one operation more
 pub timeline_push : (initial : List ℕ) (operations : List Operation) (o : Operation)
     → timeline initial operations ++ later_by ORIGIN o ∷ [] ≡ timeline initial (operations ++ o ∷ [])
-timeline_push initial operations o =
-    append_assoc (initial_enqueues initial) (map (later_by ORIGIN) operations) (later_by ORIGIN o ∷ [])
-    ∙ ap (λ os. initial_enqueues initial ++ os) (sym (map-append (later_by ORIGIN) operations (o ∷ [])))
+timeline_push initial operations o = grind (arith, append_assoc, map-append)
 
 -- another operation in the place of one
 pub timeline_set : (initial : List ℕ) (operations : List Operation) (place : ℕ) (o : Operation)
@@ -89,12 +73,7 @@ timeline_set initial operations place o =
 -- an operation behind the enqueues is one of the operations, later
 pub later_at : (n : ℕ) (operations : List Operation) (place : ℕ) (later : Operation) → slice_get (map (later_by n) operations) place ≡ Some later
     → (o : Operation) × (slice_get operations place ≡ Some o) × (later_by n o ≡ later)
-later_at n operations place later at = pick (slice_get operations place) refl (sym (slice_get-map (later_by n) operations place) ∙ at)
-  where
-    pick : (o : Option Operation) → slice_get operations place ≡ o → option_map (later_by n) o ≡ Some later
-        → (o : Operation) × (slice_get operations place ≡ Some o) × (later_by n o ≡ later)
-    pick None is found = cc
-    pick (Some o) is found = (o, is, cc)
+later_at n operations place later at = grind (arith, slice_get-map)
 
 -- ---- what is pushed and completed
 

@@ -106,8 +106,7 @@ fits_in_turns [] e [] turns = elim turns [ ]
 fits_in_turns [] e (answer ∷ later) turns = answered_is_call e.what answer.what turns.0
 fits_in_turns (call ∷ []) e later turns = let called : is_call call.what ≡ true = answered_is_call call.what e.what turns.0 in rw called turns.0
 fits_in_turns (call ∷ answer ∷ before) e later turns =
-    let same = pending_in-pair call answer before (answer_is_return call.what answer.what turns.0) in
-    subst (λ pending. FitsTurn pending e) (sym same) (fits_in_turns before e later turns.1)
+    grind (arith, pending_in-pair, answer_is_return, fits_in_turns before e later turns.1)
 
 TakesTurns-append : (events later : List Event) → TakesTurns events → TakesTurns later → TakesTurns (events ++ later)
 TakesTurns-append [] later turns more = more
