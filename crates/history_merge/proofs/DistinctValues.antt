@@ -4,8 +4,8 @@ use Rattle.history_merge.proofs.Common.{[], all_pairs_push, Any-from_list_any, a
 use Rattle.history_merge.proofs.Common.{called_value, called_values, calls_initial, cases_lt, cons_option, Contains}
 use Rattle.history_merge.proofs.Common.{drop, eq-eqb, eqb-true, Event, false_from_ne_true, false≢true}
 use Rattle.history_merge.proofs.Common.{filter_map-append, get_or-append_seam, get_or-take, get_or_append_left}
-use Rattle.history_merge.proofs.Common.{get_or_default, get_or_from_slice_get, HasRefusedInitial, InitialTwice, inl}
-use Rattle.history_merge.proofs.Common.{inr, is_initial, IsCompleteFrom, IsFirstTwice, length, length-take, list_any}
+use Rattle.history_merge.proofs.Common.{get_or_default, get_or_from_slice_get, HasRefusedInitial, InitialTwice}
+use Rattle.history_merge.proofs.Common.{is_initial, IsCompleteFrom, IsFirstTwice, length, length-take, list_any}
 use Rattle.history_merge.proofs.Common.{list_any-append, list_any_at, nat_eq, None, Option, option_map_or, or_comm}
 use Rattle.history_merge.proofs.Common.{refl, repeats_value, same_Some, slice_get, slice_get_within, Some, split_at}
 use Rattle.history_merge.proofs.Common.{subst, suc, sym, take, was_called, zero, ◌++◌, ◌+◌, ◌||◌, ◌∙◌, ◌∷◌, ◌≡◌, ◌≢◌}

@@ -1,5 +1,5 @@
 -- A list of events is a complete history if and only if it has no fault.
-use Rattle.history_merge.proofs.Common.{[], ⊤, ◌++◌, ◌+◌, ◌||◌, ◌↔◌, ◌∙◌, ◌∷◌, ◌≡◌, All, All-contains, All-nil}
+use Rattle.history_merge.proofs.Common.{[], ⊤, ◌++◌, ◌||◌, ◌↔◌, ◌∷◌, ◌≡◌, All, All-contains, All-nil}
 use Rattle.history_merge.proofs.Common.{All-push, all_pairs_push, append-nil, AreDistinct, arith, BadThread}
 use Rattle.history_merge.proofs.Common.{called_values, CallEnq, calls_initial, CallWhilePending, cases_lt, Contains}
 use Rattle.history_merge.proofs.Common.{Contains-append_right, drop, DuplicateValue, eqb_tells, Event, fault_at}

@@ -2,11 +2,11 @@
 use Rattle.history_merge.proofs.Common.{[], ap, AreCalledIn, arith, Bool, called_value, called_values, CalledValues}
 use Rattle.history_merge.proofs.Common.{calls_initial, cond, cons_option, contains, Contents, enqueue_at}
 use Rattle.history_merge.proofs.Common.{enqueued_value, enqueues_from, eqb-true, Event, filter_map-append}
-use Rattle.history_merge.proofs.Common.{initial_enqueues, inl, inr, is_among, is_called_in, is_eq, is_initial, Knows}
+use Rattle.history_merge.proofs.Common.{initial_enqueues, is_among, is_called_in, is_eq, is_initial, Knows}
 use Rattle.history_merge.proofs.Common.{later_by, length, list_any-append, LOOSE, name_in, nat_cmp, nat_eq, nat_tests}
 use Rattle.history_merge.proofs.Common.{not, Operation, operations_so_far, option_map_or, or_cases, or_comm, ORIGIN}
-use Rattle.history_merge.proofs.Common.{refl, repeats_value, subst, suc, sym, take, take-append-le, timeline}
-use Rattle.history_merge.proofs.Common.{was_called, zero, ◌++◌, ◌+◌, ◌-◌, ◌||◌, ◌∙◌, ◌∷◌, ◌≡◌}
+use Rattle.history_merge.proofs.Common.{refl, repeats_value, suc, sym, take, take-append-le, timeline}
+use Rattle.history_merge.proofs.Common.{was_called, zero, ◌++◌, ◌+◌, ◌||◌, ◌∙◌, ◌∷◌, ◌≡◌}
 use Rattle.std.proofs.Common.{ℕ, true, false, List, get_or, append_assoc}
 use Rattle.std.specs.Prelude.{map, ◌<◌}
 use Rattle.history_merge.proofs.DistinctValues.{known_is}

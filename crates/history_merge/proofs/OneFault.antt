@@ -1,8 +1,8 @@
 -- Initial values and events have one first fault.
-use Rattle.history_merge.proofs.Common.{◌∙◌, ◌≡◌, ◌≢◌, ap, arith, cases_order, Event, fault_at, HistoryFault}
+use Rattle.history_merge.proofs.Common.{◌∙◌, ◌≡◌, ◌≢◌, ap, arith, cases_order, Event, HistoryFault}
 use Rattle.history_merge.proofs.Common.{InitialTwice, inl, inr, IsFirstFault, IsFirstFaultAt, IsFirstTwice}
 use Rattle.history_merge.proofs.Common.{IsLeastPending, length, Memory, NoFaultBefore, none-some, Pending, refl}
-use Rattle.history_merge.proofs.Common.{slice_get_within, Some, subst, sym, take}
+use Rattle.history_merge.proofs.Common.{slice_get_within, sym}
 use Rattle.std.proofs.Common.{ℕ, ◌<◌, List}
 use Rattle.history_merge.proofs.Distinct.{one_at}
 use Rattle.history_merge.proofs.ExactFaults.{by_kind}

@@ -1,9 +1,9 @@
 -- How many operations a timeline has, which they are by their tickets, and one more of them.
-use Rattle.history_merge.proofs.Common.{[], All, All-map, ap, arith, drop, drop-append_seam, earlier_by, enqueue_at}
+use Rattle.history_merge.proofs.Common.{[], All, All-map, ap, arith, drop, drop-append_seam, enqueue_at}
 use Rattle.history_merge.proofs.Common.{enqueues_from, get_or-drop, get_or-map, initial_enqueues, inl, inr, IsTimeline}
 use Rattle.history_merge.proofs.Common.{later_by, length, length-map, map-append, map-set, MAX_INITIAL, nat_tests}
-use Rattle.history_merge.proofs.Common.{nil_from_length, None, OnErr, OnOk, Operation, operations_on, OpKind, Option}
-use Rattle.history_merge.proofs.Common.{option_map, ORIGIN, refl, set, set-append_right, slice_get, slice_get-map}
+use Rattle.history_merge.proofs.Common.{nil_from_length, OnErr, OnOk, Operation, operations_on, OpKind}
+use Rattle.history_merge.proofs.Common.{ORIGIN, refl, set, set-append_right, slice_get, slice_get-map}
 use Rattle.history_merge.proofs.Common.{Some, subst, suc, sym, take, take_more, timeline, ◌++◌, ◌+◌, ◌-◌, ◌==◌, ◌∙◌}
 use Rattle.history_merge.proofs.Common.{◌∷◌, ◌≡◌, ◌⊎◌, common_steps}
 use Rattle.std.proofs.Common.{true, ℕ, ◌<◌, ◌≤◌, List, get_or, map, append_assoc, length-take-le, Result, Ok, Err}

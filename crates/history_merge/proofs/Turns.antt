@@ -3,7 +3,7 @@ use Rattle.history_merge.proofs.Common.{[], ◌++◌, ◌+◌, ◌∙◌, ◌∷
 use Rattle.history_merge.proofs.Common.{append-nil, arith, CallEnq, cases_lt, eq-eqb, Event, filter-append, FitsTurn}
 use Rattle.history_merge.proofs.Common.{inl, inr, is_call, IsLeastPending, last_or, MatchOption, MAX_THREAD, nat_eq}
 use Rattle.history_merge.proofs.Common.{nat_tests, None, NothingPending, Option, option_and_then, pending_call}
-use Rattle.history_merge.proofs.Common.{projection, refl, RetEmpty, RetEnq, Some, subst, sym, TakesTurns, then_some}
+use Rattle.history_merge.proofs.Common.{projection, refl, RetEmpty, RetEnq, Some, sym, TakesTurns, then_some}
 use Rattle.history_merge.proofs.Common.{What}
 use Rattle.std.proofs.Common.{ℕ, ◌≤◌, ◌<◌, false, List}
 use Rattle.std.proofs.Common.{true, append_assoc}

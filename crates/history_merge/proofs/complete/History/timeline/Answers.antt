@@ -19,6 +19,5 @@ returns-clause-few c =
     let own = c.self.inside.timeline.operations in
     let many = length_timeline initial own in
     let half = few_operations (events_of own) in
-    let same = ap length c.all.ensures.timeline in
     let formed = ap length kept.formed in
-    omega (arith, many, half, same, formed, kept.few_events, c.all.ensures.few)
+    grind arith

@@ -1,5 +1,5 @@
 use Rattle.history_merge.proofs.Common.{◌∙◌, ◌≡◌, Empty, get_or_from_slice_get, inr, None, Operation, Option, refl}
-use Rattle.history_merge.proofs.Common.{slice_get-get_or, slice_get_within, Some, sym}
+use Rattle.history_merge.proofs.Common.{slice_get-get_or, slice_get_within, Some, sym, arith}
 use Rattle.std.proofs.Common.{get_or}
 use Rattle.history_merge.proofs.Formed.{formed_after_answer, inside_at, wrong_return}
 use Rattle.history_merge.proofs.forming.Forming.answer.Goals as goal
@@ -13,8 +13,7 @@ returns-in_default-get-clause-taken c = λ initial events known order returns.
     c.in_default-get.ensures ∙ there in cc)
 
 pub complete-requires-clause-place : goal.complete-requires-clause-place
-complete-requires-clause-place c =
-    slice_get_within c.args.self.now.timeline.operations c.in-Some.called c.in-Some-get.operation (sym c.in-Some-get.ensures)
+complete-requires-clause-place c = grind (arith, slice_get_within)
 
 pub returns-in_default-kind_of-clause-taken : goal.returns-in_default-kind_of-clause-taken
 returns-in_default-kind_of-clause-taken c = λ initial events known order returns.
