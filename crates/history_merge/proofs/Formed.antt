@@ -239,8 +239,7 @@ pub wrong_return : (initial : List ℕ) (events : List Event) (n : ℕ) (e : Eve
     → fault_at initial events n e ≡ Some (WrongReturn n)
 wrong_return initial events n e old place o d order below returns known is found none =
     let answer = answer_of events e old place o d below known is found in
-    let none' : kind_of answer.at.call.what e.what ≡ None = rw answer.called at none in
-    fault_of_return initial events n e order below returns ∙ rw (answer.at.pending, kind_tells answer.at.call.what e.what, none') refl
+    grind (arith, fault_of_return, kind_tells)
 
 -- one more return, which is
 pub formed_after_answer : (initial : List ℕ) (events : List Event) (n : ℕ) (e : Event) (old new : Forming) (place : ℕ) (o d : Operation) (kind : OpKind)

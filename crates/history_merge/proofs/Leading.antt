@@ -138,8 +138,7 @@ Enqueue (v ∷ values) (x ∷ leading) = (x.kind ≡ Enq v) × Enqueue values le
 pub enqueues_begin : (queue values : List ℕ) (leading others order : List Operation) → Enqueue values leading → LeadAll leading others
     → IsLegalOrder queue (leading ++ others) order
     → (rest : List Operation) × (order ≡ leading ++ rest) × IsLegalOrder (queue ++ values) others rest
-enqueues_begin queue [] [] others order kinds lead legal =
-    (order, refl, subst (λ q. IsLegalOrder q others order) (sym (append-nil queue)) legal)
+enqueues_begin queue [] [] others order kinds lead legal = grind (arith, append-nil)
 enqueues_begin queue [] (x ∷ leading) others order kinds lead legal = absurd kinds
 enqueues_begin queue (v ∷ values) [] others order kinds lead legal = absurd kinds
 enqueues_begin queue (v ∷ values) (x ∷ leading) others order kinds lead legal =

@@ -196,9 +196,7 @@ told_return e later by_call due left returns more =
   where
     apart : AreApart e (set due e.thread None)
     apart k f here = elim (eqb_tells e.thread k) [
-      | inl own ↦
-          let inside : k < length due = (let within = some_within (set due e.thread None) k f here in rw length-set at within) in
-          let gone : ◌≡◌ {A = Option Event} None (Some f) = rw (own.1, get_or-set_same due k None None inside) at here in cc
+      | inl own ↦ grind (arith, some_within, length-set, get_or-set_same)
       | inr other ↦
           let at = rw (get_or-set_other due e.thread k None None (λ same. other.1 (sym same))) at here in
           let is = due_is k (e ∷ later) f (due_at (e ∷ later) by_call due k f left at) in
@@ -265,17 +263,7 @@ first_of_all due n None within first none = λ k. elim (cases_lt k n) [
   | inl below ↦ sym (get_or-take n due k None below) ∙ first k (rw (length-take-le n due within) below)
   | inr above ↦ none k above
 ]
-first_of_all due n (Some e) within first none = (
-  (let k = first.0 in
-      let below : k.0 < n = rw (length-take-le n due within) at k.1 in (k.0, sym (get_or-take n due k.0 None below) ∙ k.2)),
-  least,
-)
-  where
-    least : (k : ℕ) (r : Event) → get_or due k None ≡ Some r → e.ticket ≤ r.ticket
-    least k r at = elim (cases_lt k n) [
-      | inl below ↦ first.1 k r (rw (length-take-le n due within) below) (get_or-take n due k None below ∙ at)
-      | inr above ↦ let nothing = none k above in cc
-    ]
+first_of_all due n (Some e) within first none = grind (arith, length-take-le, get_or-take, cases_lt)
 
 -- the calls of the operations are among the events
 first_call_above : (later : List Event) (t : ℕ) (o : Operation) (rest : List Operation) → All (λ x. t < x.ticket) later

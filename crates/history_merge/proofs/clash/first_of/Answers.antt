@@ -1,4 +1,4 @@
-use Rattle.history_merge.proofs.Common.{arith}
+use Rattle.history_merge.proofs.Common.{arith, nat_tests, common_steps}
 use Rattle.history_merge.proofs.Clashes.{not_met, searched_first, searched_more, searched_nothing}
 use Rattle.history_merge.proofs.clash.first_of.Goals as goal
 
@@ -6,9 +6,7 @@ pub loop-event-init : goal.loop-event-init
 loop-event-init c = λ few. rw c.into_iter-event-iterator.ensures.into_iter_gives (searched_nothing c.args.events c.args.sought)
 
 pub loop-event-preserved : goal.loop-event-preserved
-loop-event-preserved c = λ few. searched_more c.args.events c.loop-event.event-iterator c.next.new.self c.args.sought c.loop-event.place
-    c.saturating_add-place.result c.in-Some.event c.in-Some.ensures.steps (λ small. omega (arith, small, c.saturating_add-place.ensures))
-    (not_met c.is_met_by.result c.if-is_met_by.false c.is_met_by.ensures.1) c.loop-event.invariant few
+loop-event-preserved c = grind (arith, nat_tests, common_steps, searched_more, not_met)
 
 pub returns-then-is_met_by : goal.returns-then-is_met_by
 returns-then-is_met_by c = λ few. searched_first c.args.events c.loop-event.event-iterator c.next.new.self c.args.sought c.loop-event.place
