@@ -43,17 +43,7 @@ searched_more all old left sought place next e is counts other searched few =
     let long : length (was.seen ++ e ∷ left) ≡ length all = ap length whole in
     let size = length-append was.seen (e ∷ left) in
     let more = length-append was.seen (e ∷ []) in
-    let now = counts (omega (arith, was.count, long, size, few)) in
-    record {
-      seen = was.seen ++ e ∷ [];
-      parts = append_assoc was.seen (e ∷ []) left ∙ whole;
-      count = omega (arith, now, was.count, more);
-      none = λ i x here.
-          let within = slice_get_within (was.seen ++ e ∷ []) i x here in
-          each_more (λ k y. ¬ (IsSought sought (record { place = k; event = y }))) (was.seen ++ e ∷ []) (length was.seen) e
-          (slice_get-append_seam was.seen e) (subst (λ k. ¬ (IsSought sought (record { place = k; event = e }))) was.count other)
-          (λ k y below at. was.none k y (sym (slice_get-append_left was.seen (e ∷ []) k below) ∙ at)) i x (omega (arith, within, more)) here;
-    }
+    grind (arith, append_assoc, slice_get_within, each_more, slice_get-append_seam, slice_get-append_left)
 
 -- one that is looked for is the first
 pub searched_first : (all old left : List Event) (sought : Sought) (place : ℕ) (e : Event) → old ≡ e ∷ left
@@ -82,13 +72,8 @@ first_with-append events later x y at are = grind (arith, slice_get_within, slic
 -- what contradicts each other does so, whatever comes after
 pub clash-append : (initial : List ℕ) (events later : List Event) (found : Clash) → IsClash initial events found → IsClash initial (events ++ later) found
 clash-append initial events later (clash.Tickets x y) is = (stands-append events later x is.0, stands-append events later y is.1, is.2)
-clash-append initial events later (clash.Calls x y) is = (
-  stands-append events later x is.0,
-  stands-append events later y is.1,
-  ap (pending_call y.event.thread) (take-append events later y is.1) ∙ is.2,
-)
-clash-append initial events later (clash.Values x y) is =
-    (stands-append events later x is.0, stands-append events later y is.1, first_with-append events later x y is.0 is.2)
+clash-append initial events later (clash.Calls x y) is = grind (arith, stands-append, take-append)
+clash-append initial events later (clash.Values x y) is = grind (arith, stands-append, first_with-append)
 clash-append initial events later (clash.Initial place x) is = (stands-append events later x is.0, is.1)
 clash-append initial events later (clash.Twice value i j) is = is
 clash-append initial events later (clash.Pending x) is = stands-append events later x is

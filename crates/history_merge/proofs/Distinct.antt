@@ -7,7 +7,7 @@ use Rattle.history_merge.proofs.Common.{IsCompleteHistory, IsTimed, kind_of, len
 use Rattle.history_merge.proofs.Common.{nat_eq, None, Not, Operation, operation_of, operations_of, OpKind, Option}
 use Rattle.history_merge.proofs.Common.{option_map, position-Some, position_or_len, refl, slice_get, slice_get-get_or}
 use Rattle.history_merge.proofs.Common.{slice_get-map, slice_get_read, slice_get_within, Some, subst, suc, sym, rules}
-use Rattle.history_merge.proofs.Common.{TicketsRise, What, zero, ◌+◌, ◌-◌, ◌∙◌, ◌∷◌, ◌≡◌, ◌≢◌, ◌⊎◌}
+use Rattle.history_merge.proofs.Common.{TicketsRise, What, zero, ◌+◌, ◌-◌, ◌∙◌, ◌∷◌, ◌≡◌, ◌≢◌, ◌⊎◌, nat_tests}
 use Rattle.std.proofs.Common.{ℕ, ◌<◌, ◌≤◌, true, false, List, get_or, map}
 use Rattle.history_merge.proofs.Completeness.{IsMadeOf, made_of, called_once}
 use Rattle.history_merge.proofs.Places.{calls_of_kind, same_place}
@@ -61,12 +61,7 @@ found_first p xs r e =
     let at = sym (find_at p xs) ∙ e in
     let inside = lt-ltb _ _ (slice_get_within xs (position_or_len p xs) r at) in
     let is = position-Some p xs (position_or_len p xs) r (rw inside refl) in
-    record {
-      place = position_or_len p xs;
-      at = at;
-      passes = subst (λ y. p y ≡ true) (get_or_from_slice_get xs _ r r at) is.1;
-      first = λ k x below here. subst (λ y. p y ≡ false) (get_or_from_slice_get xs k x r here) (is.2 k below);
-    }
+    grind (arith, nat_tests, get_or_from_slice_get)
 
 -- the two events of an operation, with no event of its thread between them
 pub record IsTraced (events : List Event) (o : Operation) : Type 0 where
@@ -188,8 +183,7 @@ each_timed events complete k d below =
     let o = get_or (operations_of events) k d in
     let t = traced events o (Contains-get_or (operations_of events) k d below) in
     let less = pairs_at (λ x y. x.ticket < y.ticket) events t.called_at t.returned_at t.call t.answer complete.tickets_rise t.in_order t.at_call t.at_return in
-    let late = All-contains (λ e. e.ticket ≤ MAX_TICKET) events t.answer complete.tickets_in_range (contains_at events t.returned_at t.answer t.at_return) in
-    (omega (arith, t.made.called, t.made.returned, less), omega (arith, t.made.returned, late))
+    grind (arith, All-contains, contains_at)
 
 -- so does one of them
 pub operation_within : (events : List Event) (o : Operation) → IsCompleteHistory events → Contains (operations_of events) o
@@ -284,8 +278,7 @@ pub return_differs_from_call : (operations : List Operation) (x y : Operation) �
     → Contains operations y → ((v : ℕ) → y.kind ≢ Enq v) → x.ret ≢ y.call
 return_differs_from_call operations x y complete in_x in_y other same =
     let one = returns_at_call operations x y complete in_x in_y same in
-    let less = call_before_return operations y complete in_y other in
-    omega (arith, ap (λ (o : Operation). o.ret) one, same, less)
+    grind (arith, call_before_return)
 
 -- operations return within the scale of time
 pub return_in_range : (operations : List Operation) (o : Operation) → AreComplete operations → Contains operations o → o.ret ≤ MAX_TIME

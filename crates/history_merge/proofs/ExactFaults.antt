@@ -1,10 +1,10 @@
 -- A list of events is a complete history if and only if it has no fault.
-use Rattle.history_merge.proofs.Common.{[], ⊤, ◌++◌, ◌||◌, ◌↔◌, ◌∷◌, ◌≡◌, All, All-contains, All-nil}
+use Rattle.history_merge.proofs.Common.{[], ⊤, ◌++◌, ◌||◌, ◌↔◌, ◌∷◌, ◌≡◌, All, All-contains, All-nil, common_steps}
 use Rattle.history_merge.proofs.Common.{All-push, all_pairs_push, append-nil, AreDistinct, arith, BadThread}
 use Rattle.history_merge.proofs.Common.{called_values, CallEnq, calls_initial, CallWhilePending, cases_lt, Contains}
 use Rattle.history_merge.proofs.Common.{Contains-append_right, drop, DuplicateValue, eqb_tells, Event, fault_at}
 use Rattle.history_merge.proofs.Common.{FitsTurn, get_or-append-add, get_or-append_seam, get_or_append_left}
-use Rattle.history_merge.proofs.Common.{HistoryFault, InitialTwice, inl, inr, IsCompleteFrom, IsCompleteHistory}
+use Rattle.history_merge.proofs.Common.{HistoryFault, InitialTwice, IsCompleteFrom, IsCompleteHistory}
 use Rattle.history_merge.proofs.Common.{IsFirstFault, IsFirstFaultAt, IsRunOf, last_or, length, MatchOption}
 use Rattle.history_merge.proofs.Common.{MatchOption-at_none, MAX_THREAD, MAX_TICKET, Memory, nat_tests, NoFaultBefore}
 use Rattle.history_merge.proofs.Common.{None, NothingPending, operations_so_far, Option, Pending, pending_call}
@@ -92,45 +92,22 @@ above_all [] ticket rise above k d below = absurd (omega arith)
 above_all (e ∷ events) ticket rise above k d below =
     let last : (get_or (e ∷ events) (length events) d).ticket < ticket =
     subst (λ o. MatchOption o ⊤ (λ l. l.ticket < ticket)) (last_is None e events d) above in
-    elim (cases_lt k (length events)) [
-      | inl earlier ↦ let less = rise k (length events) d earlier (omega arith) in omega arith
-      | inr here ↦ let same : length events ≡ k = omega arith in subst (λ j. (get_or (e ∷ events) j d).ticket < ticket) same last
-    ]
+    grind (arith, nat_tests, cases_lt, same)
 
 sound_push : (initial : List ℕ) (events : List Event) (e : Event) → IsSound initial events → MayFollow initial events e
     → IsSound initial (events ++ e ∷ [])
-sound_push initial events e sound may = record {
-  tickets_rise = all_pairs_push (λ x y. x.ticket < y.ticket) events e sound.tickets_rise (above_all events e.ticket sound.tickets_rise may.rises);
-  tickets_in_range = All-push (λ x. x.ticket ≤ MAX_TICKET) events e sound.tickets_in_range may.ticket_in_range;
-  threads_in_range = All-push (λ x. x.thread ≤ MAX_THREAD) events e sound.threads_in_range may.thread_in_range;
-  values_are_distinct = distinct_push initial events e sound.values_are_distinct may.is_new;
-  turns = turns;
-}
-  where
-    turns : (thread : ℕ) → TurnsSoFar (projection thread (events ++ e ∷ []))
-    turns thread = elim (eqb_tells e.thread thread) [
-      | inl h ↦
-          let own : TurnsSoFar (projection e.thread (events ++ e ∷ [])) =
-          subst TurnsSoFar (sym (projection-push_own events e)) (turns_push (projection e.thread events) e (sound.turns e.thread) may.fits) in
-          subst (λ t. TurnsSoFar (projection t (events ++ e ∷ []))) h.1 own
-      | inr h ↦ subst TurnsSoFar (sym (projection-push_other events e thread h.0)) (sound.turns thread)
-    ]
+sound_push initial events e sound may =
+    grind (arith, nat_tests, common_steps, all_pairs_push, above_all, All-push, distinct_push, eqb_tells,
+    projection-push_own, turns_push, projection-push_other)
 
 sound_before : (initial : List ℕ) (events : List Event) (n : ℕ) → n ≤ length events → AreDistinct initial → NoFaultBefore initial events (length events)
     → IsSound initial (take n events)
-sound_before initial events zero within distinct none = record {
-  tickets_rise = λ i j d below short. absurd (omega arith);
-  tickets_in_range = All-nil (λ x. x.ticket ≤ MAX_TICKET);
-  threads_in_range = All-nil (λ x. x.thread ≤ MAX_THREAD);
-  values_are_distinct = rw append-nil distinct;
-  turns = λ thread. tt;
-}
+sound_before initial events zero within distinct none = grind (arith, All-nil, append-nil)
 sound_before initial events (suc n) within distinct none =
     let d : Event = record { ticket = 0; thread = 0; what = CallEnq 0 } in
     let below : n < length events = omega arith in
     let may = may_follow initial (take n events) n (get_or events n d) (none n (get_or events n d) below (slice_get-get_or events n d below)) in
-    let one_more : take (suc n) events ≡ take n events ++ get_or events n d ∷ [] = take-suc events n d below in
-    subst (IsSound initial) (sym one_more) (sound_push initial (take n events) (get_or events n d) (sound_before initial events n (omega arith) distinct none) may)
+    grind (arith, take-suc, sound_push, sound_before initial events n)
 
 sound_without_fault : (initial : List ℕ) (events : List Event) → AreDistinct initial → NoFaultBefore initial events (length events) → IsSound initial events
 sound_without_fault initial events distinct none =

@@ -1,5 +1,5 @@
 -- The operations of the events so far, and what a history builder keeps of them, after one more event and at the end.
-use Rattle.history_merge.proofs.Common.{[], ◌++◌, ◌+◌, ◌||◌, ◌∙◌, ◌∷◌, ◌≡◌, ◌≢◌, All-push, answered, answers}
+use Rattle.history_merge.proofs.Common.{[], ◌++◌, ◌+◌, ◌||◌, ◌∙◌, ◌∷◌, ◌≡◌, All-push, answered, answers}
 use Rattle.history_merge.proofs.Common.{answers_pending, ap, append-nil, arith, begun, breaks_ticket_order}
 use Rattle.history_merge.proofs.Common.{call_event, called_by, called_value, calls_initial, CallWhilePending}
 use Rattle.history_merge.proofs.Common.{cases_Bool, cond, DuplicateValue, eqb_tells, Event, events_of, false≢true}
@@ -8,10 +8,10 @@ use Rattle.history_merge.proofs.Common.{get_or_from_slice_get, HasFormed, inl, i
 use Rattle.history_merge.proofs.Common.{is_some, IsCompleteFrom, IsCompleteHistory, IsFormedOf, IsKept, IsRunOf}
 use Rattle.history_merge.proofs.Common.{kind_of, le-ltb, length, length-set, MAX_EVENTS, MAX_THREAD, nat_eq}
 use Rattle.history_merge.proofs.Common.{nat_tests, next_of, None, not, Operation, operation_of, operation_so_far}
-use Rattle.history_merge.proofs.Common.{operations_of, operations_so_far, OpKind, Option, option_map, option_map_or}
+use Rattle.history_merge.proofs.Common.{operations_of, operations_so_far, OpKind, Option, option_map}
 use Rattle.history_merge.proofs.Common.{pending_call, projection, refl, repeats_value, RetEnq, ReturnWithoutCall, set}
 use Rattle.history_merge.proofs.Common.{slice_get, slice_get_within, Some, some_pair_parts, subst, suc, sym}
-use Rattle.history_merge.proofs.Common.{TakesTurns, then_some, waiting, was_called, What, WrongReturn}
+use Rattle.history_merge.proofs.Common.{TakesTurns, then_some, waiting, was_called, What, WrongReturn, common_steps}
 use Rattle.std.proofs.Common.{ℕ, true, false, List}
 use Rattle.std.proofs.Common.{◌<◌, ◌≤◌}
 use Rattle.std.proofs.Common.{get_or, append_assoc}
@@ -87,9 +87,7 @@ formed_answer (e ∷ later) r place call waits returns = join (waiting r.thread 
           let parts = some_pair_parts (suc p) place c call (rw (is, calls) at waits) in
           let now = kept_next e r later (p, c) is in
           record { operations = rw (calls, ← parts.0, ← parts.1, now, done.operations) refl; was = rw (calls, ← parts.0, ← parts.1) done.was }
-      | inr other ↦
-          let parts = some_pair_parts p place c call (rw (is, other) at waits) in
-          record { operations = rw (other, ← parts.0, ← parts.1) done.operations; was = rw (other, ← parts.0, ← parts.1) done.was }
+      | inr other ↦ grind (arith, some_pair_parts)
     ]
 
     join : (o : Option (ℕ × Event)) → waiting r.thread later ≡ o
@@ -126,25 +124,9 @@ formed_more : (events : List Event) (e : Event) (old new : Forming) (place : Opt
     → new.timeline.operations ≡ operations_so_far (events ++ e ∷ []) → new.least_ticket ≡ e.ticket + 1 → new.pending ≡ set old.pending e.thread place
     → place ≡ option_map (λ found. found.0) (waiting e.thread (events ++ e ∷ []))
     → option_map (λ found. found.1) (waiting e.thread (events ++ e ∷ [])) ≡ then_some (is_call e.what) e → HasFormed (events ++ e ∷ []) new
-formed_more events e old new place below known operations last written own waits = record {
-  operations = operations;
-  least_ticket = last ∙ sym (ap (λ o. option_map_or (λ x. x.ticket + 1) o 0) (last_or-push None events e));
-  one_per_thread = rw (written, length-set) known.one_per_thread;
-  waits = waits_more events e waits known.waits;
-  places = places;
-  threads_in_range = All-push (λ x. x.thread ≤ MAX_THREAD) events e known.threads_in_range below;
-}
-  where
-    places : (thread : ℕ) → thread ≤ MAX_THREAD → get_or new.pending thread None ≡ option_map (λ found. found.0) (waiting thread (events ++ e ∷ []))
-    places thread within = elim (eqb_tells e.thread thread) [
-      | inl same ↦
-          let inside : e.thread < length old.pending = omega (arith, known.one_per_thread, below) in
-          subst (λ t. get_or new.pending t None ≡ option_map (λ found. found.0) (waiting t (events ++ e ∷ []))) same.1
-          (rw (written, get_or-set_same old.pending e.thread place None inside) own)
-      | inr other ↦
-          let apart : thread ≢ e.thread = λ s. other.1 (sym s) in
-          rw (waits_other thread events e other.0, written, get_or-set_other old.pending e.thread thread place None apart) (known.places thread within)
-    ]
+formed_more events e old new place below known operations last written own waits =
+    grind (arith, nat_tests, common_steps, last_or-push, length-set, waits_more, All-push, eqb_tells,
+    get_or-set_same, waits_other, get_or-set_other)
 
 -- one more call
 pub formed_after_call : (events : List Event) (e : Event) (old new : Forming) → e.thread ≤ MAX_THREAD → is_call e.what ≡ true
@@ -175,19 +157,10 @@ pending_at : (events : List Event) (thread : ℕ) (old : Forming) (place : ℕ) 
 pending_at events thread old place within known is =
     let found = waits_at (waiting thread events) place (sym is ∙ known.places thread within) in
     let call = found.0 in
-    let pending : pending_call thread events ≡ Some call = sym (known.waits thread) ∙ ap (option_map (λ w. w.1)) found.1 in
     let done = λ (e : Event) (own : e.thread ≡ thread). formed_answer events e place call (subst (λ t. waiting t events ≡ Some (place, call)) (sym own) found.1) in
     let stands : slice_get old.timeline.operations place ≡ Some (operation_so_far call None) =
     rw known.operations (done (record { ticket = 0; thread = thread; what = RetEnq }) refl refl).was in
-    record {
-      call = call;
-      pending = pending;
-      calls = grind (arith, pending);
-      inside = slice_get_within old.timeline.operations place (operation_so_far call None) stands;
-      was = stands;
-      is = λ d. get_or_from_slice_get old.timeline.operations place (operation_so_far call None) d stands;
-      answered = λ e own returns. rw known.operations (done e own returns).operations;
-    }
+    grind (arith, slice_get_within, get_or_from_slice_get)
 
 -- where no place is kept of a thread, no call is pending
 pub none_pending_at : (events : List Event) (thread : ℕ) (old : Forming) → thread ≤ MAX_THREAD → HasFormed events old

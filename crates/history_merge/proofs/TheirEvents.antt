@@ -154,9 +154,7 @@ step e later by_call due left = record {
   calls = refl;
   one_per_thread = rw length-set left.one_per_thread;
   due = λ thread within. elim (eqb_tells e.thread thread) [
-    | inl own ↦
-        let inside : thread < length due = omega (arith, within, left.one_per_thread) in
-        rw (own.1, get_or-set_same due thread (due_in thread later) None inside) refl
+    | inl own ↦ grind (arith, get_or-set_same)
     | inr other ↦
         rw (get_or-set_other due e.thread thread (due_in e.thread later) None (λ same. other.1 (sym same))) (left.due thread within ∙ rw other.0 refl)
   ];
@@ -242,11 +240,8 @@ pub told : (events : List Event) (by_call : List Operation) (due : List (Option 
     → put_each due (events_of by_call) ≡ events
 told [] by_call due left = grind (arith, put_none, get_or_past)
 told (e ∷ later) by_call due left =
-    let more = told later (operations_so_far later) (set due e.thread (due_in e.thread later)) (step e later by_call due left) in
-    elim (cases_Bool (is_call e.what)) [
-      | inl call ↦ told_call e later by_call due left call more
-      | inr returns ↦ told_return e later by_call due left returns more
-    ]
+    grind (arith, step, cases_Bool, told_call, told_return,
+    told later (operations_so_far later) (set due e.thread (due_in e.thread later)) (step e later by_call due left))
 
 -- ---- which event comes first
 

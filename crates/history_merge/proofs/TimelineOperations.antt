@@ -94,3 +94,6 @@ completed initial all own place ret kind d later is within at =
     ap (λ os. set os (length initial + place) (record later { ret = ret + n; kind = kind })) is
     ∙ ap (λ (o : Operation). set (timeline initial own) (length initial + place) (record o { ret = ret + n; kind = kind })) (at ∙ behind)
     ∙ timeline_set initial own place (record (get_or own place d) { ret = ret; kind = kind })
+
+-- what a push does to a timeline
+pub ruleset pushes = (is_timeline, operations_back, pushed, timeline_push)

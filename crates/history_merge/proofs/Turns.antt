@@ -1,7 +1,7 @@
 -- What a walk over the events keeps of each thread, and calls and returns of one thread, event by event.
 use Rattle.history_merge.proofs.Common.{[], ◌++◌, ◌+◌, ◌∙◌, ◌∷◌, ◌≡◌, All, All-head, All-tail, answers, ap}
 use Rattle.history_merge.proofs.Common.{append-nil, arith, CallEnq, cases_lt, eq-eqb, Event, filter-append, FitsTurn}
-use Rattle.history_merge.proofs.Common.{inl, inr, is_call, IsLeastPending, last_or, MatchOption, MAX_THREAD, nat_eq}
+use Rattle.history_merge.proofs.Common.{is_call, IsLeastPending, last_or, MatchOption, MAX_THREAD, nat_eq}
 use Rattle.history_merge.proofs.Common.{nat_tests, None, NothingPending, Option, option_and_then, pending_call}
 use Rattle.history_merge.proofs.Common.{projection, refl, RetEmpty, RetEnq, Some, sym, TakesTurns, then_some}
 use Rattle.history_merge.proofs.Common.{What}
@@ -66,17 +66,8 @@ IsLeastBefore events n (Some ticket) =
 -- the least of the pending calls, or that there is none
 pub least_pending : (events : List Event) (least : Option ℕ) → All (λ e. e.thread ≤ MAX_THREAD) events → IsLeastBefore events (MAX_THREAD + 1) least
     → MatchOption least (NothingPending events) (IsLeastPending events)
-least_pending events None within least = λ thread. elim (cases_lt MAX_THREAD thread) [
-  | inl above ↦ pending_call-above events thread above within
-  | inr below ↦ least thread (omega arith)
-]
-least_pending events (Some ticket) within least = (
-  (least.0.0, least.0.1, least.0.3, least.0.4),
-  λ thread call is. elim (cases_lt MAX_THREAD thread) [
-    | inl above ↦ let none = pending_call-above events thread above within in cc
-    | inr below ↦ least.1 thread call (omega arith) is
-  ],
-)
+least_pending events None within least = grind (arith, cases_lt, pending_call-above)
+least_pending events (Some ticket) within least = grind (arith, cases_lt, pending_call-above)
 
 -- ---- one thread in turn
 

@@ -68,6 +68,7 @@ impl HistoryBuilder {
     ///
     /// Time O(1) as long as the values rise, otherwise O(log n) after n events and initial values; sometimes it grows
     /// its memory.
+    #[tactic(auto, using(std::proofs::lemmas::Bool::cases_lt))]
     #[inline(always)]
     pub fn add(&mut self, event: Event)
         ensures added { (initial : List ℕ) (events : List Event) → HasGathered initial events self.old → length events < MAX_EVENTS

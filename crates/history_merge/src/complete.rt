@@ -40,6 +40,7 @@ impl Model for History {
 
 impl History {
     /// Makes the history of this timeline.
+    #[tactic(auto, using(crate::proofs::Formed::kept_of_formed))]
     pub(crate) fn new(timeline: Timeline) -> History
         requires formed { (events : List Event) × IsFormedOf events timeline.operations × IsCompleteFrom timeline.initial events
             × (length events ≤ MAX_EVENTS) }
@@ -70,6 +71,7 @@ impl History {
     }
 
     /// Returns the operations, in the order of their calls. The place of one in this list is its [`crate::OpId`].
+    #[tactic(auto, using(crate::proofs::Completeness::few_operations))]
     pub fn operations(&self) -> Operations<'_>
         ensures operations { result ≡ operations_of self.now.events }
         ensures complete { IsCompleteHistory self.now.events }

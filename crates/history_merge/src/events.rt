@@ -45,6 +45,7 @@ impl<'a> Model for Events<'a> {
 
 impl<'a> Events<'a> {
     /// Makes the events of operations in the order of their calls, of which some may be pending. Time O(n).
+    #[tactic(auto, using(crate::proofs::TheirEvents::put_none, crate::proofs::TheirEvents::left_as_told, crate::proofs::TheirEvents::all_left))]
     pub(crate) fn new(operations: Operations<'a>) -> Events<'a>
         requires { AreOfRun operations }
         ensures { result ≡ events_of operations.entry }

@@ -50,6 +50,7 @@ impl Forming {
     }
 
     /// The events so far.
+    #[tactic(auto, using(crate::proofs::TheirEvents::told_of_run))]
     pub(crate) fn events(&self) -> Events<'_>
         requires { AreOfRun self.now.timeline.operations }
         ensures { (events : List Event) → IsRunOf events self.now.timeline.operations → result ≡ events }

@@ -75,6 +75,7 @@ impl Timeline {
     }
 
     /// The operations, by their tickets.
+    #[tactic(auto, using(crate::proofs::TimelineOperations::all_late, crate::proofs::Later::all_back))]
     pub(crate) fn operations(&self) -> Operations<'_>
         ensures { result ≡ self.now.operations }
     {
@@ -90,6 +91,7 @@ impl Timeline {
     }
 
     /// The operations, at the times of their tickets.
+    #[tactic(auto, using(crate::proofs::TimelineOperations::length_timeline, crate::proofs::TimelineOperations::behind_enqueues))]
     #[inline(always)]
     fn behind(&self) -> &[PackedOperation]
         ensures { result.now ≡ map (later_by ORIGIN) self.now.operations }
@@ -99,6 +101,7 @@ impl Timeline {
     }
 
     /// The operation at this place.
+    #[tactic(auto, using(crate::proofs::TimelineOperations::later_at, crate::proofs::Later::there_and_back))]
     #[inline(always)]
     pub(crate) fn get(&self, place: usize) -> Option<Operation>
         ensures { result ≡ slice_get self.now.operations place }
@@ -126,6 +129,7 @@ impl Timeline {
     }
 
     /// Adds an operation.
+    #[tactic(auto, using(crate::proofs::TimelineOperations::pushes))]
     #[inline(always)]
     pub(crate) fn push(&mut self, operation: Operation) -> Result<(), AllocError>
         requires call { operation.call ≤ MAX_TICKET }

@@ -1,4 +1,4 @@
-use Rattle.history_merge.proofs.Common.{arith, HasGathered, subst}
+use Rattle.history_merge.proofs.Common.{arith}
 use Rattle.std.proofs.lemmas.List.{take_all}
 use Rattle.history_merge.proofs.build.history_from.Goals as goal
 
