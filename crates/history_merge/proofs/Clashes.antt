@@ -1,11 +1,10 @@
 -- The first event with a property, and what contradicts what when an event is added.
-use Rattle.history_merge.proofs.Common.{[], ◌++◌, ◌∙◌, ◌∷◌, ◌≡◌, ap, AreFirstWith, arith, Bool, Clash, Event}
-use Rattle.history_merge.proofs.Common.{false≢true, IfSome, IsClash, IsFirstSought, IsSought, IsTrue, length}
-use Rattle.history_merge.proofs.Common.{MAX_EVENTS, None, Option, pending_call, Placed, refl, slice_get}
-use Rattle.history_merge.proofs.Common.{slice_get_within, Some, Sought, Stands, subst, suc, sym, take, take-append-le}
-use Rattle.history_merge.proofs.Common.{take-append_seam}
+use Rattle.history_merge.proofs.Common.{[], ◌++◌, ◌∙◌, ◌∷◌, ◌≡◌, ap, AreFirstWith, arith, Clash, Event}
+use Rattle.history_merge.proofs.Common.{IfSome, IsClash, IsFirstSought, IsSought, length}
+use Rattle.history_merge.proofs.Common.{MAX_EVENTS, None, Option, Placed, refl, slice_get}
+use Rattle.history_merge.proofs.Common.{slice_get_within, Some, Sought, Stands, subst, suc, sym, take-append-le}
 use Rattle.std.proofs.Common.{ℕ, ◌<◌, ◌≤◌, List}
-use Rattle.std.proofs.Common.{length-append, append_assoc, true, false}
+use Rattle.std.proofs.Common.{length-append, append_assoc}
 use Rattle.history_merge.proofs.MetFaults.{slice_get-append_left, slice_get-append_seam}
 use Rattle.history_merge.specs.declared.clash.Clash.TheVariants as clash
 use Rattle.history_merge.proofs.DistinctValues.{each_more}
@@ -23,11 +22,6 @@ pub record Searched (all left : List Event) (sought : Sought) (place : ℕ) : Ty
   pub parts : seen ++ left ≡ all
   pub count : place ≡ length seen
   pub none : (i : ℕ) (e : Event) → slice_get seen i ≡ Some e → ¬ (IsSought sought (record { place = i; event = e }))
-
--- what doesn't meet a test isn't what it stands for
-pub not_met : {P : Type 0} (met : Bool) → met ≡ false → (P → IsTrue met) → ¬ P
-not_met false is tests p = absurd (false≢true (tests p))
-not_met true is tests p = absurd (cc is)
 
 -- at first none was seen
 pub searched_nothing : (all : List Event) (sought : Sought) → Searched all all sought 0
@@ -61,10 +55,6 @@ stands-append events later x at = slice_get-append_left events later x.place (sl
 pub stands-push : (events : List Event) (x : Placed) → x.place ≡ length events → Stands (events ++ x.event ∷ []) x
 stands-push events x here = subst (λ n. slice_get (events ++ x.event ∷ []) n ≡ Some x.event) (sym here) (slice_get-append_seam events x.event)
 
--- what comes before an event that stands there stays the same
-take-append : (events later : List Event) (x : Placed) → Stands events x → take x.place (events ++ later) ≡ take x.place events
-take-append events later x at = let within = slice_get_within events x.place x.event at in take-append-le x.place events later (omega (arith, within))
-
 -- the first that enqueues a value stays the first
 pub first_with-append : (events later : List Event) (x y : Placed) → Stands events x → AreFirstWith events x y → AreFirstWith (events ++ later) x y
 first_with-append events later x y at are = grind (arith, slice_get_within, slice_get-append_left)
@@ -72,7 +62,7 @@ first_with-append events later x y at are = grind (arith, slice_get_within, slic
 -- what contradicts each other does so, whatever comes after
 pub clash-append : (initial : List ℕ) (events later : List Event) (found : Clash) → IsClash initial events found → IsClash initial (events ++ later) found
 clash-append initial events later (clash.Tickets x y) is = (stands-append events later x is.0, stands-append events later y is.1, is.2)
-clash-append initial events later (clash.Calls x y) is = grind (arith, stands-append, take-append)
+clash-append initial events later (clash.Calls x y) is = grind (arith, stands-append, slice_get_within, take-append-le)
 clash-append initial events later (clash.Values x y) is = grind (arith, stands-append, first_with-append)
 clash-append initial events later (clash.Initial place x) is = (stands-append events later x is.0, is.1)
 clash-append initial events later (clash.Twice value i j) is = is
@@ -83,8 +73,3 @@ pub kept-append : (initial : List ℕ) (events later : List Event) (kept : Optio
     → IfSome kept (IsClash initial (events ++ later))
 kept-append initial events later None is = is
 kept-append initial events later (Some found) is = clash-append initial events later found is
-
--- the pending call of the thread of an event that is added
-pub pending-push : (events : List Event) (x y : Placed) → y.place ≡ length events → pending_call y.event.thread events ≡ Some x.event
-    → pending_call y.event.thread (take y.place (events ++ y.event ∷ [])) ≡ Some x.event
-pending-push events x y here pending = grind (arith, take-append_seam)

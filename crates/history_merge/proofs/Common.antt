@@ -64,8 +64,7 @@ pub use Rattle.history_merge.specs.Gathering.{IsForming, Knows, name_in}
 pub use Rattle.history_merge.specs.Initial.{Contents, enqueue_at, enqueues_from, initial_enqueues}
 pub use Rattle.history_merge.specs.Initial.{IsCompleteFrom, later_by, timeline}
 pub use Rattle.history_merge.specs.Inner.Clashes.{IsFirstSought, IsSought}
-pub use Rattle.history_merge.specs.Inner.Faults.{NothingPending}
-pub use Rattle.history_merge.specs.Inner.Forming.{AreCalledIn, FitsTurn, is_called_in, IsFormedOf}
+pub use Rattle.history_merge.specs.Inner.Forming.{AreCalledIn, FitsTurn, is_called_in, IsFormedOf, NothingPending}
 pub use Rattle.history_merge.specs.Inner.History.{AreInTurn, AreLeft, AreOfRun, comes_by_ticket, due_in}
 pub use Rattle.history_merge.specs.Inner.History.{FollowsInTurn, IsFirstDue, IsKept, IsRunOf, next_of}
 pub use Rattle.history_merge.specs.Inner.Timeline.{earlier_by, IsTimeline, operations_on}

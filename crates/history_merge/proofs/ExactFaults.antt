@@ -55,7 +55,7 @@ pub record MayFollow (initial : List ℕ) (before : List Event) (e : Event) : Ty
 
 -- an event without a fault may follow
 pub may_follow : (initial : List ℕ) (before : List Event) (i : ℕ) (e : Event) → fault_at initial before i e ≡ None → MayFollow initial before e
-may_follow initial before i e none = grind (arith)
+may_follow initial before i e none = grind arith
 
 -- an event that may follow has no fault
 pub no_fault : (initial : List ℕ) (before : List Event) (i : ℕ) (e : Event) → MayFollow initial before e → fault_at initial before i e ≡ None
@@ -92,7 +92,7 @@ above_all [] ticket rise above k d below = absurd (omega arith)
 above_all (e ∷ events) ticket rise above k d below =
     let last : (get_or (e ∷ events) (length events) d).ticket < ticket =
     subst (λ o. MatchOption o ⊤ (λ l. l.ticket < ticket)) (last_is None e events d) above in
-    grind (arith, nat_tests, cases_lt, same)
+    grind (arith, nat_tests, cases_lt)
 
 sound_push : (initial : List ℕ) (events : List Event) (e : Event) → IsSound initial events → MayFollow initial events e
     → IsSound initial (events ++ e ∷ [])
@@ -124,7 +124,7 @@ run_without_fault initial events distinct none =
 pub complete_without_fault : (initial : List ℕ) (events : List Event) → AreDistinct initial → NoFaultBefore initial events (length events)
     → NothingPending events → IsCompleteFrom initial events
 complete_without_fault initial events distinct none nothing =
-    grind (arith, sound_without_fault, MatchOption-at_none, length-append, get_or-append-add, same)
+    grind (arith, sound_without_fault, MatchOption-at_none, length-append, get_or-append-add)
 
 -- ---- a complete history, hence no fault
 

@@ -16,7 +16,7 @@ use Rattle.std.proofs.Common.{ℕ, true, false, List}
 use Rattle.std.proofs.Common.{◌<◌, ◌≤◌}
 use Rattle.std.proofs.Common.{get_or, append_assoc}
 use Rattle.history_merge.proofs.TheirEvents.{run_of, told_of_run, call_so_far, next_is_first}
-use Rattle.history_merge.proofs.Turns.{last_or-push, pending_call-push_own, pending_call-push_other, answer_is_return}
+use Rattle.history_merge.proofs.Turns.{answer_is_return, last_or-push, pending_in-push, projection-push_other, projection-push_own}
 use Rattle.history_merge.proofs.Turns.{projection-at}
 
 -- ---- how one more event changes the operations of the events so far
@@ -112,21 +112,14 @@ waits_at : (o : Option (ℕ × Event)) (place : ℕ) → Some place ≡ option_m
 waits_at None place h = cc
 waits_at (Some w) place h = (w.1, let same : w.0 ≡ place = cc in ap (λ n. Some (n, w.1)) same)
 
--- an event of another thread keeps what waits of a thread
-waits_more : (events : List Event) (e : Event) → option_map (λ found. found.1) (waiting e.thread (events ++ e ∷ [])) ≡ then_some (is_call e.what) e
-    → ((thread : ℕ) → option_map (λ found. found.1) (waiting thread events) ≡ pending_call thread events)
-    → (thread : ℕ) → option_map (λ found. found.1) (waiting thread (events ++ e ∷ [])) ≡ pending_call thread (events ++ e ∷ [])
-waits_more events e own waits thread =
-    grind (arith, eqb_tells, pending_call-push_own, waits_other, pending_call-push_other)
-
 -- one more event, after which this is the place of its thread's pending call
 formed_more : (events : List Event) (e : Event) (old new : Forming) (place : Option ℕ) → e.thread ≤ MAX_THREAD → HasFormed events old
     → new.timeline.operations ≡ operations_so_far (events ++ e ∷ []) → new.least_ticket ≡ e.ticket + 1 → new.pending ≡ set old.pending e.thread place
     → place ≡ option_map (λ found. found.0) (waiting e.thread (events ++ e ∷ []))
     → option_map (λ found. found.1) (waiting e.thread (events ++ e ∷ [])) ≡ then_some (is_call e.what) e → HasFormed (events ++ e ∷ []) new
 formed_more events e old new place below known operations last written own waits =
-    grind (arith, nat_tests, common_steps, last_or-push, length-set, waits_more, All-push, eqb_tells,
-    get_or-set_same, waits_other, get_or-set_other)
+    grind (arith, nat_tests, common_steps, last_or-push, length-set, All-push, eqb_tells, get_or-set_same,
+    get_or-set_other, waits_other, projection-push_own, projection-push_other, pending_in-push)
 
 -- one more call
 pub formed_after_call : (events : List Event) (e : Event) (old new : Forming) → e.thread ≤ MAX_THREAD → is_call e.what ≡ true
@@ -165,7 +158,7 @@ pending_at events thread old place within known is =
 -- where no place is kept of a thread, no call is pending
 pub none_pending_at : (events : List Event) (thread : ℕ) (old : Forming) → thread ≤ MAX_THREAD → HasFormed events old
     → get_or old.pending thread None ≡ None → pending_call thread events ≡ None
-none_pending_at events thread old within known is = grind (arith)
+none_pending_at events thread old within known is = grind arith
 
 -- ---- what a call and a return are judged by
 
@@ -294,4 +287,4 @@ formed_of_complete events operations complete so_far = assumption (
 -- a history keeps them
 pub kept_of_formed : (initial : List ℕ) (events : List Event) (operations : List Operation) → IsFormedOf events operations
     → IsCompleteFrom initial events → length events ≤ MAX_EVENTS → IsKept initial operations
-kept_of_formed initial events operations formed complete few = grind (arith)
+kept_of_formed initial events operations formed complete few = grind arith

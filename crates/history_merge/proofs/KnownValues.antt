@@ -17,17 +17,13 @@ use Rattle.history_merge.proofs.TimelineOperations.{length_enqueues}
 pub is_eq-nat_cmp : (v q : ℕ) → is_eq (nat_cmp v q) ≡ nat_eq v q
 is_eq-nat_cmp v q = grind (arith, nat_tests)
 
--- a value is among some and one more if it is among these or is that one
-pub among-push : (values : List ℕ) (v w : ℕ) → is_among (values ++ v ∷ []) w ≡ (is_among values w || nat_eq v w)
-among-push values v w = grind (arith, list_any-append (λ x. nat_eq x w) values (v ∷ []))
-
 -- ---- one value more
 
 -- a value of a loose name
 pub knows_loose : (values : List ℕ) (old new : CalledValues) (v : ℕ) → Knows values old → get_or old.least (name_in v) 0 ≡ LOOSE
     → ((q : ℕ) → contains nat_cmp new.loose q ≡ cond (is_eq (nat_cmp v q)) true (contains nat_cmp old.loose q)) → new.least ≡ old.least
     → Knows (values ++ v ∷ []) new
-knows_loose values old new v knows is adds same = grind (arith, or_cases, among-push, eqb-true, is_eq-nat_cmp)
+knows_loose values old new v knows is adds same = grind (arith, or_cases, list_any-append, eqb-true, is_eq-nat_cmp)
 
 -- the set decides whether the value is new
 pub repeats_by_set : (added has was : Bool) → added ≡ not has → has ≡ was → not added ≡ was

@@ -62,7 +62,3 @@ legal_earlier n queue operations found legal = (
   where
     stays : All (λ o. later_by n (earlier_by n o) ≡ o) (map (later_by n) operations)
     stays = All-map (λ o. later_by n (earlier_by n o) ≡ o) (later_by n) operations (λ k d below. ap (later_by n) (there_and_back n _))
-
--- no later at all
-pub not_later : (operations : List Operation) → map (later_by 0) operations ≡ operations
-not_later operations = grind (arith, map_fixed)

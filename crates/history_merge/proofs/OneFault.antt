@@ -1,9 +1,9 @@
 -- Initial values and events have one first fault.
-use Rattle.history_merge.proofs.Common.{◌∙◌, ◌≡◌, ◌≢◌, ap, arith, cases_order, Event, HistoryFault}
-use Rattle.history_merge.proofs.Common.{InitialTwice, inl, inr, IsFirstFault, IsFirstFaultAt, IsFirstTwice}
-use Rattle.history_merge.proofs.Common.{IsLeastPending, length, Memory, NoFaultBefore, none-some, Pending, refl}
-use Rattle.history_merge.proofs.Common.{slice_get_within, sym}
-use Rattle.std.proofs.Common.{ℕ, ◌<◌, List}
+use Rattle.history_merge.proofs.Common.{◌≡◌, ◌≢◌, ap, arith, cases_order, Event, HistoryFault}
+use Rattle.history_merge.proofs.Common.{InitialTwice, IsFirstFault, IsFirstFaultAt, IsFirstTwice}
+use Rattle.history_merge.proofs.Common.{IsLeastPending, length, Memory, NoFaultBefore, Pending, refl}
+use Rattle.history_merge.proofs.Common.{slice_get_within}
+use Rattle.std.proofs.Common.{ℕ, List}
 use Rattle.history_merge.proofs.Distinct.{one_at}
 use Rattle.history_merge.proofs.ExactFaults.{by_kind}
 use Rattle.history_merge.proofs.DistinctValues.{twice_before, twice_not_distinct}
@@ -19,32 +19,19 @@ by_first : (P : HistoryFault → Type 0) (initial : List ℕ) (events : List Eve
 by_first P initial events at pending twice = by_kind (λ f. f ≢ Memory → IsFirstFault initial events f → P f)
     (λ i f of known first. at i f ((of.first initial events).0 first)) (λ ticket known. pending ticket) (λ known first. absurd (known refl)) (λ j known. twice j)
 
--- an event before which, and up to which, there is no fault has none
-not_before : (initial : List ℕ) (events : List Event) (i n : ℕ) (fault : HistoryFault) → IsFirstFaultAt initial events i fault
-    → NoFaultBefore initial events n → i < n → ⊥
-not_before initial events i n fault at none below = none-some fault (sym (none i at.2.0 below at.2.1) ∙ at.2.2)
-
--- so if no event has a fault
+-- where an event has a fault, some event has one
 not_among : (initial : List ℕ) (events : List Event) (i : ℕ) (fault : HistoryFault) → IsFirstFaultAt initial events i fault
     → NoFaultBefore initial events (length events) → ⊥
-not_among initial events i fault at none = not_before initial events i (length events) fault at none (slice_get_within events i at.2.0 at.2.1)
+not_among initial events i fault at none = grind (arith, slice_get_within)
 
--- the fault at one place is one
-one_here : (initial : List ℕ) (events : List Event) (i : ℕ) (f g : HistoryFault) → IsFirstFaultAt initial events i f
-    → IsFirstFaultAt initial events i g → f ≡ g
-one_here initial events i f g at_f at_g = grind (arith, one_at)
-
+-- the first fault of an event is one
 one_place : (initial : List ℕ) (events : List Event) (i j : ℕ) (f g : HistoryFault) → IsFirstFaultAt initial events i f
     → IsFirstFaultAt initial events j g → f ≡ g
-one_place initial events i j f g at_f at_g = grind (arith, cases_order, one_here, not_before)
+one_place initial events i j f g at_f at_g = grind (arith, cases_order, one_at)
 
 -- there is one first place of a value that stands twice
 one_twice : (initial : List ℕ) (j k : ℕ) → IsFirstTwice initial j → IsFirstTwice initial k → j ≡ k
-one_twice initial j k at_j at_k = elim (cases_order j k) [
-  | inl same ↦ same
-  | inr (inl earlier) ↦ absurd (twice_before initial j k earlier at_k.0 at_j)
-  | inr (inr later) ↦ absurd (twice_before initial k j later at_j.0 at_k)
-]
+one_twice initial j k at_j at_k = grind (arith, cases_order j k, twice_before initial j k, twice_before initial k j)
 
 -- two first faults of the same initial values and events, neither of which is out of memory, are equal
 pub one_first_fault : (initial : List ℕ) (events : List Event) (f g : HistoryFault) → f ≢ Memory → g ≢ Memory

@@ -350,7 +350,7 @@ gives_nothing (e ∷ later) by_call due left none by = pick (is_call e.what) ref
 -- what is left after a call, by the number of its thread and its return
 pub left_after_call : (events : List Event) (o : Operation) (rest : List Operation) (due : List (Option Event)) (given : GivesCall events o rest due)
     (t : ℕ) (p : Option Event) → t ≡ o.thread → p ≡ maybe_return o → AreLeft given.later rest (set due t p)
-left_after_call events o rest due given t p own returned = grind (arith)
+left_after_call events o rest due given t p own returned = grind arith
 
 -- the same after a return
 pub left_after_return : (events : List Event) (r : Event) (by_call : List Operation) (due : List (Option Event)) (given : GivesReturn events r by_call due)
@@ -439,7 +439,7 @@ run_of events rise threads turns = assumption (in_turn [] events turns, none_due
 -- at the beginning all of them are left, and none is due
 pub all_left : (events : List Event) (operations : List Operation) (due : List (Option Event)) → IsRunOf events operations
     → length due ≡ MAX_THREAD + 1 → ((k : ℕ) → get_or due k None ≡ None) → AreLeft events operations due
-all_left events operations due is long none = grind (arith)
+all_left events operations due is long none = grind arith
 
 -- the operations of a run tell its events
 pub told_of_run : (events : List Event) (operations : List Operation) → IsRunOf events operations → events_of operations ≡ events

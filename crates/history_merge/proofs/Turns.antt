@@ -37,15 +37,6 @@ pub projection-push_other : (events : List Event) (e : Event) (thread : ℕ) →
     → projection thread (events ++ e ∷ []) ≡ projection thread events
 projection-push_other events e thread other = filter-append (λ x. nat_eq x.thread thread) events (e ∷ []) ∙ rw other (append-nil (projection thread events))
 
--- what is pending in a thread after one event of it
-pub pending_call-push_own : (events : List Event) (e : Event) → pending_call e.thread (events ++ e ∷ []) ≡ then_some (is_call e.what) e
-pending_call-push_own events e = ap pending_in (projection-push_own events e) ∙ pending_in-push (projection e.thread events) e
-
--- an event of another thread leaves what is pending
-pub pending_call-push_other : (events : List Event) (e : Event) (thread : ℕ) → nat_eq e.thread thread ≡ false
-    → pending_call thread (events ++ e ∷ []) ≡ pending_call thread events
-pending_call-push_other events e thread other = ap pending_in (projection-push_other events e thread other)
-
 -- a thread above the greatest has no event
 projection-above : (events : List Event) (thread : ℕ) → MAX_THREAD < thread → All (λ e. e.thread ≤ MAX_THREAD) events → projection thread events ≡ []
 projection-above [] thread above within = refl

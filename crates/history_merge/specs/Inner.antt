@@ -1,6 +1,5 @@
 -- Relations that serve the contracts of private functions: no public promise names one.
 pub mod Clashes
-pub mod Faults
 pub mod Forming
 pub mod History
 pub mod Packed

@@ -5,7 +5,7 @@ ghost use Rattle.event_records.specs.Turns.{is_call};
 ghost use Rattle.history_merge.specs.Faults.{IsLeastPending, breaks_ticket_order, calls_initial, pending_call, repeats_value};
 ghost use Rattle.history_merge.specs.Forming as judged;
 ghost use Rattle.history_merge.specs.Forming.{operations_so_far};
-ghost use Rattle.history_merge.specs.Inner.Faults.{NothingPending};
+ghost use Rattle.history_merge.specs.Inner.Forming.{NothingPending};
 ghost use Rattle.history_merge.specs.Inner.History.{AreOfRun, IsRunOf};
 ghost use Rattle.history_merge.specs.Gathering.{HasFormed, IsTaken};
 

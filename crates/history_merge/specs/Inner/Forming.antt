@@ -19,6 +19,10 @@ pub record Follows (events : List Event) (e : Event) : Type 0 where
   pub rises : MatchOption (last_or None events) ⊤ (λ last. last.ticket < e.ticket)
   pub fits : FitsTurn (pending_call e.thread events) e
 
+-- no call of any thread is without return
+abbrev pub NothingPending : List Event → Type 0
+NothingPending events = (thread : ℕ) → pending_call thread events ≡ None
+
 -- the operations are those of the events, and tell them
 pub record IsFormedOf (events : List Event) (operations : List Operation) : Type 0 where
   pub formed : operations ≡ operations_of events

@@ -10,11 +10,7 @@ use Rattle.history_merge.proofs.events.EventsIterator.next.Goals.{After-maybe_re
 
 call : (c : After-maybe_return)
     → GivesCall (put_each c.self.inside.due (events_of c.self.inside.by_call)) c.in-Some.operation c.in-Some.by_call c.self.inside.due
-call c =
-    gives_call _ c.in-Some.operation c.in-Some.by_call c.self.inside.due c.first_due-due.result
-    (subst (λ os. AreLeft (put_each c.self.inside.due (events_of c.self.inside.by_call)) os c.self.inside.due) c.in-Some.ensures.0 c.self.invariant.0)
-    (first_of_all c.self.inside.due c.self.inside.threads c.first_due-due.result
-    (omega (arith, c.self.invariant.1, c.self.invariant.0.one_per_thread)) c.first_due-due.ensures c.self.invariant.2) c.in-Some.ensures.1
+call c = grind (arith, gives_call, first_of_all)
 
 after_call : (c : After-maybe_return)
     → AreLeft (call c).later c.in-Some.by_call (set c.self.inside.due c.from-thread.result c.maybe_return.result)
@@ -43,11 +39,7 @@ invariant_of-self c =
 -- an item more lowers the number of those that are left
 goes : (old new : List Event) (e : Event) → old ≡ e ∷ new
     → MakesProgress {S = List Event} {A = Event} (λ _. Unit {0}) (item_count {S = List Event} {A = Event} (λ rest. rest)) old (Some e) new
-goes old new e is = record {
-  on = λ finite. (tt, tt, (let count = ap length is in omega (arith, count)));
-  keeps = tt;
-  rests = λ finite. tt;
-}
+goes old new e is = grind arith
 
 pub returns-in-Some-clause-steps : goal.returns-in-Some-clause-steps
 returns-in-Some-clause-steps c =

@@ -1,4 +1,5 @@
-use Rattle.history_merge.proofs.Common.{◌∙◌, ap, Contents, Event, HasGathered, IsCompleteFrom, IsFormedOf, subst, sym}
+use Rattle.history_merge.proofs.Common.{arith}
+use Rattle.history_merge.proofs.Common.{◌∙◌, ap, Contents, Event, HasGathered, IsCompleteFrom, IsFormedOf}
 use Rattle.std.specs.Prelude.{ℕ, List}
 use Rattle.history_merge.proofs.ExactFaults.{complete_without_fault}
 use Rattle.history_merge.proofs.Formed.{formed_of_complete}
@@ -7,19 +8,14 @@ use Rattle.history_merge.proofs.gathering.Gathering.finish.Goals as goal
 use Rattle.history_merge.proofs.gathering.Gathering.finish.Goals.{After-into_timeline}
 
 pub returns-in-Some-clause-outcome : goal.returns-in-Some-clause-outcome
-returns-in-Some-clause-outcome c = λ initial events gathered.
-    met_fault_is_first initial events c.in-Some.fault (kept_is_met initial events c.args.self c.in-Some.fault c.in-Some.is gathered)
+returns-in-Some-clause-outcome c = grind (arith, met_fault_is_first, kept_is_met)
 
 pub returns-in-Some-least_pending-clause-outcome : goal.returns-in-Some-least_pending-clause-outcome
-returns-in-Some-least_pending-clause-outcome c = λ initial events gathered.
-    let known = still_forming initial events c.args.self c.in_default.is gathered in
-    (known.distinct, known.no_fault, c.in-Some-least_pending.ensures events known.formed)
+returns-in-Some-least_pending-clause-outcome c = grind (arith, still_forming)
 
 -- nothing is pending
 whole : (c : After-into_timeline) (initial : List ℕ) (events : List Event) → HasGathered initial events c.args.self → IsCompleteFrom initial events
-whole c initial events gathered =
-    let known = still_forming initial events c.args.self c.in_default.is gathered in
-    complete_without_fault initial events known.distinct known.no_fault (c.in_default-least_pending.ensures events known.formed)
+whole c initial events gathered = grind (arith, still_forming, complete_without_fault)
 
 -- the operations are those of the events
 formed : (c : After-into_timeline) (initial : List ℕ) (events : List Event) → HasGathered initial events c.args.self
@@ -30,19 +26,7 @@ formed c initial events gathered =
     (ap (λ (view : Contents). view.operations) c.into_timeline.ensures ∙ known.formed.operations)
 
 pub new-requires : goal.new-requires
-new-requires c =
-    let initial = c.requires.0 in
-    let events = c.requires.1 in
-    let known = still_forming initial events c.args.self c.in_default.is c.requires.2 in
-    let initial_is = ap (λ (view : Contents). view.initial) c.into_timeline.ensures ∙ known.initial_is in
-    record {
-      formed = (
-        events,
-        formed c initial events c.requires.2,
-        subst (λ values. IsCompleteFrom values events) (sym initial_is) (whole c initial events c.requires.2),
-        c.requires.2.few,
-      );
-    }
+new-requires c = grind (arith, still_forming, formed, whole)
 
 pub returns-clause-outcome : goal.returns-clause-outcome
 returns-clause-outcome c = λ initial events gathered.
