@@ -1,8 +1,8 @@
 -- What is taken from the buffer of a reader.
 use Rattle.history_text.proofs.Common.{[], ◌++◌, ◌+◌, ◌-◌, ◌<◌, ◌∙◌, ◌∷◌, ◌≡◌, ◌≤◌, ap, append_assoc, arith, drop}
-use Rattle.history_text.proofs.Common.{drop-drop, false, IfSome, length, length-append, length-drop, length-take-le}
-use Rattle.history_text.proofs.Common.{List, nat_lt, nat_tests, None, Option, refl, Some, subst, sym, take, take_all}
-use Rattle.history_text.proofs.Common.{ℕ, Ahead, EndOfInput, HasMore, IsOver, Takes, with_front}
+use Rattle.history_text.proofs.Common.{drop-drop, IfSome, length, length-append, length-drop, length-take-le}
+use Rattle.history_text.proofs.Common.{List, nat_lt, nat_tests, None, Option, refl, Some, take, take_all}
+use Rattle.history_text.proofs.Common.{ℕ, Ahead, EndOfInput, HasMore, IsOver, Takes, with_front, common_steps}
 use Rattle.std.proofs.Common.{not, suc, take-add, zero}
 use Rattle.std.proofs.Math.Seq.{take-append-add}
 use Rattle.std.proofs.lemmas.List.Edits.{take-paste}
@@ -43,8 +43,7 @@ pub has_more_in_buffer : (bytes : List ℕ) (at filled : ℕ) (ahead : Option Ah
     → IfSome (with_front (part bytes at filled) ahead) HasMore
 has_more_in_buffer bytes at filled None some within = tt
 has_more_in_buffer bytes at filled (Some a) some within =
-    let long : length (part bytes at filled) ≡ filled - at = length-take-le (filled - at) (drop at bytes) (omega (arith, length-drop at bytes, within)) in
-    has_more_behind (part bytes at filled) a (omega (arith, long, some))
+    grind (arith, length-take-le, length-drop, has_more_behind)
 
 -- whether a read gave a byte says whether the input is over
 pub over_if_nothing : (ahead : Option Ahead) (n : ℕ) (bytes : List ℕ) → n ≤ length bytes → 0 < length bytes
@@ -52,8 +51,7 @@ pub over_if_nothing : (ahead : Option Ahead) (n : ℕ) (bytes : List ℕ) → n 
 over_if_nothing None zero bytes within some ends = tt
 over_if_nothing (Some a) zero bytes within some ends = ends refl some
 over_if_nothing ahead (suc n) bytes within some ends =
-    let more : not (nat_lt 0 (suc n)) ≡ false = grind (arith, nat_tests) in
-    subst (IsOverIf (with_front (part bytes 0 (suc n)) ahead)) (sym more) (has_more_in_buffer bytes 0 (suc n) ahead (omega arith) within)
+    grind (arith, nat_tests, common_steps, has_more_in_buffer)
 
 -- the bytes that are left, moved to the front, and those of a read after them: nothing is taken
 pub moved_and_read : (bytes more : List ℕ) (at filled n : ℕ) (old new : Option Ahead) → at ≤ filled → filled ≤ length bytes
@@ -62,13 +60,4 @@ pub moved_and_read : (bytes more : List ℕ) (at filled n : ℕ) (old new : Opti
 moved_and_read bytes more at filled n None new in_order within kept takes = tt
 moved_and_read bytes more at filled n (Some a) None in_order within kept takes = takes
 moved_and_read bytes more at filled n (Some a) (Some b) in_order within kept takes =
-    let front : take (filled - at) more ≡ part bytes at filled =
-    let same : filled - at ≡ 0 + (filled - at) = omega arith in
-    kept ∙ ap (λ k. take k (paste bytes 0 (drop at bytes) (filled - at))) same
-    ∙ take-paste bytes 0 (drop at bytes) (filled - at) (omega arith) (omega (arith, length-drop at bytes, in_order, within)) in
-    let whole : part more 0 (filled - at + n) ≡ part bytes at filled ++ take n (drop (filled - at) more) =
-    ap (λ k. take k more) (omega arith) ∙ take-add (filled - at) n more ∙ ap (λ (r : List ℕ). r ++ take n (drop (filled - at) more)) front in (
-      ap (λ (r : List ℕ). part bytes at filled ++ r) takes.0 ∙ sym (append_assoc (part bytes at filled) (take n (drop (filled - at) more)) b.bytes)
-          ∙ ap (λ (r : List ℕ). r ++ b.bytes) (sym whole),
-      takes.1,
-    )
+    grind (arith, nat_tests, common_steps, paste, take-paste, length-drop, take-add, append_assoc)

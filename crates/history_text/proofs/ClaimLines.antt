@@ -1,7 +1,7 @@
 -- The lines of a verdict: what is read is spelled so, and what is written is read back.
-use Rattle.history_text.proofs.Common.{numbers_in, parse_line, is_line_form, greatest_value, [], ◌<◌, ◌^◌, ◌∷◌, ◌≡◌}
+use Rattle.history_text.proofs.Common.{numbers_in, parse_line, is_line_form, greatest_value, [], ◌<◌, ◌∷◌, ◌≡◌}
 use Rattle.history_text.proofs.Common.{◌≤◌, arith, bytes_eq, codes, decimal, decimal_nonempty, false, length, List}
-use Rattle.history_text.proofs.Common.{list_all, nat_eq, nat_tests, Ok, refl, Result, true, ℕ, ◌>>=◌, all_digits, both}
+use Rattle.history_text.proofs.Common.{list_all, Ok, refl, Result, true, ℕ, ◌>>=◌, all_digits}
 use Rattle.history_text.proofs.Common.{claim_line_fields, claim_line_format, claim_line_in, ClaimLine, Deq}
 use Rattle.history_text.proofs.Common.{empty_operation, Enq, HasClaimLine, HasOperationLine, Initial, initial_form}
 use Rattle.history_text.proofs.Common.{initial_forms, initial_of, is_initial, IsKindInRange, IsSpelled, kind_fields}
@@ -9,7 +9,7 @@ use Rattle.history_text.proofs.Common.{MAX_THREAD, MAX_TICKET, Op, Operation, op
 use Rattle.history_text.proofs.Common.{operation_forms, operation_of, OpKind, read_by, TextFault, valued_operation}
 use Rattle.std.specs.Char.{is_ascii_digit}
 use Rattle.history_merge.specs.declared.operation.OpKind.TheVariants.{Empty, Not}
-use Rattle.history_text.proofs.FormLines.{IsReadAs, IsReadBack, item_read, row_back, Spells, ◌&◌}
+use Rattle.history_text.proofs.FormLines.{IsReadAs, IsReadBack, item_read, row_back, Spells}
 
 -- ---- what is read is spelled so
 
@@ -19,13 +19,7 @@ operation_row c r t kind a b few range = record { text = refl; line = record { c
 
 -- the fields of an operation are spelled as it is written
 pub operation_spells : Spells operation_format operation_forms operation_of
-operation_spells = record {
-  bits = refl;
-  rows = (λ c _ a r _ b t _ few v _ range. operation_row c r t (Enq v) a b few range)
-      & (λ c _ a r _ b t _ few v _ range. operation_row c r t (Deq v) a b few range)
-      & (λ c _ a r _ b t _ few. operation_row c r t Empty a b few tt)
-      & (λ c _ a r _ b t _ few v _ range. operation_row c r t (Not v) a b few range) & tt;
-}
+operation_spells = grind (arith, operation_row)
 
 -- the fields of an initial value are spelled as it is written
 pub initial_spells : Spells claim_line_format initial_forms initial_of
@@ -56,17 +50,11 @@ module _ (c r t : ℕ) (a : c ≤ MAX_TICKET) (b : r ≤ MAX_TICKET) (few : t �
 
 digits_are_other : (ds : List ℕ) → 0 < length ds → list_all is_ascii_digit ds ≡ true → bytes_eq ds (codes "init") ≡ false
 digits_are_other [] some all = absurd (omega (arith, some))
-digits_are_other (d ∷ ds) some all =
-    let p = both (is_ascii_digit d) _ all in
-    let differs : nat_eq d 105 ≡ false = grind (arith, nat_tests, p.0) in
-    rw differs refl
+digits_are_other (d ∷ ds) some all = grind arith
 
 -- an operation is no initial value
 no_initial : (o : Operation) → HasOperationLine o → is_initial (operation_fields o) ≡ false
-no_initial o range =
-    let few = range.call in
-    let small : o.call < 2 ^ 64 = omega (arith, few) in
-    digits_are_other (decimal o.call) (decimal_nonempty o.call small) (all_digits o.call small)
+no_initial o range = grind (arith, digits_are_other, decimal_nonempty, all_digits)
 
 claim_line_back : (l : ClaimLine) → HasClaimLine l → IsReadAs claim_line_in (claim_line_fields l) l
 claim_line_back (Op o) range =

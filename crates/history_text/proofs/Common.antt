@@ -7,7 +7,7 @@ pub use Rattle.std.proofs.Common.{MatchResult, nat_eq, nat_lt, None, Ok, OnOk, O
 pub use Rattle.std.proofs.Common.{refl, rules, slice_get, Some, subst, sym, take, take-append-drop, take_all, true, ℕ}
 pub use Rattle.std.proofs.lemmas.Bool.Decides.{nat_tests}
 pub use Rattle.std.proofs.lemmas.Fmt.{decimal_digit, decimal_nonempty, decimal_step, length-decimal-le}
-pub use Rattle.std.proofs.lemmas.Grind.{flat_map-append}
+pub use Rattle.std.proofs.lemmas.Grind.{common_steps, flat_map-append}
 pub use Rattle.std.proofs.lemmas.List.{drop_more, length-map, take_rest}
 pub use Rattle.std.proofs.lemmas.List.Splits.{join_with_byte-slice_split}
 pub use Rattle.std.proofs.lemmas.Bool.{and_right, false_from_ne_true}

@@ -37,8 +37,7 @@ at_nothing P old new taken over holds = before_end old new EndOfInput [] (λ e b
 -- the line was too long
 pub at_long : (P : Ending → Front → Type 0) (old new : Option Ahead) (given : List ℕ) (b : ℕ) → Takes old new (given ++ b ∷ []) → IsPartOfLine given
     → length given ≡ longest_line → is_line_feed b ≡ false → ((e : Ending) → P e TooLong) → AtFront old P
-at_long P old new given b taken part full other holds =
-    before old new (given ++ b ∷ []) (λ e r. P e (front_of r)) taken (λ e more. subst (P e) (sym (front_too_long given b more part full other)) (holds e))
+at_long P old new given b taken part full other holds = grind (arith, front_too_long)
 
 -- the line was whole
 pub at_line : (P : Ending → Front → Type 0) (old new : Option Ahead) (bytes : List ℕ) → Takes old new (line bytes) → IsPartOfLine bytes

@@ -12,7 +12,7 @@ use Rattle.history_text.proofs.Common.{NoRoomForText, One, text_is, Two, Version
 use Rattle.history_text.specs.Inner.Taking.{FaultAtFront}
 use Rattle.history_text.specs.Versions.{NoVersionFault}
 use Rattle.text_lines.specs.Faults.{MemoryOr}
-use Rattle.text_lines.proofs.MemoryOrNot.{is_memory, known_fault, follows}
+use Rattle.text_lines.proofs.MemoryOrNot.{follows}
 use Rattle.history_text.proofs.Faults.{at_line}
 
 other_fault : (Lacking : Type 0) (IsFault : TextFault → Type 0) (fault : TextFault) → IsOfInput fault → IsFault fault → MemoryOr Lacking IsFault fault

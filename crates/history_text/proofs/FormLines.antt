@@ -3,9 +3,9 @@ use Rattle.history_text.proofs.Common.{◌≤◌, Number, [], Word, line_at_fron
 use Rattle.history_text.proofs.Common.{◌≡◌, ap, arith, codes, decimal, false, length-decimal-le, List, nat_lt}
 use Rattle.history_text.proofs.Common.{nat_tests, None, Ok, refl, Some, true, ℕ, begins_as_end, end_line, end_read}
 use Rattle.history_text.proofs.Common.{Ending, field_is_clean, Format, front_of, IsLineOf, IsPartOfLine, item_at_front}
-use Rattle.history_text.proofs.Common.{line, line_of, number_is_field, spaced, whole, ap₂, drop, Err}
-use Rattle.history_text.proofs.Common.{join_with_byte-slice_split, Result, sym, take, take-append-drop, both, end_in}
-use Rattle.history_text.proofs.Common.{end_ok, end_word, fields_of, IsItemLine, IsSpelled, item_in, text_is, TextFault}
+use Rattle.history_text.proofs.Common.{line, line_of, number_is_field, spaced, whole, drop, Err}
+use Rattle.history_text.proofs.Common.{join_with_byte-slice_split, Result, sym, take-append-drop, end_in}
+use Rattle.history_text.proofs.Common.{end_ok, fields_of, IsItemLine, IsSpelled, item_in, TextFault}
 use Rattle.history_text.proofs.Common.{AllByRecursion, list_all, ◌>>=◌, AreOfForm, FieldForm, has_bits, is_line_form}
 use Rattle.history_text.proofs.Common.{numbers_back, numbers_in, parse_line, parse_line_says, read_by, spelled}
 use Rattle.history_text.proofs.Common.{spelled_is_line, Table}
@@ -13,10 +13,7 @@ use Rattle.history_text.proofs.Common.{spelled_is_line, Table}
 -- ---- the first line, an item's and the last one, read from what is written of them, whatever comes after
 
 end_is_part : (k : ℕ) → k < 2 ^ 64 → IsPartOfLine (codes "end " ++ decimal k)
-end_is_part k small = record {
-  one = field_is_clean (decimal k) (number_is_field k small);
-  short = omega (arith, length-decimal-le 20 k (omega arith) (omega arith) small);
-}
+end_is_part k small = grind (arith, field_is_clean, number_is_field, length-decimal-le)
 
 -- the last line is read
 pub end_front : {A : Type 0} (format : Format A) (n k : ℕ) (ending : Ending) (rest : List ℕ) → format.is_counted ≡ true → k < 2 ^ 64
@@ -29,18 +26,12 @@ end_front format n k ending rest counted small =
 -- the last line counts the items before it
 pub last_line_ok : {A : Type 0} (format : Format A) (n k : ℕ) (bytes field : List ℕ) → k < 2 ^ 64 → (format.is_counted && begins_as_end bytes) ≡ true
     → field ≡ drop 4 bytes → Ok tt ≡ end_in n k field → IsItemLine format k bytes None
-last_line_ok format n k bytes field small last field_is e =
-    let p = both format.is_counted (begins_as_end bytes) last in
-    let word : end_word ≡ take 4 bytes = text_is end_word (take 4 bytes) p.1 in
-    let count : drop 4 bytes ≡ decimal k = sym field_is ∙ end_ok n k field tt small (sym e) in
-    (ap line (sym (take-append-drop 4 bytes) ∙ ap₂ (λ (x y : List ℕ). x ++ y) (sym word) count), p.0)
+last_line_ok format n k bytes field small last field_is e = grind (arith, end_ok, take-append-drop)
 
 -- its fault is that of its number
 pub last_line_faulty : {A : Type 0} (format : Format A) (n k : ℕ) (bytes field : List ℕ) (fault : TextFault)
     → (format.is_counted && begins_as_end bytes) ≡ true → field ≡ drop 4 bytes → Err fault ≡ end_in n k field → Err fault ≡ item_in format n k bytes
-last_line_faulty format n k bytes field fault last field_is e =
-    let judged : end_in n k (drop 4 bytes) ≡ Err fault = ap (end_in n k) (sym field_is) ∙ sym e in
-    rw (last, judged) refl
+last_line_faulty format n k bytes field fault last field_is e = grind arith
 
 -- an item's line is that of its fields
 pub item_line_ok : {A : Type 0} (format : Format A) (k : ℕ) (bytes : List ℕ) (item : A) → k < format.most → IsSpelled format (fields_of bytes) item

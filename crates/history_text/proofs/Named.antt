@@ -2,7 +2,7 @@
 use Rattle.std.proofs.Common.{MatchOption}
 use Rattle.verdicts.specs.declared.shown.LinePlace.{LinePlace}
 use Rattle.verdicts.specs.declared.shown.LinePlace.TheVariants as place
-use Rattle.history_text.proofs.Common.{maybe_place, [], ◌++◌, ◌+◌, ◌∙◌, ◌∷◌, ◌≡◌, ap, append-nil, ap₂, arith, Bool}
+use Rattle.history_text.proofs.Common.{maybe_place, [], ◌++◌, ◌∙◌, ◌∷◌, ◌≡◌, ap, append-nil, ap₂, arith, Bool}
 use Rattle.history_text.proofs.Common.{cons_option, filter_map, flat_map, flat_map-append, IsErrAnd, List, None}
 use Rattle.history_text.proofs.Common.{Option, option_map, option_to_list, refl, Result, slice_get, Some, subst, sym}
 use Rattle.history_text.proofs.Common.{ℕ, Asked, claim_line, Op, Operation, operation_line, line_text, puts_then}

@@ -1,9 +1,9 @@
 -- Two texts of schedules at the front of one input are one, and an input has one first fault.
 use Rattle.history_text.proofs.Common.{◌∙◌, ap, IsSetting, [], ◌++◌, ◌+◌, ◌∷◌, ◌≡◌, append_assoc, arith, Err, inl, inr}
-use Rattle.history_text.proofs.Common.{length, List, Ok, refl, Result, Some, ℕ, ◌>>=◌, end_line, Ending, EndOfInput}
+use Rattle.history_text.proofs.Common.{List, Ok, refl, Result, Some, ℕ, ◌>>=◌, Ending, EndOfInput}
 use Rattle.history_text.proofs.Common.{Front, front_of, HasScheduleText, Header, header_fault, IsScheduleTextFault}
-use Rattle.history_text.proofs.Common.{line, line_at_front, lines_before_steps, lines_of, schedule_header}
-use Rattle.history_text.proofs.Common.{schedule_text, setting_fields, setting_in, spaced, step_format, TextFault}
+use Rattle.history_text.proofs.Common.{line, line_at_front, lines_before_steps, schedule_header, nat_tests}
+use Rattle.history_text.proofs.Common.{schedule_text, setting_in, step_format, TextFault}
 use Rattle.history_text.specs.declared.schedule.Schedule.{Schedule}
 use Rattle.history_text.proofs.StepLines.{step_front, setting_says}
 use Rattle.history_text.proofs.Judging as judging
@@ -34,28 +34,21 @@ no_header ending fault front h = grind (arith, h)
 
 header_then : (lines : ℕ) (ending : Ending) (rest : List ℕ)
     → schedule_in lines ending (line schedule_header ++ rest) ≡ after_header lines ending rest
-header_then lines ending rest =
-    then_ok _ _ _ (header_read ending rest)
+header_then lines ending rest = grind (arith, then_ok, header_read)
 
 setting_then : (lines threads ring : ℕ) (ending : Ending) (rest : List ℕ) → IsSetting threads ring
     → schedule_in lines ending (lines_before_steps threads ring ++ rest) ≡ steps_in (threads, ring) (lines + 3) ending rest
 setting_then lines threads ring ending rest within =
-    let set = line (spaced (setting_fields threads ring)) in
-    ap (schedule_in lines ending) (append_assoc (line schedule_header) set rest) ∙ header_then lines ending (set ++ rest)
-    ∙ then_ok _ _ _ (setting_says threads ring within (lines + 2) ending rest)
+    grind (arith, append_assoc, header_then, then_ok, setting_says)
 
 read : (lines : ℕ) (ending : Ending) (s : Schedule) (rest : List ℕ) → HasScheduleText s → Anything ending rest
     → schedule_in lines ending (schedule_text s ++ rest) ≡ Ok (s, rest)
 read lines ending s rest text _ =
-    let steps = lines_of step_format s.steps ++ end_line (length s.steps) in
-    ap (schedule_in lines ending) (append_assoc (lines_before_steps s.threads s.ring) steps rest)
-    ∙ setting_then lines s.threads s.ring ending (steps ++ rest) text.setting
-    ∙ then_ok _ _ _ (counted_read step_format step_front (lines + 3) ending s.steps rest text.steps refl (omega arith))
+    grind (arith, nat_tests, append_assoc, setting_then, then_ok, counted_read, step_front, header_then, setting_says)
 
 found : (lines : ℕ) (ending : Ending) (bytes : List ℕ) (fault : TextFault) → IsScheduleTextFault lines ending bytes fault
     → schedule_in lines ending bytes ≡ Err fault
-found lines ending bytes fault (inl h) =
-    then_err _ _ _ (no_header ending fault (front_of bytes) h)
+found lines ending bytes fault (inl h) = grind (arith, then_err, no_header)
 found lines ending bytes fault (inr (inl (rest, is, h))) =
     ap (schedule_in lines ending) is ∙ header_then lines ending rest
     ∙ then_err _ _ _ h

@@ -60,8 +60,7 @@ answer_then answer lines ending rest = then_ok _ _ _ (answer_read answer (lines 
 lines_read : {A : Type 0} (format : Format A) → IsReadBack format → format.is_counted ≡ false → (make : List A → Claimed) (n : ℕ) (xs : List A)
     → HaveLines format xs
     → (items_in format n EndOfInput (lines_of format xs ++ []) >>= made make) ≡ made make (xs, [])
-lines_read format back uncounted make n xs text =
-    then_ok _ _ _ (all_read format back n EndOfInput xs [] [] text (rw uncounted refl))
+lines_read format back uncounted make n xs text = grind (arith, then_ok, all_read)
 
 text_read : (lines : ℕ) (c : Claimed) → HasVerdictText c → verdict_in lines EndOfInput (verdict_text c ++ []) ≡ Ok (c, [])
 text_read lines (Yes xs) text =
@@ -74,9 +73,7 @@ text_read lines (No kind xs) text =
 
 read : (lines : ℕ) (ending : Ending) (c : Claimed) (rest : List ℕ) → HasVerdictText c → IsLast ending rest
     → verdict_in lines ending (verdict_text c ++ rest) ≡ Ok (c, rest)
-read lines ending c rest text last =
-    let P : Ending → List ℕ → Type 0 = λ e r. verdict_in lines e (verdict_text c ++ r) ≡ Ok (c, r) in
-    subst (λ e. P e rest) (sym last.1) (subst (P EndOfInput) (sym last.0) (text_read lines c text))
+read lines ending c rest text last = grind (arith, text_read)
 
 later_found : (answer : Option ViolationKind) (n : ℕ) (ending : Ending) (fault : TextFault) (bytes : List ℕ) → ClaimFault n ending fault answer bytes
     → claim_in answer n ending bytes ≡ Err fault
@@ -88,8 +85,7 @@ later_found (Some kind) n ending fault bytes h = then_err _ _ _
 found : (lines : ℕ) (ending : Ending) (bytes : List ℕ) (fault : TextFault) → IsVerdictTextFault lines ending bytes fault
     → verdict_in lines ending bytes ≡ Err fault
 found lines ending bytes fault (inl h) = then_err _ _ _ (no_answer _ ending fault _ h)
-found lines ending bytes fault (inr (answer, (rest, is, h))) =
-    ap (verdict_in lines ending) is ∙ answer_then answer lines ending rest ∙ later_found answer (lines + 2) ending fault rest h
+found lines ending bytes fault (inr (answer, (rest, is, h))) = grind (arith, answer_then, later_found)
 
 -- so an input is judged
 pub judged : IsJudged HasVerdictText verdict_text IsLast IsVerdictTextFault verdict_in

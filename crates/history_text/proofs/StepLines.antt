@@ -8,7 +8,7 @@ use Rattle.history_text.proofs.Common.{step_of, step_with, valued_saying}
 use Rattle.recorder_core.specs.declared.step.Step.TheVariants.{AskEnq, AskDeq, Push, Effect, Say, Ret, Drain, Close}
 use Rattle.event_records.specs.declared.kind.Answer.{Answer}
 use Rattle.event_records.specs.declared.kind.Answer.TheVariants.{Taken, Not, Got, Empty}
-use Rattle.history_text.proofs.FormLines.{IsReadAs, IsReadBack, item_read, line_read, row_back, Says, Spells, ◌&◌}
+use Rattle.history_text.proofs.FormLines.{IsReadAs, IsReadBack, item_read, line_read, row_back, Says, Spells}
 
 -- ---- what is read is spelled so
 
@@ -17,14 +17,7 @@ step_row step range = record { text = refl; line = range }
 
 -- the fields of a step are spelled as it is written
 pub step_spells : Spells step_format step_forms step_of
-step_spells = record {
-  bits = refl;
-  rows = (λ t _ few. step_row (AskEnq t) few) & (λ t _ few. step_row (AskDeq t) few) & (λ t _ few. step_row (Push t) few)
-      & (λ t _ few. step_row (Effect t) few) & (λ t _ few. step_row (Ret t) few) & (λ t _ few. step_row (Close t) few)
-      & (λ t _ few k _ drained. step_row (Drain t k) (few, drained)) & (λ t _ few. step_row (Say t Taken) (few, tt))
-      & (λ t _ few. step_row (Say t Not) (few, tt)) & (λ t _ few. step_row (Say t Empty) (few, tt))
-      & (λ t _ few v _ range. step_row (Say t (Got v)) (few, range)) & tt;
-}
+step_spells = grind (arith, step_row)
 
 -- the thread of a step that has a line
 pub thread_is_few : (step : Step) (t v : ℕ) → HasStepLine (step_with step t v) → t ≤ MAX_THREAD
@@ -32,16 +25,7 @@ thread_is_few step t v h = grind arith
 
 -- the fields of a setting are spelled as it is written
 pub setting_spells : Spells setting_format setting_forms setting_of
-setting_spells = record {
-  bits = refl;
-  rows = (
-    λ t some few r room little. record {
-      text = refl;
-      line = record { some_threads = some; few_threads = few; some_room = room; little_room = little };
-    },
-    tt,
-  );
-}
+setting_spells = grind arith
 
 -- ---- what is written is read back
 

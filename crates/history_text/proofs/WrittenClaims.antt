@@ -1,7 +1,7 @@
 -- A complete history has a text, and the claim of a verdict on a history that has a text has one.
 use Rattle.history_text.proofs.Common.{[], ◌≡◌, ◌≤◌, All, length, List, refl, ℕ, Event, greatest_value, HasEventLine}
 use Rattle.history_text.proofs.Common.{HasHistoryText, HasText, HasValueInRange, MAX_EVENTS, MAX_INITIAL, One, Two}
-use Rattle.history_text.proofs.Common.{Version, ◌∷◌, AllByRecursion, arith, cons_option, Contains, filter_map}
+use Rattle.history_text.proofs.Common.{Version, ◌∷◌, AllByRecursion, arith, Contains, filter_map}
 use Rattle.history_text.proofs.Common.{length-map, map, None, Option, option_map, slice_get, Some, subst, claim_of}
 use Rattle.history_text.proofs.Common.{ClaimLine, Deq, HasClaimLine, HasOperationLine, HasVerdictText, HaveValueLines}
 use Rattle.history_text.proofs.Common.{HistoryText, Initial, IsKindInRange, line_at, MAX_CLAIM_LINES, Op, Operation}
@@ -21,11 +21,7 @@ use Rattle.verdicts.specs.declared.shown.LinePlace.TheVariants as place
 -- a complete history has a text
 pub complete_has_text : (events : List Event) → IsCompleteHistory events → All (λ e. HasValueInRange e.what) events → length events ≤ MAX_EVENTS
     → HasHistoryText events
-complete_has_text events complete values few = record {
-  each = recursion_from_All HasEventLine events
-      (λ k d h. assumption (complete.tickets_in_range k d h, complete.threads_in_range k d h, values k d h));
-  few = few;
-}
+complete_has_text events complete values few = grind (arith, recursion_from_All)
 
 -- a complete history has a text of this version, if its values and events fit
 pub written_has_text : (version : Version) (initial : List ℕ) (events : List Event) → (version ≡ One → initial ≡ []) → length initial ≤ MAX_INITIAL
@@ -58,11 +54,7 @@ has_line events o all among =
 at_places : {X Y : Type 0} (P : X → Type 0) (at : Y → Option X) (places : List Y) → ((p : Y) (x : X) → at p ≡ Some x → P x)
     → AllByRecursion P (filter_map at places)
 at_places P at [] all = tt
-at_places {X} P at (p ∷ places) all = by_place (at p) refl (at_places P at places all)
-  where
-    by_place : (here : Option X) → at p ≡ here → AllByRecursion P (filter_map at places) → AllByRecursion P (cons_option here (filter_map at places))
-    by_place None is others = others
-    by_place (Some x) is others = (all p x is, others)
+at_places {X} P at (p ∷ places) all = grind (arith, at_places P at places all)
 
 -- what holds of what each value is made into holds of what an optional one is made into
 mapped : {X Y : Type 0} (P : Y → Type 0) (f : X → Y) (o : Option X) (y : Y) → option_map f o ≡ Some y → ((x : X) → o ≡ Some x → P (f x)) → P y

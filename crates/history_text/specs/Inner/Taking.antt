@@ -1,18 +1,16 @@
 -- What the steps of a reader take of its input.
-use Rattle.std.specs.Prelude.{◌≡◌, ℕ, ◌<◌, ◌≤◌, ⊤, Bool, true, false, List, [], length, Option, Some, None, Err, IfSome}
-use Rattle.std.specs.declared.result.Result.{Result}
+use Rattle.std.specs.Prelude.{◌≡◌, ℕ, ◌<◌, ◌≤◌, ⊤, Bool, true, false, List, [], length, Option, Some, None, IfSome}
 use Rattle.text_lines.specs.declared.fault.TextFault.{TextFault}
 use Rattle.text_lines.specs.declared.fault.TextFault.TheVariants.{Memory, Read}
 use Rattle.event_records.specs.declared.limits.TheConstants.{MAX_INITIAL}
 use Rattle.history_text.specs.declared.source_end.SourceEnd.{SourceEnd}
 use Rattle.history_text.specs.declared.source_end.SourceEnd.TheVariants as end
 use Rattle.text_lines.specs.Input.{Ahead, Ending, EndOfInput, Failure, Takes, IsOver}
-use Rattle.text_lines.specs.Lines.{line, end_line, front_of, header_fault, fault_at, Front, Whole, TooLong, Unfinished, Nothing}
+use Rattle.text_lines.specs.Lines.{line, end_line, front_of, fault_at, Front, Whole, TooLong, Unfinished, Nothing}
 use Rattle.text_lines.specs.Inner.Lines.{IsPartOfLine}
-use Rattle.history_text.specs.Items.{Format, line_of, lines_of, item_at_front, LineFault, ItemFault, NoRoom, FaultAmong, NoRoomAmong}
-use Rattle.history_text.specs.Versions.{count_fields, count_in, NoVersionFault}
+use Rattle.history_text.specs.Items.{Format, line_of, lines_of, ItemFault, NoRoom, FaultAmong, NoRoomAmong}
+use Rattle.history_text.specs.Versions.{count_fields, count_in}
 use Rattle.history_text.specs.Schedules.{setting_fields, setting_in, IsSetting}
-use Rattle.history_text.specs.Claims.{FirstLineFault}
 use Rattle.history_text.specs.Reading.{HasFirstFault}
 
 -- nothing is ahead, and it ends so, if the end of the source was seen

@@ -1,5 +1,5 @@
 use Rattle.history_text.proofs.Common.{sym}
-use Rattle.history_text.proofs.FormLines.{read_as, said_spelled}
+use Rattle.history_text.proofs.FormLines.{said_spelled}
 use Rattle.history_text.proofs.StepLines.{setting_spells}
 use Rattle.history_text.proofs.step_line.Tuple2UsizeUsizeItem.from_line.Goals as goal
 
