@@ -1,7 +1,8 @@
-use Rattle.history_merge.proofs.Common.{[], ◌++◌, ◌∙◌, ◌∷◌, arith, HasMetFault, IsForming, MatchOption, subst, sym}
+use Rattle.history_merge.proofs.Common.{nat_tests}
+use Rattle.history_merge.proofs.Common.{[], ◌∷◌, arith}
 use Rattle.std.proofs.Common.{length-append}
 use Rattle.history_merge.proofs.Clashes.{kept-append}
-use Rattle.history_merge.proofs.MetFaults.{gathered_after_fault, none_kept, none_met, run_of_formed}
+use Rattle.history_merge.proofs.MetFaults.{gathered_after_fault, none_met, run_of_formed}
 use Rattle.history_merge.proofs.gathering.Gathering.add.Goals as goal
 
 pub returns-then-is_some-clause-added : goal.returns-then-is_some-clause-added
@@ -23,21 +24,11 @@ returns-in-Err-clause-added c = λ initial events gathered few.
     let known = none_met initial events c.args.self.now c.if-is_some.ensures gathered in
     let met = c.in-Err.ensures.followed initial events known few in
     let run = run_of_formed initial events c.follow.new.self.forming met.1.1 known.distinct known.no_fault in
-    record {
-      few_initial = gathered.few_initial;
-      few = simp length-append (omega (arith, few));
-      gathered = rw c.keep.ensures.fault met.0;
-      clash = rw met.1.0 at (c.keep.ensures.clash events met.1.1 run few met.1.2);
-    }
+    grind (arith, nat_tests, length-append)
 
 pub returns-in_default-clause-added : goal.returns-in_default-clause-added
 returns-in_default-clause-added c = λ initial events gathered few.
     let known = none_met initial events c.args.self.now c.if-is_some.ensures gathered in
-    let kept = c.in_default.ensures.kept in
-    record {
-      few_initial = gathered.few_initial;
-      few = simp length-append (omega (arith, few));
-      gathered = subst (λ f. MatchOption f (IsForming initial (events ++ c.args.event ∷ []) c.follow.new.self) (HasMetFault initial (events ++ c.args.event ∷ [])))
-          (sym (kept.0 ∙ none_kept c.args.self.now.fault c.if-is_some.ensures)) (c.in_default.ensures.followed initial events known few);
-      clash = rw kept.1 (kept-append initial events (c.args.event ∷ []) c.args.self.now.clash gathered.clash);
-    }
+    let followed = c.in_default.ensures.followed initial events known few in
+    let clash = kept-append initial events (c.args.event ∷ []) c.args.self.now.clash gathered.clash in
+    grind (arith, nat_tests, length-append)

@@ -1,5 +1,5 @@
-use Rattle.history_merge.proofs.Common.{◌++◌, ◌∙◌, ◌≡◌, ◌⊎◌, arith, called_values, fault_at, Knows, length, Memory}
-use Rattle.history_merge.proofs.Common.{None, Some, subst, sym}
+use Rattle.history_merge.proofs.Common.{◌++◌, ◌∙◌, arith, called_values, Knows}
+use Rattle.history_merge.proofs.Common.{subst}
 use Rattle.std.proofs.Common.{length-append}
 use Rattle.history_merge.proofs.KnownValues.{called_so_far, repeats_is, values_more}
 use Rattle.history_merge.proofs.MetFaults.{met_fault-push, no_fault-push, of_err}
@@ -7,31 +7,23 @@ use Rattle.history_merge.proofs.gathering.Gathering.follow.Goals as goal
 
 pub returns-in_err-take-clause-followed : goal.returns-in_err-take-clause-followed
 returns-in_err-take-clause-followed c = λ initial events known few.
-    let e = c.args.event in
-    let note = c.in_ok-repeats.ensures (initial ++ called_values events) known.called
-    (called_so_far initial events c.timeline.result.now c.args.self.now.forming.timeline c.all-operations.result.now c.all-operations.ensures.timeline
-    c.timeline.ensures known.initial_is known.formed.operations) in
-    let refused = c.in_err-take.ensures.taken initial events known.formed (note.0 ∙ repeats_is initial events e) in
+    let note = c.in_ok-repeats.ensures (initial ++ called_values events) known.called (grind (arith, called_so_far)) in
+    let refused = c.in_err-take.ensures.taken initial events known.formed (note.0 ∙ repeats_is initial events c.args.event) in
     of_err _ _ _ c.from_residual-in_err-take.result c.from_residual-in_err-take.ensures.1 (λ fault is. (
-      met_fault-push initial events e fault known.distinct known.no_fault
-          (subst (λ f. (f ≡ Memory) ⊎ (fault_at initial events (length events) e ≡ Some f)) (sym is)
-          (subst (λ n. (c.in_err-take.field-0.0 ≡ Memory) ⊎ (fault_at initial events n e ≡ Some c.in_err-take.field-0.0)) known.count refused.1)),
+      grind (arith, met_fault-push initial events c.args.event fault known.distinct known.no_fault),
       (c.in_err-take.ensures.initial ∙ known.initial_is, refused.0, known.count),
     ))
 
 pub returns-clause-followed : goal.returns-clause-followed
 returns-clause-followed c = λ initial events known few.
     let e = c.args.event in
-    let note = c.in_ok-repeats.ensures (initial ++ called_values events) known.called
-    (called_so_far initial events c.timeline.result.now c.args.self.now.forming.timeline c.all-operations.result.now c.all-operations.ensures.timeline
-    c.timeline.ensures known.initial_is known.formed.operations) in
+    let note = c.in_ok-repeats.ensures (initial ++ called_values events) known.called (grind (arith, called_so_far)) in
     let taken = c.in_ok-take.ensures.taken initial events known.formed (note.0 ∙ repeats_is initial events e) in
-    let none = subst (λ n. fault_at initial events n e ≡ None) known.count taken.1 in
     record {
       initial_is = c.in_ok-take.ensures.initial ∙ known.initial_is;
       distinct = known.distinct;
       called = subst (λ values. Knows values c.note.new.self) (values_more initial events e) note.1;
       formed = taken.0;
       count = simp length-append (omega (arith, known.count, few));
-      no_fault = no_fault-push initial events e none known.no_fault;
+      no_fault = no_fault-push initial events e (rw known.count at taken.1) known.no_fault;
     }
