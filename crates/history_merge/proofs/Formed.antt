@@ -1,19 +1,19 @@
 -- The operations of the events so far, and what a history builder keeps of them, after one more event and at the end.
 use Rattle.history_merge.proofs.Common.{[], ◌++◌, ◌+◌, ◌||◌, ◌∙◌, ◌∷◌, ◌≡◌, All-push, answered, answers}
 use Rattle.history_merge.proofs.Common.{answers_pending, ap, append-nil, arith, begun, breaks_ticket_order}
-use Rattle.history_merge.proofs.Common.{call_event, called_by, called_value, calls_initial, CallWhilePending}
+use Rattle.history_merge.proofs.Common.{called_by, called_value, calls_initial, CallWhilePending}
 use Rattle.history_merge.proofs.Common.{cases_Bool, cond, DuplicateValue, eqb_tells, Event, events_of, false≢true}
 use Rattle.history_merge.proofs.Common.{fault_at, find-append, Forming, get_or-set_other, get_or-set_same}
-use Rattle.history_merge.proofs.Common.{get_or_from_slice_get, HasFormed, inl, inr, is_call, is_called_in, is_none}
+use Rattle.history_merge.proofs.Common.{HasFormed, inl, inr, is_call, is_called_in, is_none}
 use Rattle.history_merge.proofs.Common.{is_some, IsCompleteFrom, IsCompleteHistory, IsFormedOf, IsKept, IsRunOf}
 use Rattle.history_merge.proofs.Common.{kind_of, le-ltb, length, length-set, MAX_EVENTS, MAX_THREAD, nat_eq}
 use Rattle.history_merge.proofs.Common.{nat_tests, next_of, None, not, Operation, operation_of, operation_so_far}
 use Rattle.history_merge.proofs.Common.{operations_of, operations_so_far, OpKind, Option, option_map}
 use Rattle.history_merge.proofs.Common.{pending_call, projection, refl, repeats_value, RetEnq, ReturnWithoutCall, set}
-use Rattle.history_merge.proofs.Common.{slice_get, slice_get_within, Some, some_pair_parts, subst, suc, sym}
+use Rattle.history_merge.proofs.Common.{slice_get, Some, some_pair_parts, subst, suc, sym}
 use Rattle.history_merge.proofs.Common.{TakesTurns, then_some, waiting, was_called, What, WrongReturn, common_steps}
 use Rattle.std.proofs.Common.{ℕ, true, false, List}
-use Rattle.std.proofs.Common.{◌<◌, ◌≤◌}
+use Rattle.std.proofs.Common.{◌≤◌}
 use Rattle.std.proofs.Common.{get_or, append_assoc}
 use Rattle.history_merge.proofs.TheirEvents.{run_of, told_of_run, call_so_far, next_is_first}
 use Rattle.history_merge.proofs.Turns.{answer_is_return, last_or-push, pending_in-push, projection-push_other, projection-push_own}
@@ -134,18 +134,16 @@ formed_after_call events e old new below call none known added last placed =
     (ap (option_map (λ found. found.1)) (waits_call events e call) ∙ rw call refl)
 
 -- a pending call: its place, its operation, and that it is completed by a return
-record IsPendingAt (events : List Event) (thread : ℕ) (old : Forming) (place : ℕ) : Type 0 where
+pub record IsPendingAt (events : List Event) (thread : ℕ) (old : Forming) (place : ℕ) : Type 0 where
   pub call : Event
   pub pending : pending_call thread events ≡ Some call
   pub calls : is_call call.what ≡ true
-  pub inside : place < length old.timeline.operations
   pub was : slice_get old.timeline.operations place ≡ Some (operation_so_far call None)
-  pub is : (d : Operation) → get_or old.timeline.operations place d ≡ operation_so_far call None
   pub answered : (e : Event) → e.thread ≡ thread → is_call e.what ≡ false
       → operations_so_far (events ++ e ∷ []) ≡ set old.timeline.operations place (operation_so_far call (Some e))
 
 -- the place that is kept of a thread is that of its pending call
-pending_at : (events : List Event) (thread : ℕ) (old : Forming) (place : ℕ) → thread ≤ MAX_THREAD → HasFormed events old
+pub pending_at : (events : List Event) (thread : ℕ) (old : Forming) (place : ℕ) → thread ≤ MAX_THREAD → HasFormed events old
     → get_or old.pending thread None ≡ Some place → IsPendingAt events thread old place
 pending_at events thread old place within known is =
     let found = waits_at (waiting thread events) place (sym is ∙ known.places thread within) in
@@ -153,7 +151,7 @@ pending_at events thread old place within known is =
     let done = λ (e : Event) (own : e.thread ≡ thread). formed_answer events e place call (subst (λ t. waiting t events ≡ Some (place, call)) (sym own) found.1) in
     let stands : slice_get old.timeline.operations place ≡ Some (operation_so_far call None) =
     rw known.operations (done (record { ticket = 0; thread = thread; what = RetEnq }) refl refl).was in
-    grind (arith, slice_get_within, get_or_from_slice_get)
+    grind arith
 
 -- where no place is kept of a thread, no call is pending
 pub none_pending_at : (events : List Event) (thread : ℕ) (old : Forming) → thread ≤ MAX_THREAD → HasFormed events old
@@ -185,59 +183,28 @@ kind_answered call answer h = grind arith
 kind_tells : (call answer : What) → answers call answer ≡ is_some (kind_of call answer)
 kind_tells call answer = grind arith
 
--- a return is of the kind of the pending call, whose operation stands at the place that is kept of its thread
-record IsAnswerOf (events : List Event) (e : Event) (old : Forming) (place : ℕ) (o : Operation) : Type 0 where
-  pub at : IsPendingAt events e.thread old place
-  pub was : o ≡ operation_so_far at.call None
-  pub called : called_by o.kind ≡ at.call.what
-
-answer_of : (events : List Event) (e : Event) (old : Forming) (place : ℕ) (o d : Operation) → e.thread ≤ MAX_THREAD → HasFormed events old
-    → get_or old.pending e.thread None ≡ Some place → o ≡ get_or old.timeline.operations place d → IsAnswerOf events e old place o
-answer_of events e old place o d below known is found =
-    let at = pending_at events e.thread old place below known is in
-    let was : o ≡ operation_so_far at.call None = found ∙ at.is d in
-    record { at = at; was = was; called = ap (λ x. called_by x.kind) was ∙ ap (λ x. x.what) (call_so_far at.call None at.calls) }
-
 -- a return that isn't of its call's kind
-pub wrong_return : (initial : List ℕ) (events : List Event) (n : ℕ) (e : Event) (old : Forming) (place : ℕ) (o d : Operation)
+pub wrong_return : (initial : List ℕ) (events : List Event) (n : ℕ) (e : Event) (old : Forming) (place : ℕ) (o : Operation)
     → breaks_ticket_order events e ≡ false → e.thread ≤ MAX_THREAD → is_call e.what ≡ false → HasFormed events old
-    → get_or old.pending e.thread None ≡ Some place → o ≡ get_or old.timeline.operations place d → kind_of (called_by o.kind) e.what ≡ None
+    → get_or old.pending e.thread None ≡ Some place → slice_get old.timeline.operations place ≡ Some o → kind_of (called_by o.kind) e.what ≡ None
     → fault_at initial events n e ≡ Some (WrongReturn n)
-wrong_return initial events n e old place o d order below returns known is found none =
-    let answer = answer_of events e old place o d below known is found in
-    grind (arith, fault_of_return, kind_tells)
+wrong_return initial events n e old place o order below returns known is found none =
+    let at = pending_at events e.thread old place below known is in
+    grind (arith, fault_of_return, kind_tells, call_so_far at.call None at.calls)
 
 -- one more return, which is
-pub formed_after_answer : (initial : List ℕ) (events : List Event) (n : ℕ) (e : Event) (old new : Forming) (place : ℕ) (o d : Operation) (kind : OpKind)
+pub formed_after_answer : (initial : List ℕ) (events : List Event) (n : ℕ) (e : Event) (old new : Forming) (place : ℕ) (o : Operation) (kind : OpKind)
     → breaks_ticket_order events e ≡ false → e.thread ≤ MAX_THREAD → is_call e.what ≡ false → HasFormed events old
-    → get_or old.pending e.thread None ≡ Some place → o ≡ get_or old.timeline.operations place d → kind_of (called_by o.kind) e.what ≡ Some kind
+    → get_or old.pending e.thread None ≡ Some place → slice_get old.timeline.operations place ≡ Some o → kind_of (called_by o.kind) e.what ≡ Some kind
     → new.timeline.operations ≡ set old.timeline.operations place (record o { ret = e.ticket; kind = kind }) → new.least_ticket ≡ e.ticket + 1
     → new.pending ≡ set old.pending e.thread None → HasFormed (events ++ e ∷ []) new × (fault_at initial events n e ≡ None)
-formed_after_answer initial events n e old new place o d kind order below returns known is found kind_is completed last cleared =
-    let answer = answer_of events e old place o d below known is found in
-    let call = answer.at.call in
-    let told : kind_of call.what e.what ≡ Some kind = rw answer.called at kind_is in
-    let right : answers call.what e.what ≡ true = kind_tells call.what e.what ∙ ap is_some told in
-    let same : Some kind ≡ Some (answered (begun call.what) e.what) = sym told ∙ kind_answered call.what e.what right in
-    let kind' : kind ≡ answered (begun call.what) e.what = cc in
+formed_after_answer initial events n e old new place o kind order below returns known is found kind_is completed last cleared =
+    let at = pending_at events e.thread old place below known is in
+    let first = call_so_far at.call None at.calls in
     let none = waits_answer events e returns in
-    let now : new.timeline.operations ≡ set old.timeline.operations place (operation_so_far call (Some e)) = rw (answer.was, kind') at completed in (
-      formed_more events e old new None below known (now ∙ sym (answer.at.answered e refl returns)) last cleared (rw none refl)
-          (ap (option_map (λ found. found.1)) none ∙ rw returns refl),
-      fault_of_return initial events n e order below returns ∙ rw (answer.at.pending, right) refl,
-    )
-
--- the call event of the operation at the place that is kept of a thread is its pending call
-pub call_at : (events : List Event) (thread : ℕ) (old : Forming) (place : ℕ) (found : Option Operation) → thread ≤ MAX_THREAD → HasFormed events old
-    → get_or old.pending thread None ≡ Some place → found ≡ slice_get old.timeline.operations place → option_map call_event found ≡ pending_call thread events
-call_at events thread old place found below known is stands =
-    let at = pending_at events thread old place below known is in
-    rw (stands, at.was) (ap (λ e. Some e) (call_so_far at.call None at.calls) ∙ sym at.pending)
-
--- an operation stands at the place that is kept of a thread
-pub inside_at : (events : List Event) (thread : ℕ) (old : Forming) (place : ℕ) → thread ≤ MAX_THREAD → HasFormed events old
-    → get_or old.pending thread None ≡ Some place → place < length old.timeline.operations
-inside_at events thread old place below known is = (pending_at events thread old place below known is).inside
+    let done = at.answered e refl returns in
+    let kind' : kind ≡ answered (begun at.call.what) e.what = grind (arith, kind_answered at.call.what e.what, kind_tells at.call.what e.what) in
+    grind (arith, formed_more events e old new None, fault_of_return, kind_tells)
 
 -- ---- all events
 
