@@ -7,7 +7,7 @@ use Rattle.history_text.proofs.Common.{IsSpelled, line, line_of, MAX_INITIAL, MA
 use Rattle.history_text.proofs.Common.{plain_event, spaced, value_fields, value_format, value_forms, value_in}
 use Rattle.history_text.proofs.Common.{valued_event, what_fields}
 use Rattle.text_lines.proofs.Fields.{has_field}
-use Rattle.history_text.proofs.FormLines.{IsReadAs, IsReadBack, item_read, line_read, row_back, Says, Spells, ◌&◌}
+use Rattle.history_text.proofs.FormLines.{IsReadAs, IsReadBack, item_read, line_read, row_back, Says, Spells}
 use Rattle.event_records.specs.declared.event.What.{What}
 use Rattle.event_records.specs.declared.event.What.TheVariants.{CallEnq, RetEnq, RetNot, CallDeq, RetDeq, RetEmpty}
 
@@ -53,12 +53,7 @@ event_row t th what a b range = record { text = refl; line = record { ticket = a
 
 -- the fields of an event are spelled as it is written
 pub event_spells : Spells event_format event_forms event_of
-event_spells = record {
-  bits = refl;
-  rows = (λ t _ a h _ b v _ r. event_row t h (CallEnq v) a b r) & (λ t _ a h _ b. event_row t h RetEnq a b tt)
-      & (λ t _ a h _ b. event_row t h RetNot a b tt) & (λ t _ a h _ b. event_row t h CallDeq a b tt)
-      & (λ t _ a h _ b v _ r. event_row t h (RetDeq v) a b r) & (λ t _ a h _ b. event_row t h RetEmpty a b tt) & tt;
-}
+event_spells = grind (arith, event_row)
 
 module _ (t th : ℕ) (a : t ≤ MAX_TICKET) (b : th ≤ MAX_THREAD) where
   event_back : (what : What) → HasValueInRange what

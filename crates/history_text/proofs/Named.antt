@@ -47,8 +47,7 @@ one_more text (Some x) rest = ap (λ (r : List ℕ). r ++ flat_map text rest) (s
 pub text_at_places : {X P : Type 0} (text : X → List ℕ) (at : P → Option X) (places : List P)
     → flat_map text (filter_map at places) ≡ flat_map (λ p. flat_map text (option_to_list (at p))) places
 text_at_places text at [] = refl
-text_at_places text at (p ∷ places) = one_more text (at p) (filter_map at places)
-    ∙ ap (λ (r : List ℕ). flat_map text (option_to_list (at p)) ++ r) (text_at_places text at places)
+text_at_places text at (p ∷ places) = grind (arith, one_more, text_at_places text at places)
 
 operation_or_none : (here : Option Operation) → flat_map operation_line (option_to_list here) ≡ flat_map claim_line (option_to_list (option_map Op here))
 operation_or_none here = grind arith

@@ -106,8 +106,7 @@ found : (lines : ℕ) (ending : Ending) (bytes : List ℕ) (fault : TextFault) �
     → history_in lines ending bytes ≡ Err fault
 found lines ending bytes fault (inl h) =
     then_err _ _ _ (no_version ending fault (front_of bytes) h)
-found lines ending bytes fault (inr (version, (rest, is, h))) =
-    ap (history_in lines ending) is ∙ version_then version lines ending rest ∙ later_found version (lines + 2) ending fault rest h
+found lines ending bytes fault (inr (version, (rest, is, h))) = grind (arith, version_then, later_found)
 
 -- so an input is judged
 pub judged : IsJudged HasText text_of Anything IsTextFault history_in

@@ -34,6 +34,7 @@ pub fn no_schedule_text_begins_another()
 {}
 
 /// Proves that a text is the text of one claim.
+#[tactic(auto, using(crate::proofs::OneVerdict::texts_agree))]
 pub fn a_text_has_one_claim()
     ensures { (first second : Claimed) → HasVerdictText first → HasVerdictText second → verdict_text first ≡ verdict_text second → first ≡ second }
 {}
@@ -42,6 +43,7 @@ pub fn a_text_has_one_claim()
 /// text may have.
 ///
 /// So `read_verdict` reads back what `write_verdict` wrote.
+#[tactic(auto, using(crate::proofs::WrittenClaims::claim_has_text))]
 pub fn a_claim_on_a_text_has_a_text()
     ensures { (text : HistoryText) (verdict : Verdict) → HasText text → length (verdict_places verdict) ≤ MAX_CLAIM_LINES
         → HasVerdictText (claim_of text.initial (operations_of text.events) verdict) }

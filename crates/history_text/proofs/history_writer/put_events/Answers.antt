@@ -1,6 +1,6 @@
 use Rattle.history_text.proofs.Common.{[], ◌++◌, ◌∙◌, ◌∷◌, ◌≡◌, ap, append-nil, append_assoc, flat_map}
 use Rattle.history_text.proofs.Common.{flat_map-append, List, rules, sym, ℕ, Event, event_line, HasValueInRange}
-use Rattle.history_text.proofs.Common.{some_then, stops_inside}
+use Rattle.history_text.proofs.Common.{some_then, stops_inside, arith, nat_tests, common_steps}
 use Rattle.std.proofs.lemmas.List.Elements.{All-push}
 use Rattle.history_text.proofs.history_writer.put_events.Goals as goal
 
@@ -38,14 +38,10 @@ loop-event-preserved g c =
     }
 
 pub returns-clause-text : goal.returns-clause-text
-returns-clause-text g c =
-    rw (← whole c.loop-event.yielded c.loop-event.event-iterator c.args.events c.in-None.ensures.steps.0 c.loop-event.invariant.all)
-    c.loop-event.invariant.put
+returns-clause-text g c = grind (arith, nat_tests, common_steps, whole)
 
 pub returns-clause-fits : goal.returns-clause-fits
-returns-clause-fits g c =
-    rw (← whole c.loop-event.yielded c.loop-event.event-iterator c.args.events c.in-None.ensures.steps.0 c.loop-event.invariant.all)
-    c.loop-event.invariant.fits
+returns-clause-fits g c = grind (arith, nat_tests, common_steps, whole)
 
 pub loop-event-init : goal.loop-event-init
 loop-event-init g c = record { all = c.into_iter-event-iterator.ensures.into_iter_gives; put = search rules; fits = search rules }

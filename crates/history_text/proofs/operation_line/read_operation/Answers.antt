@@ -1,4 +1,4 @@
-use Rattle.history_text.proofs.Common.{err_from_is_err_and, sym, fields_of, operation_forms, operation_of}
+use Rattle.history_text.proofs.Common.{err_from_is_err_and, sym, fields_of, arith}
 use Rattle.history_text.proofs.FormLines.{read_as, read_faulty, said_spelled}
 use Rattle.history_text.proofs.ClaimLines.{operation_spells}
 use Rattle.history_text.proofs.operation_line.read_operation.Goals as goal
@@ -11,11 +11,7 @@ pub returns-clause-spelled : goal.returns-clause-spelled
 returns-clause-spelled c = rw c.operation_of.ensures (said_spelled operation_spells _ _ _ (sym c.in_ok-kind.ensures.value))
 
 pub returns-clause-value : goal.returns-clause-value
-returns-clause-value c = rw c.operation_of.ensures
-    (read_as operation_forms operation_of c.args.line (fields_of c.args.bytes.now) c.in_ok-kind.kind _ c.in_ok-kind.ensures.value)
+returns-clause-value c = grind (arith, read_as)
 
 pub returns-in_err-kind-clause-value : goal.returns-in_err-kind-clause-value
-returns-in_err-kind-clause-value c =
-    let p = err_from_is_err_and c.from_residual.result c.from_residual.ensures.1 in
-    rw (p.1, p.2)
-    (read_faulty operation_forms operation_of c.args.line (fields_of c.args.bytes.now) _ c.in_err-kind.ensures.value)
+returns-in_err-kind-clause-value c = grind (arith, err_from_is_err_and, read_faulty)

@@ -1,5 +1,5 @@
 use Rattle.history_text.proofs.Common.{[], ◌++◌, ◌+◌, ◌∷◌, ◌≡◌, ℕ, arith, err_from_is_err_and, length, length-append}
-use Rattle.history_text.proofs.Common.{Option, Some, TakesItem, subst}
+use Rattle.history_text.proofs.Common.{Option, Some, TakesItem, nat_tests}
 use Rattle.history_text.specs.Items.{Format}
 use Rattle.history_text.specs.Reading.{Input}
 use Rattle.history_text.proofs.FirstFaults.{item_is_first, HaveLines-push, no_room, on_ok, takes_item}
@@ -15,27 +15,19 @@ record IsNext {A : Type 0} (format : Format A) (old new : Input) (count : ℕ) (
 -- where nothing stood in the buffer it is what the line gave
 by_line : {A : Type 0} (format : Format A) (old same new : Input) (count : ℕ) (found item : Option A) → same ≡ old → found ≡ item
     → IsNext format same new count found → IsNext format old new count item
-by_line format old same new count found item none is next =
-    subst (λ i. IsNext format old new count i) is (subst (λ o. IsNext format o new count found) none next)
+by_line format old same new count found item none is next = grind arith
 
 -- the next item comes from the buffer or by its line
 next_is : (g : Over) (c : After-add g)
     → IsNext g.T.Item.format c.loop-item.self c.match-item_in_buffer.self c.loop-item.count (Some c.match-item_in_buffer.item)
-next_is g c = elim c.match-item_in_buffer.branch [
-  | in-Some w ↦ rw (w.self-is, w.item-is) (record { taken = w.in-Some.ensures.item; lines = w.in-Some.ensures.lines })
-  | in-None-2+in_ok-item-in-None-2+in-Some-2 w ↦
-      rw (w.self-is, w.item-is) (by_line g.T.Item.format _ _ _ _ _ _ w.in-None-2.ensures.none w.in-Some-2.is
-      (record { taken = w.in_ok-item-in-None-2.ensures.ok; lines = w.item_by_line.ensures.lines }))
-]
+next_is g c = grind (arith, in-Some, in-None-2+in_ok-item-in-None-2+in-Some-2, by_line)
 
 pub returns-in_err-item-in-None-2-clause-fault : goal.returns-in_err-item-in-None-2-clause-fault
 returns-in_err-item-in-None-2-clause-fault g c =
     let p = err_from_is_err_and c.from_residual.result c.from_residual.ensures.1 in
     let known = c.loop-item.invariant in
     let place : c.loop-item.self.lines + 1 ≡ c.args.self.now.lines + 1 + length known.items = omega (arith, known.lines, known.count) in
-    rw (p.1, p.2) (item_is_first g.T.Item.format (c.args.self.now.lines + 1)
-    (c.loop-item.self.lines + 1) known.items c.loop-item.count _ _ c.in_err-item-in-None-2.field-0.0 c.in_err-item-in-None-2.ensures.of_input known.right known.taken
-    known.count place (rw c.in-None-2.ensures.none at c.in_err-item-in-None-2.ensures.fault))
+    grind (arith, nat_tests, item_is_first)
 
 pub returns-then-is_err-clause-fault : goal.returns-then-is_err-clause-fault
 returns-then-is_err-clause-fault g c =
@@ -52,8 +44,7 @@ loop-item-preserved g c =
       items = known.items ++ c.match-item_in_buffer.item ∷ [];
       right = HaveLines-push g.T.Item.format known.items c.match-item_in_buffer.item known.right next.taken.1 (omega (arith, known.count, next.taken.2));
       taken = takes_item g.T.Item.format known.items c.match-item_in_buffer.item _ _ _ known.taken next.taken.0;
-      held = on_ok c.add.result _ c.if-is_err.ensures.value
-          (c.add.ensures _ known.items known.held (omega (arith, known.count, next.taken.2, g.met.T.Item.few)));
+      held = grind (arith, on_ok);
       count = simp length-append (omega (arith, known.count));
       lines = omega (arith, next.lines, known.lines);
     }
