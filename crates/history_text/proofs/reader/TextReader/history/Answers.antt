@@ -3,10 +3,7 @@ use Rattle.history_text.proofs.FirstFaults.{event_is_first}
 use Rattle.history_text.proofs.reader.TextReader.history.Goals as goal
 
 pub returns-in_err-collect_items-clause-fault : goal.returns-in_err-collect_items-clause-fault
-returns-in_err-collect_items-clause-fault g c =
-    let p = err_from_is_err_and c.from_residual-in_err-collect_items.result c.from_residual-in_err-collect_items.ensures.1 in
-    rw (p.1, p.2) (event_is_first c.in_ok-version.version c.in_ok-version.initial.items c.args.self.now.lines _ _ _ c.in_err-collect_items.field-0.0
-    (omega (arith, c.in_ok-version.ensures.lines)) c.in_ok-version.ensures.values.0 c.in_ok-version.ensures.values.1 c.in_err-collect_items.ensures.fault)
+returns-in_err-collect_items-clause-fault g c = grind (arith, err_from_is_err_and, event_is_first)
 
 pub returns-clause-text : goal.returns-clause-text
 returns-clause-text g c =
