@@ -13,7 +13,7 @@ use Rattle.history_merge.proofs.Common.{slice_get_within, Some, subst, suc, sym,
 use Rattle.history_merge.proofs.Common.{TicketOrder, TicketsRise, WrongReturn, zero}
 use Rattle.std.proofs.Common.{ℕ, List, ◌<◌, ◌≤◌, false}
 use Rattle.std.proofs.Common.{get_or, length-append}
-use Rattle.history_merge.proofs.Turns.{projection-at, projection-push_own, projection-push_other, TurnsSoFar}
+use Rattle.history_merge.proofs.Turns.{one_event_more, projection-at, TurnsSoFar}
 use Rattle.history_merge.proofs.Turns.{finished, turns_push, fits_in_turns, nothing_after_turns}
 use Rattle.std.proofs.lemmas.List.{take_all}
 use Rattle.history_merge.proofs.DistinctValues.{cut_at, distinct_push, new_from_distinct, initial_distinct}
@@ -97,8 +97,8 @@ above_all (e ∷ events) ticket rise above k d below =
 sound_push : (initial : List ℕ) (events : List Event) (e : Event) → IsSound initial events → MayFollow initial events e
     → IsSound initial (events ++ e ∷ [])
 sound_push initial events e sound may =
-    grind (arith, nat_tests, common_steps, all_pairs_push, above_all, All-push, distinct_push, eqb_tells,
-    projection-push_own, turns_push, projection-push_other)
+    grind (arith, common_steps, all_pairs_push, above_all, All-push, distinct_push, eqb_tells, turns_push, one_event_more)
+
 
 sound_before : (initial : List ℕ) (events : List Event) (n : ℕ) → n ≤ length events → AreDistinct initial → NoFaultBefore initial events (length events)
     → IsSound initial (take n events)

@@ -3,7 +3,7 @@ use Rattle.history_merge.proofs.Common.{[], ◌++◌, ◌+◌, ◌||◌, ◌∙�
 use Rattle.history_merge.proofs.Common.{answers_pending, ap, append-nil, arith, begun, breaks_ticket_order}
 use Rattle.history_merge.proofs.Common.{called_by, called_value, calls_initial, CallWhilePending}
 use Rattle.history_merge.proofs.Common.{cases_Bool, cond, DuplicateValue, eqb_tells, Event, events_of, false≢true}
-use Rattle.history_merge.proofs.Common.{fault_at, find-append, Forming, get_or-set_other, get_or-set_same}
+use Rattle.history_merge.proofs.Common.{fault_at, find-append, Forming}
 use Rattle.history_merge.proofs.Common.{HasFormed, inl, inr, is_call, is_called_in, is_none}
 use Rattle.history_merge.proofs.Common.{is_some, IsCompleteFrom, IsCompleteHistory, IsFormedOf, IsKept, IsRunOf}
 use Rattle.history_merge.proofs.Common.{kind_of, le-ltb, length, length-set, MAX_EVENTS, MAX_THREAD, nat_eq}
@@ -16,7 +16,7 @@ use Rattle.std.proofs.Common.{ℕ, true, false, List}
 use Rattle.std.proofs.Common.{◌≤◌}
 use Rattle.std.proofs.Common.{get_or, append_assoc}
 use Rattle.history_merge.proofs.TheirEvents.{run_of, told_of_run, call_so_far, next_is_first}
-use Rattle.history_merge.proofs.Turns.{answer_is_return, last_or-push, pending_in-push, projection-push_other, projection-push_own}
+use Rattle.history_merge.proofs.Turns.{one_event_more, answer_is_return}
 use Rattle.history_merge.proofs.Turns.{projection-at}
 
 -- ---- how one more event changes the operations of the events so far
@@ -118,8 +118,8 @@ formed_more : (events : List Event) (e : Event) (old new : Forming) (place : Opt
     → place ≡ option_map (λ found. found.0) (waiting e.thread (events ++ e ∷ []))
     → option_map (λ found. found.1) (waiting e.thread (events ++ e ∷ [])) ≡ then_some (is_call e.what) e → HasFormed (events ++ e ∷ []) new
 formed_more events e old new place below known operations last written own waits =
-    grind (arith, nat_tests, common_steps, last_or-push, length-set, All-push, eqb_tells, get_or-set_same,
-    get_or-set_other, waits_other, projection-push_own, projection-push_other, pending_in-push)
+    grind (arith, nat_tests, common_steps, one_event_more, length-set, All-push, eqb_tells, waits_other)
+
 
 -- one more call
 pub formed_after_call : (events : List Event) (e : Event) (old new : Forming) → e.thread ≤ MAX_THREAD → is_call e.what ≡ true

@@ -240,8 +240,8 @@ pub told : (events : List Event) (by_call : List Operation) (due : List (Option 
     → put_each due (events_of by_call) ≡ events
 told [] by_call due left = grind (arith, put_none, get_or_past)
 told (e ∷ later) by_call due left =
-    grind (arith, step, cases_Bool, told_call, told_return,
-    told later (operations_so_far later) (set due e.thread (due_in e.thread later)) (step e later by_call due left))
+    let more = told later (operations_so_far later) (set due e.thread (due_in e.thread later)) (step e later by_call due left) in
+    grind (arith, cases_Bool, told_call, told_return)
 
 -- ---- which event comes first
 

@@ -37,6 +37,9 @@ pub projection-push_other : (events : List Event) (e : Event) (thread : ℕ) →
     → projection thread (events ++ e ∷ []) ≡ projection thread events
 projection-push_other events e thread other = filter-append (λ x. nat_eq x.thread thread) events (e ∷ []) ∙ rw other (append-nil (projection thread events))
 
+-- what one event more changes
+pub ruleset one_event_more = (last_or-push, pending_in-push, projection-push_own, projection-push_other)
+
 -- a thread above the greatest has no event
 projection-above : (events : List Event) (thread : ℕ) → MAX_THREAD < thread → All (λ e. e.thread ≤ MAX_THREAD) events → projection thread events ≡ []
 projection-above [] thread above within = refl
