@@ -99,7 +99,6 @@ sound_push : (initial : List ℕ) (events : List Event) (e : Event) → IsSound 
 sound_push initial events e sound may =
     grind (arith, common_steps, all_pairs_push, above_all, All-push, distinct_push, eqb_tells, turns_push, one_event_more)
 
-
 sound_before : (initial : List ℕ) (events : List Event) (n : ℕ) → n ≤ length events → AreDistinct initial → NoFaultBefore initial events (length events)
     → IsSound initial (take n events)
 sound_before initial events zero within distinct none = grind (arith, All-nil, append-nil)

@@ -120,7 +120,6 @@ formed_more : (events : List Event) (e : Event) (old new : Forming) (place : Opt
 formed_more events e old new place below known operations last written own waits =
     grind (arith, nat_tests, common_steps, one_event_more, length-set, All-push, eqb_tells, waits_other)
 
-
 -- one more call
 pub formed_after_call : (events : List Event) (e : Event) (old new : Forming) → e.thread ≤ MAX_THREAD → is_call e.what ≡ true
     → pending_call e.thread events ≡ None → HasFormed events old
