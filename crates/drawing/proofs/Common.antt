@@ -30,12 +30,12 @@ pub use Rattle.verdicts.specs.declared.verifying.Claimed.{Claimed}
 pub use Rattle.verdicts.specs.declared.verifying.Claimed.TheVariants.{No, Yes}
 pub use Rattle.drawing.specs.Drawn.{drawn_operations, events_before, is_near_any, operation_in, operations_in}
 pub use Rattle.drawing.specs.Drawn.{stand_near, standing_of}
-pub use Rattle.drawing.specs.Inner.Words.{piece_text, scene_in}
 pub use Rattle.drawing.specs.Layout.{greatest_call, has_operations, is_under_way, point, stands_in, under_way}
-pub use Rattle.drawing.specs.Scene.{effect_if, effect_row_if, event_rows, has_row, initial_row, initial_rows}
+pub use Rattle.drawing.specs.Scene.{effect_if, event_rows, has_row, initial_row, initial_rows}
 pub use Rattle.drawing.specs.Scene.{lanes_before, left_out_rows, rows_after, stands_above}
 unfoldable pub use Rattle.drawing.specs.Scene.{effect_rows, row_number, rows_of, scene_of}
 pub use Rattle.drawing.specs.Terminal.{band_column, band_word, band_words, head_line, lane_column, lane_names}
 pub use Rattle.drawing.specs.Terminal.{lane_place, lane_sign, numbered_row, sign_line, strokes, thread_digits}
 pub use Rattle.drawing.specs.Words.{placed, with_words, Word}
 pub use Rattle.drawing.specs.declared.scene.Row.{Row}
+pub use Rattle.drawing.specs.Scene.{scene_on}

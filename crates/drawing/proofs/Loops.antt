@@ -3,7 +3,9 @@ use Rattle.drawing.proofs.Common.{[], ◌++◌, ◌+◌, ◌<◌, ◌∙◌, ◌
 use Rattle.drawing.proofs.Common.{drop, enumerate_from, false, find, flat_map, fold-append, fold_more, get_or}
 use Rattle.drawing.proofs.Common.{length, length-take-le, List, map, map-id, max, range_with_len, Some, sym, take}
 use Rattle.drawing.proofs.Common.{zero-add, ℕ, greatest_call, Operation, placed, point, with_words, Word}
+use Rattle.std.proofs.Common.{append-nil, append_assoc, refl}
 use Rattle.std.proofs.lemmas.List.{map-append, take_more, at_drop_more, flat_map_more}
+use Rattle.std.proofs.lemmas.Grind.{take_at_read, flat_map-append}
 use Rattle.std.proofs.lemmas.List.FromFn.{map-range_with_len_more}
 
 -- what isn't found up to an element that fails is not found up to the next one
@@ -35,6 +37,14 @@ enumerated_more xs i d within =
     let e : 0 + length (take i xs) ≡ i = omega (arith, length-take-le i xs (omega arith)) in
     ap (enumerate_from 0) (take_more xs i d within) ∙ enumerated-append 0 (take i xs) (get_or xs i d)
     ∙ ap (λ (k : ℕ). enumerate_from 0 (take i xs) ++ (k, get_or xs i d) ∷ []) e
+
+-- the same as `grind` finds it: at the element that is read
+pub enumerate_at_read : {X : Type 0} (xs : List X) (i : ℕ) (d : X) → i < length xs
+    → (get_or xs i d ≡ get_or xs i d) × (enumerate_from 0 (take (i + 1) xs) ≡ enumerate_from 0 (take i xs) ++ (i, get_or xs i d) ∷ [])
+enumerate_at_read xs i d within = (refl, enumerated_more xs i d within)
+
+-- what a loop over places adds
+pub ruleset steps = (enumerate_at_read, take_at_read, range_more, append_assoc, append-nil, flat_map-append, map-append, fold-append)
 
 module _ {X : Type 0} (xs more : List X) (x : X) (is : more ≡ xs ++ x ∷ []) where
   -- the word of one element more was added

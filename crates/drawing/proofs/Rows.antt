@@ -1,10 +1,10 @@
 -- Rows stand in the order of time.
-use Rattle.drawing.proofs.Common.{[], ◌++◌, ◌+◌, ◌==◌, ◌||◌, ◌∙◌, ◌∷◌, ◌≡◌, ◌≤◌, ◌⊎◌, ap, arith, Bool}
+use Rattle.drawing.proofs.Common.{[], ◌++◌, ◌+◌, ◌==◌, ◌||◌, ◌∙◌, ◌∷◌, ◌≡◌, ◌≤◌, ◌⊎◌, ap, arith, cond}
 use Rattle.drawing.proofs.Common.{cases_lt, cond_both, Contains, Contains-append_left, Contains-append_right}
 use Rattle.drawing.proofs.Common.{Contains-permutation, enumerate_from, eq-eqb, eqb-true, false, flat_map, inl, inr}
 use Rattle.drawing.proofs.Common.{IsPermutation-sym, length, List, nat_eq, nat_tests, refl, slice_get, slice_get_within, Some}
 use Rattle.drawing.proofs.Common.{subst, sum_by, sum_by-append, sum_by-cons, sym, true, zero-add, ℕ, Claimed}
-use Rattle.drawing.proofs.Common.{contains_at, contains_cons, effect_if, effect_row_if, effect_rows, Event, event_rows}
+use Rattle.drawing.proofs.Common.{contains_at, contains_cons, effect_if, effect_rows, Event, event_rows}
 use Rattle.drawing.proofs.Common.{has_row, HistoryView, initial_row, initial_rows, left_out_rows, not_in_none}
 use Rattle.drawing.proofs.Common.{Operation, operations_of, point, Row, row_number, rows_after}
 use Rattle.drawing.proofs.Common.{rows_of, stands_above, traced, Yes}
@@ -111,12 +111,9 @@ counted_left_out count last = cond_both (count == 0) [] (LeftOut count last ∷ 
 counted_with_event : (order : List Operation) (e : Event) → sum_by events_in (event_rows order e) ≡ 1
 unfolding effect_rows
 counted_with_event order e =
-    let effects = none_in_all (effect_if order e.ticket) (λ (i, o). no_event (point order i == e.ticket) o (i + 1) (point order i)) (enumerate_from 0 order) in
+    let effects = none_in_all (effect_if order e.ticket) (λ (i, o). cond_both (point order i == e.ticket) (Effect o (i + 1) (point order i) ∷ []) []
+    (λ rows. sum_by events_in rows ≡ 0) (λ is. refl) (λ is. refl)) (enumerate_from 0 order) in
     omega (arith, sum_by-append events_in (Ticket e.ticket ∷ []) (flat_map (effect_if order e.ticket) (enumerate_from 0 order)))
-  where
-    no_event : (b : Bool) (o : Operation) (number at : ℕ) → sum_by events_in (effect_row_if b o number at) ≡ 0
-    no_event true o number at = refl
-    no_event false o number at = refl
 
 counted_after : (drawn order : List Operation) (count last : ℕ) (events : List Event)
     → sum_by events_in (rows_after drawn order count last events) ≡ count + length events
@@ -152,7 +149,7 @@ unfolding effect_rows
 after_its_event order i o e at here =
     Contains-append_right (Ticket e.ticket ∷ []) (flat_map (effect_if order e.ticket) (enumerate_from 0 order)) (Effect o (i + 1) (point order i))
     (in_flat_map (effect_if order e.ticket) (enumerate_from 0 order) (i, o) (Effect o (i + 1) (point order i)) (in_enumerated order i o at)
-    (subst (λ b. Contains (effect_row_if b o (i + 1) (point order i)) (Effect o (i + 1) (point order i))) (sym (eq-eqb (point order i) e.ticket (sym here)))
+    (subst (λ b. Contains (cond b (Effect o (i + 1) (point order i) ∷ []) []) (Effect o (i + 1) (point order i))) (sym (eq-eqb (point order i) e.ticket (sym here)))
     (contains_at (Effect o (i + 1) (point order i) ∷ []) 0 (Effect o (i + 1) (point order i)) refl)))
 
 pub effects_have_rows : EffectsHaveRows

@@ -1,5 +1,5 @@
 -- Bands beside the lanes of a `NO`: when a value definitely was in the queue, or was not, and the time that contradicts it.
-use Rattle.std.specs.Prelude.{ℕ, ◌+◌, ◌&&◌, ◌||◌, not, is_some, if◌then◌else◌, Bool, nat_lt, nat_le, Option, Some, None, List, [], ◌∷◌, ◌++◌, codes}
+use Rattle.std.specs.Prelude.{ℕ, ◌+◌, ◌&&◌, ◌||◌, not, is_some, if◌then◌else◌, Bool, nat_lt, nat_le, Option, Some, None, option_and_then, slice_get, List, [], ◌∷◌, ◌++◌, codes}
 use Rattle.std.specs.List.{concat}
 use Rattle.history_merge.specs.declared.operation.OpKind.{OpKind}
 use Rattle.history_merge.specs.declared.operation.OpKind.TheVariants as kind
@@ -44,11 +44,6 @@ abbrev pub enqueue_call : List ClaimLine → Option ℕ
 enqueue_call [] = None
 enqueue_call (enq ∷ rest) = call_if_taken enq (line_kind enq)
 
--- the call of the first of these lines
-abbrev pub first_call : List ClaimLine → Option ℕ
-first_call [] = None
-first_call (line ∷ rest) = line_call line
-
 -- a value for each enqueue of a cover, which its dequeue follows if it has one
 abbrev pub cover_bands : List ClaimLine → List Band
 cover_bands [] = []
@@ -58,7 +53,7 @@ cover_bands (enq ∷ deq ∷ rest) = sure_until enq (line_call deq) ∷ cover_ba
 -- when a, whose enqueue is first, definitely was in the queue, and when b of the lines after it went in and out
 abbrev pub order_bands : ClaimLine → List ClaimLine → List Band
 order_bands enq_a (enq_b ∷ deq_b ∷ rest) =
-    sure_until enq_a (first_call rest) ∷ time_of (InAndOut (line_value enq_b)) (line_call enq_b) (line_return deq_b) ∷ []
+    sure_until enq_a (option_and_then line_call (slice_get rest 0)) ∷ time_of (InAndOut (line_value enq_b)) (line_call enq_b) (line_return deq_b) ∷ []
 order_bands enq_a _ = []
 
 -- the bands of a `NO` of this kind. Of a value that was not there: when it definitely was not in the queue, before any call of its enqueue,

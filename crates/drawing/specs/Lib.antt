@@ -9,4 +9,3 @@ pub mod Drawn
 pub mod Scene
 pub mod Terminal
 pub mod Laws
-pub mod Inner

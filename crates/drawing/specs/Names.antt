@@ -25,6 +25,5 @@ value_text v = name_text (name_of v)
 
 -- an initial value as it is drawn
 abbrev pub initial_text : Name → List ℕ
-initial_text (OfThread thread number) = codes "init " ++ name_text (OfThread thread number)
 initial_text (OfInitial number) = name_text (OfInitial number)
-initial_text (Plain v) = codes "init " ++ name_text (Plain v)
+initial_text name = codes "init " ++ name_text name

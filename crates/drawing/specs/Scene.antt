@@ -49,14 +49,9 @@ abbrev pub initial_rows : List ℕ → List Row
 initial_rows [] = []
 initial_rows (front ∷ others) = Head ∷ flat_map initial_row (enumerate_from 0 (front ∷ others))
 
--- the row of an operation with this number in an order, if it takes effect where asked
-abbrev pub effect_row_if : Bool → Operation → ℕ → ℕ → List Row
-effect_row_if true o number point = Effect o number point ∷ []
-effect_row_if false o number point = []
-
 -- the row of operation i of an order, if it takes effect just after this ticket
 abbrev pub effect_if : List Operation → ℕ → ℕ × Operation → List Row
-effect_if order ticket (i, o) = effect_row_if (point order i == ticket) o (i + 1) (point order i)
+effect_if order ticket (i, o) = if point order i == ticket then Effect o (i + 1) (point order i) ∷ [] else []
 
 -- the rows of the operations that take effect just after this ticket
 unfoldable pub effect_rows : List Operation → ℕ → List Row

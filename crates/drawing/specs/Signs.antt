@@ -1,7 +1,6 @@
 -- How to read a picture: its signs, and what each means. Characters and pixels draw them in their own way.
 use Rattle.std.specs.Prelude.{ℕ, if◌then◌else◌, List, [], ◌∷◌, ◌++◌, codes}
 use Rattle.std.specs.List.{list_any}
-use Rattle.history_merge.specs.declared.operation.Operation.{Operation}
 use Rattle.verdicts.specs.declared.verifying.Claimed.{Claimed}
 use Rattle.verdicts.specs.declared.verifying.Claimed.TheVariants.{Yes, No}
 use Rattle.verdicts.specs.declared.verifying.ViolationKind.TheVariants.{VFresh, VRepeat, VOrd, VWit}
@@ -25,13 +24,11 @@ band_signs (No VRepeat lines) = []
 band_signs (No VOrd lines) = Present ∷ InAndOut ∷ []
 band_signs (No VWit lines) = Present ∷ SaidEmpty ∷ []
 
--- the sign of operations that overlap none of those that show a `NO`, where there are some
-abbrev pub away_signs : Claimed → List Operation → List Sign
-away_signs claimed operations = if list_any (is_away claimed) operations then Away ∷ [] else []
-
--- the signs of a picture
+-- the signs of a picture, the last where some operation overlaps none of those that show a `NO`
 unfoldable pub signs_of : SceneView → List Sign
-signs_of scene = number_signs scene.claimed scene.initial ++ (band_signs scene.claimed ++ away_signs scene.claimed scene.operations)
+signs_of scene =
+    number_signs scene.claimed scene.initial
+    ++ (band_signs scene.claimed ++ (if list_any (is_away scene.claimed) scene.operations then Away ∷ [] else []))
 
 -- what a sign means
 abbrev pub meaning : Sign → List ℕ

@@ -73,16 +73,12 @@ event_sign columns scene ticket o =
     if o.call == ticket then one_of away (codes "(") (codes "[") ++ number_at (place_in shown (row.Ticket o.call))
     else (if o.ret == ticket then one_of away (codes ")") (codes "]") else one_of away (codes ":") (codes "|"))
 
--- what stands in a lane in the row of an effect: the sign of the operation that takes effect, or that another is under way
-abbrev pub effect_sign : List ℕ → Operation → ℕ → Operation → List ℕ
-effect_sign here effect point o = if o.call == effect.call then here else (if o.ret == point then [] else codes "|")
-
--- what stands in a lane in a row, where this operation is under way
+-- what stands in a lane in a row, where this operation is under way: in the row of an effect its sign, or that another is under way
 abbrev pub lane_sign : Columns → SceneView → Row → Option Operation → List ℕ
 lane_sign columns scene (row.Ticket ticket) (Some o) = event_sign columns scene ticket o
 lane_sign columns scene (row.LeftOut count last) (Some o) = one_of (is_away scene.claimed o) (codes ":") (codes "|")
 lane_sign columns scene (row.Effect effect number point) (Some o) =
-    effect_sign (if columns.lane == 1 then codes "*" else decimal number) effect point o
+    if o.call == effect.call then (if columns.lane == 1 then codes "*" else decimal number) else (if o.ret == point then [] else codes "|")
 lane_sign columns scene r under = []
 
 -- the words in the lanes in a row
@@ -175,25 +171,18 @@ name_words columns scene tens =
     else record { column = columns.ticket - 6; bytes = codes "ticket" } ∷ record { column = columns.beside; bytes = order_word scene.claimed } ∷ [])
     ++ (strokes columns (length scene.bands) ++ lane_names columns scene.threads tens scene.threads)
 
--- the line of these tens, where lanes are narrow
-abbrev pub tens_line : Columns → SceneView → List ℕ
-tens_line columns scene = if columns.lane == 1 then line (line_of (name_words columns scene true)) else []
-
--- the heads: those of the bands, the word above the lanes, and those of the tickets and the lanes
+-- the heads: those of the bands, the word above the lanes, the tens where lanes are narrow, and those of the tickets and the lanes
 unfoldable pub heads : Columns → SceneView → List ℕ
 heads columns scene =
     flat_map (head_line columns) (enumerate_from 0 scene.bands) ++ (under columns (length scene.bands) columns.lanes (codes "thread")
-    ++ (tens_line columns scene ++ line (line_of (name_words columns scene false))))
+    ++ ((if columns.lane == 1 then line (line_of (name_words columns scene true)) else []) ++ line (line_of (name_words columns scene false))))
 
 -- ---- the picture
 
--- the heads once more, above each 40th row
-abbrev pub heads_again : ℕ → List ℕ → List ℕ
-heads_again i heads = if nat_lt 0 i && i % ROWS_UNDER_HEADS == 0 then heads else []
-
 -- row i, under heads of its own if it is a 40th one
 abbrev pub numbered_row : Columns → SceneView → ℕ × Row → List ℕ
-numbered_row columns scene (i, r) = heads_again i (heads columns scene) ++ line (line_of (row_words columns scene r))
+numbered_row columns scene (i, r) =
+    (if nat_lt 0 i && i % ROWS_UNDER_HEADS == 0 then heads columns scene else []) ++ line (line_of (row_words columns scene r))
 
 -- a sign in characters
 abbrev pub sign_text : Sign → List ℕ

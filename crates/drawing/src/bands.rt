@@ -3,11 +3,12 @@ ghost use Rattle.std.specs.Prelude.{◌≡◌, ◌++◌, ◌∷◌, ◌+◌, ◌
 ghost use Rattle.drawing.specs.Claim.{count_of_lines, line_call, line_return};
 ghost use Rattle.drawing.specs.Names.{value_text};
 ghost use Rattle.std.specs.List.{concat};
-ghost use Rattle.drawing.specs.Bands.{line_value, sure_until, time_of, enqueue_call, first_call, cover_bands, order_bands};
+ghost use Rattle.drawing.specs.Bands.{line_value, sure_until, time_of, enqueue_call, cover_bands, order_bands};
 ghost use Rattle.drawing.specs.Bands.{bands_by, bands_of, head_text, form_words, gap_time, form_at};
 
 use crate::claim::{line_call, line_kind, line_return};
-use crate::line::{Added, Piece, push_all};
+use crate::line::Added;
+use crate::names::push_value;
 use history_merge::OpKind;
 use std::alloc::{AllocError, Global};
 use verdicts::{ClaimLine, Claimed, ViolationKind};
@@ -52,11 +53,7 @@ pub(crate) fn line_value(line: ClaimLine) -> u64
 fn sure_until(enq: ClaimLine, last: Option<u64>) -> Band
     ensures { result ≡ sure_until enq last }
 {
-    Band {
-        head: Head::SurelyIn(line_value(enq)),
-        first: line_return(enq),
-        last,
-    }
+    time_of(Head::SurelyIn(line_value(enq)), line_return(enq), last)
 }
 
 fn time_of(head: Head, first: Option<u64>, last: Option<u64>) -> Band
@@ -77,15 +74,6 @@ fn enqueue_call(lines: &[ClaimLine]) -> Option<u64>
     }
 }
 
-fn first_call(lines: &[ClaimLine]) -> Option<u64>
-    ensures { result ≡ first_call lines.now }
-{
-    match lines {
-        [] => None,
-        [line, ..] => line_call(*line),
-    }
-}
-
 fn push_order_bands(bands: &mut Vec<Band>, enq_a: ClaimLine, later: &[ClaimLine]) -> Added
     ensures bands { OnOk result (bands.new.items ≡ bands.old.items ++ order_bands enq_a later.now) }
     ensures few { OnOk result (vec_len bands.new ≤ vec_len bands.old + 2) }
@@ -94,7 +82,8 @@ fn push_order_bands(bands: &mut Vec<Band>, enq_a: ClaimLine, later: &[ClaimLine]
         [enq_b, deq_b, rest @ ..] => {
             let head = Head::InAndOut(line_value(*enq_b));
             let time = time_of(head, line_call(*enq_b), line_return(*deq_b));
-            bands.extend_from_slice(&[sure_until(enq_a, first_call(rest)), time])
+            let last = rest.first().and_then(|deq_a| line_call(*deq_a));
+            bands.extend_from_slice(&[sure_until(enq_a, last), time])
         }
         _ => Ok(()),
     }
@@ -158,21 +147,8 @@ pub(crate) fn bands_of(alloc: Global, claimed: &Claimed) -> Result<Vec<Band>, Al
 pub(crate) fn push_named(text: &mut Vec<u8>, value: u64, words: &[u8]) -> Added
     ensures { OnOk result (text.new.items ≡ text.old.items ++ concat (value_text value ∷ words.now ∷ [])) }
 {
-    push_all(text, &[Piece::Value(value), Piece::Words(words)])
-}
-
-/// Adds the words above a band.
-pub(crate) fn push_head(text: &mut Vec<u8>, head: Head) -> Added
-    ensures { OnOk result (text.new.items ≡ text.old.items ++ head_text head) }
-{
-    match head {
-        Head::SurelyIn(value) => push_named(text, value, b" surely in"),
-        Head::NotIn(value) => push_named(text, value, b" not in"),
-        Head::Dequeued(value) => push_named(text, value, b" dequeued"),
-        Head::InAndOut(value) => push_named(text, value, b" in and out"),
-        Head::SaidEmpty => text.extend_from_slice(b"empty"),
-        Head::InOrOut(value) => push_named(text, value, b" in or out"),
-    }
+    push_value(text, value)?;
+    text.extend_from_slice(words)
 }
 
 /// The words above a band.
@@ -180,7 +156,14 @@ pub fn head_words(alloc: Global, head: Head) -> Result<Vec<u8>, AllocError>
     ensures { IfOk result (λ words. words.items ≡ head_text head) }
 {
     let mut words = Vec::new(alloc);
-    push_head(&mut words, head)?;
+    match head {
+        Head::SurelyIn(value) => push_named(&mut words, value, b" surely in")?,
+        Head::NotIn(value) => push_named(&mut words, value, b" not in")?,
+        Head::Dequeued(value) => push_named(&mut words, value, b" dequeued")?,
+        Head::InAndOut(value) => push_named(&mut words, value, b" in and out")?,
+        Head::SaidEmpty => words.extend_from_slice(b"empty")?,
+        Head::InOrOut(value) => push_named(&mut words, value, b" in or out")?,
+    }
     Ok(words)
 }
 

@@ -7,7 +7,7 @@ ghost use Rattle.drawing.specs.Captions.{cover_from, one_of_cover, cover_caption
 use crate::bands::{line_value, push_named};
 use crate::claim::{line_call, line_kind, line_return};
 use crate::columns::MOST_DRAWN;
-use crate::line::{Added, Piece, push_all};
+use crate::line::{Added, push_moment, push_number};
 use history_merge::OpKind;
 use verdicts::{ClaimLine, Claimed, ViolationKind};
 
@@ -78,20 +78,10 @@ fn push_overtaking_caption<'x>(
 ) -> Added
     ensures { OnOk result (text.new.items ≡ text.old.items ++ overtaking_caption a b between.now end.now) }
 {
-    push_all(
-        text,
-        &[
-            Piece::Value(line_value(a)),
-            Piece::Words(before_words(a)),
-            Piece::Value(line_value(b)),
-            Piece::Words(b" (2),\n"),
-            Piece::Words(b"but "),
-            Piece::Value(line_value(b)),
-            Piece::Words(between),
-            Piece::Value(line_value(a)),
-            Piece::Words(end),
-        ],
-    )
+    push_named(text, line_value(a), before_words(a))?;
+    push_named(text, line_value(b), b" (2),\nbut ")?;
+    push_named(text, line_value(b), between)?;
+    push_named(text, line_value(a), end)
 }
 
 fn push_order_caption(text: &mut Vec<u8>, a: ClaimLine, later: &[ClaimLine]) -> Added
@@ -112,16 +102,10 @@ fn push_order_caption(text: &mut Vec<u8>, a: ClaimLine, later: &[ClaimLine]) -> 
 fn push_cover_from(text: &mut Vec<u8>, number: u64, enq: ClaimLine) -> Added
     ensures { OnOk result (text.new.items ≡ text.old.items ++ cover_from number enq) }
 {
-    push_all(
-        text,
-        &[
-            Piece::Value(line_value(enq)),
-            Piece::Words(b" from "),
-            Piece::Moment(line_return(enq)),
-            Piece::Words(b" ("),
-            Piece::Number(number),
-        ],
-    )
+    push_named(text, line_value(enq), b" from ")?;
+    push_moment(text, line_return(enq))?;
+    text.extend_from_slice(b" (")?;
+    push_number(text, number)
 }
 
 #[tactic(auto, unfolding(crate::specs::Captions::one_of_cover))]
@@ -130,16 +114,11 @@ fn push_one_of_cover(text: &mut Vec<u8>, number: u64, enq: ClaimLine, deq: Claim
     ensures { OnOk result (text.new.items ≡ text.old.items ++ one_of_cover number enq deq) }
 {
     push_cover_from(text, number, enq)?;
-    push_all(
-        text,
-        &[
-            Piece::Words(b") to "),
-            Piece::Moment(line_call(deq)),
-            Piece::Words(b" ("),
-            Piece::Number(number + 1),
-            Piece::Words(b")\n"),
-        ],
-    )
+    text.extend_from_slice(b") to ")?;
+    push_moment(text, line_call(deq))?;
+    text.extend_from_slice(b" (")?;
+    push_number(text, number + 1)?;
+    text.extend_from_slice(b")\n")
 }
 
 #[tactic(auto, using(crate::proofs::Chains::covers))]

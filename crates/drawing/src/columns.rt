@@ -1,14 +1,14 @@
 //! Columns, and what they make room for.
 ghost use Rattle.std.specs.Prelude.{◌≡◌, ◌+◌, ◌*◌, ◌≤◌, IfOk, length, vec_len};
 ghost use Rattle.drawing.specs.Layout.{digits, label, has_operations, threads_of, label_width};
-ghost use Rattle.drawing.specs.Terminal.{room_beside, lane_width, lane_place, columns_of};
+ghost use Rattle.drawing.specs.Terminal.{lane_place, columns_of};
 ghost use Rattle.drawing.specs.Scene.{scene_on};
 ghost use Rattle.drawing.specs.Claim.{count_of_lines};
 
 use crate::claim::count_of_lines;
 use crate::names::{initial_label_len, value_len};
 use crate::scene::ticket_width;
-use crate::sheet::Scene;
+use crate::sheet::{Scene, Sheet};
 use event_records::{Event, MAX_THREAD, MAX_THREADS};
 use history_merge::{History, OpKind, Operation};
 use itoa::Buffer;
@@ -94,32 +94,6 @@ pub fn label_width(initial: &[u64], operations: &[Operation]) -> u8
     initial.chain(labels).fold(5, |widest, len| widest.max(len))
 }
 
-/// How much room the order of a `YES` takes, or this many bands of a `NO`.
-fn room_beside(claimed: &Claimed, widest_label: u8, bands: usize) -> usize
-    requires { bands ≤ MOST_DRAWN + 2 }
-    ensures value { result ≡ room_beside claimed.now widest_label bands }
-    ensures few { result ≤ 5 * (MOST_DRAWN + 2) }
-{
-    match claimed {
-        Claimed::Yes(order) => {
-            usize::from(digits(order.as_slice().len() as u64)) + usize::from(widest_label) + 3
-        }
-        Claimed::No(_, _) => 5 * bands,
-    }
-}
-
-/// How wide a lane is, of this many, for a claim of this many lines.
-fn lane_width(lanes: usize, lines: usize) -> usize
-    ensures value { result ≡ lane_width lanes lines }
-    ensures few { result ≤ 22 }
-{
-    if lanes > WIDE_LANES {
-        1
-    } else {
-        usize::from(digits(lines as u64).max(2) + 2)
-    }
-}
-
 /// Where a lane of this width stands, right of this many: those of one character stand in groups of four.
 pub(crate) fn lane_place(lane: usize, before: usize) -> usize
     requires lane { lane ≤ 22 }
@@ -134,24 +108,36 @@ pub(crate) fn lane_place(lane: usize, before: usize) -> usize
     }
 }
 
-/// The columns of a scene.
-pub(crate) fn columns_of(scene: &Scene<'_>) -> Columns
+/// A scene, and its columns.
+pub(crate) fn sheet_of<'a>(alloc: Global, scene: &'a Scene<'a>) -> Sheet<'a>
     requires { count_of_lines scene.now.claimed.now ≤ MOST_DRAWN }
-    ensures columns { result ≡ columns_of (scene_on scene.now) }
-    ensures beside { result.beside ≤ result.lanes }
-    ensures lanes { result.lanes ≤ MAX_LANES }
-    ensures lane { result.lane ≤ 22 }
+    ensures columns { result.columns ≡ columns_of (scene_on scene.now) }
+    ensures scene { result.scene.now ≡ scene.now }
 {
     let ticket = usize::from(ticket_width(scene.rows.as_slice()));
     let widest_label = label_width(scene.initial, scene.operations.as_slice());
-    let room = room_beside(scene.claimed, widest_label, scene.bands.len());
+    let room = match scene.claimed {
+        Claimed::Yes(order) => {
+            usize::from(digits(order.as_slice().len() as u64)) + usize::from(widest_label) + 3
+        }
+        Claimed::No(_, _) => 5 * scene.bands.len(),
+    };
     let lanes = scene.threads.len();
-    let lane = lane_width(lanes, count_of_lines(scene.claimed));
-    Columns {
+    let lane = if lanes > WIDE_LANES {
+        1
+    } else {
+        usize::from(digits(count_of_lines(scene.claimed) as u64).max(2) + 2)
+    };
+    let columns = Columns {
         ticket,
         beside: ticket + 2,
         lanes: ticket + 2 + room,
         lane,
         label: ticket + 2 + room + 2 + lane_place(lane, lanes).max(6),
+    };
+    Sheet {
+        alloc,
+        columns,
+        scene,
     }
 }

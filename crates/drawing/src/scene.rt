@@ -1,12 +1,12 @@
 //! The scene of a picture, which characters and SVG draw alike: rows from top to bottom, and lanes side by side.
 ghost use Rattle.std.specs.Prelude.{if◌then◌else◌, codes, ◌≡◌, ◌==◌, ◌++◌, ◌≤◌, ◌+◌, OnOk, IfOk, length};
-ghost use Rattle.drawing.specs.Scene.{scene_on, initial_rows, effect_row_if, effect_rows, has_row, left_out_rows, rows_after, rows_of, scene_of};
+ghost use Rattle.drawing.specs.Scene.{scene_on, initial_rows, effect_rows, has_row, left_out_rows, rows_after, rows_of, scene_of};
 ghost use Rattle.drawing.specs.Scene.{gap_of, row_turn, stands_above, row_number, ticket_words, ticket_width, lanes_before, way_in};
 
 use crate::bands::{bands_of, gap_time};
 use crate::claim::{line_kind, order_of};
 use crate::columns::{digits, events_of, threads_of};
-use crate::line::{Added, Piece, push_all, push_number};
+use crate::line::{Added, push_number};
 use crate::lookup::line_in;
 use crate::sheet::Scene;
 use event_records::{Event, MAX_THREADS};
@@ -30,6 +30,7 @@ pub enum Row {
 }
 
 /// Adds the rows of the initial values under their head, where there are some.
+#[tactic(auto, using(crate::proofs::Loops::steps))]
 fn push_initial_rows(rows: &mut Vec<Row>, initial: &[u64]) -> Added
     ensures { OnOk result (rows.new.items ≡ rows.old.items ++ initial_rows initial.now) }
 {
@@ -45,31 +46,17 @@ fn push_initial_rows(rows: &mut Vec<Row>, initial: &[u64]) -> Added
     }
 }
 
-/// Adds the row of an effect, if it is just after this ticket.
-fn push_effect_if(
-    rows: &mut Vec<Row>,
-    operation: Operation,
-    number: u64,
-    point: u64,
-    ticket: u64,
-) -> Added
-    ensures { OnOk result (rows.new.items ≡ rows.old.items ++ effect_row_if (point == ticket) operation number point) }
-{
-    if point == ticket {
-        rows.push(Row::Effect(operation, number, point))?;
-    }
-    Ok(())
-}
-
 /// Adds the rows of the effects just after a ticket.
-#[tactic(auto, unfolding(crate::specs::Scene::effect_rows))]
+#[tactic(auto, using(crate::proofs::Loops::steps, crate::proofs::Loops::point_more), unfolding(crate::specs::Scene::effect_rows))]
 fn push_effect_rows(rows: &mut Vec<Row>, order: &[Operation], ticket: u64) -> Added
     ensures { OnOk result (rows.new.items ≡ rows.old.items ++ effect_rows order.now ticket) }
 {
     let mut greatest = 0u64;
     for (i, operation) in order.iter().enumerate() {
         greatest = greatest.max(operation.call);
-        push_effect_if(rows, *operation, i as u64 + 1, greatest, ticket)?;
+        if greatest == ticket {
+            rows.push(Row::Effect(*operation, i as u64 + 1, greatest))?;
+        }
     }
     Ok(())
 }
@@ -114,28 +101,10 @@ fn push_rows_of_events(
     push_left_out(rows, count, last)
 }
 
-/// The rows of a history of which these operations are drawn, and what is claimed of it.
-#[tactic(auto, unfolding(crate::specs::Scene::rows_of))]
-fn rows_of(
-    alloc: Global,
-    history: &History,
-    events: &[Event],
-    claimed: &Claimed,
-    drawn: &[Operation],
-) -> Result<Vec<Row>, AllocError>
-    requires { events.now ≡ history.now.events }
-    ensures { IfOk result (λ rows. rows.items ≡ rows_of history.now claimed.now drawn.now) }
-{
-    let mut rows = Vec::new(alloc);
-    push_initial_rows(&mut rows, history.initial())?;
-    push_rows_of_events(&mut rows, drawn, order_of(claimed), events)?;
-    Ok(rows)
-}
-
 /// The scene of a history of which these operations are drawn ([`drawn_operations`](crate::drawn_operations)), and what is claimed of it.
 ///
 /// Time O(n d) for n events of which d have rows; memory for the events. `AllocError` comes only where a growth was refused.
-#[tactic(auto, unfolding(crate::specs::Scene::scene_of))]
+#[tactic(auto, unfolding(crate::specs::Scene::scene_of, crate::specs::Scene::rows_of))]
 pub fn scene_of<'a>(
     alloc: Global,
     history: &'a History,
@@ -148,7 +117,14 @@ pub fn scene_of<'a>(
     let events = events_of(alloc, history)?;
     let threads = threads_of(alloc, drawn.as_slice())?;
     let bands = bands_of(alloc, claimed)?;
-    let rows = rows_of(alloc, history, events.as_slice(), claimed, drawn.as_slice())?;
+    let mut rows = Vec::new(alloc);
+    push_initial_rows(&mut rows, history.initial())?;
+    push_rows_of_events(
+        &mut rows,
+        drawn.as_slice(),
+        order_of(claimed),
+        events.as_slice(),
+    )?;
     Ok(Scene {
         initial: history.initial(),
         operations: drawn,
@@ -214,14 +190,9 @@ pub fn ticket_words(alloc: Global, row: Row) -> Result<Vec<u8>, AllocError>
     match row {
         Row::Ticket(ticket) => push_number(&mut words, ticket)?,
         Row::LeftOut(count, _) => {
-            push_all(
-                &mut words,
-                &[
-                    Piece::Words(b"... "),
-                    Piece::Number(count as u64),
-                    Piece::Words(events_word(count)),
-                ],
-            )?
+            words.extend_from_slice(b"... ")?;
+            push_number(&mut words, count as u64)?;
+            words.extend_from_slice(events_word(count))?;
         }
         _ => {}
     }

@@ -37,8 +37,6 @@ pub(crate) struct Sheet<'a> {
     pub columns: Columns,
     pub scene: &'a Scene<'a>,
     ghost few_lines: { count_of_lines scene.now.claimed.now ≤ MOST_DRAWN },
-    ghost few_bands: { vec_len scene.now.bands ≤ MOST_DRAWN + 2 },
-    ghost few_threads: { vec_len scene.now.threads ≤ MAX_THREADS },
     ghost beside: { columns.beside ≤ columns.lanes },
     ghost lanes_begin: { columns.lanes ≤ MAX_LANES },
     ghost lane: { columns.lane ≤ 22 },

@@ -6,17 +6,16 @@ ghost use Rattle.text_lines.specs.Lines.{line};
 ghost use Rattle.drawing.specs.Layout.{kind_word, told, label, numbered, number_at};
 ghost use Rattle.drawing.specs.Scene.{scene_on};
 ghost use Rattle.drawing.specs.Signs.{signs_of};
-ghost use Rattle.drawing.specs.Inner.Words.{scene_in};
 ghost use Rattle.drawing.specs.Words.{placed, with_words, line_of};
-ghost use Rattle.drawing.specs.Terminal.{one_of, event_sign, effect_sign, lane_sign, lane_column, lane_words, band_words, beside_words, call_label};
-ghost use Rattle.drawing.specs.Terminal.{told_word, row_words, strokes, under, order_word, thread_digits, lane_names, name_words};
-ghost use Rattle.drawing.specs.Terminal.{tens_line, heads, heads_again, numbered_row, sign_text, sign_line, effect_meaning};
+ghost use Rattle.drawing.specs.Terminal.{one_of, event_sign, lane_sign, lane_column, lane_words, band_words, beside_words, call_label};
+ghost use Rattle.drawing.specs.Terminal.{told_word, row_words, strokes, under, thread_digits, lane_names, name_words};
+ghost use Rattle.drawing.specs.Terminal.{heads, numbered_row, sign_text, sign_line, effect_meaning};
 ghost use Rattle.drawing.specs.Terminal.{legend, words, terminal_picture};
 
 use crate::bands::{form_at, head_words};
 use crate::captions::{headline, push_caption};
 use crate::claim::{count_of_lines, shown_by};
-use crate::columns::{MOST_DRAWN, ROWS_UNDER_HEADS, columns_of, digits, lane_place};
+use crate::columns::{MOST_DRAWN, ROWS_UNDER_HEADS, digits, lane_place, sheet_of};
 use crate::drawn::is_away;
 use crate::line::{Added, place, push_line, push_number};
 use crate::lookup::{called_at, place_in, under_way};
@@ -103,7 +102,7 @@ fn one_of(away: bool, round: &'static [u8], square: &'static [u8]) -> &'static [
 
 /// A call with its number, a return, or that an operation is under way.
 fn event_sign(sheet: &Sheet<'_>, ticket: u64, operation: Operation) -> Result<Vec<u8>, AllocError>
-    ensures { IfOk result (λ word. word.items ≡ event_sign sheet.now.columns (scene_in sheet.now) ticket operation) }
+    ensures { IfOk result (λ word. word.items ≡ event_sign sheet.now.columns (scene_on sheet.now.scene.now) ticket operation) }
 {
     let claimed = sheet.scene.claimed;
     let away = is_away(claimed, operation);
@@ -121,28 +120,9 @@ fn event_sign(sheet: &Sheet<'_>, ticket: u64, operation: Operation) -> Result<Ve
     }
 }
 
-/// The sign of the operation that takes effect, or that another is under way.
-fn effect_sign(
-    alloc: Global,
-    here: &[u8],
-    effect: Operation,
-    point: u64,
-    operation: Operation,
-) -> Result<Vec<u8>, AllocError>
-    ensures { IfOk result (λ word. word.items ≡ effect_sign here.now effect point operation) }
-{
-    if operation.call == effect.call {
-        Vec::from_slice(alloc, here)
-    } else if operation.ret == point {
-        Ok(Vec::new(alloc))
-    } else {
-        Vec::from_slice(alloc, b"|")
-    }
-}
-
 /// What stands in a lane in a row, where this operation is under way.
 fn lane_sign(sheet: &Sheet<'_>, row: Row, under: Option<Operation>) -> Result<Vec<u8>, AllocError>
-    ensures { IfOk result (λ word. word.items ≡ lane_sign sheet.now.columns (scene_in sheet.now) row under) }
+    ensures { IfOk result (λ word. word.items ≡ lane_sign sheet.now.columns (scene_on sheet.now.scene.now) row under) }
 {
     match (row, under) {
         (Row::Ticket(ticket), Some(operation)) => event_sign(sheet, ticket, operation),
@@ -151,11 +131,16 @@ fn lane_sign(sheet: &Sheet<'_>, row: Row, under: Option<Operation>) -> Result<Ve
             Vec::from_slice(sheet.alloc, one_of(away, b":", b"|"))
         }
         (Row::Effect(effect, number, point), Some(operation)) => {
-            let narrow = sheet.columns.lane == 1;
             let mut buffer = Buffer::new();
             let number = buffer.format(number).as_bytes();
-            let here = if narrow { b"*" } else { number };
-            effect_sign(sheet.alloc, here, effect, point, operation)
+            let sign: &[u8] = if operation.call != effect.call {
+                if operation.ret == point { b"" } else { b"|" }
+            } else if sheet.columns.lane == 1 {
+                b"*"
+            } else {
+                number
+            };
+            Vec::from_slice(sheet.alloc, sign)
         }
         _ => Ok(Vec::new(sheet.alloc)),
     }
@@ -163,7 +148,7 @@ fn lane_sign(sheet: &Sheet<'_>, row: Row, under: Option<Operation>) -> Result<Ve
 
 /// Where the lane of a thread stands.
 fn lane_column(sheet: &Sheet<'_>, thread: u8) -> usize
-    ensures { result ≡ lane_column sheet.now.columns (scene_in sheet.now).threads thread }
+    ensures { result ≡ lane_column sheet.now.columns (scene_on sheet.now.scene.now).threads thread }
 {
     let before = lanes_before(sheet.scene.threads.as_slice(), thread);
     sheet.columns.lanes + lane_place(sheet.columns.lane, before)
@@ -171,7 +156,7 @@ fn lane_column(sheet: &Sheet<'_>, thread: u8) -> usize
 
 /// The words in the lanes in a row.
 fn place_lanes(line: &mut Vec<u8>, sheet: &Sheet<'_>, row: Row) -> Added
-    ensures { OnOk result (line.new.items ≡ with_words line.old.items (lane_words sheet.now.columns (scene_in sheet.now) row)) }
+    ensures { OnOk result (line.new.items ≡ with_words line.old.items (lane_words sheet.now.columns (scene_on sheet.now.scene.now) row)) }
 {
     let operations = sheet.scene.operations.as_slice();
     let threads = sheet.scene.threads.as_slice();
@@ -185,8 +170,9 @@ fn place_lanes(line: &mut Vec<u8>, sheet: &Sheet<'_>, row: Row) -> Added
 }
 
 /// The bands that hold a gap: that just after a ticket, or for none that before all tickets.
+#[tactic(auto, using(crate::proofs::Loops::steps))]
 fn place_bands(line: &mut Vec<u8>, sheet: &Sheet<'_>, gap: Option<u64>) -> Added
-    ensures { OnOk result (line.new.items ≡ with_words line.old.items (band_words sheet.now.columns (scene_in sheet.now).bands gap)) }
+    ensures { OnOk result (line.new.items ≡ with_words line.old.items (band_words sheet.now.columns (scene_on sheet.now.scene.now).bands gap)) }
 {
     let bands = sheet.scene.bands.as_slice();
     for (i, band) in bands.iter().enumerate() {
@@ -213,7 +199,7 @@ fn beside_words(alloc: Global, claimed: &Claimed, row: Row) -> Result<Vec<u8>, A
 
 /// The label of what is called, where something is; after its number, where lanes have no room for that.
 fn call_label(sheet: &Sheet<'_>, called: Option<Operation>) -> Result<Vec<u8>, AllocError>
-    ensures { IfOk result (λ word. word.items ≡ call_label sheet.now.columns (scene_in sheet.now) called) }
+    ensures { IfOk result (λ word. word.items ≡ call_label sheet.now.columns (scene_on sheet.now.scene.now) called) }
 {
     let Some(operation) = called else {
         return Ok(Vec::new(sheet.alloc));
@@ -231,7 +217,7 @@ fn call_label(sheet: &Sheet<'_>, called: Option<Operation>) -> Result<Vec<u8>, A
 
 /// Adds the words right of the bands or of the lanes.
 fn place_told(line: &mut Vec<u8>, sheet: &Sheet<'_>, row: Row) -> Added
-    ensures { OnOk result (line.new.items ≡ placed line.old.items (told_word sheet.now.columns (scene_in sheet.now) row)) }
+    ensures { OnOk result (line.new.items ≡ placed line.old.items (told_word sheet.now.columns (scene_on sheet.now.scene.now) row)) }
 {
     let claimed = sheet.scene.claimed;
     match row {
@@ -253,8 +239,9 @@ fn place_told(line: &mut Vec<u8>, sheet: &Sheet<'_>, row: Row) -> Added
 }
 
 /// A stroke under the head of each of this many bands.
+#[tactic(auto, using(crate::proofs::Loops::steps))]
 fn place_strokes(line: &mut Vec<u8>, sheet: &Sheet<'_>, bands: usize) -> Added
-    requires { bands ≤ length (scene_in sheet.now).bands }
+    requires { bands ≤ length (scene_on sheet.now.scene.now).bands }
     ensures { OnOk result (line.new.items ≡ with_words line.old.items (strokes sheet.now.columns bands)) }
 {
     for i in 0..bands {
@@ -271,7 +258,7 @@ fn push_under(
     column: usize,
     word: &[u8],
 ) -> Added
-    requires { bands ≤ length (scene_in sheet.now).bands }
+    requires { bands ≤ length (scene_on sheet.now.scene.now).bands }
     ensures { OnOk result (text.new.items ≡ text.old.items ++ under sheet.now.columns bands column word.now) }
 {
     let mut bytes = Vec::new(sheet.alloc);
@@ -296,7 +283,7 @@ fn thread_digits(alloc: Global, narrow: bool, tens: bool, thread: u8) -> Result<
 
 fn place_lane_names(line: &mut Vec<u8>, sheet: &Sheet<'_>, tens: bool) -> Added
     ensures { OnOk result (line.new.items ≡ with_words line.old.items
-        (lane_names sheet.now.columns (scene_in sheet.now).threads tens (scene_in sheet.now).threads)) }
+        (lane_names sheet.now.columns (scene_on sheet.now.scene.now).threads tens (scene_on sheet.now.scene.now).threads)) }
 {
     let threads = sheet.scene.threads.as_slice();
     let narrow = sheet.columns.lane == 1;
@@ -307,49 +294,27 @@ fn place_lane_names(line: &mut Vec<u8>, sheet: &Sheet<'_>, tens: bool) -> Added
     Ok(())
 }
 
-fn order_word(claimed: &Claimed) -> &'static [u8]
-    ensures { result.now ≡ order_word claimed.now }
-{
-    match claimed {
-        Claimed::Yes(_) => b"order",
-        Claimed::No(_, _) => b"",
-    }
-}
-
 /// Adds the line of the words above the tickets and the order, and of the threads' numbers; or of the tens of these alone.
 fn push_names(text: &mut Vec<u8>, sheet: &Sheet<'_>, tens: bool) -> Added
-    ensures { OnOk result (text.new.items ≡ text.old.items ++ line (line_of (name_words sheet.now.columns (scene_in sheet.now) tens))) }
+    ensures { OnOk result (text.new.items ≡ text.old.items ++ line (line_of (name_words sheet.now.columns (scene_on sheet.now.scene.now) tens))) }
 {
     let mut bytes = Vec::new(sheet.alloc);
     if !tens {
         let column = sheet.columns.ticket.saturating_sub(6);
         place(&mut bytes, column, b"ticket")?;
-        place(
-            &mut bytes,
-            sheet.columns.beside,
-            order_word(sheet.scene.claimed),
-        )?;
+        if let Claimed::Yes(_) = sheet.scene.claimed {
+            place(&mut bytes, sheet.columns.beside, b"order")?;
+        }
     }
     place_strokes(&mut bytes, sheet, sheet.scene.bands.len())?;
     place_lane_names(&mut bytes, sheet, tens)?;
     push_line(text, bytes.as_slice())
 }
 
-/// Adds the line of the tens of the threads' numbers, where lanes are narrow.
-fn push_tens(text: &mut Vec<u8>, sheet: &Sheet<'_>) -> Added
-    ensures { OnOk result (text.new.items ≡ text.old.items ++ tens_line sheet.now.columns (scene_in sheet.now)) }
-{
-    if sheet.columns.lane == 1 {
-        push_names(text, sheet, true)
-    } else {
-        Ok(())
-    }
-}
-
 /// Adds the heads: those of the bands, and those of the tickets and the lanes.
-#[tactic(auto, unfolding(crate::specs::Terminal::heads))]
+#[tactic(auto, using(crate::proofs::Loops::steps), unfolding(crate::specs::Terminal::heads))]
 fn push_heads(text: &mut Vec<u8>, sheet: &Sheet<'_>) -> Added
-    ensures { OnOk result (text.new.items ≡ text.old.items ++ heads sheet.now.columns (scene_in sheet.now)) }
+    ensures { OnOk result (text.new.items ≡ text.old.items ++ heads sheet.now.columns (scene_on sheet.now.scene.now)) }
 {
     for (i, band) in sheet.scene.bands.as_slice().iter().enumerate() {
         let word = head_words(sheet.alloc, band.head)?;
@@ -368,25 +333,16 @@ fn push_heads(text: &mut Vec<u8>, sheet: &Sheet<'_>) -> Added
         sheet.columns.lanes,
         b"thread",
     )?;
-    push_tens(text, sheet)?;
-    push_names(text, sheet, false)
-}
-
-/// Adds the heads once more, above each 40th row.
-fn push_heads_again(text: &mut Vec<u8>, sheet: &Sheet<'_>, i: usize) -> Added
-    ensures { OnOk result (text.new.items ≡ text.old.items ++ heads_again i (heads sheet.now.columns (scene_in sheet.now))) }
-{
-    if i > 0 && i % ROWS_UNDER_HEADS == 0 {
-        push_heads(text, sheet)
-    } else {
-        Ok(())
+    if sheet.columns.lane == 1 {
+        push_names(text, sheet, true)?;
     }
+    push_names(text, sheet, false)
 }
 
 /// Adds the words in a row.
 #[tactic(auto, unfolding(crate::specs::Terminal::row_words))]
 fn place_row(line: &mut Vec<u8>, sheet: &Sheet<'_>, row: Row) -> Added
-    ensures { OnOk result (line.new.items ≡ with_words line.old.items (row_words sheet.now.columns (scene_in sheet.now) row)) }
+    ensures { OnOk result (line.new.items ≡ with_words line.old.items (row_words sheet.now.columns (scene_on sheet.now.scene.now) row)) }
 {
     let tickets = ticket_words(sheet.alloc, row)?;
     let column = sheet.columns.ticket.saturating_sub(tickets.len());
@@ -400,9 +356,11 @@ fn place_row(line: &mut Vec<u8>, sheet: &Sheet<'_>, row: Row) -> Added
 
 /// Adds row i.
 fn push_numbered(text: &mut Vec<u8>, sheet: &Sheet<'_>, i: usize, row: Row) -> Added
-    ensures { OnOk result (text.new.items ≡ text.old.items ++ numbered_row sheet.now.columns (scene_in sheet.now) (i, row)) }
+    ensures { OnOk result (text.new.items ≡ text.old.items ++ numbered_row sheet.now.columns (scene_on sheet.now.scene.now) (i, row)) }
 {
-    push_heads_again(text, sheet, i)?;
+    if i > 0 && i % ROWS_UNDER_HEADS == 0 {
+        push_heads(text, sheet)?;
+    }
     let mut bytes = Vec::new(sheet.alloc);
     place_row(&mut bytes, sheet, row)?;
     push_line(text, bytes.as_slice())
@@ -431,21 +389,14 @@ fn effect_meaning(narrow: bool, claimed: &Claimed) -> &'static [u8]
     }
 }
 
-/// Adds a sign, and what it means.
-fn push_sign(text: &mut Vec<u8>, sign: Sign) -> Added
-    ensures { OnOk result (text.new.items ≡ text.old.items ++ sign_line sign) }
-{
-    text.extend_from_slice(sign_text(sign))?;
-    push_line(text, meaning(sign))
-}
-
 /// Adds the signs of the picture, with what they mean.
 fn push_signs(text: &mut Vec<u8>, sheet: &Sheet<'_>) -> Added
-    ensures { OnOk result (text.new.items ≡ text.old.items ++ flat_map sign_line (signs_of (scene_in sheet.now))) }
+    ensures { OnOk result (text.new.items ≡ text.old.items ++ flat_map sign_line (signs_of (scene_on sheet.now.scene.now))) }
 {
     let signs = signs_of(sheet.alloc, sheet.scene)?;
     for sign in signs.as_slice() {
-        push_sign(text, *sign)?;
+        text.extend_from_slice(sign_text(*sign))?;
+        push_line(text, meaning(*sign))?;
     }
     Ok(())
 }
@@ -453,7 +404,7 @@ fn push_signs(text: &mut Vec<u8>, sheet: &Sheet<'_>) -> Added
 /// Adds how to read the picture.
 #[tactic(auto, unfolding(crate::specs::Terminal::legend))]
 fn push_legend(text: &mut Vec<u8>, sheet: &Sheet<'_>) -> Added
-    ensures { OnOk result (text.new.items ≡ text.old.items ++ legend sheet.now.columns (scene_in sheet.now)) }
+    ensures { OnOk result (text.new.items ≡ text.old.items ++ legend sheet.now.columns (scene_on sheet.now.scene.now)) }
 {
     text.extend_from_slice(LANE_MEANINGS)?;
     text.extend_from_slice(effect_meaning(sheet.columns.lane == 1, sheet.scene.claimed))?;
@@ -463,7 +414,7 @@ fn push_legend(text: &mut Vec<u8>, sheet: &Sheet<'_>) -> Added
 /// Adds what stands above the rows: what the picture shows, and how to read it.
 #[tactic(auto, unfolding(crate::specs::Terminal::words))]
 fn push_words(text: &mut Vec<u8>, sheet: &Sheet<'_>) -> Added
-    ensures { OnOk result (text.new.items ≡ text.old.items ++ words sheet.now.columns (scene_in sheet.now)) }
+    ensures { OnOk result (text.new.items ≡ text.old.items ++ words sheet.now.columns (scene_on sheet.now.scene.now)) }
 {
     push_line(text, headline(sheet.scene.claimed))?;
     push_caption(text, sheet.scene.claimed)?;
@@ -491,17 +442,13 @@ fn push_words(text: &mut Vec<u8>, sheet: &Sheet<'_>) -> Added
 /// The claim need not be evidence: what stands in the picture follows its lines. Time O(n t n) for n operations of t threads, and
 /// O(k m) for k initial values and m lines; memory for the text, of O(n t + k m) bytes. `AllocError` comes only where a growth was
 /// refused.
-#[tactic(auto, unfolding(crate::specs::Terminal::terminal_picture))]
+#[tactic(auto, using(crate::proofs::Loops::steps), unfolding(crate::specs::Terminal::terminal_picture))]
 pub fn terminal_picture(alloc: Global, scene: &Scene<'_>) -> Result<Vec<u8>, AllocError>
     // The claim has few enough lines to be drawn.
     requires { count_of_lines scene.now.claimed.now ≤ MOST_DRAWN }
     ensures { IfOk result (λ text. text.items ≡ terminal_picture (scene_on scene.now)) }
 {
-    let sheet = Sheet {
-        alloc,
-        columns: columns_of(scene),
-        scene,
-    };
+    let sheet = sheet_of(alloc, scene);
     let mut text = Vec::new(alloc);
     push_words(&mut text, &sheet)?;
     push_heads(&mut text, &sheet)?;

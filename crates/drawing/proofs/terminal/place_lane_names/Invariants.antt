@@ -1,7 +1,7 @@
-use Rattle.drawing.proofs.Common.{◌≡◌, take, lane_names, scene_in, with_words}
+use Rattle.drawing.proofs.Common.{◌≡◌, take, lane_names, scene_on, with_words}
 use Rattle.drawing.proofs.terminal.place_lane_names.Given as goal
 
 abbrev pub invariant-loop-thread : goal.invariant-loop-thread
 invariant-loop-thread l =
     l.line.items ≡ with_words l.fn.line.items
-    (lane_names l.sheet.columns (scene_in l.sheet).threads l.tens (take l.thread-index l.threads))
+    (lane_names l.sheet.columns (scene_on l.sheet.scene.now).threads l.tens (take l.thread-index l.threads))

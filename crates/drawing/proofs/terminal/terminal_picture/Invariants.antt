@@ -1,6 +1,6 @@
-use Rattle.drawing.proofs.Common.{◌++◌, ◌≡◌, enumerate_from, flat_map, take, numbered_row, scene_in}
+use Rattle.drawing.proofs.Common.{◌++◌, ◌≡◌, enumerate_from, flat_map, take, numbered_row, scene_on}
 use Rattle.drawing.proofs.terminal.terminal_picture.Given as goal
 
 abbrev pub invariant-loop-i : goal.invariant-loop-i
 invariant-loop-i l =
-    l.text.items ≡ l.initial.text.items ++ flat_map (numbered_row l.sheet.columns (scene_in l.sheet)) (enumerate_from 0 (take l.i l.row-items))
+    l.text.items ≡ l.initial.text.items ++ flat_map (numbered_row l.sheet.columns (scene_on l.sheet.scene.now)) (enumerate_from 0 (take l.i l.row-items))

@@ -1,2 +1,0 @@
--- Relations that serve the contracts of private functions: no public promise names one.
-pub mod Words
