@@ -154,7 +154,7 @@ fn push_bar(text: &mut Vec<u8>, sheet: &Sheet<'_>, operation: Operation) -> Adde
 }
 
 /// Adds the bars of the operations.
-#[tactic(auto, unfolding(crate::specs::Picture::bars))]
+#[tactic(auto, using(crate::proofs::Each::steps), unfolding(crate::specs::Picture::bars))]
 pub(crate) fn push_bars(text: &mut Vec<u8>, sheet: &Sheet<'_>) -> Added
     ensures { OnOk result (text.new.items ≡ text.old.items ++ text_of (bars (page_on sheet.now))) }
 {

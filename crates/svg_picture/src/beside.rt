@@ -83,7 +83,7 @@ fn push_band_at(text: &mut Vec<u8>, sheet: &Sheet<'_>, i: usize, band: Band) -> 
 }
 
 /// Adds the bands of a `NO`, with their heads.
-#[tactic(auto, unfolding(crate::specs::Picture::bands))]
+#[tactic(auto, using(crate::proofs::Each::steps), unfolding(crate::specs::Picture::bands))]
 pub(crate) fn push_bands(text: &mut Vec<u8>, sheet: &Sheet<'_>) -> Added
     ensures { OnOk result (text.new.items ≡ text.old.items ++ text_of (bands (page_on sheet.now))) }
 {

@@ -23,7 +23,7 @@ fn push_lane_names(text: &mut Vec<u8>, sheet: &Sheet<'_>, thread: u8) -> Added
 }
 
 /// Adds the names of the threads, above their lanes and below them.
-#[tactic(auto, unfolding(crate::specs::Picture::threads))]
+#[tactic(auto, using(crate::proofs::Each::steps), unfolding(crate::specs::Picture::threads))]
 pub(crate) fn push_threads(text: &mut Vec<u8>, sheet: &Sheet<'_>) -> Added
     ensures { OnOk result (text.new.items ≡ text.old.items ++ text_of (threads (page_on sheet.now))) }
 {

@@ -25,6 +25,7 @@ fn plain_byte(b: u8) -> u8
 }
 
 /// Adds words, with a question mark in place of each byte that means markup.
+#[tactic(auto, using(crate::proofs::Each::steps))]
 pub(crate) fn push_plain(text: &mut Vec<u8>, words: &[u8]) -> Added
     ensures { OnOk result (text.new.items ≡ text.old.items ++ plain_words words.now) }
 {
@@ -64,6 +65,7 @@ fn push_attribute(text: &mut Vec<u8>, attribute: Attribute<'_>) -> Added
     }
 }
 
+#[tactic(auto, using(crate::proofs::Each::steps))]
 fn push_attributes(text: &mut Vec<u8>, attributes: &[Attribute<'_>]) -> Added
     ensures { OnOk result (text.new.items ≡ text.old.items ++ flat_map attribute_text (map named attributes.now)) }
 {

@@ -2,7 +2,7 @@
 ghost use Rattle.std.specs.Prelude.{◌≡◌, ◌++◌, ◌≤◌, ◌^◌, OnOk, IfOk};
 ghost use Rattle.svg_picture.specs.Markup.{text_of};
 ghost use Rattle.svg_picture.specs.Layout.{page_on};
-ghost use Rattle.svg_picture.specs.Picture.{initial_words, placed_initial, way_at, in_tickets, effect, way_y, row_own, row_parts, rows, names};
+ghost use Rattle.svg_picture.specs.Picture.{initial_words, placed_initial, way_at, in_tickets, effect, row_own, row_parts, rows, names};
 
 use crate::bars::{Bar, mark, push_marked_bar, push_number_words, push_pill};
 use crate::elements::{push_stroke, push_text_at};
@@ -102,16 +102,6 @@ fn push_effect(
     push_pill(text, x, y + 2, number)
 }
 
-fn way_y(row: Row) -> u128
-    ensures value { result ≡ way_y row }
-    ensures few { result ≤ 20 }
-{
-    match row {
-        Row::Initial(_, _) => 10,
-        _ => 20,
-    }
-}
-
 /// Adds what one kind of row alone has.
 fn push_row_own(text: &mut Vec<u8>, sheet: &Sheet<'_>, y: u128, row: Row) -> Added
     requires { y ≤ 2 ^ 91 }
@@ -136,17 +126,17 @@ fn push_row(text: &mut Vec<u8>, sheet: &Sheet<'_>, row: Row) -> Added
     let y = row_y(sheet, row);
     let words = ticket_words(sheet.alloc, row)?;
     push_in_tickets(text, sheet.measures, y + 14, words.as_slice())?;
-    push_way_at(
-        text,
-        sheet.measures,
-        y + way_y(row),
-        way_in(sheet.scene.claimed, row),
-    )?;
+    let below = match row {
+        Row::Initial(_, _) => 10,
+        _ => 20,
+    };
+    let way = way_in(sheet.scene.claimed, row);
+    push_way_at(text, sheet.measures, y + below, way)?;
     push_row_own(text, sheet, y, row)
 }
 
 /// Adds the rows.
-#[tactic(auto, unfolding(crate::specs::Picture::rows))]
+#[tactic(auto, using(crate::proofs::Each::steps), unfolding(crate::specs::Picture::rows))]
 pub(crate) fn push_rows(text: &mut Vec<u8>, sheet: &Sheet<'_>) -> Added
     ensures { OnOk result (text.new.items ≡ text.old.items ++ text_of (rows (page_on sheet.now))) }
 {

@@ -1,8 +1,8 @@
 //! The signs of a picture, with what they mean.
-ghost use Rattle.std.specs.Prelude.{◌≡◌, ◌++◌, ◌≤◌, ◌^◌, OnOk};
+ghost use Rattle.std.specs.Prelude.{◌≡◌, ◌++◌, OnOk};
 ghost use Rattle.svg_picture.specs.Markup.{text_of};
 ghost use Rattle.svg_picture.specs.Layout.{page_on};
-ghost use Rattle.svg_picture.specs.Picture.{sign, sign_at, signs};
+ghost use Rattle.svg_picture.specs.Picture.{sign_at, signs};
 
 use crate::bars::push_pill;
 use crate::elements::{push_rect, push_text_at};
@@ -10,33 +10,25 @@ use crate::layout::legend_y;
 use crate::sheet::{Measures, Sheet};
 use drawing::{Added, Sign, meaning, signs_of};
 
-/// Adds a sign from this height on.
-fn push_sign(text: &mut Vec<u8>, drawn: Sign, y: u128) -> Added
-    requires { y ≤ 2 ^ 91 }
-    ensures { OnOk result (text.new.items ≡ text.old.items ++ text_of (sign drawn y)) }
-{
-    match drawn {
-        Sign::First => push_text_at(text, 7, b"label", 6, y + 12, b"init"),
-        Sign::InOrder | Sign::OfOperations | Sign::OfValues => push_pill(text, 6, y, 1),
-        Sign::Present => push_rect(text, b"sure", 0, (6, y + 1), (28, 14)),
-        Sign::Absent => push_rect(text, b"none", 0, (6, y + 1), (28, 14)),
-        Sign::Away => push_rect(text, b"far", 0, (6, y + 1), (28, 14)),
-        _ => push_rect(text, b"time", 0, (6, y + 1), (28, 14)),
-    }
-}
-
 /// Adds sign i, and what it means.
 #[tactic(auto, unfolding(crate::specs::Picture::sign_at))]
 fn push_sign_at(text: &mut Vec<u8>, m: Measures, i: usize, sign: Sign) -> Added
     ensures { OnOk result (text.new.items ≡ text.old.items ++ text_of (sign_at m (i, sign))) }
 {
     let y = legend_y(m) + 63 + 20 * i as u128;
-    push_sign(text, sign, y)?;
+    match sign {
+        Sign::First => push_text_at(text, 7, b"label", 6, y + 12, b"init")?,
+        Sign::InOrder | Sign::OfOperations | Sign::OfValues => push_pill(text, 6, y, 1)?,
+        Sign::Present => push_rect(text, b"sure", 0, (6, y + 1), (28, 14))?,
+        Sign::Absent => push_rect(text, b"none", 0, (6, y + 1), (28, 14))?,
+        Sign::Away => push_rect(text, b"far", 0, (6, y + 1), (28, 14))?,
+        _ => push_rect(text, b"time", 0, (6, y + 1), (28, 14))?,
+    }
     push_text_at(text, 7, b"dim", 41, y + 12, meaning(sign))
 }
 
 /// Adds the signs of the picture with what they mean, each in a line.
-#[tactic(auto, unfolding(crate::specs::Picture::signs))]
+#[tactic(auto, using(crate::proofs::Each::steps), unfolding(crate::specs::Picture::signs))]
 pub(crate) fn push_signs(text: &mut Vec<u8>, sheet: &Sheet<'_>) -> Added
     ensures { OnOk result (text.new.items ≡ text.old.items ++ text_of (signs (page_on sheet.now))) }
 {
