@@ -1,5 +1,5 @@
 -- What the program answers: its text and its status.
-use Rattle.std.specs.Prelude.{ℕ, List, ◌++◌, Bool, true, false, codes, decimal, Option, Some, None, ⊤}
+use Rattle.std.specs.Prelude.{ℕ, List, ◌++◌, if◌then◌else◌, Bool, true, false, codes, decimal, Option, Some, None, ⊤}
 use Rattle.std.specs.List.{flat_map}
 use Rattle.event_records.specs.declared.event.Event.{Event}
 use Rattle.text_lines.specs.declared.fault.TextFault.{TextFault}
@@ -65,18 +65,6 @@ abbrev pub named : List ℕ → Option ℕ → List ℕ
 named name None = name
 named name (Some n) = name ++ codes " " ++ decimal n
 
--- the name of a text's fault, and its line where it has one
-abbrev pub text_fault_name : TextFault → List ℕ
-text_fault_name fault = named (text_names.name_of fault) (text_names.line_in fault)
-
--- the name of a history's fault, and its place from 0 or its ticket
-abbrev pub history_fault_name : HistoryFault → List ℕ
-history_fault_name fault = named (history_names.name_of fault) (history_names.place_in fault)
-
--- the name of a run's fault, and its thread or its place where it has one
-abbrev pub run_fault_name : RunFault → List ℕ
-run_fault_name fault = named (run_names.name_of fault) (run_names.place_in fault)
-
 -- how the line of a refusal begins, or that of a failure
 abbrev pub beginning : Bool → List ℕ
 beginning true = codes "REFUSED "
@@ -92,29 +80,24 @@ rejection_line rejection = line (codes "REJECTED " ++ decimal rejection.step ++ 
 abbrev pub rejection_lines : List Rejection → List ℕ
 rejection_lines rejections = flat_map rejection_line rejections
 
--- whether a verdict is evidence, in a word
-abbrev pub validity : Bool → List ℕ
-validity true = codes "VALID"
-validity false = codes "INVALID"
-
--- the text of an answer
+-- the text of an answer: of a fault its name, and the line, the place, the ticket or the thread that it names
 abbrev pub answer_text : Reply → List ℕ
 answer_text (judged claimed) = verdict_text claimed
 answer_text (shown text claimed) = text_of text ++ verdict_text claimed
 answer_text (left_open rejections) = rejection_lines rejections ++ line (codes "OPEN")
 answer_text (played rejections events claimed) = rejection_lines rejections ++ (history_text events ++ verdict_text claimed)
-answer_text (verified valid) = line (validity valid)
+answer_text (verified valid) = line (if valid then codes "VALID" else codes "INVALID")
 answer_text (converted text) = text_of text
 answer_text (counted statistics) = statistics_text statistics
 answer_text (drawn picture) = picture
-answer_text (refused_text fault) = line (beginning true ++ text_fault_name fault)
-answer_text (refused_history fault) = line (beginning true ++ history_fault_name fault)
+answer_text (refused_text fault) = line (beginning true ++ named (text_names.name_of fault) (text_names.line_in fault))
+answer_text (refused_history fault) = line (beginning true ++ named (history_names.name_of fault) (history_names.place_in fault))
 answer_text refused_size = line (beginning true ++ codes "Size")
 answer_text refused_queue = line (beginning true ++ codes "Queue")
 answer_text refused_limit = line (beginning true ++ codes "Limit")
 answer_text read_fault = line (beginning false ++ codes "Read")
 answer_text memory_fault = line (beginning false ++ codes "Memory")
-answer_text (run_fault fault) = line (beginning false ++ run_fault_name fault)
+answer_text (run_fault fault) = line (beginning false ++ named (run_names.name_of fault) (run_names.place_in fault))
 
 -- the first line of a verdict's text
 abbrev pub verdict_head : Claimed → List ℕ
@@ -141,11 +124,6 @@ abbrev pub claim_status : Claimed → ℕ
 claim_status (claim.Yes lines) = 0
 claim_status (claim.No kind lines) = 1
 
--- the status of whether a verdict is evidence
-abbrev pub validity_status : Bool → ℕ
-validity_status true = 0
-validity_status false = 1
-
 -- the status of a refusal, or that of a failure
 abbrev pub fault_status : Bool → ℕ
 fault_status true = 2
@@ -155,12 +133,8 @@ fault_status false = 3
 abbrev pub answer_status : Reply → ℕ
 answer_status (judged claimed) = claim_status claimed
 answer_status (shown text claimed) = claim_status claimed
-answer_status (left_open rejections) = 0
 answer_status (played rejections events claimed) = claim_status claimed
-answer_status (verified valid) = validity_status valid
-answer_status (converted text) = 0
-answer_status (counted statistics) = 0
-answer_status (drawn picture) = 0
+answer_status (verified valid) = if valid then 0 else 1
 answer_status (refused_text fault) = fault_status true
 answer_status (refused_history fault) = fault_status true
 answer_status refused_size = fault_status true
@@ -169,6 +143,7 @@ answer_status refused_limit = fault_status true
 answer_status read_fault = fault_status false
 answer_status memory_fault = fault_status false
 answer_status (run_fault fault) = fault_status false
+answer_status found = 0
 
 -- ---- answers to faults
 

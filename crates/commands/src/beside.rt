@@ -12,6 +12,7 @@ use history_text::{TextSink, write_piece};
 use messages::{Complaint, FrontKept, Given, NO_MEMORY, Reads, greeting, keeping, sentence};
 use std::alloc::{AllocError, Global};
 use std::convert::AsStr;
+use std::iter::once;
 
 /// Above how many events a run that is written to a terminal is one to be kept in a file.
 const MANY_EVENTS: usize = 2000;
@@ -131,16 +132,6 @@ pub(crate) struct Ended<'b, 'a, S> {
     pub shelf: &'b [NamedQueue<'a>],
 }
 
-/// The names of the queues: of the proved one, and of those on the shelf.
-fn names_on<'a>(alloc: Global, shelf: &[NamedQueue<'a>]) -> Result<Vec<&'a str>, AllocError> {
-    let mut names = Vec::new(alloc);
-    names.push("proved")?;
-    for shelved in shelf {
-        names.push(shelved.name)?;
-    }
-    Ok(names)
-}
-
 /// The message about a command that ended with a status which is no verdict's.
 fn message_of<'b, 'a, S>(
     alloc: Global,
@@ -153,7 +144,8 @@ fn message_of<'b, 'a, S>(
         Err(fault) if fault.status() == status => *fault,
         _ => return sentence(alloc, &Complaint::Write),
     };
-    let names = names_on(alloc, ended.shelf)?;
+    let on_shelf = ended.shelf.iter().map(|shelved| shelved.name);
+    let names: Vec<&str> = once("proved").chain(on_shelf).collect(alloc)?;
     let task = &ended.order.task;
     let given = Given {
         reads: reads_of(name_of(task)).unwrap_or(Reads::History),
@@ -164,33 +156,8 @@ fn message_of<'b, 'a, S>(
     sentence(alloc, &complaint)
 }
 
-/// Says to one who sits at the output how a long history is kept.
-fn say_how_to_keep<E: TextSink>(
-    alloc: Global,
-    order: &Order<'_>,
-    outcome: &Outcome,
-    terminals: Terminals,
-    errors: &mut E,
-)
-    ensures { terminals.output ≡ false → errors.new ≡ errors.old }
-{
-    if !terminals.output {
-        return;
-    }
-    if let (Task::Stress(_), false, Ok(Report::Shown(_, history, _))) = (
-        order.task,
-        order.is_quiet,
-        outcome,
-    ) {
-        let events = history.events().len();
-        if events > MANY_EVENTS {
-            tell_made(&keeping(alloc, events as u64), errors);
-        }
-    }
-}
-
 /// Says why a command that ended found nothing, or that its answer wasn't written, of a verdict nothing; and how a
-/// long history is kept.
+/// long history is kept, to one who sits at the output.
 pub(crate) fn say_at_end<'b, 'a, S, E: TextSink>(
     alloc: Global,
     ended: &Ended<'b, 'a, S>,
@@ -205,7 +172,20 @@ pub(crate) fn say_at_end<'b, 'a, S, E: TextSink>(
     if status > 1 {
         tell_made(&message_of(alloc, ended, status), errors);
     }
-    say_how_to_keep(alloc, ended.order, ended.outcome, terminals, errors);
+    if !terminals.output {
+        return;
+    }
+    let order = ended.order;
+    if let (Task::Stress(_), false, Ok(Report::Shown(_, history, _))) = (
+        order.task,
+        order.is_quiet,
+        ended.outcome,
+    ) {
+        let events = history.events().len();
+        if events > MANY_EVENTS {
+            tell_made(&keeping(alloc, events as u64), errors);
+        }
+    }
 }
 
 /// Whether a word is an operand and no option.
@@ -213,15 +193,14 @@ fn is_operand(word: &str) -> bool {
     !word.is_empty() && !word.starts_with('-')
 }
 
-/// The first argument, if an operand follows.
-fn command_with_file<'a, T: AsStr>(words: &'a [T]) -> Option<&'a str> {
+/// What a message says where a command was given the name of a file: how it is read.
+fn named_file<'a, T: AsStr>(words: &'a [T]) -> Option<Complaint<'a>> {
     let (_program, others) = words.split_first()?;
     let (command, operands) = others.split_first()?;
-    if operands.iter().any(|word| is_operand(word.as_str())) {
-        Some(command.as_str())
-    } else {
-        None
-    }
+    let command = command.as_str();
+    let reads = reads_of(command)?;
+    let is_named = operands.iter().any(|word| is_operand(word.as_str()));
+    is_named.then_some(Complaint::File { command, reads })
 }
 
 /// Says what is wrong with arguments that are no command, unless the terminal shows it as standard output; and how a
@@ -251,7 +230,7 @@ pub(crate) fn say_mistake<T: AsStr, E: TextSink>(
     }
 }
 
-/// Says what is wrong with the words, unless the terminal shows it as standard output.
+/// Says what is wrong with the words, unless the terminal shows it as standard output; and how a file is read.
 fn say_mistaken_words<T: AsStr, E: TextSink>(
     alloc: Global,
     words: &[T],
@@ -263,19 +242,8 @@ fn say_mistaken_words<T: AsStr, E: TextSink>(
         tell_made(&format!(in alloc; "{error}"), errors);
     }
     if error.kind() == ErrorKind::UnknownArgument {
-        say_how_to_read(alloc, words, errors);
-    }
-}
-
-/// Says how a file is read, if a command was given its name.
-fn say_how_to_read<T: AsStr, E: TextSink>(alloc: Global, words: &[T], errors: &mut E) {
-    let Some(command) = command_with_file(words) else {
-        return;
-    };
-    if let Some(reads) = reads_of(command) {
-        tell_made(
-            &sentence(alloc, &Complaint::File { command, reads }),
-            errors,
-        );
+        if let Some(complaint) = named_file(words) {
+            tell_made(&sentence(alloc, &complaint), errors);
+        }
     }
 }

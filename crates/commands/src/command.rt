@@ -4,7 +4,7 @@ ghost use Rattle.command_words.specs.Commands.{Request, stress, is_quiet_in, req
 ghost use Rattle.command_words.specs.Options.{Settings};
 ghost use Rattle.commands.specs.Judging.{AnswersOrNoMemory};
 ghost use Rattle.commands.specs.Outcomes.{answer_of, NamesPlaces};
-ghost use Rattle.commands.specs.Running.{AnswersOf, PrintsOneOf, ExplainsUse, SaysMessage, WritesAndFlushes, usage_status};
+ghost use Rattle.commands.specs.Running.{AnswersOf, PrintsOneOf, ExplainsUse, SaysMessage, WritesAndFlushes};
 ghost use Rattle.commands.specs.Inner.Running.{Explains};
 ghost use Rattle.commands.specs.Stressing.{Stresses};
 ghost use Rattle.clap.specs.Values.{kind_of};
@@ -196,16 +196,6 @@ where
     }
 }
 
-fn usage_status(kind: ErrorKind) -> u8
-    ensures { result ≡ usage_status kind }
-{
-    match kind {
-        ErrorKind::DisplayHelp => 0,
-        ErrorKind::DisplayVersion => 0,
-        _ => 2,
-    }
-}
-
 /// Writes what clap says of the words.
 fn explain<W: TextSink>(alloc: Global, error: &Error, writer: &mut W) -> u8
     requires fresh { W.has_refused writer.old ≡ false }
@@ -216,8 +206,12 @@ fn explain<W: TextSink>(alloc: Global, error: &Error, writer: &mut W) -> u8
     if error.kind() == ErrorKind::OutOfMemory {
         return print_memory(writer);
     }
+    let status = match error.kind() {
+        ErrorKind::DisplayHelp | ErrorKind::DisplayVersion => 0,
+        _ => 2,
+    };
     match format!(in alloc; "{error}") {
-        Ok(text) => print_text(text.as_bytes(), usage_status(error.kind()), writer),
+        Ok(text) => print_text(text.as_bytes(), status, writer),
         Err(_) => print_memory(writer),
     }
 }

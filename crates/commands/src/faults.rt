@@ -10,14 +10,6 @@ use history_merge::HistoryFault;
 use history_text::{TextFault, TextSink, WriteFault, write_piece};
 use text_lines::WriteBuffer;
 
-/// How the line of a refusal begins, or that of a failure.
-fn beginning_of(is_refused: bool) -> &'static [u8]
-    ensures words { result.now ≡ beginning is_refused }
-    ensures short { length result.now ≤ 8 }
-{
-    if is_refused { b"REFUSED " } else { b"FAULT " }
-}
-
 impl Fault {
     /// Its name, as it is printed before its place.
     pub fn name(self) -> &'static str
@@ -78,7 +70,12 @@ fn push_fault(fault: Fault, kept: &mut WriteBuffer)
     requires { kept.old ≡ [] }
     ensures { kept.new ≡ answer_text (answer_of_fault fault) }
 {
-    kept.push(beginning_of(fault.is_refusal()));
+    let beginning: &[u8] = if fault.is_refusal() {
+        b"REFUSED "
+    } else {
+        b"FAULT "
+    };
+    kept.push(beginning);
     kept.push(fault.name().as_bytes());
     if let Some(place) = fault.place() {
         kept.push(b" ");

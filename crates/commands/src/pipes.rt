@@ -22,17 +22,11 @@ impl<'a, W> Piped<'a, W> {
 
 impl<'a, W: Write> Write for Piped<'a, W> {
     fn write(&mut self, piece: &[u8]) -> io::Result<usize> {
-        match self.inner.write(piece) {
-            Ok(count) => Ok(count),
-            Err(error) => Err(self.noted(error)),
-        }
+        self.inner.write(piece).map_err(|error| self.noted(error))
     }
 
     fn flush(&mut self) -> io::Result<()> {
-        match self.inner.flush() {
-            Ok(()) => Ok(()),
-            Err(error) => Err(self.noted(error)),
-        }
+        self.inner.flush().map_err(|error| self.noted(error))
     }
 }
 

@@ -4,7 +4,7 @@ ghost use Rattle.std.specs.Io.KnownBytes.{Appends};
 ghost use Rattle.history_merge.specs.declared.operation.Operation.{Operation};
 ghost use Rattle.verdicts.specs.Claiming.{claim_of};
 ghost use Rattle.text_lines.specs.Writing.{AppendsFront, IsWritten, IsRefused, Writes};
-ghost use Rattle.commands.specs.Answers.{answer_text, answer_status, claim_status, memory_fault, quiet_text, said_text, verdict_head};
+ghost use Rattle.commands.specs.Answers.{answer_text, answer_status, claim_status, memory_fault, said_text, verdict_head};
 ghost use Rattle.commands.specs.Outcomes.{answer_of, NamesPlaces};
 ghost use Rattle.commands.specs.Running.{Prints, PrintsAnswer, PrintsSaid, WritesAndFlushes};
 
@@ -103,11 +103,18 @@ fn head_of(verdict: &Verdict) -> &'static [u8]
     }
 }
 
-/// Writes what a command found, where it is asked for quietly: of a verdict the first line alone.
-fn write_quietly<W: TextSink>(outcome: &Outcome, writer: &mut W) -> Result<(), WriteFault>
+/// Writes what a command found; of a verdict the first line alone, where it is asked for quietly.
+fn write_said<W: TextSink>(
+    outcome: &Outcome,
+    is_quiet: bool,
+    writer: &mut W,
+) -> Result<(), WriteFault>
     requires { NamesPlaces outcome.now }
-    ensures { Writes W.contents W.has_refused W.transition (quiet_text (answer_of outcome.now)) writer.old writer.new result }
+    ensures { Writes W.contents W.has_refused W.transition (said_text is_quiet (answer_of outcome.now)) writer.old writer.new result }
 {
+    if !is_quiet {
+        return write_outcome(outcome, writer);
+    }
     match outcome {
         Ok(Report::Judged(_, verdict)) => return write_piece(head_of(verdict), writer),
         Ok(Report::Shown(_, _, verdict)) => return write_piece(head_of(verdict), writer),
@@ -117,21 +124,6 @@ fn write_quietly<W: TextSink>(outcome: &Outcome, writer: &mut W) -> Result<(), W
         Ok(Report::Counted(_) | Report::Drawn(_)) => return write_outcome(outcome, writer),
         Err(fault) => return write_fault(*fault, writer),
     }
-}
-
-/// Writes what a command found, quietly or whole.
-fn write_said<W: TextSink>(
-    outcome: &Outcome,
-    is_quiet: bool,
-    writer: &mut W,
-) -> Result<(), WriteFault>
-    requires { NamesPlaces outcome.now }
-    ensures { Writes W.contents W.has_refused W.transition (said_text is_quiet (answer_of outcome.now)) writer.old writer.new result }
-{
-    if is_quiet {
-        return write_quietly(outcome, writer);
-    }
-    write_outcome(outcome, writer)
 }
 
 /// Writes what a command found, quietly or whole, and flushes the writer; answers the status.

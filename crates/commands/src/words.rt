@@ -34,10 +34,7 @@ pub fn words_of<R: Env + AllocGlobal>(rt: &R) -> Result<Vec<String>, StartFault>
         Err(error) if error.kind() == ErrorKind::OutOfMemory => return Err(StartFault::Memory),
         Err(_) => return Err(StartFault::NoText),
     };
-    match words.collect(rt.alloc()) {
-        Ok(words) => Ok(words),
-        Err(_) => Err(StartFault::Memory),
-    }
+    words.collect(rt.alloc()).map_err(|_| StartFault::Memory)
 }
 
 /// Writes why a command can't begin, flushes the writer and returns the status; standard error says it too.
