@@ -1,18 +1,11 @@
 -- What a loop adds with one more element.
-use Rattle.drawing.proofs.Common.{[], ◌++◌, ◌+◌, ◌<◌, ◌∙◌, ◌∷◌, ◌≡◌, ap, arith, Bool, cond}
-use Rattle.drawing.proofs.Common.{drop, enumerate_from, false, find, flat_map, fold-append, fold_more, get_or}
-use Rattle.drawing.proofs.Common.{length, length-take-le, List, map, map-id, max, range_with_len, Some, sym, take}
-use Rattle.drawing.proofs.Common.{zero-add, ℕ, greatest_call, Operation, placed, point, with_words, Word}
+use Rattle.drawing.proofs.Common.{[], ◌++◌, ◌+◌, ◌<◌, ◌∙◌, ◌∷◌, ◌≡◌, ap, arith, enumerate_from, fold-append, fold_more}
+use Rattle.drawing.proofs.Common.{get_or, length, length-take-le, List, map-id, max, range_with_len, sym, take, zero-add}
+use Rattle.drawing.proofs.Common.{ℕ, greatest_call, Operation, point}
 use Rattle.std.proofs.Common.{append-nil, append_assoc, refl}
-use Rattle.std.proofs.lemmas.List.{map-append, take_more, at_drop_more, flat_map_more}
+use Rattle.std.proofs.lemmas.List.{map-append, take_more}
 use Rattle.std.proofs.lemmas.Grind.{take_at_read, flat_map-append}
 use Rattle.std.proofs.lemmas.List.FromFn.{map-range_with_len_more}
-
--- what isn't found up to an element that fails is not found up to the next one
-pub passed_over : {X : Type 0} (p : X → Bool) (xs : List X) (i : ℕ) (d : X) → i < length xs → find p xs ≡ find p (drop i xs)
-    → p (get_or xs i d) ≡ false → find p xs ≡ find p (drop (i + 1) xs)
-passed_over p xs i d within before fails =
-    before ∙ at_drop_more (find p) xs i d within ∙ ap (λ (b : Bool). cond b (Some (get_or xs i d)) (find p (drop (i + 1) xs))) fails
 
 -- one number more
 pub range_more : (n : ℕ) → range_with_len 0 (n + 1) ≡ range_with_len 0 n ++ n ∷ []
@@ -45,14 +38,3 @@ enumerate_at_read xs i d within = (refl, enumerated_more xs i d within)
 
 -- what a loop over places adds
 pub ruleset steps = (enumerate_at_read, take_at_read, range_more, append_assoc, append-nil, flat_map-append, map-append, fold-append)
-
-module _ {X : Type 0} (xs more : List X) (x : X) (is : more ≡ xs ++ x ∷ []) where
-  -- the word of one element more was added
-  pub words_step : (f : X → Word) (line old new : List ℕ) → old ≡ with_words line (map f xs) → new ≡ placed old (f x)
-      → new ≡ with_words line (map f more)
-  words_step f line old new before now = rw (now, before, is, map-append) (sym (fold-append placed line (map f xs) (f x ∷ [])))
-
-  -- the piece of one element more was added
-  pub flat_map_step : {A : Type 0} (f : X → List A) (text old new : List A) → old ≡ text ++ flat_map f xs → new ≡ old ++ f x
-      → new ≡ text ++ flat_map f more
-  flat_map_step f text old new before now = rw (now, before, is) (flat_map_more f text xs x)
