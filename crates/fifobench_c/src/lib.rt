@@ -88,12 +88,8 @@ pub extern "C" fn fifobench_draw(
 ) -> u8
     ensures { TellsOneOf (AnswersOrNoMemory (AnswersOf (draw (drawing_as Svg))) (input_of text.now)) answer.old answer.new needed.new result }
 {
-    tell(
-        alloc,
-        &draw_text(alloc, text, DrawOptions::new(PictureForm::Svg)),
-        answer,
-        needed,
-    )
+    let options = DrawOptions::new(PictureForm::Svg);
+    tell(alloc, &draw_text(alloc, text, options), answer, needed)
 }
 
 /// What `draw --text` answers of the text: lines of characters.
@@ -106,12 +102,8 @@ pub extern "C" fn fifobench_draw_text(
 ) -> u8
     ensures { TellsOneOf (AnswersOrNoMemory (AnswersOf (draw (drawing_as Terminal))) (input_of text.now)) answer.old answer.new needed.new result }
 {
-    tell(
-        alloc,
-        &draw_text(alloc, text, DrawOptions::new(PictureForm::Terminal)),
-        answer,
-        needed,
-    )
+    let options = DrawOptions::new(PictureForm::Terminal);
+    tell(alloc, &draw_text(alloc, text, options), answer, needed)
 }
 
 /// What `stats` answers of the text.
