@@ -1,5 +1,5 @@
 -- A verdict shows each operation once, so it names at most half as many as the history has events; its other lines are initial values.
-use Rattle.verdicts.proofs.Common.{[], AllPairs, AllPairs-tail, AllZip, ap, AreComplete, arith, Bool}
+use Rattle.verdicts.proofs.Common.{[], AllZip, ap, AreComplete, arith, Bool}
 use Rattle.verdicts.proofs.Common.{call_before_return, ClaimLine, cond, Contains, Contains-append_cases}
 use Rattle.verdicts.proofs.Common.{All, Contains-permutation, MAX_TICKET, nat_tests, contains_cons}
 use Rattle.verdicts.proofs.Common.{Did, Empty, enqueue_place, Event, false, filter}
@@ -11,9 +11,9 @@ use Rattle.verdicts.proofs.Common.{map, MAX_INITIAL, MAX_OPERATIONS}
 use Rattle.verdicts.proofs.Common.{nat_lt, No, no_enqueue, None, not, not-true, not_in_none}
 use Rattle.verdicts.proofs.Common.{one_deeper, Operation}
 use Rattle.verdicts.proofs.Common.{operations_named, operations_of}
-use Rattle.verdicts.proofs.Common.{order, ORIGIN, pairs_at, passed_filter, place_of, refl, repeat}
+use Rattle.verdicts.proofs.Common.{order, ORIGIN, passed_filter, refl, repeat}
 use Rattle.verdicts.proofs.Common.{slice_get}
-use Rattle.verdicts.proofs.Common.{slice_get_within, Some, subst, suc, sym, timeline, timeline_is_complete}
+use Rattle.verdicts.proofs.Common.{slice_get_within, Some, subst, sym, timeline, timeline_is_complete}
 use Rattle.verdicts.proofs.Common.{true, value_of, verdict_places, violation_places, witness, Yes, zero, ℕ, ◌+◌}
 use Rattle.verdicts.proofs.Common.{◌<◌, ◌∙◌, ◌∷◌, ◌≡◌, ◌≤◌, ◌⊎◌}
 use Rattle.std.proofs.Common.{count_by}
@@ -53,14 +53,6 @@ no_more {X} (x ∷ xs) ys once among =
       | inr left ↦ left
     ]) in
     omega (arith, length_permutation ys (x ∷ remove ys at.0) moved)
-
-once_from_rise : (operations : List Operation) → AllPairs (λ x y. x.call < y.call) operations → NoneTwice operations
-once_from_rise [] rise = tt
-once_from_rise (o ∷ rest) rise = (
-  λ among. let place = place_of rest o among in let less = pairs_at (λ x y. x.call < y.call) (o ∷ rest) zero (suc place.0) o o rise
-      (omega arith) refl place.1 in absurd (omega arith),
-  once_from_rise rest (AllPairs-tail (λ x y. x.call < y.call) o rest rise),
-)
 
 all_returned : (operations : List Operation) → All (λ o. (o.call < o.ret) × (o.ret ≤ MAX_TICKET)) operations
     → count_by has_returned operations ≡ length operations

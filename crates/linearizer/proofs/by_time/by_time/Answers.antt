@@ -1,16 +1,8 @@
 use Rattle.linearizer.proofs.Common.{All-contains, arith, contains_at, dequeue_return, entered_by, NEVER, refl}
 use Rattle.linearizer.proofs.Common.{slice_get_read, ◌<◌}
-use Rattle.linearizer.proofs.Choosing.{moved_so_far, none_more_timed, none_timed, one_more_timed, sorted_by_time}
+use Rattle.linearizer.proofs.Choosing.{moved_so_far, none_more_timed, one_more_timed, sorted_by_time}
 use Rattle.linearizer.proofs.by_time.by_time.Goals as goal
 use Rattle.linearizer.proofs.by_time.by_time.Goals.{then-time-lt-NEVER+in_ok-add-2, else-time-lt-NEVER}
-
-pub loop-place-init : goal.loop-place-init
-loop-place-init c = record {
-  entries = rw c.in_ok-entries.ensures.empty (none_timed entered_by c.args.values.now);
-  dequeues = rw c.in_ok-dequeues.ensures.empty (none_timed dequeue_return c.args.values.now);
-  entries_sorted = c.in_ok-entries.ensures.sorted;
-  dequeues_sorted = c.in_ok-dequeues.ensures.sorted;
-}
 
 pub loop-place-preserved : goal.loop-place-preserved
 loop-place-preserved c =

@@ -1,15 +1,8 @@
 use Rattle.linearizer.proofs.Common.{ap, arith, cases_lt, get_or, get_or-set_other, get_or_read, inl, inr, leb-true}
 use Rattle.linearizer.proofs.Common.{length, PackedTimed, set, ◌-◌, ◌<◌, ◌≡◌}
 use Rattle.std.proofs.Common.{length-set}
-use Rattle.linearizer.proofs.Inserting.{kept, long, none_shifted, one_more_shifted, put_permutes, put_rises}
+use Rattle.linearizer.proofs.Inserting.{kept, long, one_more_shifted, put_permutes, put_rises}
 use Rattle.linearizer.proofs.by_time.put_last_in_place.Goals as goal
-
-pub loop-place-init : goal.loop-place-init
-loop-place-init c = record {
-  shifted = none_shifted c.args.timed.now c.index-timed-end.result c.requires c.index-timed-end.is;
-  inside = omega (arith, c.requires);
-  later = λ k d from below. absurd (omega (arith, from, below));
-}
 
 pub loop-place-preserved : goal.loop-place-preserved
 loop-place-preserved c =
