@@ -57,8 +57,13 @@ no_more {X} (x ∷ xs) ys once among =
 all_returned : (operations : List Operation) → All (λ o. (o.call < o.ret) × (o.ret ≤ MAX_TICKET)) operations
     → count_by has_returned operations ≡ length operations
 all_returned [] timed = refl
-all_returned (o ∷ rest) timed = grind (arith, nat_tests, sum_by-cons (λ x. cond (has_returned x) 1 0) o rest,
-    All-head (λ o. (o.call < o.ret) × (o.ret ≤ MAX_TICKET)) o rest timed, all_returned rest (All-tail (λ o. (o.call < o.ret) × (o.ret ≤ MAX_TICKET)) o rest timed))
+all_returned (o ∷ rest) timed = grind (
+  arith,
+  nat_tests,
+  sum_by-cons (λ x. cond (has_returned x) 1 0) o rest,
+  All-head (λ o. (o.call < o.ret) × (o.ret ≤ MAX_TICKET)) o rest timed,
+  all_returned rest (All-tail (λ o. (o.call < o.ret) × (o.ret ≤ MAX_TICKET)) o rest timed),
+)
 
 -- a history has two events for each operation
 two_events : (events : List Event) → IsCompleteHistory events → length events ≡ length (operations_of events) + length (operations_of events)

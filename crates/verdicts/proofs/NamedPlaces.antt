@@ -64,8 +64,14 @@ value_of_line o enqueues = elim (cases_lt o.call ORIGIN) [
 -- an operation of a selection's timeline has the same line at its time in the whole
 pub same_line : (keeps : ℕ → Bool) (initial : List ℕ) → length initial ≤ MAX_INITIAL → (o : Operation) → start (filter keeps initial) ≤ o.call
     → o.call ≤ o.ret → line_of (retimed (lifted keeps initial) o) ≡ line_of o
-same_line keeps initial few o from called = grind (arith, nat_tests, lifted_rises keeps initial few o.call ORIGIN from,
-    lifted_late keeps initial ORIGIN, lifted_late keeps initial o.call, lifted_late keeps initial o.ret)
+same_line keeps initial few o from called = grind (
+  arith,
+  nat_tests,
+  lifted_rises keeps initial few o.call ORIGIN from,
+  lifted_late keeps initial ORIGIN,
+  lifted_late keeps initial o.call,
+  lifted_late keeps initial o.ret,
+)
 
 -- ---- lists, element by element
 
