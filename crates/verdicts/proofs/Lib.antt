@@ -3,10 +3,10 @@
 -- Chosen, Decided, OneVerdict: the chosen violation or order of a history decides, and is the only one.
 -- Lookups, ClaimedLines: when the lines of a claim are evidence.
 -- Collected, NamedLines, NamedPlaces, TrueClaims, FewLines: what a verdict claims, and that this is true.
--- SameLists, Selections, CoverGaps: what stays of the violations in a selection of the operations.
+-- SameLists, Selections, CoverGaps: lists that are one, what is carried from operations to others, and gaps that a cover leaves open.
+-- Retiming: a selection stands on a timeline at other times, with the same violations.
 -- Minimal: nothing can be left out of the selection by the violation's lines.
--- Retiming: a selection of a timeline is the timeline of a selection, at other tickets.
--- EventsHeld, ShrunkEvents: the selected operations with their events are a complete history.
+-- EventsHeld, ShrunkEvents: operations tell their events, and the selected ones with theirs are a complete history.
 -- ShrunkHistories, OneSelection: so the small history is minimal, has the violation, and is the only one.
 -- Rows: small histories, computed.
 mod Common
