@@ -1,11 +1,29 @@
 -- What a loop adds with one more element.
-use Rattle.drawing.proofs.Common.{[], ◌++◌, ◌+◌, ◌<◌, ◌∙◌, ◌∷◌, ◌≡◌, ap, arith, enumerate_from, fold-append, fold_more}
-use Rattle.drawing.proofs.Common.{get_or, length, length-take-le, List, map-id, max, range_with_len, sym, take, zero-add}
-use Rattle.drawing.proofs.Common.{ℕ, greatest_call, Operation, point}
-use Rattle.std.proofs.Common.{append-nil, append_assoc, refl}
+use Rattle.drawing.proofs.Common.{[], ap, append_assoc, arith, ClaimLine, drop, enumerate_from, fold-append, fold_more}
+use Rattle.drawing.proofs.Common.{get_or, greatest_call, length, length-take-le, List, map-id, max, Operation, point}
+use Rattle.drawing.proofs.Common.{range_with_len, sym, take, take_all, zero-add, ℕ, ◌++◌, ◌+◌, ◌-◌, ◌<◌, ◌∙◌, ◌∷◌, ◌≡◌}
+use Rattle.drawing.proofs.Common.{◌≤◌}
+use Rattle.std.proofs.Common.{append-nil, refl}
+use Rattle.drawing.specs.Captions.{cover_caption, one_of_cover}
 use Rattle.std.proofs.lemmas.List.{map-append, take_more}
-use Rattle.std.proofs.lemmas.Grind.{take_at_read, flat_map-append}
+use Rattle.std.proofs.lemmas.Grind.{flat_map-append, take_at_read}
 use Rattle.std.proofs.lemmas.List.FromFn.{map-range_with_len_more}
+
+-- ---- texts to which pieces are added in turn
+
+-- the first value of a cover, and the rest
+pub cover_more : (number : ℕ) (lines : List ClaimLine) (d e : ClaimLine) → 2 ≤ length lines
+    → one_of_cover number (get_or lines 0 d) (get_or lines 1 e) ++ cover_caption (number + 2)
+    (take (length lines - 2) (drop 2 lines)) ≡ cover_caption number lines
+cover_more number (x ∷ y ∷ rest) d e h =
+    let whole : take (length (x ∷ y ∷ rest) - 2) rest ≡ rest = take_all _ _ (omega arith) in
+    ap (λ (r : List ClaimLine). one_of_cover number x y ++ cover_caption (number + 2) r) whole
+cover_more number lines d e h = absurd (omega arith)
+
+-- the same, and texts to which pieces are added in turn
+pub ruleset covers = (cover_more, append_assoc)
+
+-- ---- what a loop adds with one more element
 
 -- one number more
 pub range_more : (n : ℕ) → range_with_len 0 (n + 1) ≡ range_with_len 0 n ++ n ∷ []

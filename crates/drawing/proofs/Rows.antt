@@ -1,23 +1,115 @@
 -- Rows stand in the order of time.
-use Rattle.drawing.proofs.Common.{[], ◌++◌, ◌+◌, ◌==◌, ◌||◌, ◌∙◌, ◌∷◌, ◌≡◌, ◌≤◌, ◌⊎◌, ap, arith, cond}
-use Rattle.drawing.proofs.Common.{cases_lt, cond_both, Contains, Contains-append_left, Contains-append_right}
-use Rattle.drawing.proofs.Common.{Contains-permutation, enumerate_from, eq-eqb, eqb-true, false, flat_map, inl, inr}
-use Rattle.drawing.proofs.Common.{IsPermutation-sym, length, List, nat_eq, nat_tests, refl, slice_get, slice_get_within, Some}
-use Rattle.drawing.proofs.Common.{subst, sum_by, sum_by-append, sum_by-cons, sym, true, zero-add, ℕ, Claimed}
-use Rattle.drawing.proofs.Common.{contains_at, contains_cons, effect_if, effect_rows, Event, event_rows}
-use Rattle.drawing.proofs.Common.{has_row, HistoryView, initial_row, initial_rows, left_out_rows, not_in_none}
-use Rattle.drawing.proofs.Common.{Operation, operations_of, point, Row, row_number, rows_after}
-use Rattle.drawing.proofs.Common.{rows_of, stands_above, traced, Yes}
+use Rattle.drawing.proofs.Common.{[], add-one, ap, arith, cases_lt, Claimed, cond, cond_both, Contains}
+use Rattle.drawing.proofs.Common.{Contains-append_left, Contains-append_right, Contains-permutation, contains_at}
+use Rattle.drawing.proofs.Common.{contains_cons, effect_if, effect_rows, enumerate_from, eq-eqb, eqb-true, Event}
+use Rattle.drawing.proofs.Common.{event_rows, false, flat_map, fold, has_row, HistoryView, initial_row, initial_rows}
+use Rattle.drawing.proofs.Common.{inl, inr, IsPermutation-sym, left_out_rows, length, List, max, nat_eq, nat_tests}
+use Rattle.drawing.proofs.Common.{not_in_none, one_at, Operation, operation_within, operations_of, pairs_at, point}
+use Rattle.drawing.proofs.Common.{Precedes, refl, returns_at_no_call, Row, row_number, rows_after, rows_of, slice_get}
+use Rattle.drawing.proofs.Common.{slice_get_within, Some, stands_above, subst, suc, sum_by, sum_by-append, sum_by-cons}
+use Rattle.drawing.proofs.Common.{sym, take, traced, true, Yes, zero, zero-add, ℕ, ◌++◌, ◌+◌, ◌<◌, ◌==◌, ◌||◌, ◌∙◌}
+use Rattle.drawing.proofs.Common.{◌∷◌, ◌≡◌, ◌≤◌, ◌⊎◌}
 use Rattle.std.proofs.Common.{ap₂}
+use Rattle.history_merge.specs.Legal.{IsLegalOrder}
+use Rattle.drawing.specs.Laws.{EffectRowsAreInBars, EffectRowsRise, EffectsAreInBars, EffectsHaveRows, EffectsRise}
+use Rattle.drawing.specs.Laws.{events_in, EventsAreCounted, InitialRowsAreFirst, InitialValuesHaveRows}
+use Rattle.drawing.specs.Laws.{OperationsHaveRows, RowsRise, RowsTellPrecedence}
 use Rattle.std.proofs.lemmas.List.FromFn.{get_or-enumerate_from, length-enumerate_from}
 use Rattle.std.proofs.lemmas.Option.{get_or_from_slice_get}
 use Rattle.drawing.specs.Claim.{order_of}
-use Rattle.drawing.specs.declared.scene.Row.TheVariants.{Head, Initial, Ticket, LeftOut, Effect}
-use Rattle.drawing.specs.Laws.{RowsRise, InitialValuesHaveRows, OperationsHaveRows, EffectsHaveRows, InitialRowsAreFirst, RowsTellPrecedence}
-use Rattle.drawing.specs.Laws.{EventsAreCounted, EffectRowsAreInBars, EffectRowsRise, events_in}
+use Rattle.drawing.specs.declared.scene.Row.TheVariants.{Effect, Head, Initial, LeftOut, Ticket}
 use Rattle.drawing.proofs.Below.{fewer, one_fewer}
 use Rattle.drawing.proofs.Nearness.{any_of, in_flat_map}
-use Rattle.drawing.proofs.Effects.{effects_are_in_bars, effects_rise, point_is_a_call}
+
+-- ---- the effects of a `YES`, and the numbers of a claim
+
+-- the greatest so far
+abbrev greatest_from : ℕ → List Operation → ℕ
+greatest_from g operations = fold (λ greatest o. max greatest o.call) g operations
+
+-- it is at least what it begins with
+from_rises : (g : ℕ) (operations : List Operation) → g ≤ greatest_from g operations
+from_rises g [] = omega arith
+from_rises g (o ∷ rest) = let more = from_rises (max g o.call) rest in omega arith
+
+-- it rises with more operations
+longer : (g : ℕ) (operations : List Operation) (m n : ℕ) → m ≤ n → greatest_from g (take m operations) ≤ greatest_from g (take n operations)
+longer g operations zero n le = from_rises g (take n operations)
+longer g operations (suc m) zero le = absurd (omega arith)
+longer g [] (suc m) (suc n) le = omega arith
+longer g (o ∷ rest) (suc m) (suc n) le = longer (max g o.call) rest m n (omega arith)
+
+-- effects rise in the order of a `YES`
+pub effects_rise : EffectsRise
+effects_rise order i j le = longer 0 order (i + 1) (j + 1) (omega arith)
+
+-- the call of the operation at a place is at most the point there
+call_at_most : (g : ℕ) (order : List Operation) (i : ℕ) (o : Operation) → slice_get order i ≡ Some o → o.call ≤ greatest_from g (take (suc i) order)
+call_at_most g [] i o at = absurd (cc)
+call_at_most g (x ∷ rest) zero o at = let same : x ≡ o = cc in let more = from_rises (max g x.call) (take zero rest) in let e : x.call ≡ o.call =
+    ap (λ y. y.call) same in omega arith
+call_at_most g (x ∷ rest) (suc i) o at = call_at_most (max g x.call) rest i o at
+
+-- what holds of each call holds of the greatest
+of_greatest : (P : ℕ → Type 0) (g : ℕ) (order : List Operation) (k : ℕ) → P g → ((j : ℕ) (o : Operation) → j < k → slice_get order j ≡ Some o → P o.call)
+    → P (greatest_from g (take k order))
+of_greatest P g order zero holds each = holds
+of_greatest P g [] (suc k) holds each = holds
+of_greatest P g (x ∷ rest) (suc k) holds each =
+    of_greatest P (max g x.call) rest k (either (cases_lt g x.call)) (λ j o less at. each (suc j) o (omega arith) at)
+  where
+    either : (g < x.call) ⊎ (x.call ≤ g) → P (max g x.call)
+    either (inl less) = let e : x.call ≡ max g x.call = omega arith in subst P e (each zero x (omega arith) refl)
+    either (inr no_more) = let e : g ≡ max g x.call = omega arith in subst P e holds
+
+-- an operation of a linearization takes effect just after the event of a call
+pub point_is_a_call : (initial : List ℕ) (events : List Event) (order : List Operation) (i : ℕ) (o : Operation)
+    → IsLegalOrder initial (operations_of events) order → slice_get order i ≡ Some o
+    → (e : Event) × (Contains events e) × ((o : Operation) × Contains (operations_of events) o × (o.call ≡ e.ticket)) × (e.ticket ≡ point order i)
+point_is_a_call initial events [] i o legal at = absurd (cc)
+point_is_a_call initial events (x ∷ rest) i o legal at =
+    let first : max 0 x.call ≡ x.call = omega arith in
+    rw add-one (of_greatest IsTicket (max 0 x.call) rest i (subst IsTicket (sym first) (called x 0 refl)) (λ j p less here. called p (suc j) here))
+  where
+    IsTicket : ℕ → Type 0
+    IsTicket t = (e : Event) × (Contains events e) × ((o : Operation) × Contains (operations_of events) o × (o.call ≡ e.ticket)) × (e.ticket ≡ t)
+
+    called : (p : Operation) (j : ℕ) → slice_get (x ∷ rest) j ≡ Some p → IsTicket p.call
+    called p j here =
+        let among = Contains-permutation (x ∷ rest) (operations_of events) p (IsPermutation-sym (operations_of events) (x ∷ rest) legal.holds_each_once)
+        (contains_at (x ∷ rest) j p here) in
+        let t = traced events p among in
+        (t.call, contains_at events t.called_at t.call t.at_call, (p, among, t.made.called), sym t.made.called)
+
+-- effects of a linearization lie within the bars
+pub effects_are_in_bars : EffectsAreInBars
+effects_are_in_bars initial events order i o complete legal at = (called, below)
+  where
+    listed : (x : Operation) (j : ℕ) → slice_get order j ≡ Some x → Contains (operations_of events) x
+    listed x j here = Contains-permutation order (operations_of events) x (IsPermutation-sym (operations_of events) order legal.holds_each_once)
+        (contains_at order j x here)
+
+    called : o.call ≤ point order i
+    called = rw add-one (call_at_most 0 order i o at)
+
+    each : (j : ℕ) (x : Operation) → j < i + 1 → slice_get order j ≡ Some x → x.call < o.ret
+    each j x less here = elim (cases_lt j i) [
+      | inl earlier ↦
+          let apart = pairs_at (λ e l. ¬ (Precedes l e)) order j i x o legal.extends_precedence earlier here at in
+          let differs = returns_at_no_call events o x complete (listed o i at) (listed x j here) in
+          omega (arith, apart, differs)
+      | inr above ↦
+          let same : j ≡ i = omega arith in
+          let one = one_at order i x o (subst (λ k. slice_get order k ≡ Some x) same here) at in
+          let rises = (operation_within events o complete (listed o i at)).0 in
+          let e : x.call ≡ o.call = ap (λ y. y.call) one in
+          omega arith
+    ]
+
+    below : point order i < o.ret
+    below = of_greatest (λ n. n < o.ret) 0 order (i + 1) (let rises = (operation_within events o complete (listed o i at)).0 in omega arith) each
+
+-- ---- rows stand in the order of time
 
 -- ---- numbers rise
 

@@ -121,7 +121,7 @@ fn push_one_of_cover(text: &mut Vec<u8>, number: u64, enq: ClaimLine, deq: Claim
     text.extend_from_slice(b")\n")
 }
 
-#[tactic(auto, using(crate::proofs::Chains::covers))]
+#[tactic(auto, using(crate::proofs::Loops::covers))]
 fn push_cover_caption(text: &mut Vec<u8>, number: u64, lines: &[ClaimLine]) -> Added
     requires { number + length lines.now ≤ MOST_DRAWN + 1 }
     ensures { OnOk result (text.new.items ≡ text.old.items ++ cover_caption number lines.now) }
@@ -147,7 +147,7 @@ fn witness_words() -> &'static [u8]
 }
 
 /// Adds what a claim says, in sentences, each line with its line feed.
-#[tactic(auto, using(crate::proofs::Chains::covers), unfolding(crate::specs::Captions::caption))]
+#[tactic(auto, using(crate::proofs::Loops::covers), unfolding(crate::specs::Captions::caption))]
 pub fn push_caption(text: &mut Vec<u8>, claimed: &Claimed) -> Added
     requires { count_of_lines claimed.now ≤ MOST_DRAWN }
     ensures { OnOk result (text.new.items ≡ text.old.items ++ caption claimed.now) }

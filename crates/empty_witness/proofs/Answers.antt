@@ -1,17 +1,48 @@
 -- The empty dequeues by their places, and one more of them in a scan.
 use Rattle.empty_witness.proofs.Common.{[], All, All-append, All-contains, All-get_or, All-nil, All-push, AllZip}
-use Rattle.empty_witness.proofs.Common.{AllZip-get_or, AreGapsAt, AreLeastFreeGaps, arith, Contains, Contains-get_or}
-use Rattle.empty_witness.proofs.Common.{Did, drop, Empty, false, filter, get_or, get_or_default, HoldsPlaces, inl, inr}
-use Rattle.empty_witness.proofs.Common.{is_empty_answer, is_empty_kind, is_none, IsAt, IsChosenCover, IsChosenWitness}
-use Rattle.empty_witness.proofs.Common.{IsCovered, IsEmptyAnswerAt, IsFirstCovered, IsLeastFreeGap, IsSoonerOf, length}
-use Rattle.empty_witness.proofs.Common.{Life, List, map, MatchOption, None, one_at, one_deeper, one_more}
-use Rattle.empty_witness.proofs.Common.{one_more_zipped, Operation, Option, passed_filter, passes_filter, refl}
-use Rattle.empty_witness.proofs.Common.{slice_get, Some, subst, suc, sym, take, take-append-drop, time_of, true, zero}
-use Rattle.empty_witness.proofs.Common.{ℕ, ◌++◌, ◌+◌, ◌<◌, ◌∷◌, ◌≡◌, ◌≤◌}
+use Rattle.empty_witness.proofs.Common.{AllZip-get_or, ap, AreGapsAt, AreLeastFreeGaps, arith, behind, Contains}
+use Rattle.empty_witness.proofs.Common.{Contains-get_or, Did, drop, Empty, Enq, false, filter, get_or, get_or_default}
+use Rattle.empty_witness.proofs.Common.{HoldsPlaces, inl, inr, is_empty_answer, is_empty_kind, is_none, IsAt}
+use Rattle.empty_witness.proofs.Common.{IsChosenCover, IsChosenWitness, IsCovered, IsEmptyAnswerAt, IsFirstCovered}
+use Rattle.empty_witness.proofs.Common.{IsLeastFreeGap, IsSoonerOf, later_by, length, Life, List, map, MatchOption}
+use Rattle.empty_witness.proofs.Common.{None, one_at, one_deeper, one_more, one_more_zipped, Operation, Option}
+use Rattle.empty_witness.proofs.Common.{option_map, ORIGIN, passed_filter, passes_filter, refl, slice_get, Some, subst}
+use Rattle.empty_witness.proofs.Common.{suc, sym, take, take-append-drop, time_of, timeline, true, zero, ℕ, ◌++◌, ◌+◌}
+use Rattle.empty_witness.proofs.Common.{◌<◌, ◌∙◌, ◌∷◌, ◌≡◌, ◌≤◌}
+use Rattle.value_match.proofs.ToldPlaces.{at_timeline, timeline_at}
 use Rattle.std.proofs.lemmas.List.{append_assoc}
 use Rattle.history_merge.specs.declared.operation.OpKind.{OpKind}
 use Rattle.history_merge.specs.Legal.{ArePlacesOf}
 use Rattle.empty_witness.specs.declared.search.EmptyAnswer.{EmptyAnswer}
+
+-- ---- empty dequeues come behind the initial values on the timeline, and after them
+
+module _ (initial : List ℕ) (operations : List Operation) where
+  abbrev k : ℕ
+  k = length initial
+
+  abbrev all : List Operation
+  all = timeline initial operations
+
+  -- an empty dequeue stands after the initial values on the timeline
+  pub empty_behind : (place : ℕ) → IsEmptyAnswerAt operations place → IsEmptyAnswerAt all (behind k place)
+  empty_behind place empty = elim (at_timeline initial operations (k + place)) [
+    | inl early ↦ absurd (omega (arith, early.0))
+    | inr late ↦ (
+      later_by ORIGIN empty.0,
+      late.1 ∙ ap (λ p. option_map (later_by ORIGIN) (slice_get operations p)) (omega arith) ∙ ap (option_map (later_by ORIGIN)) empty.1,
+      empty.2,
+    )
+  ]
+
+  -- and is called after their enqueues
+  pub called_behind : (p : ℕ) (o : Operation) → IsAt all p o → o.kind ≡ Empty → ORIGIN ≤ o.call
+  called_behind p o at is = elim (timeline_at initial operations p o at) [
+    | inl early ↦ let clash : Enq early.value ≡ Empty = ap (λ (x : Operation). x.kind) early.is ∙ is in absurd (cc)
+    | inr late ↦ let call : late.operation.call + ORIGIN ≡ o.call = ap (λ (x : Operation). x.call) late.is in omega arith
+  ]
+
+-- ---- the empty dequeues by their places, and one more of them in a scan
 
 -- the operation that a place of a list of places names
 pub listed_at : (operations : List Operation) (places : List ℕ) (listed : List Operation) (i p : ℕ) → ArePlacesOf operations places listed

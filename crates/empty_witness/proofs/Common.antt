@@ -1,20 +1,19 @@
 -- The names that most proofs of this crate cite, passed on from one place. Declares nothing.
-pub use Rattle.empty_witness.specs.Answers.{AreGapsAt, IsEmptyAnswerAt}
-pub use Rattle.empty_witness.specs.Covered.{AreAllWindows, IsFirstCovered, IsSoonerOf}
-pub use Rattle.empty_witness.specs.Inner.Covered.{NamesChosenCover}
-pub use Rattle.empty_witness.specs.Inner.Spans.{IsFirstOutside, IsOfBoth, IsWithSpan}
+pub use Rattle.empty_witness.specs.Answers.{AreAllWindows, AreGapsAt, IsEmptyAnswerAt, IsFirstCovered, IsSoonerOf}
+pub use Rattle.empty_witness.specs.Inner.Spans.{IsFirstOutside, IsOfBoth, IsWithSpan, NamesChosenCover}
 pub use Rattle.empty_witness.specs.Spans.{AreApart, AreSpansOf, Holds, LiesIn, stay_of}
 pub use Rattle.empty_witness.specs.declared.spans.Span.{Span}
-pub use Rattle.history_merge.proofs.Distinct.{call_before_return, contains_cons, not_in_none, one_at, place_of}
+pub use Rattle.history_merge.proofs.Distinct.{call_before_return, contains_cons, no_enqueue, not_in_none, one_at}
+pub use Rattle.history_merge.proofs.Distinct.{place_of, return_differs_from_call, return_in_range}
 pub use Rattle.event_records.specs.declared.limits.TheConstants.{ORIGIN}
-pub use Rattle.history_merge.proofs.Distinct.{no_enqueue, return_differs_from_call, return_in_range}
 pub use Rattle.history_merge.specs.Initial.{later_by, timeline}
 pub use Rattle.history_merge.specs.Operations.{Did, IsAt, IsInWindow, NoneDid, Precedes}
 pub use Rattle.history_merge.specs.declared.operation.OpKind.TheVariants.{Deq, Empty, Enq, Not}
 pub use Rattle.history_merge.specs.declared.operation.Operation.{Operation}
 pub use Rattle.std.proofs.Common.{[], ap, ap₂, arith, drop, false, get_or, inl, inr, leb, length, length-append}
-pub use Rattle.std.proofs.Common.{length-take-le, List, ltb, map, max, None, Option, refl, rules, set, Some, subst, suc}
-pub use Rattle.std.proofs.Common.{sym, take, true, zero, ℕ, ◌*◌, ◌++◌, ◌+◌, ◌-◌, ◌<◌, ◌∙◌, ◌∷◌, ◌≡◌, ◌≢◌, ◌≤◌, ◌⊎◌}
+pub use Rattle.std.proofs.Common.{length-take-le, List, ltb, map, max, None, Option, refl, rules, set, Some, subst}
+pub use Rattle.std.proofs.Common.{suc, sym, take, true, zero, ℕ, ◌*◌, ◌++◌, ◌+◌, ◌-◌, ◌<◌, ◌∙◌, ◌∷◌, ◌≡◌, ◌≢◌, ◌≤◌}
+pub use Rattle.std.proofs.Common.{◌⊎◌}
 pub use Rattle.std.proofs.lemmas.Bool.{cases_lt, cases_order, le-ltb, leb-false, leb-true, lt-ltb, MatchBool-at_false}
 pub use Rattle.std.proofs.lemmas.Bool.{MatchBool-at_true}
 pub use Rattle.std.proofs.lemmas.List.{append-nil, get_or_append_left, get_or_default, get_or_push, get_or_read}
@@ -30,13 +29,13 @@ pub use Rattle.std.specs.Prelude.{⊤}
 pub use Rattle.value_match.proofs.Lists.{one_deeper, one_more, one_more_zipped, passed_filter, passes_filter}
 pub use Rattle.value_match.proofs.Lives.{dequeued_if_called, life_is_contained, life_of_contained, places_of_value}
 pub use Rattle.value_match.proofs.Lives.{value_is_life, value_of_life}
-pub use Rattle.value_match.proofs.TimelineLines.{few_initial}
-pub use Rattle.value_match.proofs.ToldPlaces.{empty_told, value_told}
-pub use Rattle.value_match.specs.Choice.{IsChosenCover, IsChosenCoverFrom, IsChosenWitness, IsNextOfCover, StaysAtLeast}
+pub use Rattle.value_match.proofs.ToldPlaces.{empty_told, few_initial, value_told}
+pub use Rattle.value_match.specs.Choice.{IsChosenCover, IsChosenCoverFrom, IsChosenWitness, IsNextOfCover}
+pub use Rattle.value_match.specs.Choice.{StaysAtLeast}
 pub use Rattle.value_match.specs.Lives.{AreLeastFreeGaps, call_or_never, Covers, dequeue_call, dequeue_of, enqueue_of}
 pub use Rattle.value_match.specs.Lives.{enqueue_return, HoldsLives, HoldsPlaces, is_empty_answer, is_empty_kind}
 pub use Rattle.value_match.specs.Lives.{IsCovered, IsFreeGap, IsLeastFreeGap, IsLife, lives_of}
-pub use Rattle.value_match.specs.Longest.{EntersBefore, FindsLongest, IsLongestOf}
+pub use Rattle.value_match.specs.Fronts.{EntersBefore, FindsLongest, IsLongestOf}
 pub use Rattle.value_match.specs.Timeline.{behind, time_of, timeline_of}
 pub use Rattle.value_match.specs.Violations.{CoversFrom, IsClear, IsWitnessViolation}
 pub use Rattle.value_match.specs.declared.life.Life.{Life}

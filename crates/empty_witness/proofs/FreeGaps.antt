@@ -1,9 +1,96 @@
 -- The window of an operation has a least free gap, or is covered.
-use Rattle.empty_witness.proofs.Common.{[], arith, call_before_return, cases_lt, Contains, contains_cons, Covers, Enq}
-use Rattle.empty_witness.proofs.Common.{inl, inr, IsClear, IsCovered, IsFreeGap, IsLeastFreeGap, IsLife, Life}
-use Rattle.empty_witness.proofs.Common.{life_is_contained, life_of_contained, List, lives_of, not_in_none, one_deeper}
-use Rattle.empty_witness.proofs.Common.{Operation, refl, subst, suc, sym, zero, ℕ, ◌+◌, ◌-◌, ◌<◌, ◌∷◌, ◌≡◌, ◌≢◌, ◌≤◌}
-use Rattle.empty_witness.proofs.Common.{◌⊎◌}
+use Rattle.empty_witness.proofs.Common.{[], ap, AreApart, AreSpansOf, arith, call_before_return, cases_lt, cases_order}
+use Rattle.empty_witness.proofs.Common.{Contains, Contains-get_or, contains_cons, Covers, Enq, false, get_or}
+use Rattle.empty_witness.proofs.Common.{get_or_default, Holds, inl, inr, IsClear, IsCovered, IsFirstOutside, IsFreeGap}
+use Rattle.empty_witness.proofs.Common.{IsLeastFreeGap, IsLife, le-ltb, leb, leb-false, leb-true, length, Life}
+use Rattle.empty_witness.proofs.Common.{life_is_contained, life_of_contained, List, lives_of, lt-ltb, ltb, MatchOption}
+use Rattle.empty_witness.proofs.Common.{max, not_in_none, one_deeper, Operation, Option, ORIGIN, refl, Span, subst}
+use Rattle.empty_witness.proofs.Common.{suc, sym, time_of, true, zero, ℕ, ◌+◌, ◌-◌, ◌<◌, ◌∷◌, ◌≡◌, ◌≢◌, ◌≤◌, ◌⊎◌}
+use Rattle.std.specs.Bool.{then_some}
+use Rattle.std.specs.List.Sorted.{IsNonDecreasingBy, IsPartitionPoint}
+
+-- ---- the least gap outside of spans, and what it says of a window
+
+-- the starts of spans that are apart rise
+pub starts_rise : (spans : List Span) → AreApart spans → IsNonDecreasingBy (λ span. span.start) spans
+starts_rise spans are i j d le within = elim (cases_lt i j) [
+  | inl less ↦ omega (arith, are.hold_some i d (omega arith), are.apart i j d less within)
+  | inr same ↦ omega (arith, ap (λ k. (get_or spans k d).start) (let here : i ≡ j = omega arith in here))
+]
+
+module _ (spans : List Span) (from begun : ℕ) (point : IsPartitionPoint (λ span. leb span.start from ≡ true)
+    (λ span. leb span.start from ≡ false) spans begun) where
+  has_begun : (k : ℕ) (d : Span) → k < begun → (get_or spans k d).start ≤ from
+  has_begun k d before = leb-true _ _ (point.0 k d (omega arith) before)
+
+  begins_later : (k : ℕ) (d : Span) → begun ≤ k → k < length spans → from < (get_or spans k d).start
+  begins_later k d after within = leb-false _ _ (point.1 k d after within)
+
+  -- if no span has begun
+  pub none_begun : begun ≡ 0 → IsFirstOutside spans from from
+  none_begun none = record {
+    no_less = omega arith;
+    outside = λ lies.
+        let later = begins_later lies.1.0 lies.0 (omega arith) lies.1.1 in
+        let is = ap (λ (s : Span). s.start) lies.1.2 in
+        omega (arith, lies.2.0);
+    least = λ b above below. absurd (omega arith);
+  }
+
+  -- by the last span that has begun
+  pub after_last_begun : (d : Span) (c : ℕ) → AreApart spans → begun ≢ 0 → begun ≤ length spans → c ≡ max (get_or spans (begun - 1) d).end from
+      → IsFirstOutside spans from c
+  after_last_begun d c are some inside is = record {
+    no_less = omega arith;
+    outside = λ lies. not_at lies.1.0 lies.0 lies.1.1 (subst (λ s. Holds s c) (sym lies.1.2) lies.2);
+    least = λ b above below. (get_or spans (begun - 1) d, Contains-get_or spans (begun - 1) d (omega arith), within b above below);
+  }
+    where
+      within : (b : ℕ) → from ≤ b → b < c → Holds (get_or spans (begun - 1) d) b
+      within b above below = let first = has_begun (begun - 1) d (omega arith) in (omega arith, omega arith)
+
+      not_at : (k : ℕ) (e : Span) → k < length spans → Holds (get_or spans k e) c → ⊥
+      not_at k e inside' holds =
+          let first = has_begun (begun - 1) e (omega arith) in
+          let ends = ap (λ (s : Span). s.end) (get_or_default spans (begun - 1) d e (omega arith)) in
+          elim (cases_order k (begun - 1)) [
+            | inr (inl before) ↦ let apart = are.apart k (begun - 1) e before (omega arith) in omega (arith, holds.1)
+            | inl here ↦ let late = subst (λ m. c < (get_or spans m e).end) here holds.1 in omega arith
+            | inr (inr after) ↦
+                let apart = are.apart (begun - 1) k e after inside' in
+                let later = begins_later k e (omega arith) inside' in
+                omega (arith, holds.0)
+          ]
+
+module _ (operations : List Operation) (spans : List Span) (o : Operation) (gap : ℕ) (are : AreSpansOf operations spans)
+    (is : IsFirstOutside spans o.call gap) where
+  -- inside of the window it is the least free gap
+  free_in_window : gap < o.ret → IsLeastFreeGap operations o gap
+  free_in_window below = record {
+    in_window = (is.no_less, below);
+    is_free = λ life is_life covers. is.outside ((are.cover gap).1 (life, is_life, covers));
+    least = λ other window free. elim (cases_lt other gap) [
+      | inr le ↦ le
+      | inl less ↦ let life = (are.cover other).0 (is.least other window.0 less) in absurd (free life.0 life.1 life.2)
+    ];
+  }
+
+  -- past the window, the window is covered
+  covered_to : o.ret ≤ gap → IsCovered operations o
+  covered_to past c window = (are.cover c).0 (is.least c window.0 (omega (arith, window.1)))
+
+  -- a gap within the window is its least free one; past the window, that is covered
+  pub gap_of_window : (found : Option ℕ) → ORIGIN ≤ o.call → found ≡ then_some (ltb gap o.ret) (gap - ORIGIN)
+      → MatchOption found (IsCovered operations o) (λ c. IsLeastFreeGap operations o (time_of c))
+  gap_of_window found late same = rw same (elim (cases_lt gap o.ret) [
+    | inl below ↦
+        let from = is.no_less in
+        let back : gap ≡ time_of (gap - ORIGIN) = omega arith in
+        rw (lt-ltb gap o.ret below) (subst (IsLeastFreeGap operations o) back (free_in_window below))
+    | inr past ↦ rw (le-ltb gap o.ret past) (covered_to past)
+  ])
+
+-- ---- the window of an operation has a least free gap, or is covered
 
 -- some value of the list covers the gap, or none does
 covering : (lives : List Life) (c : ℕ) → ((life : Life) × Contains lives life × Covers life c) ⊎ ((life : Life) → Contains lives life → ¬ (Covers life c))

@@ -1,4 +1,3 @@
 pub mod Spans
-pub mod Covered
 pub mod Answers
 pub mod Inner

@@ -3,7 +3,7 @@ ghost use Rattle.history_merge.specs.declared.operation.OpKind.TheVariants.{Empt
 ghost use Rattle.history_merge.specs.Operations.{Did};
 ghost use Rattle.value_match.specs.Timeline.{timeline_of};
 ghost use Rattle.value_match.specs.Lives.{IsCovered, dequeue_call};
-ghost use Rattle.empty_witness.specs.Inner.Covered.{NamesChosenCover};
+ghost use Rattle.empty_witness.specs.Inner.Spans.{NamesChosenCover};
 
 use history_merge::Operation;
 use std::alloc::{AllocError, Global};

@@ -3,8 +3,7 @@ ghost use Rattle.event_records.specs.declared.limits.TheConstants.{ORIGIN};
 ghost use Rattle.history_merge.specs.declared.operation.OpKind.TheVariants.{Empty};
 ghost use Rattle.history_merge.specs.Operations.{Did, IsAt};
 ghost use Rattle.value_match.specs.Timeline.{timeline_of};
-ghost use Rattle.empty_witness.specs.Answers.{IsEmptyAnswerAt, IsGapAnswer, IsWitnessAnswer};
-ghost use Rattle.empty_witness.specs.Covered.{AreAllWindows, AreWindowsAt, IsFirstCovered, IsSoonerOf};
+ghost use Rattle.empty_witness.specs.Answers.{AreAllWindows, AreWindowsAt, IsEmptyAnswerAt, IsFirstCovered, IsGapAnswer, IsSoonerOf, IsWitnessAnswer};
 ghost use Rattle.empty_witness.specs.Spans.{AreSpansOf};
 
 use crate::answer::{GapAnswer, Gaps, WitnessAnswer};

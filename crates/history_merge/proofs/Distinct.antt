@@ -1,17 +1,308 @@
 -- Different operations of a complete history have different tickets, and enqueue different values.
-use Rattle.history_merge.proofs.Common.{[], All, All-contains, All-filter, AllPairs, AllPairs-cons, AllPairs-filter}
-use Rattle.history_merge.proofs.Common.{ap, AreApart, AreComplete, arith, Bool, cases_order, cons_option, Contains}
-use Rattle.history_merge.proofs.Common.{Contains-get_or, Did, drop, Enq, enqueued_value, eq-eqb, eqb-true, Event}
-use Rattle.history_merge.proofs.Common.{false≢true, filter, find, find_at, get_or_from_slice_get, inl, inr, is_call}
-use Rattle.history_merge.proofs.Common.{IsCompleteHistory, IsTimed, kind_of, length, lt-ltb, MAX_TICKET, MAX_TIME}
-use Rattle.history_merge.proofs.Common.{nat_eq, None, Not, Operation, operation_of, operations_of, OpKind, Option}
-use Rattle.history_merge.proofs.Common.{option_map, position-Some, position_or_len, refl, slice_get, slice_get-get_or}
-use Rattle.history_merge.proofs.Common.{slice_get-map, slice_get_read, slice_get_within, Some, subst, suc, sym, rules}
-use Rattle.history_merge.proofs.Common.{TicketsRise, What, zero, ◌+◌, ◌-◌, ◌∙◌, ◌∷◌, ◌≡◌, ◌≢◌, ◌⊎◌, nat_tests}
-use Rattle.std.proofs.Common.{ℕ, ◌<◌, ◌≤◌, true, false, List, get_or, map}
-use Rattle.history_merge.proofs.Completeness.{IsMadeOf, made_of, called_once}
-use Rattle.history_merge.proofs.Places.{calls_of_kind, same_place}
-use Rattle.history_merge.proofs.Runs.{put_in}
+use Rattle.history_merge.proofs.Common.{[], accept, accept_all, All, All-cons, All-contains, All-filter, All-head}
+use Rattle.history_merge.proofs.Common.{All-nil, All-tail, all_pairs_push, AllPairs, AllPairs-cons, AllPairs-filter}
+use Rattle.history_merge.proofs.Common.{Any-from_list_any, ap, append-nil, AreApart, AreComplete, AreDistinct, arith}
+use Rattle.history_merge.proofs.Common.{Bool, called_value, called_values, calls_initial, cases_lt, cases_order}
+use Rattle.history_merge.proofs.Common.{common_steps, cond, cons_option, Contains, Contains-get_or, Deq, Did, drop}
+use Rattle.history_merge.proofs.Common.{Empty, Enq, enqueued_value, eq-eqb, eqb-true, eqb_tells, Event}
+use Rattle.history_merge.proofs.Common.{false_from_ne_true, false≢true, filter, filter_map, filter_map-append, find}
+use Rattle.history_merge.proofs.Common.{find_at, get_or-append_seam, get_or-take, get_or_append_left, get_or_default}
+use Rattle.history_merge.proofs.Common.{get_or_from_slice_get, gets, HasRefusedInitial, InitialTwice, inl, inr}
+use Rattle.history_merge.proofs.Common.{is_call, is_initial, is_sum_by, IsCompleteFrom, IsCompleteHistory}
+use Rattle.history_merge.proofs.Common.{IsFirstTwice, IsPermutation, IsPermutation-map, IsTimed, kind_of, length}
+use Rattle.history_merge.proofs.Common.{length-take, list_any, list_any-append, list_any_at, lt-ltb, MAX_TICKET}
+use Rattle.history_merge.proofs.Common.{MAX_TIME, nat_eq, nat_tests, None, Not, Operation, operation_of, operations_of}
+use Rattle.history_merge.proofs.Common.{OpKind, Option, option_and_then_some, option_map, option_map_or, or_comm}
+use Rattle.history_merge.proofs.Common.{position-Some, position_or_len, refl, repeats_value, rules, same_Some}
+use Rattle.history_merge.proofs.Common.{slice_get, slice_get-get_or, slice_get-map, slice_get_read, slice_get_within}
+use Rattle.history_merge.proofs.Common.{Some, split_at, subst, suc, sum_by, sum_by-IsPermutation, sym, take}
+use Rattle.history_merge.proofs.Common.{TicketsRise, was_called, What, zero, ◌++◌, ◌+◌, ◌-◌, ◌||◌, ◌∙◌, ◌∷◌, ◌≡◌, ◌≢◌}
+use Rattle.history_merge.proofs.Common.{◌⊎◌}
+use Rattle.std.proofs.Common.{append_assoc, false, get_or, length-append, List, true, ℕ, ◌<◌, ◌≤◌}
+use Rattle.std.specs.Prelude.{map}
+use Rattle.std.proofs.lemmas.List.{take_all}
+
+-- ---- what an accepted run of the queue enqueued and dequeued
+
+-- the value that an operation puts in, and the one that it takes out
+abbrev pub put_in : OpKind → Option ℕ
+put_in (Enq v) = Some v
+put_in _ = None
+
+-- the value that an operation takes out
+abbrev pub taken_out : OpKind → Option ℕ
+taken_out (Deq v) = Some v
+taken_out _ = None
+
+-- the values that accepted enqueues put in, in their order
+abbrev pub enqueued : List OpKind → List ℕ
+enqueued kinds = filter_map put_in kinds
+
+-- the values that operations dequeue, in turn
+abbrev pub dequeued : List OpKind → List ℕ
+dequeued kinds = filter_map taken_out kinds
+
+-- what was in the queue and what was put in is what was taken out and what is left, in the same order
+pub enqueued_is_dequeued : (kinds : List OpKind) (queue left : List ℕ) → accept_all queue kinds ≡ Some left → queue ++ enqueued kinds ≡ dequeued kinds ++ left
+enqueued_is_dequeued [] queue left run = let same : queue ≡ left = cc in rw same (append-nil left)
+enqueued_is_dequeued (Enq v ∷ kinds) queue left run = sym (append_assoc queue (v ∷ []) (enqueued kinds)) ∙ enqueued_is_dequeued kinds (queue ++ v ∷ []) left run
+enqueued_is_dequeued (Not v ∷ kinds) queue left run = enqueued_is_dequeued kinds queue left run
+enqueued_is_dequeued (Deq v ∷ kinds) (front ∷ rest) left run = grind (arith, nat_tests, enqueued_is_dequeued kinds rest left)
+enqueued_is_dequeued (Empty ∷ kinds) [] left run = enqueued_is_dequeued kinds [] left run
+enqueued_is_dequeued _ _ left run = cc
+
+-- before each operation of an accepted run stands a queue that accepts it
+pub record IsQueueBefore (start : List ℕ) (kinds : List OpKind) (i : ℕ) (kind : OpKind) : Type 0 where
+  pub queue : List ℕ
+  pub next : List ℕ
+  pub reached : accept_all start (take i kinds) ≡ Some queue
+  pub accepted : accept queue kind ≡ Some next
+
+accepted_first : (queue : List ℕ) (kind : OpKind) (kinds : List OpKind) (left : List ℕ) → accept_all queue (kind ∷ kinds) ≡ Some left
+    → (next : List ℕ) × (accept queue kind ≡ Some next) × (accept_all next kinds ≡ Some left)
+accepted_first queue kind kinds left run = grind (arith, option_and_then_some)
+
+-- what the queue holds before an operation of an accepted run
+pub queue_before : (kinds : List OpKind) (start left : List ℕ) (i : ℕ) (kind : OpKind) → accept_all start kinds ≡ Some left
+    → slice_get kinds i ≡ Some kind → IsQueueBefore start kinds i kind
+queue_before [] start left i kind run at = cc
+queue_before (k ∷ kinds) start left zero kind run at = grind (arith, accepted_first)
+queue_before (k ∷ kinds) start left (suc i) kind run at =
+    let first = accepted_first start k kinds left run in
+    let more = queue_before kinds first.0 left i kind first.2 at in
+    record { queue = more.queue; next = more.next; reached = rw first.1 more.reached; accepted = more.accepted }
+
+-- ---- where in a run the enqueues and dequeues of a value stand
+
+-- the value is in the list
+abbrev pub Member : ℕ → List ℕ → Type 0
+Member v [] = ⊥
+Member v (x ∷ xs) = (x ≡ v) ⊎ Member v xs
+
+-- what stands in the second of two lists stands in both together
+pub Member-right : (v : ℕ) (xs ys : List ℕ) → Member v ys → Member v (xs ++ ys)
+Member-right v [] ys m = m
+Member-right v (x ∷ xs) ys m = inr (Member-right v xs ys m)
+
+-- before place j stands an operation of this kind
+abbrev pub StandsBefore : List OpKind → ℕ → OpKind → Type 0
+StandsBefore kinds j kind = (i : ℕ) × (i < j) × (slice_get kinds i ≡ Some kind)
+
+one_later : (k : OpKind) (kinds : List OpKind) (j : ℕ) (kind : OpKind) → StandsBefore kinds j kind → StandsBefore (k ∷ kinds) (suc j) kind
+one_later k kinds j kind s = (suc s.0, omega (arith, s.1), s.2)
+
+module _ (gives : OpKind → Option ℕ) where
+  more_given : (k : OpKind) (kinds : List OpKind) (j v : ℕ) (o : Option ℕ) → gives k ≡ o → Member v (cons_option o (filter_map gives (take j kinds)))
+      → (Member v (filter_map gives (take j kinds)) → (l : OpKind) × (gives l ≡ Some v) × StandsBefore kinds j l)
+      → (l : OpKind) × (gives l ≡ Some v) × StandsBefore (k ∷ kinds) (suc j) l
+  more_given k kinds j v None is m later = let l = later m in (l.0, l.1, one_later k kinds j l.0 l.2)
+  more_given k kinds j v (Some w) is (inl same) later = (k, is ∙ ap Some same, (zero, omega arith, refl))
+  more_given k kinds j v (Some w) is (inr m) later = let l = later m in (l.0, l.1, one_later k kinds j l.0 l.2)
+
+  -- a value that operations before place j gave was given by one there
+  giver_of_member : (kinds : List OpKind) (j v : ℕ) → Member v (filter_map gives (take j kinds))
+      → (k : OpKind) × (gives k ≡ Some v) × StandsBefore kinds j k
+  giver_of_member kinds zero v m = elim m [ ]
+  giver_of_member [] (suc j) v m = elim m [ ]
+  giver_of_member (k ∷ kinds) (suc j) v m = more_given k kinds j v (gives k) refl m (giver_of_member kinds j v)
+
+  further : (front : Option ℕ) (v : ℕ) (all some : List ℕ) → (rest : List ℕ) × (all ≡ some ++ v ∷ rest)
+      → (rest : List ℕ) × (cons_option front all ≡ cons_option front some ++ v ∷ rest)
+  further None v all some is = is
+  further (Some w) v all some is = (is.0, ap (λ us. w ∷ us) is.1)
+
+  -- what operations before place j gave, split at one that stands there
+  split_at_giver : (kinds : List OpKind) (i j v : ℕ) (k : OpKind) → gives k ≡ Some v → i < j → slice_get kinds i ≡ Some k
+      → (rest : List ℕ) × (filter_map gives (take j kinds) ≡ filter_map gives (take i kinds) ++ v ∷ rest)
+  split_at_giver kinds i zero v k gave below at = absurd (omega arith)
+  split_at_giver [] i (suc j) v k gave below at = cc
+  split_at_giver (x ∷ kinds) zero (suc j) v k gave below at =
+      let same : x ≡ k = cc in
+      (filter_map gives (take j kinds), ap (λ o. cons_option o (filter_map gives (take j kinds))) (ap gives same ∙ gave))
+  split_at_giver (x ∷ kinds) (suc i) (suc j) v k gave below at =
+      further (gives x) v _ _ (split_at_giver kinds i j v k gave (omega arith) at)
+
+-- only an enqueue puts in
+pub put_in_by : (k : OpKind) (v : ℕ) → put_in k ≡ Some v → k ≡ Enq v
+put_in_by k v e = grind arith
+
+-- only a dequeue takes out
+taken_out_by : (k : OpKind) (v : ℕ) → taken_out k ≡ Some v → k ≡ Deq v
+taken_out_by k v e = grind arith
+
+-- a value that was put in before place j was put in by an enqueue there
+pub enqueue_of_member : (kinds : List OpKind) (j v : ℕ) → Member v (enqueued (take j kinds)) → StandsBefore kinds j (Enq v)
+enqueue_of_member kinds j v m =
+    let k = giver_of_member put_in kinds j v m in subst (StandsBefore kinds j) (put_in_by k.0 v k.1) k.2
+
+-- a value that was dequeued has its dequeue before
+pub dequeue_of_member : (kinds : List OpKind) (j v : ℕ) → Member v (dequeued (take j kinds)) → StandsBefore kinds j (Deq v)
+dequeue_of_member kinds j v m =
+    let k = giver_of_member taken_out kinds j v m in subst (StandsBefore kinds j) (taken_out_by k.0 v k.1) k.2
+
+-- what was put in before place j, split at an enqueue before it
+pub split_at_enqueue : (kinds : List OpKind) (i j v : ℕ) → i < j → slice_get kinds i ≡ Some (Enq v)
+    → (rest : List ℕ) × (enqueued (take j kinds) ≡ enqueued (take i kinds) ++ v ∷ rest)
+split_at_enqueue kinds i j v below at = split_at_giver put_in kinds i j v (Enq v) refl below at
+
+-- what was taken out before place j, split at a dequeue before it
+pub split_at_dequeue : (kinds : List OpKind) (i j v : ℕ) → i < j → slice_get kinds i ≡ Some (Deq v)
+    → (rest : List ℕ) × (dequeued (take j kinds) ≡ dequeued (take i kinds) ++ v ∷ rest)
+split_at_dequeue kinds i j v below at = split_at_giver taken_out kinds i j v (Deq v) refl below at
+
+-- how often a value stands in a list
+abbrev pub count : ℕ → List ℕ → ℕ
+count v [] = 0
+count v (x ∷ xs) = cond (nat_eq x v) 1 0 + count v xs
+
+-- how often a value stands in two lists together
+pub count-append : (v : ℕ) (xs ys : List ℕ) → count v (xs ++ ys) ≡ count v xs + count v ys
+count-append v [] ys = omega arith
+count-append v (x ∷ xs) ys = let more = count-append v xs ys in omega arith
+
+-- how often a value stands in a list that begins with it
+pub count_here : (v : ℕ) (xs : List ℕ) → count v (v ∷ xs) ≡ 1 + count v xs
+count_here v xs = rw (eq-eqb v v refl)
+
+-- how many calls of enqueues of the value there are, accepted or refused
+abbrev pub calls_of_kind : ℕ → OpKind → ℕ
+calls_of_kind v (Enq w) = cond (nat_eq w v) 1 0
+calls_of_kind v (Not w) = cond (nat_eq w v) 1 0
+calls_of_kind v (Deq w) = 0
+calls_of_kind v Empty = 0
+
+-- how many enqueues of a value there are
+abbrev pub calls : ℕ → List OpKind → ℕ
+calls v [] = 0
+calls v (k ∷ kinds) = calls_of_kind v k + calls v kinds
+
+-- a value was enqueued at most as often as it is called
+pub count-le-calls : (kinds : List OpKind) (j v : ℕ) → count v (enqueued (take j kinds)) ≤ calls v kinds
+count-le-calls kinds zero v = omega arith
+count-le-calls [] (suc j) v = omega arith
+count-le-calls (k ∷ kinds) (suc j) v = grind (arith, count-le-calls kinds j v)
+
+-- an enqueue of a value is one of its calls
+pub one_call : (kinds : List OpKind) (i v : ℕ) (k : OpKind) → slice_get kinds i ≡ Some k → calls_of_kind v k ≡ 1 → 1 ≤ calls v kinds
+one_call [] i v k at is = cc
+one_call (x ∷ kinds) zero v k at is = grind arith
+one_call (x ∷ kinds) (suc i) v k at is = omega (arith, one_call kinds i v k at is)
+
+-- if a value is called for once, its call has one place
+pub same_place : (kinds : List OpKind) (i j v : ℕ) (k l : OpKind) → slice_get kinds i ≡ Some k → slice_get kinds j ≡ Some l → calls_of_kind v k ≡ 1
+    → calls_of_kind v l ≡ 1 → calls v kinds ≤ 1 → i ≡ j
+same_place [] i j v k l at_i at_j is_k is_l once = cc
+same_place (x ∷ kinds) zero zero v k l at_i at_j is_k is_l once = refl
+same_place (x ∷ kinds) zero (suc j) v k l at_i at_j is_k is_l once = grind (arith, one_call kinds j v l at_j is_l)
+same_place (x ∷ kinds) (suc i) zero v k l at_i at_j is_k is_l once = grind (arith, one_call kinds i v k at_i is_k)
+same_place (x ∷ kinds) (suc i) (suc j) v k l at_i at_j is_k is_l once = ap suc (same_place kinds i j v k l at_i at_j is_k is_l (omega arith))
+
+-- a value that stands once in a list splits it one way
+pub same_front : (us vs xs ys : List ℕ) (b : ℕ) → us ++ b ∷ vs ≡ xs ++ b ∷ ys → count b (us ++ b ∷ vs) ≤ 1 → us ≡ xs
+same_front [] vs [] ys b same once = refl
+same_front [] vs (x ∷ xs) ys b same once = grind (arith, count-append, count_here)
+same_front (u ∷ us) vs [] ys b same once = grind (arith, count-append, count_here)
+same_front (u ∷ us) vs (x ∷ xs) ys b same once = grind (arith, same_front us vs xs ys b (cc))
+
+-- ---- what the operations of a complete history have in common
+
+-- what `find` gives stands at some place
+pub place_of_find : {X : Type 0} (p : X → Bool) (xs : List X) (r : X) → find p xs ≡ Some r → (k : ℕ) × (k < length xs) × ((d : X) → get_or xs k d ≡ r)
+place_of_find p xs r e =
+    let at = sym (find_at p xs) ∙ e in
+    (position_or_len p xs, slice_get_within xs _ r at, λ d. get_or_from_slice_get xs _ r d at)
+
+-- the parts of an operation that a call and its answer make
+pub record IsMadeOf (call answer : Event) (o : Operation) : Type 0 where
+  pub called : o.call ≡ call.ticket
+  pub returned : o.ret ≡ answer.ticket
+  pub same_thread : o.thread ≡ call.thread
+  pub kind : kind_of call.what answer.what ≡ Some o.kind
+
+-- an operation is made of its call and its answer
+pub made_of : (call : Event) (found : Option Event) (o : Operation) → operation_of call found ≡ Some o
+    → (answer : Event) × (found ≡ Some answer) × IsMadeOf call answer o
+made_of call None o e = cc
+made_of call (Some answer) o e = grind arith
+
+-- each operation is called before it returns
+pub calls_before_returns : (events : List Event) → TicketsRise events → All (λ o. o.call < o.ret) (operations_of events)
+calls_before_returns [] rise = All-nil (λ o. o.call < o.ret)
+calls_before_returns (e ∷ later) rise =
+    join (calls_before_returns later (λ i j d below within. rise (suc i) (suc j) d (omega arith) (omega arith)))
+    (operation_of e (find (λ r. nat_eq r.thread e.thread) later)) refl
+  where
+    join : All (λ o. o.call < o.ret) (operations_of later) → (o : Option Operation) → operation_of e (find (λ r. nat_eq r.thread e.thread) later) ≡ o
+        → All (λ o. o.call < o.ret) (cons_option o (operations_of later))
+    join rest None same = rest
+    join rest (Some o) same =
+        let made = made_of e (find (λ r. nat_eq r.thread e.thread) later) o same in
+        let place = place_of_find (λ r. nat_eq r.thread e.thread) later made.0 made.1 in
+        let above = rise zero (suc place.0) e (omega arith) (omega (arith, place.1)) in
+        let here : e.ticket < made.0.ticket = rw (← place.2 e) above in
+        let ordered : o.call < o.ret = omega (arith, made.2.called, made.2.returned) in
+        All-cons (λ o. o.call < o.ret) o (operations_of later) ordered rest
+
+-- an enqueue of a value is called no more often than its value is among the calls
+calls-operations_of : (v : ℕ) (events : List Event) → calls v (map (λ o. o.kind) (operations_of events)) ≤ count v (called_values events)
+calls-operations_of v [] = omega arith
+calls-operations_of v (e ∷ later) = grind (arith, calls-operations_of v later)
+
+none_counted : (v : ℕ) (xs : List ℕ) → ((k d : ℕ) → k < length xs → get_or xs k d ≢ v) → count v xs ≡ 0
+none_counted v [] none = refl
+none_counted v (x ∷ xs) none =
+    grind (arith, nat_tests, none_counted v xs (λ k d below. none (suc k) d (omega arith)), none zero 0 (omega arith))
+
+-- in a list of distinct values each stands once
+pub count_of_distinct : (v : ℕ) (xs : List ℕ) → AllPairs (λ x y. x ≢ y) xs → count v xs ≤ 1
+count_of_distinct v [] distinct = omega arith
+count_of_distinct v (x ∷ xs) distinct =
+    let more = count_of_distinct v xs (λ i j d below within. distinct (suc i) (suc j) d (omega arith) (omega arith)) in
+    elim (eqb_tells x v) [
+      | inl h ↦ let none = none_counted v xs (λ k d below same. distinct zero (suc k) d (omega arith) (omega arith) (h.1 ∙ sym same)) in rw h.0 (omega arith)
+      | inr h ↦ rw h.0 (omega arith)
+    ]
+
+-- each value is called for by one enqueue of a complete history at most
+pub called_once : (events : List Event) (v : ℕ) → IsCompleteHistory events → calls v (map (λ o. o.kind) (operations_of events)) ≤ 1
+called_once events v complete = grind (arith, count_of_distinct, calls-operations_of)
+
+-- a call for a value is that of an enqueue, accepted or refused
+calls_or_not : (v : ℕ) (k : OpKind) → ((calls_of_kind v k ≡ 1) × (enqueued_value k ≡ Some v)) ⊎ (calls_of_kind v k ≡ 0)
+calls_or_not v (Enq w) = elim (eqb_tells w v) [ inl h ↦ inl (rw h.0 refl, ap (λ x. Some x) h.1) | inr h ↦ inr (rw h.0 refl) ]
+calls_or_not v (Not w) = elim (eqb_tells w v) [ inl h ↦ inl (rw h.0 refl, ap (λ x. Some x) h.1) | inr h ↦ inr (rw h.0 refl) ]
+calls_or_not v (Deq w) = inr refl
+calls_or_not v Empty = inr refl
+
+none_called : (v : ℕ) (xs : List Operation) → All (λ o. ¬ (enqueued_value o.kind ≡ Some v)) xs → calls v (map (λ o. o.kind) xs) ≡ 0
+none_called v [] none = refl
+none_called v (x ∷ xs) none =
+    let rest = none_called v xs (All-tail (λ o. ¬ (enqueued_value o.kind ≡ Some v)) x xs none) in
+    grind (arith, nat_tests, calls_or_not, All-head, none_called v xs)
+
+-- of operations that come apart one at most calls for a value
+pub one_calls : (v : ℕ) (xs : List Operation) → AllPairs AreApart xs → calls v (map (λ o. o.kind) xs) ≤ 1
+one_calls v [] apart = omega arith
+one_calls v (x ∷ xs) apart =
+    let more = one_calls v xs (λ i j d below within. apart (suc i) (suc j) d (omega arith) (omega arith)) in
+    elim (calls_or_not v x.kind) [
+      | inl h ↦
+          let none = none_called v xs (λ k d below. (apart zero (suc k) d (omega arith) (omega arith)).values_apart v h.1) in omega arith
+      | inr h ↦ omega arith
+    ]
+
+-- another order of the operations calls for each value as often
+pub calls-IsPermutation : (v : ℕ) (xs ys : List Operation) → IsPermutation xs ys → calls v (map (λ o. o.kind) ys) ≡ calls v (map (λ o. o.kind) xs)
+calls-IsPermutation v xs ys moved =
+    let as_sum : (kinds : List OpKind) → calls v kinds ≡ sum_by (calls_of_kind v) kinds = is_sum_by (calls v) (calls_of_kind v) refl (λ x xs. refl) in
+    grind (arith, nat_tests, sum_by-IsPermutation, IsPermutation-map)
+
+-- there are no more operations than events
+pub few_operations : (events : List Event) → length (operations_of events) ≤ length events
+few_operations [] = omega arith
+few_operations (e ∷ later) = grind (arith, few_operations later)
+
+-- ---- Different operations of a complete history have different tickets, and enqueue different values
 
 -- what a list contains is its first element, or the rest contains it
 pub contains_cons : {X : Type 0} (x : X) (xs : List X) (y : X) → Contains (x ∷ xs) y → (x ≡ y) ⊎ Contains xs y
@@ -309,3 +600,106 @@ same_enqueue operations x y v complete did_x did_y = same_value_call operations 
 -- some of complete operations are complete
 pub some_are_complete : (test : Operation → Bool) (operations : List Operation) → AreComplete operations → AreComplete (filter test operations)
 some_are_complete test operations complete = search (rules, All-filter, AllPairs-filter)
+
+-- ---- values that no two calls share, and initial values
+
+-- ---- initial values: distinct so far, or the first that stands twice
+
+-- a value that isn't there yet
+pub distinct_more : (values : List ℕ) (v : ℕ) → AreDistinct values → is_initial values v ≡ false → AreDistinct (values ++ v ∷ [])
+distinct_more values v distinct new = all_pairs_push (λ x y. x ≢ y) values v distinct
+    (λ k d below same. false≢true (sym new ∙ list_any_at (λ w. nat_eq w v) values k d below (eq-eqb _ _ same)))
+
+-- a value that is there
+pub twice_at : (initial : List ℕ) (j v : ℕ) → slice_get initial j ≡ Some v → AreDistinct (take j initial) → is_initial (take j initial) v ≡ true
+    → HasRefusedInitial initial (InitialTwice j)
+twice_at initial j v here distinct there = grind (arith, Any-from_list_any, eqb-true, get_or_default)
+
+-- if a value stands twice before place n, the values before it aren't distinct
+pub twice_before : (initial : List ℕ) (j n : ℕ) → j < n → AreDistinct (take n initial) → IsFirstTwice initial j → ⊥
+twice_before initial j n below distinct (before, (v, here, earlier)) =
+    let inside = slice_get_within initial j v here in
+    let short = length-take j initial in
+    let long = length-take n initial in
+    let low : earlier.0 < j = omega (arith, earlier.1, short) in
+    distinct earlier.0 j v low (omega (arith, long, inside, below))
+    (get_or-take n initial earlier.0 v (omega arith) ∙ sym (get_or-take j initial earlier.0 v low) ∙ earlier.2
+    ∙ sym (get_or_from_slice_get initial j v v here) ∙ sym (get_or-take n initial j v below))
+
+-- of distinct values none stands twice
+pub twice_not_distinct : (initial : List ℕ) (j : ℕ) → AreDistinct initial → IsFirstTwice initial j → ⊥
+twice_not_distinct initial j distinct twice =
+    grind (arith, nat_tests, common_steps, gets, slice_get_within, twice_before, take_all)
+
+-- of a history that is complete from its initial values, these are distinct
+pub initial_distinct : (initial : List ℕ) (events : List Event) → IsCompleteFrom initial events → AreDistinct initial
+initial_distinct initial events complete i j d below inside same = grind (arith, length-append, get_or_append_left)
+
+-- ---- values of calls
+
+-- a list is cut at the element of a place
+pub cut_at : {X : Type 0} (xs : List X) (i : ℕ) (x : X) → slice_get xs i ≡ Some x → xs ≡ take i xs ++ x ∷ drop (suc i) xs
+cut_at xs i x at = split_at xs i x (slice_get_within xs i x at) ∙ ap (λ y. take i xs ++ y ∷ drop (suc i) xs) (get_or_from_slice_get xs i x x at)
+
+-- a value was called if it is among the values of the calls
+was_called_is : (events : List Event) (v : ℕ) → was_called events v ≡ list_any (λ w. nat_eq w v) (called_values events)
+was_called_is [] v = refl
+was_called_is (e ∷ events) v = grind (arith, was_called_is events v)
+
+deeper : (o : Option ℕ) (values : List ℕ) (w : ℕ) → Contains values w → Contains (cons_option o values) w
+deeper None values w among = among
+deeper (Some v) values w among = (suc among.0, omega (arith, among.1), among.2)
+
+-- the value that an event calls with is among those of the calls
+pub value_called : (events : List Event) (i : ℕ) (e : Event) (w : ℕ) → slice_get events i ≡ Some e → called_value e.what ≡ Some w
+    → Contains (called_values events) w
+value_called [] i e w at is = cc
+value_called (x ∷ events) zero e w at is = grind (arith, same_Some)
+value_called (x ∷ events) (suc i) e w at is = deeper (called_value x.what) (called_values events) w (value_called events i e w at is)
+
+-- the same of a value that may be initial too
+pub known_is : (initial : List ℕ) (events : List Event) (v : ℕ)
+    → (was_called events v || is_initial initial v) ≡ list_any (λ w. nat_eq w v) (initial ++ called_values events)
+known_is initial events v = grind (arith, or_comm, was_called_is, list_any-append)
+
+-- the initial values and those of the calls stay distinct with a call of a new value
+pub distinct_push : (initial : List ℕ) (events : List Event) (e : Event) → AreDistinct (initial ++ called_values events)
+    → (repeats_value events e || calls_initial initial e) ≡ false → AreDistinct (initial ++ called_values (events ++ e ∷ []))
+distinct_push initial events e distinct new =
+    rw (filter_map-append (λ x. called_value x.what) events (e ∷ []), sym (append_assoc initial (called_values events) (cons_option (called_value e.what) [])))
+    (join (called_value e.what) new)
+  where
+    values : List ℕ
+    values = initial ++ called_values events
+
+    join : (called : Option ℕ) → (option_map_or (was_called events) called false || option_map_or (is_initial initial) called false) ≡ false
+        → AreDistinct (values ++ cons_option called [])
+    join None new' = rw append-nil distinct
+    join (Some v) new' = distinct_more values v distinct (sym (known_is initial events v) ∙ new')
+
+-- a call between others has a new value if the initial values and all of the calls differ
+pub new_from_distinct : (initial : List ℕ) (before later : List Event) (e : Event) → AreDistinct (initial ++ called_values (before ++ e ∷ later))
+    → (repeats_value before e || calls_initial initial e) ≡ false
+new_from_distinct initial before later e distinct = join (called_value e.what) (rw (filter_map-append (λ x. called_value x.what) before (e ∷ later)) at distinct)
+  where
+    join : (called : Option ℕ) → AreDistinct (initial ++ (called_values before ++ cons_option called (called_values later)))
+        → (option_map_or (was_called before) called false || option_map_or (is_initial initial) called false) ≡ false
+    join None distinct' = refl
+    join (Some v) distinct' = false_from_ne_true (was_called before v || is_initial initial v) repeated
+      where
+        values : List ℕ
+        values = initial ++ called_values before
+
+        repeated : (was_called before v || is_initial initial v) ≡ true → ⊥
+        repeated again =
+            let there = Any-from_list_any (λ w. nat_eq w v) values (sym (known_is initial before v) ∙ again) in
+            let here = get_or_append_left values (v ∷ called_values later) there.1 there.0 there.2 in
+            let own = get_or-append_seam values v (called_values later) there.1 in
+            let within : length values < length (values ++ v ∷ called_values later) = simp length-append (omega arith) in
+            subst AreDistinct (sym (append_assoc initial (called_values before) (v ∷ called_values later))) distinct'
+            there.0 (length values) there.1 there.2 within (here ∙ there.3 ∙ eqb-true _ _ there.4 ∙ sym own)
+
+-- what holds of each place below i, and of i, holds of each place below i + 1
+pub each_more : {X : Type 0} (P : ℕ → X → Type 0) (xs : List X) (i : ℕ) (x : X) → slice_get xs i ≡ Some x → P i x
+    → ((k : ℕ) (y : X) → k < i → slice_get xs k ≡ Some y → P k y) → (k : ℕ) (y : X) → k < i + 1 → slice_get xs k ≡ Some y → P k y
+each_more P xs i x here holds before k y below at_k = grind (arith, cases_lt, one_at)

@@ -2,16 +2,36 @@
 use Rattle.history_merge.proofs.Common.{[], ap, AreCalledIn, arith, Bool, called_value, called_values, CalledValues}
 use Rattle.history_merge.proofs.Common.{calls_initial, cond, cons_option, contains, Contents, enqueue_at}
 use Rattle.history_merge.proofs.Common.{enqueued_value, enqueues_from, eqb-true, Event, filter_map-append}
-use Rattle.history_merge.proofs.Common.{initial_enqueues, is_among, is_called_in, is_eq, is_initial, Knows}
-use Rattle.history_merge.proofs.Common.{later_by, length, list_any-append, LOOSE, name_in, nat_cmp, nat_eq, nat_tests}
-use Rattle.history_merge.proofs.Common.{not, Operation, operations_so_far, option_map_or, or_cases, or_comm, ORIGIN}
-use Rattle.history_merge.proofs.Common.{refl, repeats_value, suc, sym, take, take-append-le, timeline}
-use Rattle.history_merge.proofs.Common.{was_called, zero, ◌++◌, ◌+◌, ◌||◌, ◌∙◌, ◌∷◌, ◌≡◌}
-use Rattle.std.proofs.Common.{ℕ, true, false, List, get_or, append_assoc}
-use Rattle.std.specs.Prelude.{map, ◌<◌}
-use Rattle.history_merge.proofs.DistinctValues.{known_is}
+use Rattle.history_merge.proofs.Common.{initial_enqueues, inl, inr, is_among, is_called_in, is_eq, is_initial}
+use Rattle.history_merge.proofs.Common.{IsNonDecreasingBy, IsPartitionPoint, Knows, later_by, length, list_any-append}
+use Rattle.history_merge.proofs.Common.{LOOSE, ltb, ltb-false, ltb-true, name_in, nat_cmp, nat_eq, nat_tests, not}
+use Rattle.history_merge.proofs.Common.{Operation, operations_so_far, option_map_or, or_cases, or_comm, ORIGIN, refl}
+use Rattle.history_merge.proofs.Common.{repeats_value, suc, sym, take, take-append-le, timeline, was_called, zero}
+use Rattle.history_merge.proofs.Common.{◌++◌, ◌+◌, ◌||◌, ◌∙◌, ◌∷◌, ◌≡◌, ◌⊎◌}
+use Rattle.std.proofs.Common.{append_assoc, false, get_or, List, true, ℕ, ◌<◌, ◌≤◌}
+use Rattle.std.specs.Prelude.{map}
+use Rattle.history_merge.proofs.Distinct.{known_is}
 use Rattle.history_merge.proofs.Formed.{called_in_operations}
-use Rattle.history_merge.proofs.TimelineOperations.{length_enqueues}
+use Rattle.history_merge.proofs.Timelines.{length_enqueues}
+
+-- ---- things whose keys rise: which isn't among them
+
+-- where the keys from place i on are this one or above it, and those before are below it, and that at i isn't this one, none is
+pub none_by_key : {X : Type 0} (key : X → ℕ) (xs : List X) (v i : ℕ) → IsNonDecreasingBy key xs
+    → IsPartitionPoint (λ (x : X). ltb (key x) v ≡ true) (λ (x : X). ltb (key x) v ≡ false) xs i
+    → ((d : X) → i < length xs → ¬ (key (get_or xs i d) ≡ v)) → (k : ℕ) (d : X) → k < length xs → ¬ (key (get_or xs k d) ≡ v)
+none_by_key key xs v i rises point differs k d below same =
+    let cases : (k < i) ⊎ (i ≤ k) = grind arith in
+    elim cases [
+      | inl before ↦ let less = ltb-true (key (get_or xs k d)) v (point.0 k d (omega arith) before) in omega (arith, less, same)
+      | inr after ↦
+          let inside : i < length xs = omega (arith, after, below) in
+          let at_least = ltb-false (key (get_or xs i d)) v (point.1 i d (omega arith) inside) in
+          let le = rises i k d after below in
+          differs d inside (omega (arith, le, at_least, same))
+    ]
+
+-- ---- which values were noted, after one more
 
 -- the comparison of numbers finds equal ones
 pub is_eq-nat_cmp : (v q : ℕ) → is_eq (nat_cmp v q) ≡ nat_eq v q

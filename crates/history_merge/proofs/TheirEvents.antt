@@ -1,22 +1,18 @@
 -- The operations of events determine them: each call, with its return by ticket among the events of the later operations.
-use Rattle.history_merge.proofs.Common.{[], ◌++◌, ◌+◌, ◌∙◌, ◌∷◌, ◌≡◌, ◌≢◌, All, All-contains, All-head, All-tail, ap}
-use Rattle.history_merge.proofs.Common.{AreInTurn, AreLeft, arith, Bool, call_event, cases_Bool, cases_eq, cases_lt}
-use Rattle.history_merge.proofs.Common.{comes_by_ticket, count_by, drop, due_in, eqb-true, eqb_tells, Event}
-use Rattle.history_merge.proofs.Common.{events_of, false≢true, FollowsInTurn, get_or-set_other, get_or-set_same}
-use Rattle.history_merge.proofs.Common.{get_or-take, get_or_past, IfSome, inl, inr, is_call, IsFirstDue, IsRunOf}
-use Rattle.history_merge.proofs.Common.{leb-true, length, length-replicate, length-set, lt-ltb, MAX_THREAD}
-use Rattle.history_merge.proofs.Common.{maybe_return, nat_eq, nat_tests, next_of, None, not, Operation, common_steps}
-use Rattle.history_merge.proofs.Common.{operation_so_far, operations_so_far, Option, option_and_then, projection}
-use Rattle.history_merge.proofs.Common.{put_by_ticket, put_each, put_maybe, refl, replicate, set}
-use Rattle.history_merge.proofs.Common.{set-get_or, slice_get, Some, subst, suc, sum_by-cons, sym, take, TakesTurns}
-use Rattle.history_merge.proofs.Common.{then_some, TicketsRise, zero}
-use Rattle.std.proofs.Common.{ℕ, ◌<◌, ◌≤◌, true, false, List}
-use Rattle.std.proofs.Common.{get_or}
-use Rattle.std.proofs.Common.{append_assoc}
+use Rattle.history_merge.proofs.Common.{[], All, All-contains, All-head, All-tail, ap, AreInTurn, AreLeft, arith, Bool}
+use Rattle.history_merge.proofs.Common.{call_event, cases_Bool, cases_eq, cases_lt, comes_by_ticket, common_steps}
+use Rattle.history_merge.proofs.Common.{count_by, drop, due_in, eqb-true, eqb_tells, Event, events_of, false≢true}
+use Rattle.history_merge.proofs.Common.{FollowsInTurn, get_or-set_other, get_or-set_same, get_or-take, get_or_past}
+use Rattle.history_merge.proofs.Common.{IfSome, inl, inr, is_call, IsFirstDue, IsRunOf, leb-true, length}
+use Rattle.history_merge.proofs.Common.{length-replicate, length-set, lt-ltb, MAX_THREAD, maybe_return, nat_eq}
+use Rattle.history_merge.proofs.Common.{nat_tests, next_of, None, not, Operation, operation_so_far, operations_so_far}
+use Rattle.history_merge.proofs.Common.{Option, option_and_then, projection, put_by_ticket, put_each, put_maybe, refl}
+use Rattle.history_merge.proofs.Common.{replicate, set, set-get_or, slice_get, Some, subst, suc, sum_by-cons, sym}
+use Rattle.history_merge.proofs.Common.{take, TakesTurns, then_some, TicketsRise, zero, ◌++◌, ◌+◌, ◌∙◌, ◌∷◌, ◌≡◌, ◌≢◌}
+use Rattle.std.proofs.Common.{append_assoc, false, get_or, List, true, ℕ, ◌<◌, ◌≤◌}
 use Rattle.std.proofs.lemmas.List.{length-take-le}
 use Rattle.history_merge.proofs.Turns.{answered_is_call, projection-at}
-use Rattle.history_merge.proofs.Distinct.{contains_at, found_first, one_by_key, rises_later}
-use Rattle.history_merge.proofs.DistinctValues.{cut_at}
+use Rattle.history_merge.proofs.Distinct.{contains_at, cut_at, found_first, one_by_key, rises_later}
 
 -- ---- the next event of a thread
 

@@ -71,7 +71,7 @@ impl History {
     }
 
     /// Returns the operations, in the order of their calls. The place of one in this list is its [`crate::OpId`].
-    #[tactic(auto, using(crate::proofs::Completeness::few_operations))]
+    #[tactic(auto, using(crate::proofs::Distinct::few_operations))]
     pub fn operations(&self) -> Operations<'_>
         ensures operations { result ≡ operations_of self.now.events }
         ensures complete { IsCompleteHistory self.now.events }

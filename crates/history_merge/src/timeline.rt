@@ -75,7 +75,7 @@ impl Timeline {
     }
 
     /// The operations, by their tickets.
-    #[tactic(auto, using(crate::proofs::TimelineOperations::all_late, crate::proofs::Later::all_back))]
+    #[tactic(auto, using(crate::proofs::Timelines::all_late, crate::proofs::Timelines::all_back))]
     pub(crate) fn operations(&self) -> Operations<'_>
         ensures { result ≡ self.now.operations }
     {
@@ -91,7 +91,7 @@ impl Timeline {
     }
 
     /// The operations, at the times of their tickets.
-    #[tactic(auto, using(crate::proofs::TimelineOperations::length_timeline, crate::proofs::TimelineOperations::behind_enqueues))]
+    #[tactic(auto, using(crate::proofs::Timelines::length_timeline, crate::proofs::Timelines::behind_enqueues))]
     #[inline(always)]
     fn behind(&self) -> &[PackedOperation]
         ensures { result.now ≡ map (later_by ORIGIN) self.now.operations }
@@ -101,7 +101,7 @@ impl Timeline {
     }
 
     /// The operation at this place.
-    #[tactic(auto, using(crate::proofs::TimelineOperations::later_at, crate::proofs::Later::there_and_back))]
+    #[tactic(auto, using(crate::proofs::Timelines::later_at, crate::proofs::Timelines::there_and_back))]
     #[inline(always)]
     pub(crate) fn get(&self, place: usize) -> Option<Operation>
         ensures { result ≡ slice_get self.now.operations place }
@@ -129,7 +129,7 @@ impl Timeline {
     }
 
     /// Adds an operation.
-    #[tactic(auto, using(crate::proofs::TimelineOperations::pushes))]
+    #[tactic(auto, using(crate::proofs::Timelines::pushes))]
     #[inline(always)]
     pub(crate) fn push(&mut self, operation: Operation) -> Result<(), AllocError>
         requires call { operation.call ≤ MAX_TICKET }

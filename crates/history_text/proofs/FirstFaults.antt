@@ -1,19 +1,354 @@
 -- From a fault of one line to the first fault of the whole input, and what is read of a text that stands at its front.
-use Rattle.history_text.proofs.Common.{[], ◌++◌, ◌+◌, ◌<◌, ◌∙◌, ◌∷◌, ◌≡◌, AllByRecursion, ap, append-nil, arith, Err}
-use Rattle.history_text.proofs.Common.{false, flat_map, flat_map-append, IfSome, inr, is_err, length, length-append}
-use Rattle.history_text.proofs.Common.{List, None, Ok, OnOk, Option, refl, Result, Some, subst, sym, ℕ, Ahead, Ending}
-use Rattle.history_text.proofs.Common.{Format, front_of, HasFirstFault, HasItemsFault, HaveLines, IsOfInput}
-use Rattle.history_text.proofs.Common.{item_at_front, ItemFault, line_of, lines_of, Memory, NoRoom, Takes}
-use Rattle.history_text.proofs.Common.{Takes-append, TextFault, ◌≤◌, NoRoomAmong, FirstLineFault, IsNoFirstLine}
-use Rattle.history_text.proofs.Common.{IsPartOfLine, Line, line, false_from_ne_true, append_assoc, bytes_eq}
-use Rattle.history_text.proofs.Common.{count_before_events, event_format, HasTextFault, HaveValueLines, Header}
-use Rattle.history_text.proofs.Common.{header_fault, header_of, IsTextFault, lines_before_events, lines_of_initial}
-use Rattle.history_text.proofs.Common.{NoRoomForText, One, text_is, Two, Version}
-use Rattle.history_text.specs.Inner.Taking.{FaultAtFront}
+use Rattle.history_text.proofs.Common.{[], Ahead, AllByRecursion, ap, append-nil, append_assoc, arith, before}
+use Rattle.history_text.proofs.Common.{before_end, BeginsWith, Bool, bytes_eq, count_before_events, Cut, end_line}
+use Rattle.history_text.proofs.Common.{Ending, EndOfInput, Err, event_format, Failure, false, false_from_ne_true}
+use Rattle.history_text.proofs.Common.{FaultAmong, fields_of, FirstLineFault, flat_map, flat_map-append, Format, Front}
+use Rattle.history_text.proofs.Common.{front_of, front_too_long, front_unfinished, HasFirstFault, HasItemsFault}
+use Rattle.history_text.proofs.Common.{HasTextFault, HaveLines, HaveValueLines, Header, header_fault, header_of, IfErr}
+use Rattle.history_text.proofs.Common.{IfOk, IfSome, inl, inr, is_err, is_line_feed, IsItemLine, IsNoFirstLine}
+use Rattle.history_text.proofs.Common.{IsOfInput, IsOver, IsPartOfLine, IsSpelled, IsTextFault, item_at_front}
+use Rattle.history_text.proofs.Common.{item_at_nothing, item_in, ItemFault, join_with_byte-slice_split, length}
+use Rattle.history_text.proofs.Common.{length-append, Line, line, line_at_front, line_of, lines_before_events}
+use Rattle.history_text.proofs.Common.{lines_of, lines_of_initial, List, longest_line, MatchResult, Memory, nat_lt}
+use Rattle.history_text.proofs.Common.{nat_tests, None, NoRoom, NoRoomAmong, NoRoomForText, Nothing, Ok, One, OnOk}
+use Rattle.history_text.proofs.Common.{Option, refl, Result, Some, spaced, subst, sym, Takes, Takes-append, TakesEnd}
+use Rattle.history_text.proofs.Common.{TakesItem, text_is, TextFault, true, Two, Unfinished, Version, Whole, whole, ℕ}
+use Rattle.history_text.proofs.Common.{◌++◌, ◌+◌, ◌<◌, ◌>>=◌, ◌∙◌, ◌∷◌, ◌≡◌, ◌≤◌}
+use Rattle.std.proofs.Common.{if◌then◌else◌, suc, zero, ◌^◌}
+use Rattle.text_lines.specs.Inner.Lines.{has_no_line_feed}
+use Rattle.text_lines.specs.Lines.{fault_at, TooLong}
+use Rattle.text_lines.proofs.MemoryOrNot.{follows, is_memory, known_fault}
+use Rattle.history_text.proofs.FormLines.{end_front, IsReadBack, Says}
+use Rattle.history_text.specs.Inner.Taking.{BrokenLineFault, FaultAtFront, NoLineFault}
 use Rattle.history_text.specs.Versions.{NoVersionFault}
 use Rattle.text_lines.specs.Faults.{MemoryOr}
-use Rattle.text_lines.proofs.MemoryOrNot.{follows}
-use Rattle.history_text.proofs.Faults.{at_line}
+
+-- ---- one step after another
+
+pub then_ok : {A B : Type 0} (r : Result A TextFault) (f : A → Result B TextFault) (x : A) → r ≡ Ok x → (r >>= f) ≡ f x
+then_ok r f x is = ap (λ q. q >>= f) is
+
+pub then_err : {A B : Type 0} (r : Result A TextFault) (f : A → Result B TextFault) (fault : TextFault) → r ≡ Err fault → (r >>= f) ≡ Err fault
+then_err r f fault is = ap (λ q. q >>= f) is
+
+-- ---- the first line
+
+-- the value that has these bytes as its line
+abbrev pub value_with : {A : Type 0} → List (A × List ℕ) → TextFault → List ℕ → List ℕ → Result (A × List ℕ) TextFault
+value_with [] other bytes rest = Err other
+value_with (row ∷ rows) other bytes rest =
+    if bytes_eq bytes row.1 then Ok (row.0, rest) else value_with rows other bytes rest
+
+-- the first line, which has to be one of these, and the bytes after it
+abbrev pub first_at : {A : Type 0} → List (A × List ℕ) → TextFault → Ending → Front → Result (A × List ℕ) TextFault
+first_at rows other ending (Whole bytes rest) = value_with rows other bytes rest
+first_at rows other ending TooLong = Err other
+first_at rows other ending Unfinished = Err (fault_at ending)
+first_at rows other ending Nothing = Err (fault_at ending)
+
+-- such a line is read
+pub first_read : {A : Type 0} (rows : List (A × List ℕ)) (other : TextFault) (ending : Ending) (value : A) (bytes rest : List ℕ)
+    → has_no_line_feed bytes ≡ true → length bytes ≤ 80 → value_with rows other bytes rest ≡ Ok (value, rest)
+    → first_at rows other ending (front_of (line bytes ++ rest)) ≡ Ok (value, rest)
+first_read rows other ending value bytes rest one short is =
+    ap (first_at rows other ending) (whole bytes rest (record { one = one; short = short })) ∙ is
+
+-- a line that is none of these has the fault
+pub none_with : {A : Type 0} (rows : List (A × List ℕ)) (other : TextFault) (bytes rest : List ℕ)
+    → AllByRecursion (λ row. bytes ≡ row.1 → ⊥) rows → value_with rows other bytes rest ≡ Err other
+none_with [] other bytes rest none = refl
+none_with (row ∷ rows) other bytes rest none =
+    rw (false_from_ne_true (bytes_eq bytes row.1) (λ same. none.0 (text_is bytes row.1 same))) (none_with rows other bytes rest none.1)
+
+-- ---- lines of items
+
+-- items, and the bytes after them
+abbrev listed : {A : Type 0} → List A → List ℕ → Result (List A × List ℕ) TextFault
+listed xs rest = Ok (xs, rest)
+
+-- the items after an item, or none at their end
+abbrev onward : {A : Type 0} → Option A → List ℕ → Result (List A × List ℕ) TextFault → Result (List A × List ℕ) TextFault
+onward None rest later = listed [] rest
+onward (Some x) rest later = later >>= λ more. listed (x ∷ more.0) more.1
+
+with_first : {A : Type 0} (x : A) (xs : List A) (last : Result (List ℕ) TextFault)
+    → ((last >>= listed xs) >>= λ more. listed (x ∷ more.0) more.1) ≡ (last >>= listed (x ∷ xs))
+with_first x xs (Ok rest) = refl
+with_first x xs (Err f) = refl
+
+-- a step says what the next line is: an item, or the end of the items
+module _ {A : Type 0} (step : ℕ → List ℕ → Result (Option A × List ℕ) TextFault) where
+  -- the items from the k-th on, and the bytes after them
+  unfoldable pub items_from : ℕ → ℕ → List ℕ → Result (List A × List ℕ) TextFault
+  items_from zero k bytes = Err Memory
+  items_from (suc most) k bytes = step k bytes >>= λ next. onward next.0 next.1 (items_from most (k + 1) next.1)
+
+  -- the end of the items
+  abbrev at_end : List ℕ → Result (Option A × List ℕ) TextFault
+  at_end rest = Ok (None, rest)
+
+  ends_here : (most k : ℕ) (last : Result (List ℕ) TextFault)
+      → ((last >>= at_end) >>= λ next. onward next.0 next.1 (items_from most (k + 1) next.1)) ≡ (last >>= listed [])
+  ends_here most k (Ok rest) = refl
+  ends_here most k (Err f) = refl
+
+  -- if each item's line is read, some are read up to what ends them
+  pub items_read : (format : Format A) (limit most k i : ℕ) (xs : List A) (r : List ℕ) (last : Result (List ℕ) TextFault)
+      → ((j : ℕ) (x : A) (rest : List ℕ) → format.HasLine x → j < limit → step j (line_of format x ++ rest) ≡ Ok (Some x, rest))
+      → AllByRecursion format.HasLine xs → i ≡ k + length xs → i ≤ limit → length xs < most
+      → step i r ≡ (last >>= at_end) → items_from most k (lines_of format xs ++ r) ≡ (last >>= listed xs)
+  unfolding items_from
+  items_read format limit zero k i xs r last back all i_is few room at = absurd (omega (arith, room))
+  items_read format limit (suc most) k i [] r last back all i_is few room at =
+      let here : k ≡ i = omega (arith, i_is) in
+      ap (λ (j : ℕ). items_from (suc most) j r) here ∙ ap (λ found. found >>= λ next. onward next.0 next.1 (items_from most (i + 1) next.1)) at
+      ∙ ends_here most i last
+  items_read format limit (suc most) k i (x ∷ xs) r last back all i_is few room at =
+      let rest = lines_of format xs ++ r in
+      let more = items_read format limit most (k + 1) i xs r last back all.1 (omega (arith, i_is)) few (omega (arith, room)) at in
+      ap (items_from (suc most) k) (append_assoc (line_of format x) (lines_of format xs) r)
+      ∙ ap (λ found. found >>= λ next. onward next.0 next.1 (items_from most (k + 1) next.1)) (back k x rest all.0 (omega (arith, i_is, few)))
+      ∙ ap (λ later. onward (Some x) rest later) more ∙ with_first x xs last
+
+-- ---- items to a last line, or to the end of the input
+
+module _ {A : Type 0} (format : Format A) where
+  -- the items from line n on
+  abbrev pub items_in : ℕ → Ending → List ℕ → Result (List A × List ℕ) TextFault
+  items_in n ending bytes = items_from (λ k b. item_at_front format (n + k) k ending (front_of b)) (suc format.most) 0 bytes
+
+  module _ (back : IsReadBack format) (n : ℕ) (ending : Ending) where
+    -- items are read up to what ends them
+    pub all_read : (xs : List A) (r rest : List ℕ) → HaveLines format xs
+        → item_at_front format (n + length xs) (length xs) ending (front_of r) ≡ Ok (None, rest)
+        → items_in n ending (lines_of format xs ++ r) ≡ Ok (xs, rest)
+    all_read xs r rest right end =
+        let few = right.few in
+        items_read (λ k b. item_at_front format (n + k) k ending (front_of b)) format format.most (suc format.most) 0 (length xs) xs r (Ok rest)
+        (λ k x more. back (n + k) k ending x more) right.each (omega arith) few (omega (arith, few)) end
+
+    -- items are read up to their last line
+    pub counted_read : (xs : List A) (rest : List ℕ) → HaveLines format xs → format.is_counted ≡ true → format.most < 2 ^ 64
+        → items_in n ending ((lines_of format xs ++ end_line (length xs)) ++ rest) ≡ Ok (xs, rest)
+    counted_read xs rest right counted small =
+        let few = right.few in
+        rw (append_assoc (lines_of format xs) (end_line (length xs)) rest)
+        (all_read xs (end_line (length xs) ++ rest) rest right
+        (end_front format (n + length xs) (length xs) ending rest counted (omega (arith, few, small))))
+
+    -- their first fault is found
+    pub fault_found : (fault : TextFault) (bytes : List ℕ) → ItemFault format n ending fault bytes → items_in n ending bytes ≡ Err fault
+    fault_found fault bytes h =
+        let few = h.right.few in
+        rw h.front (items_read (λ k b. item_at_front format (n + k) k ending (front_of b)) format format.most (suc format.most) 0 (length h.items)
+        h.items h.rest (Err fault) (λ k x more. back (n + k) k ending x more) h.right.each (omega arith) few (omega (arith, few)) h.next)
+
+  -- ---- as many items as were told
+
+  -- the next of this many items, or their end
+  abbrev next_among : ℕ → ℕ → Ending → ℕ → List ℕ → Result (Option A × List ℕ) TextFault
+  next_among many n ending k bytes =
+      if nat_lt k many then (line_at_front format.read (n + k) ending (front_of bytes) >>= λ said. Ok (Some said.0, said.1)) else Ok (None, bytes)
+
+  -- this many items from line n on
+  abbrev pub among_in : ℕ → ℕ → Ending → List ℕ → Result (List A × List ℕ) TextFault
+  among_in many n ending bytes = items_from (next_among many n ending) (suc many) 0 bytes
+
+  module _ (says : (item : A) → format.HasLine item → Says format.read (line_of format item) item) (n : ℕ) (ending : Ending) where
+    next_read : (many k : ℕ) (x : A) (rest : List ℕ) → format.HasLine x → k < many
+        → next_among many n ending k (line_of format x ++ rest) ≡ Ok (Some x, rest)
+    next_read many k x rest has more =
+        let here : nat_lt k many ≡ true = grind (arith, nat_tests, more) in rw (here, says x has (n + k) ending rest) refl
+
+    -- they are read
+    pub among_read : (xs : List A) (r : List ℕ) → AllByRecursion format.HasLine xs
+        → among_in (length xs) n ending (lines_of format xs ++ r) ≡ Ok (xs, r)
+    among_read xs r all =
+        let over : nat_lt (length xs) (length xs) ≡ false = grind (arith, nat_tests) in
+        items_read (next_among (length xs) n ending) format (length xs) (suc (length xs)) 0 (length xs) xs r (Ok r) (next_read (length xs)) all
+        (omega arith) (omega arith) (omega arith) (rw over refl)
+
+    -- their first fault is found
+    pub among_found : (many : ℕ) (fault : TextFault) (bytes : List ℕ) → FaultAmong format many n ending fault bytes
+        → among_in many n ending bytes ≡ Err fault
+    among_found many fault bytes h =
+        let fewer = h.fewer in
+        let here : nat_lt (length h.items) many ≡ true = grind (arith, nat_tests, fewer) in
+        rw h.front (items_read (next_among many n ending) format many (suc many) 0 (length h.items) h.items h.rest (Err fault) (next_read many)
+        h.each (omega arith) (omega (arith, fewer)) (omega (arith, fewer)) (rw (here, h.next) refl))
+
+-- ---- whole texts
+
+-- an input is judged so: a text at its front is read, where such may follow it, and a first fault is found
+pub record IsJudged {T : Type 0} (HasIt : T → Type 0) (text : T → List ℕ) (MayFollow : Ending → List ℕ → Type 0)
+    (IsFault : ℕ → Ending → List ℕ → TextFault → Type 0) (judge : ℕ → Ending → List ℕ → Result (T × List ℕ) TextFault) : Type 0 where
+  pub read : (lines : ℕ) (ending : Ending) (t : T) (rest : List ℕ) → HasIt t → MayFollow ending rest → judge lines ending (text t ++ rest) ≡ Ok (t, rest)
+  pub found : (lines : ℕ) (ending : Ending) (bytes : List ℕ) (fault : TextFault) → IsFault lines ending bytes fault → judge lines ending bytes ≡ Err fault
+
+-- these bytes are known to stand at the front, and what comes after them is so
+abbrev pub Stands : (Ending → List ℕ → Type 0) → Option Ahead → List ℕ → Type 0
+Stands MayFollow None text = ⊥
+Stands MayFollow (Some a) text = (rest : List ℕ) × (a.bytes ≡ text ++ rest) × MayFollow a.ending rest
+
+-- anything may follow
+abbrev pub Anything : Ending → List ℕ → Type 0
+Anything ending rest = Unit {0}
+
+pub stands : (old : Option Ahead) (text : List ℕ) → BeginsWith old text → Stands Anything old text
+stands None text begins = absurd begins
+stands (Some a) text begins = (begins.0, begins.1, tt)
+
+module _ {T : Type 0} {HasIt : T → Type 0} {text : T → List ℕ} {MayFollow : Ending → List ℕ → Type 0}
+    {IsFault : ℕ → Ending → List ℕ → TextFault → Type 0} {judge : ℕ → Ending → List ℕ → Result (T × List ℕ) TextFault}
+    (judged : IsJudged HasIt text MayFollow IsFault judge) where
+  -- two texts at the front of one input are one text
+  pub texts_agree : (ending : Ending) (s t : T) (q r : List ℕ) → HasIt s → HasIt t → MayFollow ending q → MayFollow ending r
+      → text s ++ q ≡ text t ++ r → (s ≡ t) × (q ≡ r)
+  texts_agree ending s t q r has_s has_t may_q may_r same =
+      let both = sym (judged.read 0 ending s q has_s may_q) ∙ ap (judge 0 ending) same ∙ judged.read 0 ending t r has_t may_r in grind (arith, both)
+
+  -- a text that stands at the front has no fault
+  pub text_has_no_fault : (lines : ℕ) (ending : Ending) (t : T) (r : List ℕ) (fault : TextFault) → HasIt t → MayFollow ending r
+      → IsFault lines ending (text t ++ r) fault → ⊥
+  text_has_no_fault lines ending t r fault has may h =
+      let read = judged.read lines ending t r has may in
+      let found = judged.found lines ending (text t ++ r) fault h in
+      absurd (cc)
+
+  -- an input has one first fault
+  pub one_first_fault : (lines : ℕ) (ending : Ending) (bytes : List ℕ) (f g : TextFault) → IsFault lines ending bytes f
+      → IsFault lines ending bytes g → f ≡ g
+  one_first_fault lines ending bytes f g h k =
+      let first = judged.found lines ending bytes f h in let other = judged.found lines ending bytes g k in cc
+
+  -- a text that stands there is read, unless memory runs out
+  pub reads_what_is_there : {V : Type 0} (LacksRoom : List ℕ → Type 0) (P : V → Type 0) (Told : V → T → Type 0) (lines : ℕ) (old new : Option Ahead)
+      (r : Result V TextFault) → IfOk r P → IfErr r (HasFirstFault (IsFault lines) LacksRoom old)
+      → ((v : V) → P v → (t : T) × HasIt t × Takes old new (text t) × ((b : Ahead) → new ≡ Some b → MayFollow b.ending b.bytes) × Told v t)
+      → (t : T) → HasIt t → Stands MayFollow old (text t) → MatchResult r (λ v. Told v t) (λ fault. fault ≡ Memory)
+  reads_what_is_there L P Told lines None new r ok err found t has stands = absurd stands
+  reads_what_is_there L P Told lines (Some a) None (Ok v) ok err found t has stands = absurd ((found v ok).2)
+  reads_what_is_there L P Told lines (Some a) (Some b) (Ok v) ok err found t has stands =
+      let is = found v ok in
+      let same = texts_agree a.ending is.0 t b.bytes stands.0 is.1 has (subst (λ e. MayFollow e b.bytes) is.2.1 (is.3 b refl)) stands.2
+      (sym is.2.0 ∙ stands.1) in
+      subst (Told v) same.0 is.4
+  reads_what_is_there L P Told lines (Some a) new (Err fault) ok err found t has stands =
+      elim (is_memory fault) [
+        | inl same ↦ same
+        | inr known ↦ absurd (text_has_no_fault lines a.ending t stands.0 fault has stands.2 (subst (λ b. IsFault lines a.ending b fault) stands.1
+            (known_fault (L a.bytes) (IsFault lines a.ending a.bytes) fault known err)))
+      ]
+
+-- ---- what the line ahead is, by what was taken of it and by what its fields say
+
+-- what holds of the front of the input
+abbrev pub AtFront : Option Ahead → (Ending → Front → Type 0) → Type 0
+AtFront old P = IfSome old (λ a. P a.ending (front_of a.bytes))
+
+over_by : (P : Ending → Front → Type 0) (end : Ending) (given : List ℕ) → IsPartOfLine given → P end Unfinished → P end Nothing → P end (front_of given)
+over_by P end [] part some none = none
+over_by P end (b ∷ given) part some none = subst (P end) (sym (front_unfinished (b ∷ given) part (omega arith))) some
+
+-- a read failed
+pub at_failure : (P : Ending → Front → Type 0) (old new : Option Ahead) (given : List ℕ) → Takes old new given → IsPartOfLine given
+    → IsOver Failure new → P Failure Unfinished → P Failure Nothing → AtFront old P
+at_failure P old new given taken part over some none =
+    before_end old new Failure given (λ e b. P e (front_of b)) taken over (over_by P Failure given part some none)
+
+-- the input ended after some bytes
+pub at_cut : (P : Ending → Front → Type 0) (old new : Option Ahead) (given : List ℕ) → Takes old new given → IsPartOfLine given
+    → IsOver EndOfInput new → 0 < length given → P EndOfInput Unfinished → AtFront old P
+at_cut P old new given taken part over more holds =
+    before_end old new EndOfInput given (λ e b. P e (front_of b)) taken over (subst (P EndOfInput) (sym (front_unfinished given part more)) holds)
+
+-- the input had ended
+pub at_nothing : (P : Ending → Front → Type 0) (old new : Option Ahead) → Takes old new [] → IsOver EndOfInput new → P EndOfInput Nothing → AtFront old P
+at_nothing P old new taken over holds = before_end old new EndOfInput [] (λ e b. P e (front_of b)) taken over holds
+
+-- the line was too long
+pub at_long : (P : Ending → Front → Type 0) (old new : Option Ahead) (given : List ℕ) (b : ℕ) → Takes old new (given ++ b ∷ []) → IsPartOfLine given
+    → length given ≡ longest_line → is_line_feed b ≡ false → ((e : Ending) → P e TooLong) → AtFront old P
+at_long P old new given b taken part full other holds = grind (arith, front_too_long)
+
+-- the line was whole
+pub at_line : (P : Ending → Front → Type 0) (old new : Option Ahead) (bytes : List ℕ) → Takes old new (line bytes) → IsPartOfLine bytes
+    → ((e : Ending) (rest : List ℕ) → P e (Whole bytes rest)) → AtFront old P
+at_line P old new bytes taken part holds =
+    before old new (line bytes) (λ e r. P e (front_of r)) taken (λ e more. subst (P e) (sym (whole bytes more part)) (holds e more))
+
+not_whole : (long : TextFault) (ending : Ending) (fault : TextFault) (front : Front) → BrokenLineFault long ending fault front
+    → NoLineFault long ending fault front
+not_whole long ending fault front h = grind (arith, h)
+
+-- where no line is whole there is none
+pub no_line : (long : TextFault) (old : Option Ahead) (fault : TextFault) → FaultAtFront (BrokenLineFault long) old fault
+    → FaultAtFront (NoLineFault long) old fault
+no_line long None fault h = tt
+no_line long (Some a) fault h = not_whole long a.ending fault (front_of a.bytes) h
+
+-- ---- items
+
+-- the end of the input is one where a last line is wanted
+pub nothing_is_cut : {A : Type 0} (is_counted : Bool) → is_counted ≡ true
+    → (let found : Result (Option A × List ℕ) TextFault = item_at_nothing is_counted EndOfInput in found ≡ Err Cut)
+nothing_is_cut is_counted is = grind arith
+
+-- items that aren't counted end where the input does
+pub items_end : (is_counted : Bool) (old new : Option Ahead) (k : ℕ) → is_counted ≡ false → Takes old new [] → IsOver EndOfInput new
+    → TakesEnd is_counted old new k
+items_end true old new k is taken over = absurd (cc)
+items_end false old new k is taken over = (taken, over)
+
+end_is_taken : (is_counted : Bool) (old new : Option Ahead) (k : ℕ) → is_counted ≡ true → Takes old new (end_line k) → TakesEnd is_counted old new k
+end_is_taken true old new k is taken = taken
+end_is_taken false old new k is taken = absurd (cc)
+
+item_is_taken : {A : Type 0} (format : Format A) (k : ℕ) (old new : Option Ahead) (bytes : List ℕ) (item : Option A) → Takes old new (line bytes)
+    → IsItemLine format k bytes item → TakesItem format old new k item
+item_is_taken format k old new bytes (Some x) taken spelled = (subst (Takes old new) spelled.0 taken, spelled.1, spelled.2)
+item_is_taken format k old new bytes None taken spelled = end_is_taken format.is_counted old new k spelled.1 (subst (Takes old new) spelled.0 taken)
+
+-- what an item's line was judged to be is what was taken
+pub items_taken : {A : Type 0} (format : Format A) (k : ℕ) (old new : Option Ahead) (bytes : List ℕ) (r : Result (Option A) TextFault)
+    → Takes old new (line bytes) → IfOk r (IsItemLine format k bytes) → IfOk r (TakesItem format old new k)
+items_taken format k old new bytes (Ok item) taken spelled = item_is_taken format k old new bytes item taken spelled
+items_taken format k old new bytes (Err fault) taken spelled = tt
+
+-- a line with a fault is that of the next item
+pub items_faulty : {A : Type 0} (format : Format A) (n k : ℕ) (old new : Option Ahead) (bytes : List ℕ) (r : Result (Option A) TextFault)
+    → Takes old new (line bytes) → IsPartOfLine bytes → r ≡ item_in format n k bytes
+    → IfErr r (FaultAtFront (λ end fault front. item_at_front format n k end front ≡ Err fault) old)
+items_faulty format n k old new bytes (Ok item) taken part e = tt
+items_faulty format n k old new bytes (Err fault) taken part e =
+    at_line (λ end front. item_at_front format n k end front ≡ Err fault) old new bytes taken part (λ end rest. rw (← e) refl)
+
+-- ---- whole lines
+
+-- a line whose fields have a fault has it
+pub line_faulty : {A : Type 0} (read : ℕ → List (List ℕ) → Result A TextFault) (n : ℕ) (old new : Option Ahead) (bytes : List ℕ) (r : Result A TextFault)
+    → Takes old new (line bytes) → IsPartOfLine bytes → r ≡ read n (fields_of bytes)
+    → IfErr r (FaultAtFront (λ end fault front. line_at_front read n end front ≡ Err fault) old)
+line_faulty read n old new bytes (Ok said) taken part e = tt
+line_faulty read n old new bytes (Err fault) taken part e =
+    at_line (λ end front. line_at_front read n end front ≡ Err fault) old new bytes taken part (λ end rest. rw (← e) refl)
+
+-- a faulty next line has been counted
+pub next_line_faulty : {A : Type 0} (read : ℕ → List (List ℕ) → Result A TextFault) (n m : ℕ) (old new : Option Ahead) (bytes : List ℕ)
+    (r : Result A TextFault) → m ≡ n → Takes old new (line bytes) × IsPartOfLine bytes → r ≡ read m (fields_of bytes) → IfErr r (FaultAtFront (λ end fault front. line_at_front read n end front ≡ Err fault) old)
+next_line_faulty read n m old new bytes r same taken e = line_faulty read n old new bytes r taken.0 taken.1 (rw same at e)
+
+-- the line of some fields is taken
+pub fields_taken : (old new : Option Ahead) (bytes : List ℕ) (fields : List (List ℕ)) → Takes old new (line bytes) → fields_of bytes ≡ fields
+    → Takes old new (line (spaced fields))
+fields_taken old new bytes fields taken is =
+    subst (λ (b : List ℕ). Takes old new (line b)) (sym (join_with_byte-slice_split 32 bytes) ∙ ap spaced is) taken
+
+-- the line of an item is taken
+pub required_taken : {A : Type 0} (format : Format A) (old new : Option Ahead) (bytes : List ℕ) (r : Result A TextFault) → Takes old new (line bytes)
+    → IfOk r (IsSpelled format (fields_of bytes)) → IfOk r (λ item. Takes old new (line_of format item) × format.HasLine item)
+required_taken format old new bytes (Ok item) taken spelled = (fields_taken old new bytes (format.fields item) taken spelled.text, spelled.line)
+required_taken format old new bytes (Err fault) taken spelled = tt
 
 other_fault : (Lacking : Type 0) (IsFault : TextFault → Type 0) (fault : TextFault) → IsOfInput fault → IsFault fault → MemoryOr Lacking IsFault fault
 other_fault L F Memory other h = absurd other

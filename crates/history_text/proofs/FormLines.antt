@@ -1,14 +1,27 @@
 -- Lines that are read by a table: what is written is read back, and what is read is spelled so.
-use Rattle.history_text.proofs.Common.{◌≤◌, Number, [], Word, line_at_front, ◌∷◌, ◌&&◌, and_right, ◌++◌, ◌<◌, ◌^◌, ◌∙◌}
-use Rattle.history_text.proofs.Common.{◌≡◌, ap, arith, codes, decimal, false, length-decimal-le, List, nat_lt}
-use Rattle.history_text.proofs.Common.{nat_tests, None, Ok, refl, Some, true, ℕ, begins_as_end, end_line, end_read}
-use Rattle.history_text.proofs.Common.{Ending, field_is_clean, Format, front_of, IsLineOf, IsPartOfLine, item_at_front}
-use Rattle.history_text.proofs.Common.{line, line_of, number_is_field, spaced, whole, drop, Err}
-use Rattle.history_text.proofs.Common.{join_with_byte-slice_split, Result, sym, take-append-drop, end_in}
-use Rattle.history_text.proofs.Common.{end_ok, fields_of, IsItemLine, IsSpelled, item_in, TextFault}
-use Rattle.history_text.proofs.Common.{AllByRecursion, list_all, ◌>>=◌, AreOfForm, FieldForm, has_bits, is_line_form}
-use Rattle.history_text.proofs.Common.{numbers_back, numbers_in, parse_line, parse_line_says, read_by, spelled}
-use Rattle.history_text.proofs.Common.{spelled_is_line, Table}
+use Rattle.history_text.proofs.Common.{[], a_value, all_digits, AllByRecursion, and_right, ap, AreOfForm, arith}
+use Rattle.history_text.proofs.Common.{begins_as_end, bytes_eq, claim_line_fields, claim_line_format, claim_line_in}
+use Rattle.history_text.proofs.Common.{ClaimLine, codes, count_fields, count_format, count_forms, count_in, decimal}
+use Rattle.history_text.proofs.Common.{decimal_nonempty, Deq, drop, empty_operation, end_in, end_line, end_ok}
+use Rattle.history_text.proofs.Common.{end_read, Ending, Enq, Err, event_format, event_forms, event_in, event_of}
+use Rattle.history_text.proofs.Common.{false, field_is_clean, FieldForm, fields_of, Format, front_of, greatest_value}
+use Rattle.history_text.proofs.Common.{has_bits, HasClaimLine, HasOperationLine, HasValueInRange, Initial}
+use Rattle.history_text.proofs.Common.{initial_form, initial_forms, initial_of, is_blank, is_initial, is_line_form}
+use Rattle.history_text.proofs.Common.{IsItemLine, IsKindInRange, IsLineOf, IsPartOfLine, IsSpelled, item_at_front}
+use Rattle.history_text.proofs.Common.{item_in, join_with_byte-slice_split, kind_fields, length, length-decimal-le}
+use Rattle.history_text.proofs.Common.{line, line_at_front, line_of, List, list_all, MAX_INITIAL, MAX_THREAD}
+use Rattle.history_text.proofs.Common.{MAX_TICKET, nat_lt, nat_tests, None, Number, number_is_field, number_of}
+use Rattle.history_text.proofs.Common.{numbers_back, numbers_in, Ok, Op, Operation, operation_fields, operation_format}
+use Rattle.history_text.proofs.Common.{operation_forms, operation_of, OpKind, parse_line, parse_line_says, plain_event}
+use Rattle.history_text.proofs.Common.{read_by, refl, Result, Some, spaced, spelled, spelled_is_line, sym, Table}
+use Rattle.history_text.proofs.Common.{take-append-drop, TextFault, true, value_fields, value_format, value_forms}
+use Rattle.history_text.proofs.Common.{value_in, valued_event, valued_operation, what_fields, whole, Word, ℕ, ◌&&◌}
+use Rattle.history_text.proofs.Common.{◌++◌, ◌<◌, ◌==◌, ◌>>=◌, ◌^◌, ◌∙◌, ◌∷◌, ◌≡◌, ◌≤◌}
+use Rattle.text_lines.proofs.Fields.{has_field}
+use Rattle.event_records.specs.declared.event.What.{What}
+use Rattle.event_records.specs.declared.event.What.TheVariants.{CallDeq, CallEnq, RetDeq, RetEmpty, RetEnq, RetNot}
+use Rattle.std.specs.Char.{is_ascii_digit}
+use Rattle.history_merge.specs.declared.operation.OpKind.TheVariants.{Empty, Not}
 
 -- ---- the first line, an item's and the last one, read from what is written of them, whatever comes after
 
@@ -126,3 +139,133 @@ read_as table make n fields t numbers said = rw (← said) refl
 pub read_faulty : {T A : Type 0} (table : Table T) (make : T → List ℕ → A) (n : ℕ) (fields : List (List ℕ)) (fault : TextFault)
     → Err fault ≡ parse_line n table fields → Err fault ≡ read_by table make n fields
 read_faulty table make n fields fault said = rw (← said) refl
+
+-- ---- the lines of a history: what is read is spelled so, and what is written is read back
+
+-- ---- the lines of initial values and of their count
+
+no_blank : (b : ℕ) (bytes : List ℕ) → is_blank (fields_of (b ∷ bytes)) ≡ false
+no_blank b bytes = grind (arith, nat_tests, has_field bytes)
+
+-- a line is blank if it has no byte
+pub blank_line : (bytes : List ℕ) → is_blank (fields_of bytes) ≡ (length bytes == 0)
+blank_line [] = refl
+blank_line (b ∷ bytes) = let some : (length (b ∷ bytes) == 0) ≡ false = grind (arith, nat_tests) in rw (no_blank b bytes, some) refl
+
+-- the field of a value is spelled as it is written
+pub value_spells : Spells value_format value_forms number_of
+value_spells = record { bits = refl; rows = (λ v _ few. record { text = refl; line = few }, tt) }
+
+-- the fields of a count are spelled as it is written
+pub count_spells : Spells count_format count_forms number_of
+count_spells = record { bits = refl; rows = (λ k _ few. record { text = refl; line = few }, tt) }
+
+some_digits : (ds : List ℕ) → 0 < length ds → is_blank (ds ∷ []) ≡ false
+some_digits ds some = grind arith
+
+-- the line of a value says that value
+pub value_says : (v : ℕ) → v ≤ greatest_value → Says value_in (line_of value_format v) v
+value_says v range =
+    let is = row_back value_forms number_of tt (a_value ∷ []) (v ∷ []) refl refl (λ n. refl) (omega arith, range, tt) in
+    let other : is_blank (value_fields v) ≡ false = some_digits (decimal v) (decimal_nonempty v (omega (arith, range))) in
+    line_read value_in (value_fields v) v (record { one = is.one; read_back = λ n. rw other (is.read_back n) })
+
+-- the line of a count says that count
+pub count_says : (k : ℕ) → k ≤ MAX_INITIAL → Says count_in (line (spaced (count_fields k))) k
+count_says k few =
+    line_read count_in (count_fields k) k
+    (row_back count_forms number_of tt (Word (codes "initial") ∷ Number 0 MAX_INITIAL ∷ []) (k ∷ []) refl refl (λ n. refl) (omega arith, few, tt))
+
+-- ---- events
+
+event_row : (t th : ℕ) (what : What) → t ≤ MAX_TICKET → th ≤ MAX_THREAD → HasValueInRange what
+    → IsSpelled event_format (decimal t ∷ decimal th ∷ what_fields what) (record { ticket = t; thread = th; what = what })
+event_row t th what a b range = record { text = refl; line = record { ticket = a; thread = b; value = range } }
+
+-- the fields of an event are spelled as it is written
+pub event_spells : Spells event_format event_forms event_of
+event_spells = grind (arith, event_row)
+
+module _ (t th : ℕ) (a : t ≤ MAX_TICKET) (b : th ≤ MAX_THREAD) where
+  event_back : (what : What) → HasValueInRange what
+      → IsReadAs event_in (decimal t ∷ decimal th ∷ what_fields what) (record { ticket = t; thread = th; what = what })
+  event_back (CallEnq v) r = row_back event_forms event_of (CallEnq 0) (valued_event (codes "call-enq")) (t ∷ th ∷ v ∷ []) refl refl (λ n. refl)
+      (omega arith, a, (omega arith, b, (omega arith, r, tt)))
+  event_back RetEnq r = row_back event_forms event_of RetEnq (plain_event (codes "ret-enq")) (t ∷ th ∷ []) refl refl (λ n. refl)
+      (omega arith, a, (omega arith, b, tt))
+  event_back RetNot r = row_back event_forms event_of RetNot (plain_event (codes "ret-not")) (t ∷ th ∷ []) refl refl (λ n. refl)
+      (omega arith, a, (omega arith, b, tt))
+  event_back CallDeq r = row_back event_forms event_of CallDeq (plain_event (codes "call-deq")) (t ∷ th ∷ []) refl refl (λ n. refl)
+      (omega arith, a, (omega arith, b, tt))
+  event_back (RetDeq v) r = row_back event_forms event_of (RetDeq 0) (valued_event (codes "ret-deq")) (t ∷ th ∷ v ∷ []) refl refl (λ n. refl)
+      (omega arith, a, (omega arith, b, (omega arith, r, tt)))
+  event_back RetEmpty r = row_back event_forms event_of RetEmpty (plain_event (codes "ret-empty")) (t ∷ th ∷ []) refl refl (λ n. refl)
+      (omega arith, a, (omega arith, b, tt))
+
+-- the line of an event is read as that event
+pub event_front : IsReadBack event_format
+event_front = item_read event_format (λ e range. event_back e.ticket e.thread range.ticket range.thread e.what range.value)
+
+-- ---- the lines of a verdict: what is read is spelled so, and what is written is read back
+
+-- ---- what is read is spelled so
+
+operation_row : (c r t : ℕ) (kind : OpKind) → c ≤ MAX_TICKET → r ≤ MAX_TICKET → t ≤ MAX_THREAD → IsKindInRange kind
+    → IsSpelled operation_format (decimal c ∷ decimal r ∷ decimal t ∷ kind_fields kind) (record { call = c; ret = r; thread = t; kind = kind })
+operation_row c r t kind a b few range = record { text = refl; line = record { call = a; ret = b; thread = few; value = range } }
+
+-- the fields of an operation are spelled as it is written
+pub operation_spells : Spells operation_format operation_forms operation_of
+operation_spells = grind (arith, operation_row)
+
+-- the fields of an initial value are spelled as it is written
+pub initial_spells : Spells claim_line_format initial_forms initial_of
+initial_spells = record { bits = refl; rows = (λ v _ range. record { text = refl; line = range }, tt) }
+
+-- ---- what is written is read back
+
+-- the lines of operations
+abbrev read_operation : ℕ → List (List ℕ) → Result Operation TextFault
+read_operation n fields = read_by operation_forms operation_of n fields
+
+module _ (c r t : ℕ) (a : c ≤ MAX_TICKET) (b : r ≤ MAX_TICKET) (few : t ≤ MAX_THREAD) where
+  valued_back : (v : ℕ) (word : List ℕ) (kind : OpKind) → v ≤ greatest_value → is_line_form (valued_operation word) ≡ true
+      → ((n : ℕ) → parse_line n operation_forms (decimal c ∷ decimal r ∷ decimal t ∷ word ∷ decimal v ∷ [])
+      ≡ (numbers_in n (valued_operation word) (decimal c ∷ decimal r ∷ decimal t ∷ word ∷ decimal v ∷ []) >>= λ found. Ok (kind, found)))
+      → IsReadAs read_operation (decimal c ∷ decimal r ∷ decimal t ∷ word ∷ decimal v ∷ []) (operation_of kind (c ∷ r ∷ t ∷ v ∷ []))
+  valued_back v word kind range is_line finds =
+      row_back operation_forms operation_of kind (valued_operation word) (c ∷ r ∷ t ∷ v ∷ []) refl is_line finds
+      (omega arith, a, (omega arith, b, (omega arith, few, (omega arith, range, tt))))
+
+  kind_back : (kind : OpKind) → IsKindInRange kind
+      → IsReadAs read_operation (decimal c ∷ decimal r ∷ decimal t ∷ kind_fields kind) (record { call = c; ret = r; thread = t; kind = kind })
+  kind_back (Enq v) range = valued_back v (codes "enq") (Enq 0) range refl (λ n. refl)
+  kind_back (Deq v) range = valued_back v (codes "deq") (Deq 0) range refl (λ n. refl)
+  kind_back Empty range = row_back operation_forms operation_of Empty empty_operation (c ∷ r ∷ t ∷ []) refl refl (λ n. refl)
+      (omega arith, a, (omega arith, b, (omega arith, few, tt)))
+  kind_back (Not v) range = valued_back v (codes "not") (Not 0) range refl (λ n. refl)
+
+digits_are_other : (ds : List ℕ) → 0 < length ds → list_all is_ascii_digit ds ≡ true → bytes_eq ds (codes "init") ≡ false
+digits_are_other [] some all = absurd (omega (arith, some))
+digits_are_other (d ∷ ds) some all = grind arith
+
+-- an operation is no initial value
+no_initial : (o : Operation) → HasOperationLine o → is_initial (operation_fields o) ≡ false
+no_initial o range = grind (arith, digits_are_other, decimal_nonempty, all_digits)
+
+claim_line_back : (l : ClaimLine) → HasClaimLine l → IsReadAs claim_line_in (claim_line_fields l) l
+claim_line_back (Op o) range =
+    let is = kind_back o.call o.ret o.thread range.call range.ret range.thread o.kind range.value in
+    record { one = is.one; read_back = λ n. rw (no_initial o range, is.read_back n) refl }
+claim_line_back (Initial v) range =
+    assumption (row_back initial_forms initial_of tt initial_form (v ∷ []) refl refl (λ n. refl) (omega arith, range, tt))
+
+-- the line of a `NO` is read as that line
+pub claim_line_front : IsReadBack claim_line_format
+claim_line_front = item_read claim_line_format claim_line_back
+
+-- the line of an operation is read as that operation
+pub operation_front : IsReadBack operation_format
+operation_front = item_read operation_format (λ o range.
+    let is = kind_back o.call o.ret o.thread range.call range.ret range.thread o.kind range.value in
+    record { one = is.one; read_back = λ n. rw (no_initial o range) (is.read_back n) })

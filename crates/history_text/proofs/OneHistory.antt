@@ -6,9 +6,9 @@ use Rattle.history_text.proofs.Common.{event_format, FaultAfterHeader, Front, fr
 use Rattle.history_text.proofs.Common.{HaveValueLines, Header, header_of, HistoryText, IsTextFault, line}
 use Rattle.history_text.proofs.Common.{line_at_front, lines_of, lines_to_end, NoVersionFault, One, spaced, text_by}
 use Rattle.history_text.proofs.Common.{text_of, TextFault, Two, value_format, Version}
-use Rattle.history_text.proofs.EventLines.{event_front, value_says, count_says}
-use Rattle.history_text.proofs.Judging as judging
-use Rattle.history_text.proofs.Judging.{then_ok, then_err, first_at, first_read, items_in, counted_read, fault_found, among_in, among_read, among_found, IsJudged, Anything}
+use Rattle.history_text.proofs.FormLines.{event_front, value_says, count_says}
+use Rattle.history_text.proofs.FirstFaults as judging
+use Rattle.history_text.proofs.FirstFaults.{then_ok, then_err, first_at, first_read, items_in, counted_read, fault_found, among_in, among_read, among_found, IsJudged, Anything}
 
 -- ---- the input, judged line by line
 

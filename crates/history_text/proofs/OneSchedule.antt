@@ -6,8 +6,8 @@ use Rattle.history_text.proofs.Common.{line, line_at_front, lines_before_steps, 
 use Rattle.history_text.proofs.Common.{schedule_text, setting_in, step_format, TextFault}
 use Rattle.history_text.specs.declared.schedule.Schedule.{Schedule}
 use Rattle.history_text.proofs.StepLines.{step_front, setting_says}
-use Rattle.history_text.proofs.Judging as judging
-use Rattle.history_text.proofs.Judging.{then_ok, then_err, first_at, first_read, items_in, counted_read, fault_found, IsJudged, Anything}
+use Rattle.history_text.proofs.FirstFaults as judging
+use Rattle.history_text.proofs.FirstFaults.{then_ok, then_err, first_at, first_read, items_in, counted_read, fault_found, IsJudged, Anything}
 
 abbrev headers : List (Unit {0} × List ℕ)
 headers = (tt, schedule_header) ∷ []

@@ -10,9 +10,9 @@ use Rattle.verdicts.specs.declared.verifying.ViolationKind.TheVariants.{VFresh, 
 use Rattle.verdicts.specs.declared.verifying.Claimed.{Claimed}
 use Rattle.verdicts.specs.declared.verifying.Claimed.TheVariants.{Yes, No}
 use Rattle.history_text.proofs.FormLines.{IsReadBack}
-use Rattle.history_text.proofs.ClaimLines.{operation_front, claim_line_front}
-use Rattle.history_text.proofs.Judging as judging
-use Rattle.history_text.proofs.Judging.{then_ok, then_err, first_at, first_read, none_with, items_in, all_read, fault_found, IsJudged, Stands}
+use Rattle.history_text.proofs.FormLines.{operation_front, claim_line_front}
+use Rattle.history_text.proofs.FirstFaults as judging
+use Rattle.history_text.proofs.FirstFaults.{then_ok, then_err, first_at, first_read, none_with, items_in, all_read, fault_found, IsJudged, Stands}
 
 abbrev answers : List (Option ViolationKind × List ℕ)
 answers = (None, first_line None) ∷ (Some VFresh, first_line (Some VFresh)) ∷ (Some VRepeat, first_line (Some VRepeat))

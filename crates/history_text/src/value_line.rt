@@ -41,7 +41,7 @@ const COUNT_FORMS: [((), &[Field]); 1] = [(
 const VALUE_FORMS: [((), &[Field]); 1] = [((), &[VALUE])];
 
 /// Whether the line has no byte.
-#[tactic(auto, using(crate::proofs::EventLines::blank_line))]
+#[tactic(auto, using(crate::proofs::FormLines::blank_line))]
 fn is_blank(bytes: &[u8]) -> bool
     ensures { result ≡ wanted.is_blank (fields_of bytes.now) }
 {

@@ -5,27 +5,127 @@ use Rattle.linearizer.proofs.Common.{AreEnqueueGaps, arith, Bool, cases_lt, Cont
 use Rattle.linearizer.proofs.Common.{Contains-append_left, Contains-append_right, Contains-get_or}
 use Rattle.linearizer.proofs.Common.{Contains-permutation, Contains-push, Contains-push_cases, contains_at}
 use Rattle.linearizer.proofs.Common.{dequeue_call, dequeue_return, drop, EachIsChoice, elements_at, enqueue_call}
-use Rattle.linearizer.proofs.Common.{enqueue_gap, enqueue_return, entered_by, false, gaps_in, get_or}
+use Rattle.linearizer.proofs.Common.{enqueue_gap, enqueue_return, entered_by, false, filter_map, gaps_in, get_or}
 use Rattle.linearizer.proofs.Common.{get_or_append_left, get_or_from_slice_get, get_or_push, HoldsLives, inl, inr}
-use Rattle.linearizer.proofs.Common.{IsChoice, IsDequeuedAt, IsFirstLeft, IsInOrder, IsLeastBy, IsLeft}
-use Rattle.linearizer.proofs.Common.{IsNonDecreasingBy, IsOrderOfPlaces, IsPassedOver, IsPermutation}
-use Rattle.linearizer.proofs.Common.{IsPermutation-cons, IsPermutation-map, IsPermutation-middle}
+use Rattle.linearizer.proofs.Common.{IsChoice, IsClear, IsDequeuedAt, IsFirstLeft, IsFirstOvertaker, IsInOrder}
+use Rattle.linearizer.proofs.Common.{IsLeastBy, IsLeft, IsLife, IsNonDecreasingBy, IsOrderOfPlaces, IsPassedOver}
+use Rattle.linearizer.proofs.Common.{IsPermutation, IsPermutation-cons, IsPermutation-map, IsPermutation-middle}
 use Rattle.linearizer.proofs.Common.{IsPermutation-pop_more, IsPermutation-refl, IsPermutation-sym}
-use Rattle.linearizer.proofs.Common.{IsPermutation-trans, IsTaken, IsTimeOf, least_entered_by, leaves_from, length}
-use Rattle.linearizer.proofs.Common.{length-append, length-map, length-replicate, length-take, length_permutation}
-use Rattle.linearizer.proofs.Common.{length_push, Life, List, lives_in, lives_of, map-append, mapped_from, mapped_to}
-use Rattle.linearizer.proofs.Common.{MatchedValue, NEVER, nil_from_length, not_in_none, one_at, Operation, Option}
-use Rattle.linearizer.proofs.Common.{Overtakes, place_of, places_in, refl, replicate, set, slice_get, slice_get-get_or}
-use Rattle.linearizer.proofs.Common.{slice_get_within, Some, subst, suc, sym, take, TakesOneOf, Timed, true, zero, ℕ}
-use Rattle.linearizer.proofs.Common.{◌++◌, ◌+◌, ◌-◌, ◌<◌, ◌∙◌, ◌∷◌, ◌≡◌, ◌≤◌, ◌⊎◌}
+use Rattle.linearizer.proofs.Common.{IsPermutation-trans, IsTaken, IsTimeOf, IsValueOrder, least_entered_by}
+use Rattle.linearizer.proofs.Common.{leaves_from, length, length-append, length-map, length-replicate, length-take}
+use Rattle.linearizer.proofs.Common.{length_permutation, length_push, Life, life_a, life_from, life_of_contained, List}
+use Rattle.linearizer.proofs.Common.{lives_in, lives_of, map-append, mapped_from, mapped_to, MatchedValue, MAX_MATCHED}
+use Rattle.linearizer.proofs.Common.{NEVER, nil_from_length, none_overtakes, NoOrderViolation, not_in_none, one_at}
+use Rattle.linearizer.proofs.Common.{Operation, Option, Overtakes, place_of, PLACES, places_in, places_of_value, refl}
+use Rattle.linearizer.proofs.Common.{replicate, set, slice_get, slice_get-get_or, slice_get_within, Some, subst, suc}
+use Rattle.linearizer.proofs.Common.{sym, take, TakesOneOf, Timed, true, value_is_life, value_of_life}
+use Rattle.linearizer.proofs.Common.{violation_overtakes, zero, ℕ, ◌++◌, ◌+◌, ◌-◌, ◌<◌, ◌∙◌, ◌∷◌, ◌≡◌, ◌≤◌, ◌⊎◌}
+use Rattle.linearizer.proofs.ValueOrder.{choice_in_other_order, least_at, made, stands_in_order, turn_of}
+use Rattle.linearizer.proofs.Positions.{at_most_least, least_of_later}
+use Rattle.linearizer.proofs.Times.{HasLifeTimes, times_of_life}
 use Rattle.std.proofs.lemmas.List.{get_or-take, length-set}
-use Rattle.linearizer.proofs.Elements.{from_some_and, at_place}
+use Rattle.linearizer.proofs.Elements.{at_place, elements_long, elements_push, from_some_and, lives_are}
 use Rattle.std.proofs.Math.Seq.{drop-append_seam}
-use Rattle.linearizer.proofs.Windows.{at_most_least, least_of_later}
-use Rattle.linearizer.proofs.Choices.{least_at}
-use Rattle.linearizer.proofs.Fitting.{no_later}
-use Rattle.linearizer.proofs.OrderedPlaces.{elements_long, elements_push, lives_are}
-use Rattle.linearizer.proofs.ValueOrder.{choice_in_other_order}
+
+-- a choice isn't dequeued after a value that remains
+pub no_later : (remaining : List Life) (x y : Life) → IsChoice remaining x → Contains remaining y → dequeue_call x ≤ dequeue_return x
+    → dequeue_return y < dequeue_call x → ⊥
+no_later remaining x y is among takes_time later =
+    let returned = least_at dequeue_return remaining is.first_dequeued y is.dequeued_first among in
+    elim (made remaining x is) [
+      | inl dequeued ↦ omega (arith, ap dequeue_return dequeued.1)
+      | inr entered ↦ omega (arith, ap leaves_from entered.1)
+    ]
+
+-- no two values are dequeued against the order of their enqueues
+pub no_order_violation : (operations : List Operation) (lives : List Life) → IsClear operations → IsValueOrder operations lives → AreCalledInTime lives
+    → NoOrderViolation operations
+no_order_violation operations lives clear order in_time enq_a enq_b deq_b deq_a violation =
+    let a : Life = record { enqueue = enq_a; dequeue = deq_a } in
+    let b : Life = record { enqueue = enq_b; dequeue = Some deq_b } in
+    let is_a = life_a operations enq_a enq_b deq_b deq_a violation in
+    let at_a = place_of lives a (stands_in_order operations lives clear order a is_a) in
+    let at_b = place_of lives b (stands_in_order operations lives clear order b (violation.b, violation.enqueues_b, violation.dequeues_b)) in
+    elim (cases_lt at_b.0 at_a.0) [
+      | inl second ↦ omega (arith, least_of_later lives at_b.0 at_a.0 a (omega arith) at_a.1, in_time at_b.0 b at_b.1, violation.enqueued_first)
+      | inr first ↦
+          let turn = turn_of lives at_a.0 at_b.0 a b order.each_is_choice first at_a.1 at_b.1 in
+          no_later turn.remaining a b turn.is_choice turn.remains (omega (arith, (times_of_life operations a clear is_a).dequeue_takes_time))
+          (violation_overtakes operations enq_a enq_b deq_b deq_a clear violation).1
+    ]
+
+-- a value that is passed over is dequeued first of those that overtake another
+module _ (operations : List Operation) (values : List MatchedValue) (clear : IsClear operations) (holds : HoldsLives operations values)
+    (b : MatchedValue) (passed : IsPassedOver values b) where
+  is_b : IsLife operations b.life
+  is_b = value_is_life operations values b holds passed.is_value
+
+  abbrev a : Life
+  a = passed.is_next.first_entered
+
+  is_a : IsLife operations a
+  is_a = life_of_contained operations a (subst (λ lives. Contains lives a) holds.0 (passed.among a passed.is_next.enters_first.0))
+
+  -- the first of those left has entered when b is called
+  entered_before : entered_by a < enqueue_call b.life
+  entered_before =
+      let least = least_at entered_by passed.remaining a passed.entered passed.is_next.enters_first passed.is_left in
+      omega (arith, least, passed.too_late)
+
+  -- so b is the first that was dequeued
+  dequeued_first : (dequeue_return passed.is_next.first_dequeued < leaves_from a) × (b.life ≡ passed.is_next.first_dequeued)
+  dequeued_first = elim (made passed.remaining b.life passed.is_next) [
+    | inl dequeued ↦ dequeued
+    | inr entered ↦
+        absurd (omega (arith, ap entered_by entered.1, (times_of_life operations b.life clear is_b).enters_after_call, entered_before))
+  ]
+
+  before : (x : Life) → Contains passed.remaining x → dequeue_return b.life ≤ dequeue_return x
+  before x among =
+      let least = least_at dequeue_return passed.remaining passed.is_next.first_dequeued x passed.is_next.dequeued_first among in
+      omega (arith, ap dequeue_return dequeued_first.1)
+
+  overtakes : Overtakes b.life a
+  overtakes =
+      let times_a = times_of_life operations a clear is_a in
+      let times_b = times_of_life operations b.life clear is_b in
+      let sooner = before a passed.is_next.enters_first.0 in
+      omega (arith, entered_before, dequeued_first.0, ap dequeue_return dequeued_first.1)
+
+  pub is_first_overtaker : IsFirstOvertaker operations b
+  is_first_overtaker = record {
+    is_life = is_b;
+    has_places = places_of_value operations values b holds passed.is_value;
+    overtaken = a;
+    overtaken_is_life = is_a;
+    overtakes = overtakes;
+    first = λ x y is_x is_y over.
+        let m = value_of_life operations values x clear holds is_x in
+        let n = value_of_life operations values y clear holds is_y in
+        let left = passed.are_left m.0 n.0 m.1 n.1 (subst (λ l. Overtakes m.0.life l) (sym n.2) (subst (λ l. Overtakes l y) (sym m.2) over)) in
+        before x (subst (Contains passed.remaining) m.2 left);
+  }
+
+  -- so two values are dequeued against the order of their enqueues
+  pub passed_over : ¬ (NoOrderViolation operations)
+  passed_over none = none_overtakes operations a b.life clear none is_a is_b overtakes
+
+-- the values of a matching have the times of lives
+pub each_has_times : (operations : List Operation) (values : List MatchedValue) → IsClear operations → HoldsLives operations values
+    → All (λ value. HasLifeTimes value.life) values
+each_has_times operations values clear holds k d within =
+    times_of_life operations _ clear (value_is_life operations values _ holds (Contains-get_or values k d within))
+
+some_of : {X Y : Type 0} (f : X → Option Y) (xs : List X) → length (filter_map f xs) ≤ length xs
+some_of f [] = omega arith
+some_of f (x ∷ xs) = grind (arith, some_of f xs)
+
+-- there are no more values than places
+pub few_values : (operations : List Operation) (values : List MatchedValue) → HoldsLives operations values → length operations ≤ MAX_MATCHED
+    → length values ≤ PLACES
+few_values operations values holds few =
+    let same : length values ≡ length (lives_of operations) = sym (length-map values (λ m. m.life)) ∙ ap (λ lives. length lives) holds.0 in
+    omega (arith, same, some_of (λ o. life_from operations o o.kind) operations)
 
 -- ---- the values that are left, and the first of them in a list by times
 

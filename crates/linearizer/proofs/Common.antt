@@ -1,9 +1,8 @@
 -- The names that most proofs of this crate cite, passed on from one place. Declares nothing.
 pub use Rattle.event_records.specs.declared.limits.TheConstants.{MAX_INITIAL}
 pub use Rattle.history_merge.proofs.Distinct.{call_before_return, call_by_return, contains_at, contains_cons}
-pub use Rattle.history_merge.proofs.Distinct.{no_enqueue, not_in_none}
-pub use Rattle.history_merge.proofs.Distinct.{one_at, pairs_at, place_of, return_in_range, returns_at_call}
-pub use Rattle.history_merge.proofs.Distinct.{same_call, same_return}
+pub use Rattle.history_merge.proofs.Distinct.{no_enqueue, not_in_none, one_at, pairs_at, place_of, return_in_range}
+pub use Rattle.history_merge.proofs.Distinct.{returns_at_call, same_call, same_return}
 pub use Rattle.history_merge.specs.Complete.{AreComplete, IsTimed}
 pub use Rattle.history_merge.specs.Initial.{timeline}
 pub use Rattle.history_merge.specs.Legal.{ArePlacesOf, IsLegalOrder}
@@ -12,14 +11,14 @@ pub use Rattle.history_merge.specs.Queue.{IsAccepted}
 pub use Rattle.history_merge.specs.declared.operation.OpKind.{OpKind}
 pub use Rattle.history_merge.specs.declared.operation.OpKind.TheVariants.{Deq, Empty, Enq, Not}
 pub use Rattle.history_merge.specs.declared.operation.Operation.{Operation}
-pub use Rattle.linearizer.specs.Inner.Merging.{IsAhead, IsDequeueFrom, IsEnqueueFrom, IsMerge, IsMergedUpTo, IsNoopFrom}
-pub use Rattle.linearizer.specs.Inner.Merging.{IsValueFrom, IsWholeOrder, NoneBelow}
+pub use Rattle.linearizer.specs.Inner.Merging.{IsAhead, IsDequeueFrom, IsEnqueueFrom, IsMerge, IsMergedUpTo}
+pub use Rattle.linearizer.specs.Inner.Merging.{IsNoopFrom, IsValueFrom, IsWholeOrder, NoneBelow}
 pub use Rattle.linearizer.specs.Inner.Placement.{Adds, AreCalledInTime, AreEnqueueGaps, dequeues_of, elements_at}
 pub use Rattle.linearizer.specs.Inner.Placement.{enqueues_of, gaps_in, HoldsNoops, HoldsUpTo, HoldsValues, IsNoopAt}
 pub use Rattle.linearizer.specs.Inner.Placement.{IsOrderOfPlaces, IsPlaced, lives_at, lives_in, NeverFall, noop_at}
 pub use Rattle.linearizer.specs.Inner.Placement.{places_in, position_of}
-pub use Rattle.linearizer.specs.Inner.Sweep.{AreByTime, IsDequeuedAt, IsFirstLeft, IsInOrder, IsLeft, IsTaken, IsTimeOf}
-pub use Rattle.linearizer.specs.Inner.Sweep.{TakesOneOf}
+pub use Rattle.linearizer.specs.Inner.Sweep.{AreByTime, IsDequeuedAt, IsFirstLeft, IsInOrder, IsLeft, IsTaken}
+pub use Rattle.linearizer.specs.Inner.Sweep.{IsTimeOf, TakesOneOf}
 pub use Rattle.linearizer.specs.Inner.Swept.{IsPassedOver, IsSweepOf}
 pub use Rattle.linearizer.specs.Order.{AreChosenAndLegal, dequeue_position, earlier_dequeues, enqueue_position}
 pub use Rattle.linearizer.specs.Order.{enqueues, IsChosenOrder, IsPositionFor, IsPositionOf, noop_answers}
@@ -31,11 +30,11 @@ pub use Rattle.linearizer.specs.declared.timed.PackedTimed.{PackedTimed}
 pub use Rattle.linearizer.specs.declared.timed.TheConstants.{PLACES}
 pub use Rattle.linearizer.specs.declared.timed.Timed.{Timed}
 pub use Rattle.order_violation.proofs.Chosen.{did_dequeue, life_a, none_overtakes, violation_overtakes}
-pub use Rattle.order_violation.specs.Overtaking.{IsFirstOvertaker, Overtakes}
+pub use Rattle.order_violation.specs.Pairs.{IsFirstOvertaker, Overtakes}
 pub use Rattle.std.proofs.Common.{[], ap, ap₂, arith, Bool, cond, drop, false, filter_map, get_or, get_or-set_other}
 pub use Rattle.std.proofs.Common.{inl, inr, length, length-take-le, List, map, max, min, None, Option, refl, replicate}
-pub use Rattle.std.proofs.Common.{rules, set, Some, subst, suc, swap, sym, take, true, vec_len, zero, ℕ, ◌*◌, ◌++◌, ◌+◌}
-pub use Rattle.std.proofs.Common.{◌-◌, ◌<◌, ◌∙◌, ◌∷◌, ◌≡◌, ◌≢◌, ◌≤◌, ◌⊎◌}
+pub use Rattle.std.proofs.Common.{rules, set, Some, subst, suc, swap, sym, take, true, vec_len, zero, ℕ, ◌*◌, ◌++◌}
+pub use Rattle.std.proofs.Common.{◌+◌, ◌-◌, ◌<◌, ◌∙◌, ◌∷◌, ◌≡◌, ◌≢◌, ◌≤◌, ◌⊎◌}
 pub use Rattle.std.proofs.lemmas.Bool.{cases_eq, cases_lt, cases_order, eq-eqb, leb-true}
 pub use Rattle.std.proofs.lemmas.Bool.Decides.{nat_tests}
 pub use Rattle.std.proofs.lemmas.List.{append-nil, append_assoc, get_or-map, get_or_append_left, get_or_push}
@@ -48,13 +47,14 @@ pub use Rattle.std.proofs.lemmas.List.Elements.{All-more, All-nil, All-push, All
 pub use Rattle.std.proofs.lemmas.List.Elements.{Contains-append_cases, Contains-append_left, Contains-append_right}
 pub use Rattle.std.proofs.lemmas.List.Elements.{Contains-get_or, Contains-push, Contains-push_cases, filter_map-append}
 pub use Rattle.std.proofs.lemmas.List.Kept.{AllPairs-cons}
-pub use Rattle.std.proofs.lemmas.List.Sorted.{All-permutation, Contains-permutation, IsNonDecreasingBy-from_sort_by_key}
-pub use Rattle.std.proofs.lemmas.List.Sorted.{IsNonDecreasingBy-insert, IsNonDecreasingBy-push}
-pub use Rattle.std.proofs.lemmas.List.Sorted.{IsPermutation-append_left, IsPermutation-append_right, IsPermutation-cons}
-pub use Rattle.std.proofs.lemmas.List.Sorted.{IsPermutation-insert, IsPermutation-keeps, IsPermutation-map}
-pub use Rattle.std.proofs.lemmas.List.Sorted.{IsPermutation-middle, IsPermutation-pop_more, IsPermutation-refl}
-pub use Rattle.std.proofs.lemmas.List.Sorted.{IsPermutation-remove, IsPermutation-sym, IsPermutation-to_front}
-pub use Rattle.std.proofs.lemmas.List.Sorted.{IsPermutation-trans, length_permutation}
+pub use Rattle.std.proofs.lemmas.List.Sorted.{All-permutation, Contains-permutation}
+pub use Rattle.std.proofs.lemmas.List.Sorted.{IsNonDecreasingBy-from_sort_by_key, IsNonDecreasingBy-insert}
+pub use Rattle.std.proofs.lemmas.List.Sorted.{IsNonDecreasingBy-push, IsPermutation-append_left}
+pub use Rattle.std.proofs.lemmas.List.Sorted.{IsPermutation-append_right, IsPermutation-cons, IsPermutation-insert}
+pub use Rattle.std.proofs.lemmas.List.Sorted.{IsPermutation-keeps, IsPermutation-map, IsPermutation-middle}
+pub use Rattle.std.proofs.lemmas.List.Sorted.{IsPermutation-pop_more, IsPermutation-refl, IsPermutation-remove}
+pub use Rattle.std.proofs.lemmas.List.Sorted.{IsPermutation-sym, IsPermutation-to_front, IsPermutation-trans}
+pub use Rattle.std.proofs.lemmas.List.Sorted.{length_permutation}
 pub use Rattle.std.proofs.lemmas.Option.{get_or_from_slice_get, MatchOption-at_some, none-some, same_Some}
 pub use Rattle.std.proofs.lemmas.Option.{slice_get-get_or, slice_get-map, slice_get_read, slice_get_within}
 pub use Rattle.std.proofs.lemmas.Result.{IfOk-weaker}
@@ -75,8 +75,7 @@ pub use Rattle.value_match.specs.Lives.{enqueue_call, enqueue_of, enqueue_return
 pub use Rattle.value_match.specs.Lives.{is_dequeue_of, is_empty_answer, is_empty_kind, is_refused, is_refused_kind}
 pub use Rattle.value_match.specs.Lives.{IsFreeGap, IsLeastFreeGap, IsLife, IsMaybeAt, leaves_from, life_from, lives_of}
 pub use Rattle.value_match.specs.Lives.{operations_of_life, return_or_never}
-pub use Rattle.value_match.specs.Timeline.{time_of, timeline_of}
-pub use Rattle.value_match.specs.Told.{place_behind}
+pub use Rattle.value_match.specs.Timeline.{place_behind, time_of, timeline_of}
 pub use Rattle.value_match.specs.Violations.{IsClear, NoOrderViolation}
 pub use Rattle.value_match.specs.declared.life.Life.{Life}
 pub use Rattle.value_match.specs.declared.life.MatchedValue.{MatchedValue}

@@ -1,8 +1,28 @@
 -- Elements of lists at their places, and those that stand beside each other in zipped lists.
-use Rattle.linearizer.proofs.Common.{[], All-map, AllPairs, AllPairs-cons, AllZip, AllZip-left, AllZip-right, arith}
-use Rattle.linearizer.proofs.Common.{get_or_from_slice_get, IsSomeAnd, length, List, map, MatchOption-at_some, None}
-use Rattle.linearizer.proofs.Common.{one_more, Option, refl, slice_get, slice_get-get_or, slice_get_within, Some, suc}
-use Rattle.linearizer.proofs.Common.{sym, take, zero, ℕ, ◌++◌, ◌+◌, ◌<◌, ◌∷◌, ◌≡◌}
+use Rattle.linearizer.proofs.Common.{[], Adds, All, All-contains, All-head, All-map, All-tail, all_zipped_more}
+use Rattle.linearizer.proofs.Common.{AllPairs, AllPairs-cons, AllZip, AllZip-left, AllZip-long, AllZip-right, ap}
+use Rattle.linearizer.proofs.Common.{append-nil, append_assoc, ArePlacesOf, arith, Bool, cases_eq, cond, cons_option}
+use Rattle.linearizer.proofs.Common.{Contains, Contains-append_cases, Contains-append_left, Contains-append_right}
+use Rattle.linearizer.proofs.Common.{Contains-get_or, Contains-permutation, contains_at, contains_cons, drop}
+use Rattle.linearizer.proofs.Common.{elements_at, Empty, false, filter, filter_map, filter_map-append, flat_map}
+use Rattle.linearizer.proofs.Common.{get_or, get_or-insert_below, get_or-map, get_or_from_slice_get, HasPlaces}
+use Rattle.linearizer.proofs.Common.{HoldsLives, inl, inr, insert, is_empty_answer, is_empty_kind, is_refused}
+use Rattle.linearizer.proofs.Common.{is_refused_kind, IsAt, IsClear, IsLeastFreeGap, IsNonDecreasingBy}
+use Rattle.linearizer.proofs.Common.{IsNonDecreasingBy-insert, IsNoopAt, IsOrderOfPlaces, IsPermutation}
+use Rattle.linearizer.proofs.Common.{IsPermutation-cons, IsPermutation-insert, IsPermutation-keeps, IsPermutation-refl}
+use Rattle.linearizer.proofs.Common.{IsPermutation-remove, IsPermutation-sym, IsPermutation-trans, IsPositionFor}
+use Rattle.linearizer.proofs.Common.{IsSomeAnd, kept, length, length-insert, length-map, length-swap, length-take-le}
+use Rattle.linearizer.proofs.Common.{Life, List, lives_at, lives_in, lives_of, map, MatchedValue, MatchOption-at_some}
+use Rattle.linearizer.proofs.Common.{MAX_MATCHED, min, None, noop_position, Not, not_in_none, one_deeper, one_more}
+use Rattle.linearizer.proofs.Common.{Operation, OpKind, Option, option_map, pairs_at, passed_filter, place_of, PLACES}
+use Rattle.linearizer.proofs.Common.{refl, remove, return_in_range, set, slice_get, slice_get-get_or, slice_get-map}
+use Rattle.linearizer.proofs.Common.{slice_get_within, Some, subst, suc, swap, Swapped, swapped_from_swap, sym, take}
+use Rattle.linearizer.proofs.Common.{take_all, time_of, Timed, true, zero, ℕ, ⊤, ◌++◌, ◌+◌, ◌-◌, ◌<◌, ◌∙◌, ◌∷◌, ◌≡◌}
+use Rattle.linearizer.proofs.Common.{◌≤◌}
+use Rattle.std.proofs.Common.{get_or-take}
+use Rattle.history_merge.specs.declared.packed.TheConstants.{PACKED_LIMIT}
+use Rattle.std.proofs.lemmas.List.{drop_more, set_at}
+use Rattle.std.proofs.lemmas.List.Edits.{insert_end}
 
 -- a value of which this holds
 pub from_some_and : {X : Type 0} (o : Option X) (P : X → Type 0) → IsSomeAnd o P → (x : X) × (o ≡ Some x) × P x
@@ -45,3 +65,402 @@ AllPairs-map f R [] pairs = λ i j d below within. absurd (omega arith)
 AllPairs-map f R (x ∷ xs) pairs = AllPairs-cons R (f x) (map f xs)
     (All-map (R (f x)) f xs (λ k d within. pairs zero (suc k) d (omega arith) (omega arith)))
     (AllPairs-map f R xs (AllPairs-tail (λ x y. R (f x) (f y)) x xs pairs))
+
+-- ---- operations are added one by one, each at its position
+
+-- nothing is added at first
+pub adds_none : (operations : List Operation) (old : List Timed) → Adds operations [] old old
+adds_none operations old = record { added = []; after = sym (append-nil old); each_stands = tt }
+
+-- one operation more is added with its gap
+adds_more : (operations listed : List Operation) (k : ℕ) (o : Operation) (old new : List Timed) (timed : Timed)
+    → Adds operations (take k listed) old new → slice_get listed k ≡ Some o → IsNoopAt operations o timed
+    → Adds operations (take (k + 1) listed) old (new ++ timed ∷ [])
+adds_more operations listed k o old new timed adds at is = record {
+  added = adds.added ++ timed ∷ [];
+  after = ap (λ items. items ++ timed ∷ []) adds.after ∙ append_assoc old adds.added (timed ∷ []);
+  each_stands = subst (λ xs. AllZip (IsNoopAt operations) xs (adds.added ++ timed ∷ [])) (sym (take_next listed k o at))
+      (all_zipped_more (IsNoopAt operations) (take k listed) adds.added o timed adds.each_stands is);
+}
+
+-- the operation that a place of the list names
+pub record IsNamed (operations listed : List Operation) (k p : ℕ) : Type 0 where
+  pub o : Operation
+  pub is_listed : slice_get listed k ≡ Some o
+  pub at : IsAt operations p o
+
+-- a place names its operation
+pub named : (operations listed : List Operation) (places : List ℕ) (k p : ℕ) → ArePlacesOf operations places listed → slice_get places k ≡ Some p
+    → IsNamed operations listed k p
+named operations listed [] k p are at = cc
+named operations [] (q ∷ places) k p are at = cc
+named operations (o ∷ listed) (q ∷ places) zero p are at =
+    let here : slice_get operations q ≡ Some o = cc in
+    let same : q ≡ p = cc in
+    record { o = o; is_listed = refl; at = subst (λ r. slice_get operations r ≡ Some o) same here }
+named operations (o ∷ listed) (q ∷ places) (suc k) p are at =
+    let rest : map (slice_get operations) places ≡ map Some listed = cc in
+    let is = named operations listed places k p rest at in
+    record { o = is.o; is_listed = is.is_listed; at = is.at }
+
+-- where a place that is named is in range
+pub named_within : (operations read listed : List Operation) (k p : ℕ) → IsNamed operations listed k p → read ≡ operations → p < length read
+named_within operations read listed k p is reads = rw reads (slice_get_within operations p is.o is.at)
+
+-- and the operation stands there in a list that is the same
+pub named_at : (operations read listed : List Operation) (k p : ℕ) (is : IsNamed operations listed k p) → read ≡ operations → IsAt read p is.o
+named_at operations read listed k p is reads = subst (λ os. IsAt os p is.o) (sym reads) is.at
+
+-- and small enough to be packed
+pub named_few : (operations listed : List Operation) (k p : ℕ) → IsNamed operations listed k p → length operations ≤ MAX_MATCHED → p < PLACES
+named_few operations listed k p is few = omega (arith, slice_get_within operations p is.o is.at)
+
+-- and the gap before its return is too
+pub named_early : (operations listed : List Operation) (k p gap : ℕ) (is : IsNamed operations listed k p) → IsClear operations
+    → IsLeastFreeGap operations is.o gap → gap < PACKED_LIMIT
+named_early operations listed k p gap is clear free =
+    let returned = return_in_range operations is.o clear.complete (contains_at operations p is.o is.at) in
+    omega (arith, returned, free.in_window.1)
+
+stands_empty : (operations : List Operation) (lives : List Life) (o : Operation) (gap : ℕ) (k : OpKind) → is_empty_kind k ≡ true
+    → IsLeastFreeGap operations o gap → IsPositionFor operations lives o k (noop_position o gap)
+stands_empty operations lives o gap Empty is free = (gap, free, refl)
+stands_empty operations lives o gap _ is free = cc
+
+stands_refused : (operations : List Operation) (lives : List Life) (o : Operation) (k : OpKind) → is_refused_kind k ≡ true
+    → IsPositionFor operations lives o k (noop_position o o.call)
+stands_refused operations lives o (Not v) is = refl
+stands_refused operations lives o _ is = cc
+
+-- an empty dequeue at its least free gap
+pub adds_empty : (operations : List Operation) (k p gap : ℕ) (old new : List Timed) (is : IsNamed operations (filter is_empty_answer operations) k p)
+    → Adds operations (take k (filter is_empty_answer operations)) old new → IsLeastFreeGap operations is.o gap
+    → Adds operations (take (k + 1) (filter is_empty_answer operations)) old (new ++ record { time = gap; place = p } ∷ [])
+adds_empty operations k p gap old new is adds free = adds_more _ _ k is.o old new _ adds is.is_listed (record {
+  at = is.at;
+  stands = λ lives. stands_empty _ lives is.o gap _ (passed_filter is_empty_answer operations is.o
+      (contains_at (filter is_empty_answer operations) k is.o is.is_listed)).1 free;
+})
+
+-- a failed enqueue at its call
+pub adds_refused : (operations : List Operation) (k p call : ℕ) (old new : List Timed) (is : IsNamed operations (filter is_refused operations) k p)
+    → Adds operations (take k (filter is_refused operations)) old new → call ≡ is.o.call
+    → Adds operations (take (k + 1) (filter is_refused operations)) old (new ++ record { time = call; place = p } ∷ [])
+adds_refused operations k p call old new is adds calls = adds_more _ _ k is.o old new _ adds is.is_listed (record {
+  at = is.at;
+  stands = λ lives. subst (λ gap. IsPositionFor operations lives is.o is.o.kind (noop_position is.o gap)) (sym calls)
+      (stands_refused _ lives is.o _ (passed_filter is_refused operations is.o
+      (contains_at (filter is_refused operations) k is.o is.is_listed)).1);
+})
+
+-- the gap beside an answer, and how many there are of both
+pub gap_beside : (operations listed : List Operation) (gaps : List ℕ) (k gap d : ℕ) (o : Operation)
+    → AllZip (λ o c. IsLeastFreeGap operations o c) listed (map time_of gaps) → slice_get listed k ≡ Some o → gap ≡ get_or gaps k d
+    → IsLeastFreeGap operations o (time_of gap)
+gap_beside operations listed gaps k gap d o free at is =
+    let found = beside_first (λ o c. IsLeastFreeGap operations o c) listed (map time_of gaps) k o free at in
+    let within = slice_get_within (map time_of gaps) k found.0 found.1 in
+    subst (IsLeastFreeGap operations o) (sym (get_or_from_slice_get (map time_of gaps) k found.0 0 found.1)
+    ∙ get_or-map time_of gaps k d 0 (omega (arith, within, length-map gaps time_of)) ∙ ap time_of (sym is)) found.2
+
+-- all empty answers are added
+pub adds_all : (operations listed : List Operation) (places gaps : List ℕ) (n : ℕ) (old new : List Timed) → ArePlacesOf operations places listed
+    → AllZip (λ o c. IsLeastFreeGap operations o c) listed (map time_of gaps) → n ≡ min (length places) (length gaps)
+    → Adds operations (take n listed) old new → Adds operations listed old new
+adds_all operations listed places gaps n old new are free long adds =
+    let places_long : length places ≡ length listed = sym (length-map places (slice_get operations)) ∙ ap length are ∙ length-map listed Some in
+    let gaps_long = AllZip-long (λ o c. IsLeastFreeGap operations o c) listed (map time_of gaps) free in
+    subst (λ xs. Adds operations xs old new) (take_all n listed (omega (arith, length-map gaps time_of))) adds
+
+-- ---- elements with different keys stand at one place each, in any order of the list
+
+-- equal keys stand at one place
+abbrev pub OnePlaceEach : {K : Type 0} → (ℕ → K) → ℕ → Type 0
+OnePlaceEach key n = (i j : ℕ) → i < n → j < n → key i ≡ key j → i ≡ j
+
+-- also when two elements are swapped
+swapped : {K : Type 0} (f g : ℕ → K) (a b n : ℕ) → Swapped f g a b → a < n → b < n → OnePlaceEach f n → OnePlaceEach g n
+swapped f g a b n is in_a in_b one i j in_i in_j same =
+    grind (arith, cases_eq i a, cases_eq i b, cases_eq j a, cases_eq j b, is.0, is.1, is.2 i, is.2 j)
+
+-- and in any order
+pub once_in_other_order : {X K : Type 0} (key : X → K) (xs ys : List X) (d : X) → OnePlaceEach (λ k. key (get_or xs k d)) (length xs) → IsPermutation xs ys
+    → (i j : ℕ) (x y : X) → slice_get ys i ≡ Some x → slice_get ys j ≡ Some y → key x ≡ key y → i ≡ j
+once_in_other_order {X} key xs ys d once moved i j x y at_x at_y same =
+    let each = IsPermutation-keeps xs (λ l. (length l ≡ length xs) × OnePlaceEach (λ k. key (get_or l k d)) (length xs)) (refl, once)
+    (λ l a b in_a in_b one. (length-swap l a b ∙ one.0, at_swap l a b in_a in_b one)) ys moved in
+    each.1 i j (omega (arith, slice_get_within ys i x at_x, each.0)) (omega (arith, slice_get_within ys j y at_y, each.0))
+    (ap key (get_or_from_slice_get ys i x d at_x) ∙ same ∙ sym (ap key (get_or_from_slice_get ys j y d at_y)))
+  where
+    at_swap : (l : List X) (a b : ℕ) → a < length l → b < length l → (length l ≡ length xs) × OnePlaceEach (λ k. key (get_or l k d)) (length xs)
+        → OnePlaceEach (λ k. key (get_or (swap l a b) k d)) (length xs)
+    at_swap l a b in_a in_b (long, one) =
+        let is = swapped_from_swap l (swap l a b) a b d in_a in_b refl in
+        swapped (λ k. key (get_or l k d)) (λ k. key (get_or (swap l a b) k d)) a b (length xs)
+        (ap key is.0, ap key is.1, λ m not_a not_b. ap key (is.2 m not_a not_b)) (omega arith) (omega arith) one
+
+-- in a list that has the elements of one with rising keys, a key stands at one place
+pub one_place : {X : Type 0} (key : X → ℕ) (xs ys : List X) (i j : ℕ) (x y : X) → AllPairs (λ x y. key x < key y) xs → IsPermutation xs ys
+    → slice_get ys i ≡ Some x → slice_get ys j ≡ Some y → key x ≡ key y → i ≡ j
+one_place key xs ys i j x y rises moved at_x at_y same = once_in_other_order key xs ys x once moved i j x y at_x at_y same
+  where
+    once : OnePlaceEach (λ k. key (get_or xs k x)) (length xs)
+    once i j in_i in_j same = grind (arith, rises i j x, rises j i x)
+
+-- what is kept of a list with rising keys, where each keeps its key, has rising keys
+pub kept_rises : {X Y : Type 0} (h : X → Option Y) (key : X → ℕ) (key' : Y → ℕ) (xs : List X) → ((x : X) (y : Y) → h x ≡ Some y → key' y ≡ key x)
+    → AllPairs (λ x y. key x < key y) xs → AllPairs (λ x y. key' x < key' y) (filter_map h xs)
+kept_rises h key key' [] keeps rises = λ i j d below within. absurd (omega arith)
+kept_rises {X} {Y} h key key' (x ∷ xs) keeps rises = join (kept_rises h key key' xs keeps (AllPairs-tail (λ x y. key x < key y) x xs rises)) (h x) refl
+  where
+    join : AllPairs (λ x y. key' x < key' y) (filter_map h xs) → (o : Option Y) → h x ≡ o → AllPairs (λ x y. key' x < key' y) (cons_option o (filter_map h xs))
+    join more None is = more
+    join more (Some y) is = AllPairs-cons (λ x y. key' x < key' y) y (filter_map h xs) above more
+      where
+        above : All (λ z. key' y < key' z) (filter_map h xs)
+        above k d within =
+            let z = get_or (filter_map h xs) k d in
+            let from = kept h xs z (Contains-get_or (filter_map h xs) k d within) in
+            let place = place_of xs from.0 from.1 in
+            let less = pairs_at (λ x y. key x < key y) (x ∷ xs) zero (suc place.0) x from.0 rises (omega arith) refl place.1 in
+            omega (arith, keeps x y is, keeps from.0 z from.2)
+
+-- ---- the last of a list, put before others
+
+-- those from this place on, but the last, stand one place further on
+pub record IsShifted {X : Type 0} (old : List X) (place : ℕ) (now : List X) : Type 0 where
+  pub left_over : X
+  pub is : now ≡ insert (take (length old - 1) old) place left_over
+
+-- a list is the last put behind all others
+whole : {X : Type 0} (old : List X) (last : X) → 0 < length old → last ≡ get_or old (length old - 1) last
+    → old ≡ insert (take (length old - 1) old) (length old - 1) last
+whole old last some is_last =
+    let others = take (length old - 1) old in
+    let all : length old - 1 + 1 ≡ length old = omega arith in
+    let few = length-take-le (length old - 1) old (omega arith) in
+    sym (take_all (length old) old (omega arith)) ∙ ap (λ n. take n old) (sym all) ∙ one_more old (length old - 1) last (omega arith) is_last
+    ∙ sym (ap (λ n. insert others n last) (sym few) ∙ insert_end others last)
+
+-- none is shifted at first
+pub none_shifted : {X : Type 0} (old : List X) (last : X) → 0 < length old → last ≡ get_or old (length old - 1) last → IsShifted old (length old - 1) old
+none_shifted old last some is_last = record { left_over = last; is = whole old last some is_last }
+
+module _ {X : Type 0} (old now : List X) (place : ℕ) (shifted : IsShifted old place now) (inside : place < length old) where
+  -- all but the last
+  abbrev others : List X
+  others = take (length old - 1) old
+
+  few : length others ≡ length old - 1
+  few = length-take-le (length old - 1) old (omega arith)
+
+  within : place ≤ length others
+  within = omega (arith, few, inside)
+
+  pub long : length now ≡ length old
+  long = omega (arith, ap length shifted.is, length-insert others place shifted.left_over within, few, inside)
+
+  -- those before the place stay
+  pub kept : (k : ℕ) (d : X) → k < place → get_or now k d ≡ get_or old k d
+  kept k d below = ap (λ xs. get_or xs k d) shifted.is ∙ get_or-insert_below others place shifted.left_over d k below within
+      ∙ get_or-take (length old - 1) old k d (omega (arith, below, inside))
+
+  -- the last is put at the place that is left
+  put_in : (last : X) → set now place last ≡ insert others place last
+  put_in last = ap (λ xs. set xs place last) shifted.is
+      ∙ set_at (take place others) shifted.left_over (drop place others) last place (length-take-le place others within)
+
+  -- one more is shifted
+  pub one_more_shifted : (x : X) → 0 < place → ((d : X) → x ≡ get_or now (place - 1) d) → IsShifted old (place - 1) (set now place x)
+  one_more_shifted x some is = record {
+    left_over = x;
+    is = put_in x ∙ ap (λ n. insert others n x) here ∙ ap (λ xs. xs ++ x ∷ drop (place - 1 + 1) others) (one_more others (place - 1) x inner reads)
+        ∙ append_assoc (take (place - 1) others) (x ∷ []) (x ∷ drop (place - 1 + 1) others)
+        ∙ ap (λ xs. take (place - 1) others ++ x ∷ xs) (sym (drop_more others (place - 1) x inner ∙ ap (λ y. y ∷ drop (place - 1 + 1) others) (sym reads)));
+  }
+    where
+      here : place ≡ place - 1 + 1
+      here = omega (arith, some)
+
+      inner : place - 1 < length others
+      inner = omega (arith, within, some)
+
+      reads : x ≡ get_or others (place - 1) x
+      reads = is x ∙ kept (place - 1) x (omega (arith, some)) ∙ sym (get_or-take (length old - 1) old (place - 1) x (omega (arith, inside, some)))
+
+  module _ (last : X) (is_last : last ≡ get_or old (length old - 1) last) where
+    -- then all are there
+    pub put_permutes : IsPermutation old (set now place last)
+    put_permutes = rw (put_in last) (IsPermutation-trans old (last ∷ others) (insert others place last) (IsPermutation-sym (last ∷ others) old
+        (subst (IsPermutation (last ∷ others)) (sym (whole old last (omega (arith, inside)) is_last)) (IsPermutation-insert others (length old - 1) last)))
+        (IsPermutation-insert others place last))
+
+    -- and they rise, if the others do, and the last comes after none that is greater
+    pub put_rises : (number : X → ℕ) → ((k : ℕ) (d : X) → place ≤ k → k < length old - 1 → number last < number (get_or old k d))
+        → ((d : X) → 0 < place → number (get_or now (place - 1) d) ≤ number last)
+        → IsNonDecreasingBy number (take (length old - 1) old) → IsNonDecreasingBy number (set now place last)
+    put_rises number later sooner rises = rw (put_in last) (IsNonDecreasingBy-insert number others place last rises within low high)
+      where
+        low : (k : ℕ) (d : X) → k < place → number (get_or others k d) ≤ number last
+        low k d below =
+            let up = rises k (place - 1) d (omega (arith, below)) (omega (arith, below, within)) in
+            let read = ap number (get_or-take (length old - 1) old (place - 1) d (omega (arith, below, inside))) in
+            omega (arith, ap number (kept (place - 1) d (omega (arith, below))), sooner d (omega (arith, below)))
+
+        high : (k : ℕ) (d : X) → place ≤ k → k < length others → number last ≤ number (get_or others k d)
+        high k d from below =
+            let read = ap number (get_or-take (length old - 1) old k d (omega (arith, below, few))) in
+            omega (arith, later k d from (omega (arith, below, few)))
+
+-- ---- lists in which no element stands twice
+
+-- no element stands twice
+abbrev pub NoneTwice : {X : Type 0} → List X → Type 0
+NoneTwice [] = ⊤
+NoneTwice (x ∷ xs) = ¬ (Contains xs x) × NoneTwice xs
+
+-- where equal elements stand at one place, none stands twice
+pub none_twice_from_places : {X : Type 0} (xs : List X) → ((i j : ℕ) (x y : X) → slice_get xs i ≡ Some x → slice_get xs j ≡ Some y → x ≡ y → i ≡ j)
+    → NoneTwice xs
+none_twice_from_places [] one = tt
+none_twice_from_places (x ∷ xs) one = (
+  λ among. let place = place_of xs x among in let same = one zero (suc place.0) x x refl place.1 refl in absurd (omega arith),
+  none_twice_from_places xs (λ i j y z at_y at_z same. let places = one (suc i) (suc j) y z at_y at_z same in omega arith),
+)
+
+at_one_place : {X : Type 0} (xs : List X) (d : X) → NoneTwice xs → OnePlaceEach (λ k. get_or xs k d) (length xs)
+at_one_place [] d none i j in_i in_j same = absurd (omega arith)
+at_one_place (x ∷ xs) d none zero zero in_i in_j same = refl
+at_one_place (x ∷ xs) d none zero (suc j) in_i in_j same = absurd (none.0 (subst (Contains xs) (sym same) (Contains-get_or xs j d (omega arith))))
+at_one_place (x ∷ xs) d none (suc i) zero in_i in_j same = absurd (none.0 (subst (Contains xs) same (Contains-get_or xs i d (omega arith))))
+at_one_place (x ∷ xs) d none (suc i) (suc j) in_i in_j same = omega (arith, at_one_place xs d none.1 i j (omega arith) (omega arith) same)
+
+-- nor in another order of the list
+none_twice-permutation : {X : Type 0} (xs ys : List X) → IsPermutation xs ys → NoneTwice xs → NoneTwice ys
+none_twice-permutation xs [] moved none = tt
+none_twice-permutation xs (y ∷ ys) moved none =
+    none_twice_from_places (y ∷ ys) (once_in_other_order (λ x. x) xs (y ∷ ys) y (at_one_place xs y none) moved)
+
+-- lists without repetition that have the same elements are one another in another order
+pub same_elements_permute : {X : Type 0} (xs ys : List X) → NoneTwice xs → NoneTwice ys → ((x : X) → Contains xs x → Contains ys x)
+    → ((x : X) → Contains ys x → Contains xs x) → IsPermutation xs ys
+same_elements_permute [] [] none_x none_y into back = IsPermutation-refl []
+same_elements_permute [] (y ∷ ys) none_x none_y into back = absurd (not_in_none y (back y (zero, omega arith, refl)))
+same_elements_permute {X} (x ∷ xs) ys none_x none_y into back =
+    let at = into x (zero, omega arith, refl) in
+    let rest = remove ys at.0 in
+    let moved = IsPermutation-remove ys at.0 x at.1 (sym at.2) in
+    let none = none_twice-permutation ys (x ∷ rest) moved none_y in
+    let others = same_elements_permute xs rest none_x.1 none.1
+    (λ z among. behind xs rest z among none_x.0 (Contains-permutation ys (x ∷ rest) z moved (into z (one_deeper x xs z among))))
+    (λ z among. behind rest xs z among none.0
+    (back z (Contains-permutation (x ∷ rest) ys z (IsPermutation-sym ys (x ∷ rest) moved) (one_deeper x rest z among)))) in
+    IsPermutation-trans (x ∷ xs) (x ∷ rest) ys (IsPermutation-cons x xs rest others) (IsPermutation-sym ys (x ∷ rest) moved)
+  where
+    behind : (xs ys : List X) (z : X) → Contains xs z → ¬ (Contains xs x) → Contains (x ∷ ys) z → Contains ys z
+    behind xs ys z among none there = elim (contains_cons x ys z there) [
+      | inl same ↦ absurd (none (subst (Contains xs) (sym same) among))
+      | inr later ↦ later
+    ]
+
+-- in two lists that share none, none stands twice
+pub none_twice-append : {X : Type 0} (xs ys : List X) → NoneTwice xs → NoneTwice ys → ((x : X) → Contains xs x → ¬ (Contains ys x)) → NoneTwice (xs ++ ys)
+none_twice-append [] ys none_x none_y apart = none_y
+none_twice-append (x ∷ xs) ys none_x none_y apart = (
+  λ among. elim (Contains-append_cases xs ys x among) [ inl here ↦ none_x.0 here | inr there ↦ apart x (zero, omega arith, refl) there ],
+  none_twice-append xs ys none_x.1 none_y (λ z among. apart z (one_deeper x xs z among)),
+)
+
+-- in what a filter passes none stands twice
+pub none_twice-filter : {X : Type 0} (p : X → Bool) (xs : List X) → NoneTwice xs → NoneTwice (filter p xs)
+none_twice-filter p [] none = tt
+none_twice-filter {X} p (x ∷ xs) none = pick (none_twice-filter p xs none.1) (p x)
+  where
+    pick : NoneTwice (filter p xs) → (b : Bool) → NoneTwice (cond b (x ∷ filter p xs) (filter p xs))
+    pick rest true = (λ among. none.0 (passed_filter p xs x among).0, rest)
+    pick rest false = rest
+
+-- the elements of the pieces that a list gives
+pub from_flat_map : {X Y : Type 0} (f : X → List Y) (xs : List X) (y : Y) → Contains (flat_map f xs) y → (x : X) × Contains xs x × Contains (f x) y
+from_flat_map f [] y among = absurd (not_in_none y among)
+from_flat_map f (x ∷ xs) y among = elim (Contains-append_cases (f x) (flat_map f xs) y among) [
+  | inl here ↦ (x, (zero, omega arith, refl), here)
+  | inr there ↦ let more = from_flat_map f xs y there in (more.0, one_deeper x xs more.0 more.1, more.2)
+]
+
+-- what is made of an element is made of all
+pub into_flat_map : {X Y : Type 0} (f : X → List Y) (xs : List X) (x : X) (y : Y) → Contains xs x → Contains (f x) y → Contains (flat_map f xs) y
+into_flat_map f [] x y among at = absurd (not_in_none x among)
+into_flat_map f (z ∷ xs) x y among at = elim (contains_cons z xs x among) [
+  | inl same ↦ Contains-append_left (f z) (flat_map f xs) y (subst (λ w. Contains (f w) y) (sym same) at)
+  | inr later ↦ Contains-append_right (f z) (flat_map f xs) y (into_flat_map f xs x y later at)
+]
+
+-- ---- the values at the places of their order
+
+-- the elements at one place more
+pub elements_push : {X : Type 0} (xs : List X) (places : List ℕ) (p : ℕ) (x : X) → slice_get xs p ≡ Some x
+    → elements_at xs (places ++ p ∷ []) ≡ elements_at xs places ++ x ∷ []
+elements_push xs places p x at = filter_map-append (slice_get xs) places (p ∷ []) ∙ ap (λ o. elements_at xs places ++ cons_option o []) at
+
+-- what becomes of the elements at places
+pub elements_mapped : {X Y : Type 0} (f : X → Y) (xs : List X) (places : List ℕ) → elements_at (map f xs) places ≡ map f (elements_at xs places)
+elements_mapped f xs [] = refl
+elements_mapped f xs (p ∷ places) = grind (arith, slice_get-map f xs p, elements_mapped f xs places)
+
+-- places in range give one element each
+first_of : {X : Type 0} (xs : List X) (p : ℕ) (places : List ℕ) → p < length xs
+    → (x : X) × (slice_get xs p ≡ Some x) × (elements_at xs (p ∷ places) ≡ x ∷ elements_at xs places)
+first_of xs p places below =
+    let x = at_place xs p below in (x.0, x.1, ap (λ o. cons_option o (elements_at xs places)) x.1)
+
+-- as many elements as places
+pub elements_long : {X : Type 0} (xs : List X) (places : List ℕ) → All (λ p. p < length xs) places → length (elements_at xs places) ≡ length places
+elements_long xs [] within = refl
+elements_long xs (p ∷ places) within =
+    let here = first_of xs p places (All-head (λ p. p < length xs) p places within) in
+    let more = elements_long xs places (All-tail (λ p. p < length xs) p places within) in
+    ap length here.2 ∙ ap suc more
+
+-- the element at one of the places
+pub element_at : {X : Type 0} (xs : List X) (places : List ℕ) (i p : ℕ) → All (λ p. p < length xs) places → slice_get places i ≡ Some p
+    → slice_get (elements_at xs places) i ≡ slice_get xs p
+element_at xs [] i p within at = cc
+element_at xs (q ∷ places) zero p within at =
+    let here = first_of xs q places (All-head (λ p. p < length xs) q places within) in
+    let same : q ≡ p = cc in
+    ap (λ ys. slice_get ys 0) here.2 ∙ sym here.1 ∙ ap (slice_get xs) same
+element_at xs (q ∷ places) (suc i) p within at =
+    let here = first_of xs q places (All-head (λ p. p < length xs) q places within) in
+    ap (λ ys. slice_get ys (suc i)) here.2 ∙ element_at xs places i p (All-tail (λ p. p < length xs) q places within) at
+
+-- the lives of the values at these places
+pub lives_are : (operations : List Operation) (values : List MatchedValue) (places : List ℕ) → HoldsLives operations values
+    → lives_in (elements_at values places) ≡ lives_at operations places
+lives_are operations values places holds = sym (elements_mapped (λ m. m.life) values places) ∙ ap (λ lives. elements_at lives places) holds.0
+
+-- as many lives as places
+pub lives_long : (operations : List Operation) (places : List ℕ) → IsOrderOfPlaces operations places → length (lives_at operations places) ≡ length places
+lives_long operations places order = elements_long (lives_of operations) places order.within
+
+-- the value at a place of the order
+pub record IsValueAt (operations : List Operation) (values : List MatchedValue) (places : List ℕ) (rank place : ℕ) : Type 0 where
+  pub value : MatchedValue
+  pub is_at : slice_get values place ≡ Some value
+  pub has_rank : slice_get (lives_at operations places) rank ≡ Some value.life
+  pub has_places : HasPlaces operations value
+
+-- the value at one of the places
+pub value_at : (operations : List Operation) (values : List MatchedValue) (places : List ℕ) (rank place : ℕ) → HoldsLives operations values
+    → IsOrderOfPlaces operations places → slice_get places rank ≡ Some place → IsValueAt operations values places rank place
+value_at operations values places rank place holds order at =
+    let below = All-contains (λ p. p < length (lives_of operations)) places place order.within (contains_at places rank place at) in
+    let m = at_place values place (omega (arith, below, ap length holds.0, length-map values (λ m. m.life))) in
+    record {
+      value = m.0;
+      is_at = m.1;
+      has_rank =
+          element_at (lives_of operations) places rank place order.within at ∙ ap (λ lives. slice_get lives place) (sym holds.0)
+          ∙ slice_get-map (λ m. m.life) values place ∙ ap (option_map (λ m. m.life)) m.1;
+      has_places = All-contains (HasPlaces operations) values m.0 holds.1 (contains_at values place m.0 m.1);
+    }

@@ -1,23 +1,22 @@
 -- The operations of the values are listed at their positions, and three lists that rise are merged by the positions of theirs.
-use Rattle.linearizer.proofs.Common.{[], AllZip, ap, append-nil, append_assoc, AreEnqueueGaps, arith, cons_option}
-use Rattle.linearizer.proofs.Common.{contains_at, dequeue_gap, dequeue_of, dequeue_position, dequeues_of, did_dequeue}
-use Rattle.linearizer.proofs.Common.{earlier_dequeues, enqueue_gap, enqueue_of, enqueues, enqueues_of}
-use Rattle.linearizer.proofs.Common.{filter_map-append, fold, gaps_in, get_or, get_or_from_slice_get}
-use Rattle.linearizer.proofs.Common.{greatest_leaves_from, HasPlaces, HoldsLives, HoldsUpTo, HoldsValues}
-use Rattle.linearizer.proofs.Common.{if◌then◌else◌, IsAt, IsLife, IsMaybeAt, IsOrderOfPlaces, IsPermutation}
-use Rattle.linearizer.proofs.Common.{IsPermutation-append_left, IsPermutation-cons, IsPermutation-middle}
-use Rattle.linearizer.proofs.Common.{IsPermutation-refl, IsPermutation-sym, IsPermutation-to_front}
-use Rattle.linearizer.proofs.Common.{IsPermutation-trans, IsPlaced, IsPositionFor, IsValueOrder, leaves_from, length}
-use Rattle.linearizer.proofs.Common.{Life, List, lives_at, map, map-append, MatchedValue, max, nat_lt, None, Operation}
-use Rattle.linearizer.proofs.Common.{Option, option_map, other_dequeues, Placed, places_in, position_of, refl}
-use Rattle.linearizer.proofs.Common.{slice_get, slice_get-map, slice_get_within, Some, subst, sym, take, take_all}
-use Rattle.linearizer.proofs.Common.{Timed, ℕ, ◌++◌, ◌+◌, ◌<◌, ◌∙◌, ◌∷◌, ◌≡◌, ◌≤◌, All-nil, All-push, Bool, cases_lt}
-use Rattle.linearizer.proofs.Common.{enqueue_position, false, inl, inr, IsAhead, IsDequeueFrom, IsEnqueueFrom, IsMerge}
-use Rattle.linearizer.proofs.Common.{IsMergedUpTo, IsNoopFrom, IsTrue, IsValueFrom, MatchOption, NeverFall, NoneBelow}
-use Rattle.linearizer.proofs.Common.{one_at, pairs_at, Position, StandsBefore, true, ◌↔◌}
-use Rattle.linearizer.proofs.Elements.{take_next, zip_joined, at_place}
-use Rattle.linearizer.proofs.OrderedPlaces.{IsValueAt, lives_long, value_at}
-use Rattle.linearizer.proofs.Opposites.{is_life}
+use Rattle.linearizer.proofs.Common.{[], All-nil, All-push, AllZip, ap, append-nil, append_assoc, AreEnqueueGaps}
+use Rattle.linearizer.proofs.Common.{arith, Bool, cases_lt, cons_option, contains_at, dequeue_gap, dequeue_of}
+use Rattle.linearizer.proofs.Common.{dequeue_position, dequeues_of, did_dequeue, earlier_dequeues, enqueue_gap}
+use Rattle.linearizer.proofs.Common.{enqueue_of, enqueue_position, enqueues, enqueues_of, false, filter_map-append}
+use Rattle.linearizer.proofs.Common.{fold, gaps_in, get_or, get_or_from_slice_get, greatest_leaves_from, HasPlaces}
+use Rattle.linearizer.proofs.Common.{HoldsLives, HoldsUpTo, HoldsValues, if◌then◌else◌, inl, inr, IsAhead, IsAt}
+use Rattle.linearizer.proofs.Common.{IsDequeueFrom, IsEnqueueFrom, IsLife, IsMaybeAt, IsMerge, IsMergedUpTo}
+use Rattle.linearizer.proofs.Common.{IsNoopFrom, IsOrderOfPlaces, IsPermutation, IsPermutation-append_left}
+use Rattle.linearizer.proofs.Common.{IsPermutation-cons, IsPermutation-middle, IsPermutation-refl, IsPermutation-sym}
+use Rattle.linearizer.proofs.Common.{IsPermutation-to_front, IsPermutation-trans, IsPlaced, IsPositionFor, IsTrue}
+use Rattle.linearizer.proofs.Common.{IsValueFrom, IsValueOrder, leaves_from, length, Life, List, lives_at, map}
+use Rattle.linearizer.proofs.Common.{map-append, MatchedValue, MatchOption, max, nat_lt, NeverFall, None, NoneBelow}
+use Rattle.linearizer.proofs.Common.{one_at, Operation, Option, option_map, other_dequeues, pairs_at, Placed}
+use Rattle.linearizer.proofs.Common.{places_in, Position, position_of, refl, slice_get, slice_get-map}
+use Rattle.linearizer.proofs.Common.{slice_get_within, Some, StandsBefore, subst, sym, take, take_all, Timed, true, ℕ}
+use Rattle.linearizer.proofs.Common.{◌++◌, ◌+◌, ◌<◌, ◌↔◌, ◌∙◌, ◌∷◌, ◌≡◌, ◌≤◌}
+use Rattle.linearizer.proofs.Elements.{at_place, IsValueAt, lives_long, take_next, value_at, zip_joined}
+use Rattle.linearizer.proofs.ValueOrder.{is_life}
 use Rattle.std.proofs.lemmas.List.Quantifiers.{all_pairs_push}
 use Rattle.linearizer.specs.declared.position.Position.{Position as Stored}
 use Rattle.linearizer.proofs.Positions.{are_gaps}

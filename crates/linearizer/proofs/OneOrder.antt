@@ -1,17 +1,122 @@
 -- There is one chosen order, and one only.
-use Rattle.linearizer.proofs.Common.{[], All, All-cons, All-head, All-nil, All-permutation, All-tail, AllPairs}
-use Rattle.linearizer.proofs.Common.{AllPairs-cons, AllZip, ap, AreComplete, AreLeastFreeGaps, arith, Contains}
-use Rattle.linearizer.proofs.Common.{Contains-permutation, contains_at, contains_cons, get_or, inl, inr, IsChosenOrder}
-use Rattle.linearizer.proofs.Common.{IsClear, IsPermutation, IsPermutation-cons, IsPermutation-map}
-use Rattle.linearizer.proofs.Common.{IsPermutation-middle, IsPermutation-refl, IsPermutation-sym, IsPermutation-trans}
-use Rattle.linearizer.proofs.Common.{IsPositionOf, IsValueOrder, length, Life, List, map, NoOrderViolation}
-use Rattle.linearizer.proofs.Common.{not_in_none, one_deeper, Operation, pairs_at, Position, refl, slice_get-get_or}
-use Rattle.linearizer.proofs.Common.{StandsBefore, subst, suc, sym, zero, ℕ, ◌<◌, ◌∷◌, ◌≡◌, ◌⊎◌}
-use Rattle.linearizer.proofs.Elements.{AllPairs-map, beside_first, beside_second}
-use Rattle.linearizer.proofs.Keys.{one_place, AllPairs-tail}
-use Rattle.linearizer.proofs.Runs.{not_both, through}
-use Rattle.linearizer.proofs.ValueOrder.{values_have_order, values_have_one_order}
-use Rattle.linearizer.proofs.EachPosition.{has_position, one_position, one_operation}
+use Rattle.linearizer.proofs.Common.{[], Adds, All, All-cons, All-head, All-nil, All-permutation, All-tail, AllPairs}
+use Rattle.linearizer.proofs.Common.{AllPairs-cons, AllZip, ap, append_assoc, ap₂, AreComplete, AreLeastFreeGaps}
+use Rattle.linearizer.proofs.Common.{ArePlacesOf, arith, Bool, call_before_return, cond, cons_option, Contains}
+use Rattle.linearizer.proofs.Common.{Contains-permutation, contains_at, contains_cons, Deq, dequeue_gap, dequeue_of}
+use Rattle.linearizer.proofs.Common.{dequeue_position, dequeues_of, Did, did_dequeue, Empty, Enq, enqueue_gap}
+use Rattle.linearizer.proofs.Common.{enqueue_of, enqueue_position, enqueues_of, false, filter, flat_map, get_or}
+use Rattle.linearizer.proofs.Common.{get_or-map, get_or_from_slice_get, HoldsNoops, inl, inr, is_empty_answer}
+use Rattle.linearizer.proofs.Common.{is_empty_kind, is_refused, is_refused_kind, IsAccepted, IsChosenOrder, IsClear}
+use Rattle.linearizer.proofs.Common.{IsLegalOrder, IsLife, IsMerge, IsNonDecreasingBy, IsNoopAt, IsPermutation}
+use Rattle.linearizer.proofs.Common.{IsPermutation-append_left, IsPermutation-append_right, IsPermutation-cons}
+use Rattle.linearizer.proofs.Common.{IsPermutation-map, IsPermutation-middle, IsPermutation-refl, IsPermutation-sym}
+use Rattle.linearizer.proofs.Common.{IsPermutation-trans, IsPlaced, IsPositionFor, IsPositionOf, IsValueOrder}
+use Rattle.linearizer.proofs.Common.{IsWholeOrder, length, length-map, Life, List, map, MAX_MATCHED, NeverFall}
+use Rattle.linearizer.proofs.Common.{no_enqueue, None, noop_answers, noop_at, NoOrderViolation, Not, not_in_none}
+use Rattle.linearizer.proofs.Common.{one_deeper, Operation, operation_at, operations_of_life, OpKind, Option}
+use Rattle.linearizer.proofs.Common.{option_to_list, pairs_at, passed_filter, passes_filter, place_of, Placed, PLACES}
+use Rattle.linearizer.proofs.Common.{Position, position_of, Precedes, refl, slice_get, slice_get-get_or}
+use Rattle.linearizer.proofs.Common.{slice_get_within, Some, StandsBefore, subst, suc, sym, Timed, true, zero, ℕ, ◌*◌}
+use Rattle.linearizer.proofs.Common.{◌++◌, ◌+◌, ◌<◌, ◌∙◌, ◌∷◌, ◌≡◌, ◌≤◌, ◌⊎◌}
+use Rattle.linearizer.proofs.Positions.{are_gaps, dequeue_gap_in_window, dequeued_first, enqueue_gap_in_window}
+use Rattle.linearizer.proofs.Positions.{has_position, HoldsValue, IsAround, IsDequeued, items_of, life_of_dequeue}
+use Rattle.linearizer.proofs.Positions.{life_of_enqueue, one_operation, one_position, one_value}
+use Rattle.linearizer.proofs.Elements.{AllPairs-map, AllPairs-tail, at_place, beside_first, beside_second}
+use Rattle.linearizer.proofs.Elements.{from_flat_map, into_flat_map, none_twice-append, none_twice-filter}
+use Rattle.linearizer.proofs.Elements.{none_twice_from_places, NoneTwice, one_place, same_elements_permute, zip_joined}
+use Rattle.linearizer.proofs.ValueOrder.{is_life, is_life_at, stands_in_order, values_have_one_order}
+use Rattle.linearizer.proofs.ValueOrder.{values_have_order}
+use Rattle.linearizer.proofs.Runs.{not_both, run_is_accepted, through}
+use Rattle.linearizer.proofs.Times.{IsOf, not_both_kinds, one_life_of_operation, one_place_of_life}
+
+-- ---- the chosen order is legal
+
+-- a position lies in the window of its operation, or just before
+in_window_for : (operations : List Operation) (lives : List Life) → IsClear operations → NoOrderViolation operations → IsValueOrder operations lives
+    → (o : Operation) → Contains operations o → (k : OpKind) → o.kind ≡ k → (p : Position) → IsPositionFor operations lives o k p → IsAround o p.gap
+in_window_for operations lives clear none order o among (Enq v) is p stands =
+    let window = enqueue_gap_in_window operations lives clear none order stands.0 stands.1 stands.2 in
+    subst (λ x. IsAround x p.gap) stands.3 (subst (λ c. IsAround (enqueue_of stands.1) c) (sym (ap (λ p. p.gap) stands.4)) window)
+in_window_for operations lives clear none order o among (Deq v) is p stands =
+    let window = dequeue_gap_in_window operations lives clear none order stands.0 stands.1 o stands.2 stands.3 in
+    let gap : p.gap ≡ dequeue_gap lives stands.0 = ap (λ p. p.gap) stands.4 in
+    (omega (arith, window.0), omega (arith, window.1))
+in_window_for operations lives clear none order o among Empty is p stands =
+    let gap : p.gap ≡ stands.0 = ap (λ p. p.gap) stands.2 in
+    (omega (arith, stands.1.in_window.0), omega (arith, stands.1.in_window.1))
+in_window_for operations lives clear none order o among (Not v) is p stands =
+    let less = call_before_return operations o clear.complete among (no_enqueue o (Not v) is refl) in
+    let gaps : p.gap ≡ o.call = ap (λ p. p.gap) stands in
+    (omega arith, omega arith)
+
+module _ (operations order : List Operation) (clear : IsClear operations) (none : NoOrderViolation operations) (chosen : IsChosenOrder operations order) where
+  abbrev lives : List Life
+  lives = chosen.lives
+
+  abbrev values : IsValueOrder operations lives
+  values = chosen.values_in_order
+
+  is_operation : (o : Operation) → Contains order o → Contains operations o
+  is_operation o among = Contains-permutation order operations o (IsPermutation-sym operations order chosen.holds_each_once) among
+
+  position_beside : (o : Operation) → Contains operations o → (p : Position) × Contains chosen.positions p × IsPositionOf operations lives o p
+  position_beside o among =
+      let place = place_of order o (Contains-permutation operations order o chosen.holds_each_once among) in
+      let found = beside_first (λ o position. IsPositionOf operations lives o position) order chosen.positions place.0 o chosen.each_has_position place.1 in
+      (found.0, contains_at chosen.positions place.0 found.0 found.1, found.2)
+
+  each_enqueue_stands : (i : ℕ) → i < length lives → Contains chosen.positions (enqueue_position lives i)
+  each_enqueue_stands i within =
+      let x = at_place lives i within in
+      let is = is_life_at operations lives i x.0 values x.1 in
+      let found = position_beside (enqueue_of x.0) is.1.0 in
+      subst (Contains chosen.positions) (one_position operations lives clear values (enqueue_of x.0) (Enq is.0) found.0 (enqueue_position lives i)
+      (subst (λ k. IsPositionFor operations lives (enqueue_of x.0) k found.0) is.1.1 found.2) (i, x.0, x.1, refl, refl)) found.1
+
+  each_dequeue_stands : (i : ℕ) → i < length lives → IsDequeued lives i → Contains chosen.positions (dequeue_position lives i)
+  each_dequeue_stands i within (life, d, at, dequeues) =
+      let is = is_life_at operations lives i life values at in
+      let did = did_dequeue operations life d is dequeues in
+      let found = position_beside d did.0 in
+      subst (Contains chosen.positions) (one_position operations lives clear values d (Deq is.0) found.0 (dequeue_position lives i)
+      (subst (λ k. IsPositionFor operations lives d k found.0) did.1 found.2) (i, life, at, dequeues, refl)) found.1
+
+  accepted : IsAccepted [] (map (λ o. o.kind) order)
+  accepted =
+      run_is_accepted (length lives) (enqueue_gap lives) (dequeue_gap lives) (are_gaps lives) (HoldsValue lives)
+      (one_value lives)
+      (IsDequeued lives) (dequeued_first operations lives clear none values)
+      (map (λ o. o.kind) order) chosen.positions
+      (items_of operations lives clear values order chosen.positions is_operation chosen.each_has_position)
+      chosen.positions_rise each_enqueue_stands each_dequeue_stands
+
+  extends : (i j : ℕ) (x y : Operation) → i < j → slice_get order i ≡ Some x → slice_get order j ≡ Some y → ¬ (Precedes y x)
+  extends i j x y below at_x at_y precedes =
+      let p = beside_first (λ o position. IsPositionOf operations lives o position) order chosen.positions i x chosen.each_has_position at_x in
+      let r = beside_first (λ o position. IsPositionOf operations lives o position) order chosen.positions j y chosen.each_has_position at_y in
+      let before = pairs_at StandsBefore chosen.positions i j p.0 r.0 chosen.positions_rise below p.1 r.1 in
+      let window_x = in_window_for operations lives clear none values x (is_operation x (contains_at order i x at_x)) x.kind refl p.0 p.2 in
+      let window_y = in_window_for operations lives clear none values y (is_operation y (contains_at order j y at_y)) y.kind refl r.0 r.2 in
+      let gaps : p.0.gap ≤ r.0.gap = gaps_rise_with p.0 r.0 before in
+      omega (arith, window_x.0, window_y.1)
+    where
+      gaps_rise_with : (p r : Position) → StandsBefore p r → p.gap ≤ r.gap
+      gaps_rise_with p r before = grind arith
+
+  legal : IsLegalOrder [] operations order
+  legal = record {
+    holds_each_once = chosen.holds_each_once;
+    extends_precedence = λ i j d below within. extends i j (get_or order i d) (get_or order j d) below (slice_get-get_or order i d (omega arith))
+        (slice_get-get_or order j d within);
+    is_accepted = accepted;
+  }
+
+-- the chosen order is legal
+pub chosen_order_is_legal : (operations order : List Operation) → IsClear operations → NoOrderViolation operations → IsChosenOrder operations order
+    → IsLegalOrder [] operations order
+chosen_order_is_legal operations order clear none chosen = legal operations order clear none chosen
+
+-- ---- there is one chosen order, and one only
 
 -- of two positions one stands before the other, or they are one
 compared : (p q : Position) → StandsBefore p q ⊎ ((p ≡ q) ⊎ StandsBefore q p)
@@ -171,3 +276,260 @@ chosen_order_is_one operations xs ys clear first second =
         let same_p = one_position operations second.lives clear second.values_in_order x x.kind p' p at_p' at_p in
         let same_q = one_position operations second.lives clear second.values_in_order y y.kind q' q at_q' at_q in
         not_both p q before (subst (λ r. StandsBefore q r) same_p (subst (λ r. StandsBefore r p') same_q after))
+
+-- ---- each operation is an enqueue or the dequeue of one value, an empty dequeue, or a failed enqueue
+
+-- the enqueues, and then the dequeues
+by_class : (lives : List Life) → IsPermutation (flat_map operations_of_life lives) (enqueues_of lives ++ dequeues_of lives)
+by_class [] = IsPermutation-refl []
+by_class (life ∷ lives) = IsPermutation-cons _ _ _ (step (dequeue_of life) (by_class lives))
+  where
+    step : (o : Option Operation) → IsPermutation (flat_map operations_of_life lives) (enqueues_of lives ++ dequeues_of lives)
+        → IsPermutation (option_to_list o ++ flat_map operations_of_life lives) (enqueues_of lives ++ cons_option o (dequeues_of lives))
+    step None more = more
+    step (Some d) more = IsPermutation-trans _ _ _ (IsPermutation-cons d _ _ more) (IsPermutation-sym _ _
+        (IsPermutation-middle _ d _))
+
+abbrev moves_kind : OpKind → Bool
+moves_kind (Enq v) = true
+moves_kind (Deq v) = true
+moves_kind Empty = false
+moves_kind (Not v) = false
+
+-- whether the operation enqueued a value or dequeued one
+abbrev moves_value : Operation → Bool
+moves_value o = moves_kind o.kind
+
+split_by_kind : (operations : List Operation) → IsPermutation operations
+    (filter moves_value operations ++ filter is_empty_answer operations ++ filter is_refused operations)
+split_by_kind [] = IsPermutation-refl []
+split_by_kind (o ∷ operations) =
+    step (filter moves_value operations) (filter is_empty_answer operations) (filter is_refused operations) (split_by_kind operations) o.kind
+  where
+    step : (xs ys zs : List Operation) → IsPermutation operations (xs ++ ys ++ zs) → (k : OpKind)
+        → IsPermutation (o ∷ operations) (cond (moves_kind k) (o ∷ xs) xs ++ cond (is_empty_kind k) (o ∷ ys) ys ++ cond (is_refused_kind k) (o ∷ zs) zs)
+    step xs ys zs moved (Enq v) = IsPermutation-cons o operations (xs ++ ys ++ zs) moved
+    step xs ys zs moved (Deq v) = IsPermutation-cons o operations (xs ++ ys ++ zs) moved
+    step xs ys zs moved Empty = IsPermutation-trans _ _ _ (IsPermutation-cons o _ _ moved)
+        (IsPermutation-append_left zs _ _ (IsPermutation-sym _ _ (IsPermutation-middle xs o ys)))
+    step xs ys zs moved (Not v) = IsPermutation-trans _ _ _ (IsPermutation-cons o _ _ moved)
+        (IsPermutation-sym _ _ (IsPermutation-middle _ o zs))
+
+none_twice_by_calls : (operations : List Operation) → AllPairs (λ x y. x.call < y.call) operations → NoneTwice operations
+none_twice_by_calls operations rise =
+    none_twice_from_places operations (λ i j x y at_x at_y same. one_place (λ o. o.call) operations operations i j x y rise
+    (IsPermutation-refl operations) at_x at_y (ap (λ o. o.call) same))
+
+in_option : {X : Type 0} (o : Option X) (x : X) → Contains (option_to_list o) x → o ≡ Some x
+in_option None x among = absurd (not_in_none x among)
+in_option (Some y) x among = elim (contains_cons y [] x among) [ inl same ↦ ap (λ x. Some x) same | inr nowhere ↦ absurd (not_in_none x nowhere) ]
+
+-- the operations in a life are those of it
+of_life : (life : Life) (o : Operation) → Contains (operations_of_life life) o → IsOf life o
+of_life life o among = elim (contains_cons (enqueue_of life) (option_to_list (dequeue_of life)) o among)
+    [ inl enqueues ↦ inl enqueues | inr there ↦ inr (in_option (dequeue_of life) o there) ]
+
+in_life : (life : Life) (o : Operation) → IsOf life o → Contains (operations_of_life life) o
+in_life life o (inl enqueues) = (zero, omega arith, enqueues)
+in_life life o (inr dequeues) = one_deeper (enqueue_of life) (option_to_list (dequeue_of life)) o
+    (subst (λ d. Contains (option_to_list d) o) (sym dequeues) (zero, omega arith, refl))
+
+module _ (operations : List Operation) (clear : IsClear operations) where
+  none_twice_in_life : (life : Life) → IsLife operations life → NoneTwice (operations_of_life life)
+  none_twice_in_life life is = (
+    λ among. absurd (not_both_kinds operations life life (enqueue_of life) is is refl (in_option (dequeue_of life) (enqueue_of life) among)),
+    alone (dequeue_of life),
+  )
+    where
+      alone : (dequeue : Option Operation) → NoneTwice (option_to_list dequeue)
+      alone None = tt
+      alone (Some d) = (not_in_none d, tt)
+
+  pub none_twice_in_lives : (lives : List Life) → NoneTwice lives → ((x : Life) → Contains lives x → IsLife operations x)
+      → NoneTwice (flat_map operations_of_life lives)
+  none_twice_in_lives [] none are = tt
+  none_twice_in_lives (life ∷ lives) none are =
+      none_twice-append (operations_of_life life) (flat_map operations_of_life lives) (none_twice_in_life life (are life (zero, omega arith, refl)))
+      (none_twice_in_lives lives none.1 (λ x among. are x (one_deeper life lives x among)))
+      (λ o here there. shared o (of_life life o here) (from_flat_map operations_of_life lives o there))
+    where
+      shared : (o : Operation) → IsOf life o → (x : Life) × Contains lives x × Contains (operations_of_life x) o → ⊥
+      shared o of (x, among, at) =
+          let one = one_life_of_operation operations life x o clear (are life (zero, omega arith, refl)) (are x (one_deeper life lives x among)) of
+          (of_life x o at) in
+          none.0 (subst (Contains lives) (sym one) among)
+
+  module _ (lives : List Life) (order : IsValueOrder operations lives) where
+    into_lives : (o : Operation) → Contains (filter moves_value operations) o → Contains (flat_map operations_of_life lives) o
+    into_lives o among = let passed = passed_filter moves_value operations o among in by_kind passed.0 o.kind refl passed.1
+      where
+        stands : (life : Life) → IsLife operations life → IsOf life o → Contains (flat_map operations_of_life lives) o
+        stands life is of = into_flat_map operations_of_life lives life o (stands_in_order operations lives clear order life is) (in_life life o of)
+
+        by_kind : Contains operations o → (k : OpKind) → o.kind ≡ k → moves_kind k ≡ true → Contains (flat_map operations_of_life lives) o
+        by_kind in_o (Enq v) is moves = let life = life_of_enqueue operations o v (in_o, is) in stands life.0 life.1 (inl life.2)
+        by_kind in_o (Deq v) is moves = let life = life_of_dequeue operations o v clear (in_o, is) in stands life.0 life.1 (inr life.2)
+        by_kind in_o _ is moves = cc
+
+    from_lives : (o : Operation) → Contains (flat_map operations_of_life lives) o → Contains (filter moves_value operations) o
+    from_lives o among = let found = from_flat_map operations_of_life lives o among in
+        moved found.0 (is_life operations lives order found.0 found.1) (of_life found.0 o found.2)
+      where
+        moved : (life : Life) → IsLife operations life → IsOf life o → Contains (filter moves_value operations) o
+        moved life is (inl enqueues) =
+            let did : Did operations o (Enq is.0) = subst (λ x. Did operations x (Enq is.0)) enqueues is.1 in
+            passes_filter moves_value operations o (ap moves_kind did.1) did.0
+        moved life is (inr dequeues) =
+            let did = did_dequeue operations life o is dequeues in
+            passes_filter moves_value operations o (ap moves_kind did.1) did.0
+
+    -- the operations by kind
+    pub each_once : AllPairs (λ x y. x.call < y.call) operations → IsPermutation operations
+        (enqueues_of lives ++ dequeues_of lives ++ filter is_empty_answer operations ++ filter is_refused operations)
+    each_once rise =
+        let here = filter moves_value operations in
+        let by_value = flat_map operations_of_life lives in
+        let there = enqueues_of lives ++ dequeues_of lives in
+        let lives_once = none_twice_from_places lives (λ i j x y at_x at_y same. one_place_of_life operations lives i j x y clear order at_x at_y same) in
+        let moved = same_elements_permute here by_value (none_twice-filter moves_value operations (none_twice_by_calls operations rise))
+        (none_twice_in_lives lives lives_once (is_life operations lives order)) into_lives from_lives in
+        IsPermutation-trans operations (here ++ filter is_empty_answer operations ++ filter is_refused operations)
+        (there ++ filter is_empty_answer operations ++ filter is_refused operations) (split_by_kind operations)
+        (IsPermutation-append_left (filter is_refused operations) (here ++ filter is_empty_answer operations) (there ++ filter is_empty_answer operations)
+        (IsPermutation-append_left (filter is_empty_answer operations) here there (IsPermutation-trans here by_value there moved (by_class lives))))
+
+-- ---- what was placed and sorted gives the places of the chosen order, which is legal
+
+module _ (operations : List Operation) (lives : List Life) where
+  abbrev operation_of : Placed → Operation
+  operation_of p = operation_at operations p.operation
+
+  -- the place is that of its operation, and right
+  abbrev IsRight : Placed → Type 0
+  IsRight p = IsPlaced operations lives (operation_of p) p
+
+  -- the operations listed are those of the places, and each place is right
+  listed_are : (listed : List Operation) (placed : List Placed) → AllZip (IsPlaced operations lives) listed placed
+      → (listed ≡ map operation_of placed) × All IsRight placed
+  listed_are [] [] zip = (refl, All-nil IsRight)
+  listed_are [] (p ∷ placed) zip = absurd zip
+  listed_are (o ∷ listed) [] zip = absurd zip
+  listed_are (o ∷ listed) (p ∷ placed) zip =
+      let rest = listed_are listed placed zip.1 in
+      let same : o ≡ operation_of p = sym (get_or_from_slice_get operations p.operation o _ zip.0.0) in
+      (ap₂ (λ x xs. x ∷ xs) same rest.0, All-cons IsRight p placed (subst (λ x. IsPlaced operations lives x p) same zip.0) rest.1)
+
+  -- so they name the operations, and these have their positions
+  right_places : (placed : List Placed) → All IsRight placed → ArePlacesOf operations (map (λ p. p.operation) placed) (map operation_of placed)
+      × AllZip (λ o position. IsPositionOf operations lives o position) (map operation_of placed) (map (λ p. position_of p.position) placed)
+  right_places [] all = (refl, tt)
+  right_places (p ∷ placed) all =
+      let rest = right_places placed (All-tail IsRight p placed all) in
+      let here = All-head IsRight p placed all in
+      (ap₂ (λ x xs. x ∷ xs) here.0 rest.0, (here.1, rest.1))
+
+-- all operations stand at their positions, and are merged by them
+pub chosen_and_legal : (operations : List Operation) (noops : List Placed) (places : List ℕ) → IsClear operations → NoOrderViolation operations
+    → HoldsNoops operations noops → IsMerge operations noops places → IsWholeOrder operations places
+chosen_and_legal operations noops places clear none noop (values, held, sorted) =
+    let lives = held.lives in
+    let of_values = enqueues_of lives ++ dequeues_of lives in
+    let of_noops = filter is_empty_answer operations ++ filter is_refused operations in
+    let listed = held.listed ++ of_noops in
+    let all = values ++ noop.added in
+    let order = map (operation_of operations lives) sorted.sorted in
+    let once = IsPermutation-trans operations (of_values ++ of_noops) listed
+    (subst (IsPermutation operations) (append_assoc of_values (filter is_empty_answer operations) (filter is_refused operations))
+    (each_once operations clear lives held.in_order (operations_rise operations clear.complete)))
+    (IsPermutation-append_left of_noops of_values held.listed held.each_once) in
+    let all_sorted = IsPermutation-trans all (values ++ noops) sorted.sorted (IsPermutation-append_right values noop.added noops noop.each_once)
+    sorted.holds_each_once in
+    let are = listed_are operations lives listed all (zip_joined (IsPlaced operations lives) held.listed of_noops values noop.added held.each_placed
+    (noop.each_placed lives)) in
+    let moved = IsPermutation-trans operations (map (operation_of operations lives) all) order (subst (IsPermutation operations) are.0 once)
+    (IsPermutation-map (operation_of operations lives) all sorted.sorted all_sorted) in
+    let right = right_places operations lives sorted.sorted (All-permutation (IsRight operations lives) all sorted.sorted all_sorted are.1) in
+    let chosen = sorted_is_chosen operations order lives (map (λ p. position_of p.position) sorted.sorted) clear held.in_order moved right.1
+    (AllPairs-map (λ p. position_of p.position) (λ p q. ¬ (StandsBefore q p)) sorted.sorted sorted.never_falls) in (
+      order,
+      subst (λ ps. ArePlacesOf operations ps order) (sym sorted.places_are) right.0,
+      chosen,
+      chosen_order_is_legal operations order clear none chosen,
+    )
+
+-- ---- sorted by gap and place, the operations that change nothing never fall
+
+-- operations come in the order of their calls
+calls_by_place : (operations : List Operation) (p q : ℕ) → AreComplete operations → p ≤ q → q < length operations
+    → (operation_at operations p).call ≤ (operation_at operations q).call
+calls_by_place operations p q complete at_most within =
+    grind (arith, operations_rise operations complete p q (record { call = 0; ret = 0; thread = 0; kind = Enq 0 }))
+
+-- sorted by gap and place, none stands before an earlier one
+pub noops_never_fall : (operations : List Operation) (sorted : List Timed) → AreComplete operations → length operations ≤ MAX_MATCHED
+    → All (λ timed. timed.place < length operations) sorted → IsNonDecreasingBy (λ timed. PLACES * timed.time + timed.place) sorted
+    → NeverFall (map (noop_at operations) sorted)
+noops_never_fall operations sorted complete few within rises i j d below inside before =
+    let long = length-map sorted (noop_at operations) in
+    let nowhere : Timed = record { time = 0; place = 0 } in
+    let x = get_or sorted i nowhere in
+    let y = get_or sorted j nowhere in
+    let at_x = get_or-map (noop_at operations) sorted i nowhere d (omega arith) in
+    let at_y = get_or-map (noop_at operations) sorted j nowhere d (omega arith) in
+    let words = rises i j nowhere (omega arith) (omega arith) in
+    let in_x = within i nowhere (omega arith) in
+    let in_y = within j nowhere (omega arith) in
+    clash x y words in_x in_y (rw (at_x, at_y) at before)
+  where
+    clash : (x y : Timed) → PLACES * x.time + x.place ≤ PLACES * y.time + y.place → x.place < length operations → y.place < length operations
+        → (y.time < x.time) ⊎ ((y.time ≡ x.time) × ((noop_answers < noop_answers) ⊎ ((noop_answers ≡ noop_answers)
+        × ((operation_at operations y.place).call < (operation_at operations x.place).call)))) → ⊥
+    clash x y words in_x in_y (inl less) = omega (arith, words, less, in_x, in_y, few)
+    clash x y words in_x in_y (inr (same, inl less)) = omega (arith, less)
+    clash x y words in_x in_y (inr (same, inr (class, less))) =
+        let calls = calls_by_place operations x.place y.place complete (omega (arith, words, same)) in_y in omega (arith, calls, less)
+
+-- each of them is an operation
+stands_within : (operations listed : List Operation) (timed : List Timed) → AllZip (IsNoopAt operations) listed timed
+    → All (λ t. t.place < length operations) timed
+stands_within operations listed timed each k d within =
+    let o = beside_second (IsNoopAt operations) listed timed k (get_or timed k d) each (slice_get-get_or timed k d within) in
+    slice_get_within operations (get_or timed k d).place o.0 o.2.at
+
+-- and stands at its position
+stand_placed : (operations listed : List Operation) (timed : List Timed) (lives : List Life) → AllZip (IsNoopAt operations) listed timed
+    → AllZip (IsPlaced operations lives) listed (map (noop_at operations) timed)
+stand_placed operations [] [] lives each = tt
+stand_placed operations [] (t ∷ timed) lives each = absurd each
+stand_placed operations (o ∷ listed) [] lives each = absurd each
+stand_placed operations (o ∷ listed) (t ∷ timed) lives each =
+    let same = get_or_from_slice_get operations t.place o _ each.0.at in (
+      (
+        each.0.at,
+        subst (λ (x : Operation). IsPositionOf operations lives o (record { gap = t.time; class = noop_answers; rank = x.call })) (sym same)
+            (each.0.stands lives),
+      ),
+      stand_placed operations listed timed lives each.1,
+    )
+
+-- the empty answers and the refused enqueues
+module _ (operations : List Operation) (first all : List Timed) (empties : Adds operations (filter is_empty_answer operations) [] first)
+    (refused : Adds operations (filter is_refused operations) first all) where
+  both : AllZip (IsNoopAt operations) (filter is_empty_answer operations ++ filter is_refused operations) all
+  both = subst (AllZip (IsNoopAt operations) (filter is_empty_answer operations ++ filter is_refused operations))
+      (sym (refused.after ∙ ap (λ xs. xs ++ refused.added) empties.after)) (zip_joined (IsNoopAt operations) _ _ _ _
+      empties.each_stands refused.each_stands)
+
+  -- in any order they are operations
+  pub noops_within : (sorted : List Timed) → IsPermutation all sorted → All (λ timed. timed.place < length operations) sorted
+  noops_within sorted moved = All-permutation (λ timed. timed.place < length operations) all sorted moved (stands_within operations _ all both)
+
+  -- sorted by gap and place, they are those that are merged
+  pub noops_held : (sorted : List Timed) → IsPermutation all sorted → NeverFall (map (noop_at operations) sorted)
+      → HoldsNoops operations (map (noop_at operations) sorted)
+  noops_held sorted moved never = record {
+    added = map (noop_at operations) all;
+    each_placed = λ lives. stand_placed operations _ all lives both;
+    each_once = IsPermutation-map (noop_at operations) all sorted moved;
+    never_fall = never;
+  }

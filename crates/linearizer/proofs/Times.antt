@@ -1,10 +1,13 @@
 -- The tickets of the lives of a clear history.
-use Rattle.linearizer.proofs.Common.{All-contains, ap, arith, call_before_return, call_by_return, call_or_never, Deq}
-use Rattle.linearizer.proofs.Common.{dequeue_call, dequeue_of, dequeue_return, Did, did_dequeue, Enq, enqueue_call}
-use Rattle.linearizer.proofs.Common.{enqueue_of, enqueue_return, entered_by, inl, inr, IsClear, IsLife}
-use Rattle.linearizer.proofs.Common.{IsTimed, leaves_from, Life, List, MatchOption, NEVER, no_enqueue, None, NoneDid}
-use Rattle.linearizer.proofs.Common.{Operation, Option, refl, return_in_range, return_or_never, returns_at_call, Some}
-use Rattle.linearizer.proofs.Common.{sym, ◌<◌, ◌∙◌, ◌≡◌, ◌≢◌, ◌≤◌, ◌⊎◌}
+use Rattle.linearizer.proofs.Common.{All-contains, AllPairs, ap, AreComplete, arith, call_before_return}
+use Rattle.linearizer.proofs.Common.{call_by_return, call_or_never, Contains, Deq, dequeue_call, dequeue_of}
+use Rattle.linearizer.proofs.Common.{dequeue_return, Did, did_dequeue, Enq, enqueue_call, enqueue_of, enqueue_return}
+use Rattle.linearizer.proofs.Common.{entered_by, inl, inr, IsClear, IsLife, IsTimed, IsValueOrder, leaves_from, Life}
+use Rattle.linearizer.proofs.Common.{life_from, List, lives_of, MatchOption, NEVER, no_enqueue, None, NoneDid}
+use Rattle.linearizer.proofs.Common.{one_life_of_dequeue, one_life_of_enqueue, Operation, OpKind, Option, refl}
+use Rattle.linearizer.proofs.Common.{return_in_range, return_or_never, returns_at_call, same_return, same_Some}
+use Rattle.linearizer.proofs.Common.{slice_get, Some, subst, sym, ℕ, ◌<◌, ◌∙◌, ◌≡◌, ◌≢◌, ◌≤◌, ◌⊎◌}
+use Rattle.linearizer.proofs.Elements.{kept_rises, one_place}
 
 -- what is known of the tickets of one life
 pub record HasLifeTimes (life : Life) : Type 0 where
@@ -67,3 +70,133 @@ returned_in_time operations life d clear is dequeues =
     let range = return_in_range operations d clear.complete (did_dequeue operations life d is dequeues).0 in
     let returns : dequeue_return life ≡ d.ret = ap return_or_never dequeues in
     omega arith
+
+-- ---- Different lives have different tickets
+
+-- the operation is one of the life
+abbrev pub IsOf : Life → Operation → Type 0
+IsOf life o = (enqueue_of life ≡ o) ⊎ (dequeue_of life ≡ Some o)
+
+-- an operation of the life has this ticket, of its return or its call
+pub record HasTicket (of : Operation → ℕ) (operations : List Operation) (life : Life) (ticket : ℕ) : Type 0 where
+  pub o : Operation
+  pub among : Contains operations o
+  pub is_of : IsOf life o
+  pub is : of o ≡ ticket
+
+-- the ticket of a life's dequeue, or that for never
+dequeue_has : (of : Operation → ℕ) (or_never : Option Operation → ℕ) (operations : List Operation) (life : Life) → or_never None ≡ NEVER
+    → ((d : Operation) → of d ≡ or_never (Some d)) → IsLife operations life
+    → HasTicket of operations life (or_never (dequeue_of life)) ⊎ (or_never (dequeue_of life) ≡ NEVER)
+dequeue_has of or_never operations life never some is = go (dequeue_of life) refl is.2
+  where
+    go : (dequeue : Option Operation) → dequeue_of life ≡ dequeue → MatchOption dequeue (NoneDid operations (Deq is.0)) (λ d. Did operations d (Deq is.0))
+        → HasTicket of operations life (or_never dequeue) ⊎ (or_never dequeue ≡ NEVER)
+    go None same none = inr never
+    go (Some d) same did = inl (record { o = d; among = did.0; is_of = inr same; is = some d })
+
+dequeue_returns : (operations : List Operation) (life : Life) → IsLife operations life
+    → HasTicket (λ o. o.ret) operations life (dequeue_return life) ⊎ (dequeue_return life ≡ NEVER)
+dequeue_returns operations life is = dequeue_has (λ o. o.ret) return_or_never operations life refl (λ d. refl) is
+
+-- a value has entered at a return of its own
+pub entered_at_return : (operations : List Operation) (life : Life) → IsClear operations → IsLife operations life → HasTicket (λ o. o.ret) operations life (entered_by life)
+entered_at_return operations life clear is =
+    let times = times_of_life operations life clear is in
+    let first : (entered_by life ≡ enqueue_return life) ⊎ ((entered_by life ≡ dequeue_return life) × (dequeue_return life < enqueue_return life)) =
+    grind arith in
+    elim first [
+      | inl enqueued ↦ record { o = enqueue_of life; among = is.1.0; is_of = inl refl; is = sym enqueued }
+      | inr dequeued ↦ elim (dequeue_returns operations life is) [
+        | inl at ↦ record { o = at.o; among = at.among; is_of = at.is_of; is = at.is ∙ sym dequeued.0 }
+        | inr never ↦ absurd (omega (arith, dequeued.1, times.enqueue_is_past))
+      ]
+    ]
+
+-- a value leaves at a call of its own, or never
+pub leaves_at_call : (operations : List Operation) (life : Life) → IsClear operations → IsLife operations life
+    → HasTicket (λ o. o.call) operations life (leaves_from life) ⊎ (leaves_from life ≡ NEVER)
+leaves_at_call operations life clear is =
+    let times = times_of_life operations life clear is in
+    let last : (leaves_from life ≡ enqueue_call life) ⊎ ((leaves_from life ≡ dequeue_call life) × (enqueue_call life ≤ dequeue_call life)) = grind arith in
+    elim last [
+      | inl enqueued ↦ inl (record { o = enqueue_of life; among = is.1.0; is_of = inl refl; is = sym enqueued })
+      | inr dequeued ↦ elim (dequeue_has (λ o. o.call) call_or_never operations life refl (λ d. refl) is) [
+        | inl at ↦ inl (record { o = at.o; among = at.among; is_of = at.is_of; is = at.is ∙ sym dequeued.0 })
+        | inr never ↦ inr (dequeued.0 ∙ never)
+      ]
+    ]
+
+-- the kind of an enqueue is not that of a dequeue
+pub not_both_kinds : (operations : List Operation) (x y : Life) (o : Operation) → IsLife operations x → IsLife operations y → enqueue_of x ≡ o
+    → dequeue_of y ≡ Some o → ⊥
+not_both_kinds operations x y o is_x is_y enqueues dequeues =
+    let clash : Enq is_x.0 ≡ Deq is_y.0 = sym is_x.1.1 ∙ ap (λ o. o.kind) enqueues ∙ (did_dequeue operations y o is_y dequeues).1 in
+    cc
+
+-- lives that share an operation are one
+pub one_life_of_operation : (operations : List Operation) (x y : Life) (o : Operation) → IsClear operations → IsLife operations x
+    → IsLife operations y → IsOf x o → IsOf y o → x ≡ y
+one_life_of_operation operations x y o clear is_x is_y (inl e) (inl f) = one_life_of_enqueue operations x y clear is_x is_y (e ∙ sym f)
+one_life_of_operation operations x y o clear is_x is_y (inl e) (inr f) = absurd (not_both_kinds operations x y o is_x is_y e f)
+one_life_of_operation operations x y o clear is_x is_y (inr e) (inl f) = absurd (not_both_kinds operations y x o is_y is_x f e)
+one_life_of_operation operations x y o clear is_x is_y (inr e) (inr f) = one_life_of_dequeue operations x y o clear is_x is_y e f
+
+-- lives of which operations return at one ticket are one
+one_life_of_return : (operations : List Operation) (x y : Life) (s t : ℕ) → IsClear operations → IsLife operations x → IsLife operations y
+    → HasTicket (λ o. o.ret) operations x s → HasTicket (λ o. o.ret) operations y t → s ≡ t → x ≡ y
+one_life_of_return operations x y s t clear is_x is_y at_x at_y same =
+    let one = same_return operations at_x.o at_y.o clear.complete at_x.among at_y.among (at_x.is ∙ same ∙ sym at_y.is) in
+    one_life_of_operation operations x y at_y.o clear is_x is_y (subst (λ o. IsOf x o) one at_x.is_of) at_y.is_of
+
+-- one value has entered at a time
+pub one_life_of_entering : (operations : List Operation) (x y : Life) → IsClear operations → IsLife operations x → IsLife operations y
+    → entered_by x ≡ entered_by y → x ≡ y
+one_life_of_entering operations x y clear is_x is_y same =
+    one_life_of_return operations x y (entered_by x) (entered_by y) clear is_x is_y (entered_at_return operations x clear is_x)
+    (entered_at_return operations y clear is_y) same
+
+-- one value's dequeue returns at a time, but never
+pub one_life_of_dequeue_return : (operations : List Operation) (x y : Life) → IsClear operations → IsLife operations x → IsLife operations y
+    → dequeue_return x ≡ dequeue_return y → (x ≡ y) ⊎ (dequeue_return x ≡ NEVER)
+one_life_of_dequeue_return operations x y clear is_x is_y same =
+    elim (dequeue_returns operations x is_x) [
+      | inr never ↦ inr never
+      | inl at_x ↦ elim (dequeue_returns operations y is_y) [
+        | inr never ↦ inr (same ∙ never)
+        | inl at_y ↦ inl (one_life_of_return operations x y (dequeue_return x) (dequeue_return y) clear is_x is_y at_x at_y same)
+      ]
+    ]
+
+-- no dequeue returns where a value leaves, but never
+pub returns_at_no_leave : (operations : List Operation) (x y : Life) → IsClear operations → IsLife operations x → IsLife operations y
+    → dequeue_return x ≡ leaves_from y → leaves_from y ≡ NEVER
+returns_at_no_leave operations x y clear is_x is_y same = elim (leaves_at_call operations y clear is_y) [
+  | inr never ↦ never
+  | inl at_y ↦ go at_y (dequeue_of x) refl
+]
+  where
+    go : HasTicket (λ o. o.call) operations y (leaves_from y) → (dequeue : Option Operation) → dequeue_of x ≡ dequeue → leaves_from y ≡ NEVER
+    go at_y None none = sym same ∙ ap return_or_never none
+    go at_y (Some d) dequeues =
+        let did = did_dequeue operations x d is_x dequeues in
+        let returns : d.ret ≡ at_y.o.call = sym (ap return_or_never dequeues) ∙ same ∙ sym at_y.is in
+        let one = returns_at_call operations d at_y.o clear.complete did.0 at_y.among returns in
+        let less = call_before_return operations d clear.complete did.0 (no_enqueue d (Deq is_x.0) did.1 refl) in
+        absurd (omega (arith, ap (λ (o : Operation). o.call) one, returns, less))
+
+enqueues_itself : (operations : List Operation) (o : Operation) (k : OpKind) (life : Life) → life_from operations o k ≡ Some life → enqueue_call life ≡ o.call
+enqueues_itself operations o (Enq v) life same = sym (ap (λ l. (enqueue_of l).call) (same_Some _ life same))
+enqueues_itself operations o _ life same = cc
+
+-- the lives are listed in the order of their enqueues' calls
+pub lives_rise : (operations : List Operation) → AreComplete operations → AllPairs (λ x y. enqueue_call x < enqueue_call y) (lives_of operations)
+lives_rise operations complete =
+    let rise : AllPairs (λ x y. x.call < y.call) operations = λ i j d below within. (complete.apart i j d below within).called_first in
+    kept_rises (λ o. life_from operations o o.kind) (λ o. o.call) enqueue_call operations (λ o life same. enqueues_itself operations o o.kind life same) rise
+
+-- a life stands at one place of the order of values
+pub one_place_of_life : (operations : List Operation) (lives : List Life) (i j : ℕ) (x y : Life) → IsClear operations → IsValueOrder operations lives
+    → slice_get lives i ≡ Some x → slice_get lives j ≡ Some y → x ≡ y → i ≡ j
+one_place_of_life operations lives i j x y clear order at_x at_y same =
+    one_place enqueue_call (lives_of operations) lives i j x y (lives_rise operations clear.complete) order.holds_each_once at_x at_y (ap enqueue_call same)

@@ -1,16 +1,120 @@
 -- There is one order of the values, and one only.
-use Rattle.linearizer.proofs.Common.{[], All-cons, All-nil, All-permutation, All-weaker, ap, arith, Contains}
-use Rattle.linearizer.proofs.Common.{Contains-permutation, contains_cons, dequeue_return, EachIsChoice, entered_by}
-use Rattle.linearizer.proofs.Common.{inl, inr, IsChoice, IsClear, IsLeastBy, IsLife, IsPermutation, IsPermutation-cons}
-use Rattle.linearizer.proofs.Common.{IsPermutation-refl, IsPermutation-remove, IsPermutation-sym, IsPermutation-trans}
-use Rattle.linearizer.proofs.Common.{IsValueOrder, leaves_from, length, length_permutation, Life, List, lives_of}
-use Rattle.linearizer.proofs.Common.{not_in_none, one_deeper, Operation, refl, rules, subst, suc, sym, zero, ℕ, ◌<◌}
-use Rattle.linearizer.proofs.Common.{◌∙◌, ◌∷◌, ◌≡◌, ◌≤◌, ◌⊎◌}
-use Rattle.linearizer.proofs.Choices.{made, least_at}
-use Rattle.linearizer.proofs.Times.{times_of_life}
-use Rattle.linearizer.proofs.NoneTwice.{NoneTwice, none_twice_from_places}
-use Rattle.linearizer.proofs.Opposites.{is_life}
-use Rattle.linearizer.proofs.DifferentTimes.{one_life_of_entering, one_life_of_dequeue_return, one_place_of_life}
+use Rattle.linearizer.proofs.Common.{[], All-cons, All-contains, All-nil, All-permutation, All-weaker, ap, arith}
+use Rattle.linearizer.proofs.Common.{cases_lt, Contains, Contains-permutation, contains_at, contains_cons}
+use Rattle.linearizer.proofs.Common.{dequeue_return, EachIsChoice, enqueue_call, entered_by, inl, inr, IsChoice}
+use Rattle.linearizer.proofs.Common.{IsClear, IsLeastBy, IsLife, IsPermutation, IsPermutation-cons, IsPermutation-refl}
+use Rattle.linearizer.proofs.Common.{IsPermutation-remove, IsPermutation-sym, IsPermutation-trans, IsValueOrder}
+use Rattle.linearizer.proofs.Common.{leaves_from, length, length_permutation, Life, life_is_contained}
+use Rattle.linearizer.proofs.Common.{life_of_contained, List, lives_of, none_overtakes, NoOrderViolation, not_in_none}
+use Rattle.linearizer.proofs.Common.{one_deeper, Operation, refl, rules, slice_get, Some, subst, suc, sym, zero, ℕ}
+use Rattle.linearizer.proofs.Common.{◌<◌, ◌∙◌, ◌∷◌, ◌≡◌, ◌≤◌, ◌⊎◌}
+use Rattle.linearizer.proofs.Times.{one_life_of_dequeue_return, one_life_of_entering, one_place_of_life, times_of_life}
+use Rattle.linearizer.proofs.Elements.{none_twice_from_places, NoneTwice}
+
+-- ---- how the next value is chosen
+
+-- the least of some lives is at most each
+pub least_at : (number : Life → ℕ) (lives : List Life) (least x : Life) → IsLeastBy number lives least → Contains lives x → number least ≤ number x
+least_at number lives least x is among = All-contains (λ y. number least ≤ number y) lives x is.1 among
+
+-- the two ways in which a choice is made
+abbrev pub IsMade : List Life → Life → Life → Life → Type 0
+IsMade remaining a b choice = ((dequeue_return b < leaves_from a) × (choice ≡ b)) ⊎ ((leaves_from a ≤ dequeue_return b) × (choice ≡ a))
+
+-- a choice is made of the first that entered and the first that was dequeued
+pub made : (remaining : List Life) (choice : Life) (is : IsChoice remaining choice) → IsMade remaining is.first_entered is.first_dequeued choice
+made remaining choice is = elim (cases_lt (dequeue_return is.first_dequeued) (leaves_from is.first_entered)) [
+  | inl less ↦ inl (less, is.takes_dequeued less)
+  | inr more ↦ inr (more, is.takes_entered more)
+]
+
+-- at the turn of x, which is the choice among some of these lives, y remains
+pub record HasTurn (lives : List Life) (x y : Life) : Type 0 where
+  pub remaining : List Life
+  pub is_choice : IsChoice remaining x
+  pub remains : Contains remaining y
+  pub among : (z : Life) → Contains remaining z → Contains lives z
+
+-- of two values in their order the second remains at the turn of the first
+pub turn_of : (lives : List Life) (i j : ℕ) (x y : Life) → EachIsChoice lives → i ≤ j → slice_get lives i ≡ Some x → slice_get lives j ≡ Some y
+    → HasTurn lives x y
+turn_of [] i j x y each le at_x at_y = cc
+turn_of (life ∷ rest) zero j x y each le at_x at_y = let same : life ≡ x = cc in record {
+  remaining = life ∷ rest;
+  is_choice = subst (IsChoice (life ∷ rest)) same each.0;
+  remains = contains_at (life ∷ rest) j y at_y;
+  among = λ z among. among;
+}
+turn_of (life ∷ rest) (suc i) zero x y each le at_x at_y = absurd (omega arith)
+turn_of (life ∷ rest) (suc i) (suc j) x y each le at_x at_y =
+    let turn = turn_of rest i j x y each.1 (omega arith) at_x at_y in record {
+      remaining = turn.remaining;
+      is_choice = turn.is_choice;
+      remains = turn.remains;
+      among = λ z among. one_deeper life rest z (turn.among z among);
+    }
+
+-- ---- each value may stand before those after it in the order of values
+
+-- x is to stand before y by their enqueues, and after it by their dequeues
+abbrev pub IsOpposite : Life → Life → Type 0
+IsOpposite x y = (entered_by x < enqueue_call y) × (dequeue_return y < leaves_from x)
+
+-- nothing makes y stand before x
+abbrev pub MayStandBefore : Life → Life → Type 0
+MayStandBefore x y = ¬ (entered_by y < enqueue_call x) × ¬ (dequeue_return y < leaves_from x)
+
+module _ (operations : List Operation) (clear : IsClear operations) (none : NoOrderViolation operations) where
+  -- no two values stand opposite, as one would overtake the other
+  no_two_opposite : (x y : Life) → IsLife operations x → IsLife operations y → ¬ (IsOpposite x y)
+  no_two_opposite x y is_x is_y opposite =
+      let times_x = times_of_life operations x clear is_x in
+      let times_y = times_of_life operations y clear is_y in
+      none_overtakes operations x y clear none is_x is_y (omega arith)
+
+  -- the choice may stand before all that remain
+  pub choice_may_stand_before : (remaining : List Life) (choice other : Life) → ((x : Life) → Contains remaining x → IsLife operations x)
+      → IsChoice remaining choice → Contains remaining other → MayStandBefore choice other
+  choice_may_stand_before remaining choice other are is among =
+      let a = is.first_entered in
+      let b = is.first_dequeued in
+      let is_a = are a is.enters_first.0 in
+      let is_b = are b is.dequeued_first.0 in
+      let times_a = times_of_life operations a clear is_a in
+      let times_b = times_of_life operations b clear is_b in
+      let entered_least = least_at entered_by remaining a other is.enters_first among in
+      let returned_least = least_at dequeue_return remaining b other is.dequeued_first among in
+      elim (made remaining choice is) [
+        | inl taken ↦ rw taken.1 ((λ early. no_two_opposite a b is_a is_b (omega arith, taken.0)), (λ early. omega arith))
+        | inr taken ↦ rw taken.1 ((λ early. omega arith), (λ early. omega arith))
+      ]
+
+-- what stands in the order of values is a life, and each life stands there
+pub is_life : (operations : List Operation) (lives : List Life) → IsValueOrder operations lives → (x : Life) → Contains lives x → IsLife operations x
+is_life operations lives order x among =
+    life_of_contained operations x (Contains-permutation lives (lives_of operations) x
+    (IsPermutation-sym (lives_of operations) lives order.holds_each_once) among)
+
+-- what stands at a place of the order is a life
+pub is_life_at : (operations : List Operation) (lives : List Life) (i : ℕ) (x : Life) → IsValueOrder operations lives → slice_get lives i ≡ Some x
+    → IsLife operations x
+is_life_at operations lives i x order at = is_life operations lives order x (contains_at lives i x at)
+
+-- each value stands in the order
+pub stands_in_order : (operations : List Operation) (lives : List Life) → IsClear operations → IsValueOrder operations lives → (x : Life)
+    → IsLife operations x → Contains lives x
+stands_in_order operations lives clear order x is = Contains-permutation (lives_of operations) lives x order.holds_each_once
+    (life_is_contained operations x clear is)
+
+-- each value may stand before those after it
+pub may_stand_before : (operations : List Operation) (lives : List Life) (i j : ℕ) (x y : Life) → IsClear operations → NoOrderViolation operations
+    → IsValueOrder operations lives → i ≤ j → slice_get lives i ≡ Some x → slice_get lives j ≡ Some y → MayStandBefore x y
+may_stand_before operations lives i j x y clear none order le at_x at_y =
+    let turn = turn_of lives i j x y order.each_is_choice le at_x at_y in
+    choice_may_stand_before operations clear none turn.remaining x y (λ z among. is_life operations lives order z (turn.among z among))
+    turn.is_choice turn.remains
+
+-- ---- there is one order of the values, and one only
 
 least_by : (number : Life → ℕ) (x : Life) (xs : List Life) → (life : Life) × IsLeastBy number (x ∷ xs) life
 least_by number x [] = (

@@ -1,4 +1,3 @@
-pub mod Values
 pub mod Order
-pub mod Ordering
+pub mod Values
 pub mod Inner

@@ -104,7 +104,7 @@ pub(crate) fn noops_of<'a>(
 }
 
 /// Adds the empty answers.
-#[tactic(auto, using(crate::proofs::Additions::adds_none))]
+#[tactic(auto, using(crate::proofs::Elements::adds_none))]
 fn add_empties(
     noops: &mut Vec<PackedTimed>,
     matching: &Matching,
@@ -125,7 +125,7 @@ fn add_empties(
 }
 
 /// Adds the refused enqueues, each at its call.
-#[tactic(auto, using(crate::proofs::Additions::adds_none))]
+#[tactic(auto, using(crate::proofs::Elements::adds_none))]
 fn add_refused(noops: &mut Vec<PackedTimed>, matching: &Matching) -> Result<(), AllocError>
     ensures { OnOk result (Adds (timeline_of matching.now) (filter is_refused (timeline_of matching.now)) noops.old.items noops.new.items) }
 {

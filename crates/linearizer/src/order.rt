@@ -1,7 +1,6 @@
 ghost use Rattle.std.specs.Prelude.{◌≡◌, IfOk, filter_map, map};
-ghost use Rattle.value_match.specs.Timeline.{time_of, timeline_of};
+ghost use Rattle.value_match.specs.Timeline.{place_behind, time_of, timeline_of};
 ghost use Rattle.value_match.specs.Lives.{AreLeastFreeGaps};
-ghost use Rattle.value_match.specs.Told.{place_behind};
 ghost use Rattle.value_match.specs.Violations.{NoOrderViolation};
 ghost use Rattle.linearizer.specs.Order.{AreChosenAndLegal};
 

@@ -7,7 +7,7 @@ pub use Rattle.std.proofs.lemmas.List.Elements.{Contains-append_left, Contains-a
 pub use Rattle.value_match.specs.Choice.{StaysAtLeast}
 pub use Rattle.value_match.specs.Lives.{call_or_never, dequeue_call, dequeue_of, dequeue_return, enqueue_call}
 pub use Rattle.value_match.specs.Lives.{enqueue_of, HoldsLives, IsLife, IsMaybeAt, return_or_never}
-pub use Rattle.value_match.specs.Longest.{EntersBefore, FindsLongest, IsLongestOf, NonePasses}
+pub use Rattle.value_match.specs.Fronts.{EntersBefore, FindsLongest, IsLongestOf, NonePasses}
 pub use Rattle.value_match.specs.declared.life.Life.{Life}
 pub use Rattle.value_match.specs.declared.life.MatchedValue.{MatchedValue}
-pub use Rattle.order_violation.specs.Overtaking.{FindsFirst, IsFirstOvertaking, IsSoonerOf, Overtakes}
+pub use Rattle.order_violation.specs.Pairs.{FindsFirst, IsFirstOvertaking, IsSoonerOf, Overtakes}

@@ -1,8 +1,7 @@
 ghost use Rattle.std.specs.Prelude.{◌≡◌, IfOk};
-ghost use Rattle.value_match.specs.Longest.{FindsLongest};
-ghost use Rattle.order_violation.specs.Overtaking.{IsFirstFound, Overtakes};
+ghost use Rattle.value_match.specs.Fronts.{FindsLongest};
+ghost use Rattle.order_violation.specs.Pairs.{IsFirstFound, IsOrderAnswer, Overtakes, told_pair};
 ghost use Rattle.value_match.specs.Timeline.{timeline_of};
-ghost use Rattle.order_violation.specs.Pairs.{IsOrderAnswer, told_pair};
 
 use crate::overtaking::{first_overtaking, overtakes};
 use crate::pair::OrderPair;

@@ -4,5 +4,5 @@ pub use Rattle.std.proofs.Common.{drop, false, get_or, is_le, IsPermutation, len
 pub use Rattle.std.proofs.Common.{suc, sym, take, take-append-drop, take_all, true, zero, ℕ}
 pub use Rattle.std.proofs.lemmas.Fn.{always_returns_same}
 pub use Rattle.std.specs.List.Sorted.{IsNonDecreasingBy}
-pub use Rattle.order_violation.specs.Overtaking.{FindsFirst}
-pub use Rattle.empty_witness.specs.Covered.{AreWindowsAt}
+pub use Rattle.order_violation.specs.Pairs.{FindsFirst}
+pub use Rattle.empty_witness.specs.Answers.{AreWindowsAt}

@@ -1,7 +1,7 @@
 ghost use Rattle.std.specs.Prelude.{◌++◌, List};
 ghost use Rattle.std.specs.Thread.{IsSync};
 ghost use Rattle.value_match.specs.declared.life.MatchedValue.{MatchedValue};
-ghost use Rattle.order_violation.specs.Overtaking.{FindsFirst};
+ghost use Rattle.order_violation.specs.Pairs.{FindsFirst};
 
 use order_violation::{first_overtaking, sooner_of};
 use std::thread::{Threads, join};

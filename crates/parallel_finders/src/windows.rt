@@ -1,8 +1,7 @@
 ghost use Rattle.std.specs.Prelude.{◌≡◌, ◌++◌, All, IfOk};
 ghost use Rattle.std.specs.Thread.{IsSync};
 ghost use Rattle.value_match.specs.Timeline.{timeline_of};
-ghost use Rattle.empty_witness.specs.Answers.{IsEmptyAnswerAt};
-ghost use Rattle.empty_witness.specs.Covered.{AreWindowsAt};
+ghost use Rattle.empty_witness.specs.Answers.{AreWindowsAt, IsEmptyAnswerAt};
 ghost use Rattle.empty_witness.specs.Spans.{AreSpansOf};
 ghost use Rattle.empty_witness.specs.declared.search.WindowsAnswer.TheVariants.{Free, Covered};
 ghost use Rattle.parallel_finders.specs.Inner.Together.{AreTogether};

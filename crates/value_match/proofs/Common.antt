@@ -1,16 +1,16 @@
 -- The names that most proofs of this crate cite, passed on from one place. Declares nothing.
-pub use Rattle.std.proofs.Common.{[], ◌*◌, ◌++◌, ◌+◌, ◌-◌, ◌<◌, ◌||◌, ◌↔◌, ◌∙◌, ◌∷◌, ◌≡◌, ◌≢◌, ◌≤◌, ◌⊎◌, ap, ap₂}
-pub use Rattle.std.proofs.Common.{arith, below_more, Bool, cond, drop, false, get_or, get_or-set_other}
+pub use Rattle.std.proofs.Common.{[], ap, ap₂, arith, below_more, Bool, cond, drop, false, get_or, get_or-set_other}
 pub use Rattle.std.proofs.Common.{get_or-set_same, inl, inr, IsTrue, length, length-append, length-set, List, map}
-pub use Rattle.std.proofs.Common.{nat_lt, None, not, Option, refl, replicate, rules, set, Some, subst, suc, sym}
-pub use Rattle.std.proofs.Common.{take, true, unwrap_or, zero, ℕ}
+pub use Rattle.std.proofs.Common.{nat_lt, None, not, Option, refl, replicate, rules, set, Some, subst, suc, sym, take}
+pub use Rattle.std.proofs.Common.{true, unwrap_or, zero, ℕ, ◌*◌, ◌++◌, ◌+◌, ◌-◌, ◌<◌, ◌||◌, ◌↔◌, ◌∙◌, ◌∷◌, ◌≡◌, ◌≢◌}
+pub use Rattle.std.proofs.Common.{◌≤◌, ◌⊎◌}
 pub use Rattle.std.proofs.Math.Seq.{get_or-append_seam}
 pub use Rattle.std.proofs.lemmas.Bool.{cases_Bool, cases_eq, cases_lt, cases_order, eq-eqb, eqb-true, false≢true}
 pub use Rattle.std.proofs.lemmas.Bool.{le-ltb, lt-ltb, ltb-false, ltb-true}
 pub use Rattle.std.proofs.lemmas.List.{append-nil, drop-map, drop_all, get_or-map, get_or-take, get_or_append_left}
 pub use Rattle.std.proofs.lemmas.List.{get_or_default, get_or_read, length-map, length-replicate, length-take-le}
 pub use Rattle.std.proofs.lemmas.List.{map-append, take-map, take_all, take_more, with_items_is}
-pub use Rattle.std.proofs.lemmas.List.Elements.{All-contains, All-head, All-drop, All-from_get_or, All-get_or, All-nil}
+pub use Rattle.std.proofs.lemmas.List.Elements.{All-contains, All-drop, All-from_get_or, All-get_or, All-head, All-nil}
 pub use Rattle.std.proofs.lemmas.List.Elements.{All-pop, All-push, All-take, All-weaker, Contains-append_cases}
 pub use Rattle.std.proofs.lemmas.List.Elements.{Contains-append_left, Contains-append_right, Contains-push}
 pub use Rattle.std.proofs.lemmas.List.Elements.{filter-append, filter_map-append}
@@ -24,17 +24,15 @@ pub use Rattle.std.specs.BTreeSet.{btree_set_len, BTreeSet, contains, keys}
 pub use Rattle.std.specs.List.{AllZip, cons_option, list_any}
 pub use Rattle.std.specs.List.Sorted.{IsNonDecreasingBy, IsPartitionPoint}
 pub use Rattle.std.specs.Ordering.{is_eq, nat_cmp}
-pub use Rattle.std.specs.Prelude.{⊤, All, AllPairs, Contains, filter, filter_map, find, IfSome, is_some}
-pub use Rattle.std.specs.Prelude.{IsPermutation, MatchOption, option_map, slice_get}
+pub use Rattle.std.specs.Prelude.{All, AllPairs, Contains, filter, filter_map, find, IfSome, is_some, IsPermutation}
+pub use Rattle.std.specs.Prelude.{MatchOption, option_map, slice_get, ⊤}
 pub use lib.Dec.{ltb}
 pub use lib.Seq.{take-nil}
-pub use Rattle.history_merge.proofs.Distinct.{CallsFor, contains_at, contains_cons, found_first}
-pub use Rattle.history_merge.proofs.Distinct.{not_in_none, one_at, pairs_at, place_of, same_enqueue, same_return}
-pub use Rattle.history_merge.proofs.Distinct.{same_value_call}
-pub use Rattle.history_merge.proofs.DistinctValues.{each_more}
-pub use Rattle.history_merge.proofs.KnownValues.{is_eq-nat_cmp}
-pub use Rattle.history_merge.proofs.RisingValues.{none_by_key}
-pub use Rattle.history_merge.proofs.TimelineOperations.{length_enqueues}
+pub use Rattle.history_merge.proofs.Distinct.{CallsFor, contains_at, contains_cons, found_first, not_in_none, one_at}
+pub use Rattle.history_merge.proofs.Distinct.{pairs_at, place_of, same_enqueue, same_return, same_value_call}
+pub use Rattle.history_merge.proofs.Distinct.{each_more}
+pub use Rattle.history_merge.proofs.KnownValues.{is_eq-nat_cmp, none_by_key}
+pub use Rattle.history_merge.proofs.Timelines.{length_enqueues}
 pub use Rattle.history_merge.specs.Complete.{AreComplete, IsTimed}
 pub use Rattle.event_records.specs.declared.limits.TheConstants.{MAX_INITIAL, ORIGIN}
 pub use Rattle.history_merge.specs.Initial.{enqueue_at, enqueues_from, initial_enqueues, later_by, timeline}
@@ -48,18 +46,17 @@ pub use Rattle.value_match.specs.Choice.{StaysAtLeast}
 pub use Rattle.value_match.specs.Fronts.{Any, AreEntriesOf, HasFronts, IsEntryOf, IsFrontAt, IsTableOf, values_at}
 pub use Rattle.value_match.specs.Inner.MatchOutcome.{AreChosenFresh, AreChosenRepeat, AreTakers, IsMatchOutcomeOf}
 pub use Rattle.value_match.specs.Inner.Others.{CallsNoneOf, HoldsNear, HoldsOthers, IsCall, IsNearSource, NoneOf}
-pub use Rattle.value_match.specs.Inner.Sources.{AreSettled}
-pub use Rattle.value_match.specs.Inner.Sources.{HasTakersTo, HoldsDequeues, HoldsSources, IsCallPlace}
+pub use Rattle.value_match.specs.Inner.Sources.{AreSettled, HasTakersTo, HoldsDequeues, HoldsSources, IsCallPlace}
 pub use Rattle.value_match.specs.Inner.Sources.{IsDequeuePlace, IsFreshFrom, IsSourceOf, NoneFresh, return_at}
 pub use Rattle.value_match.specs.Inner.Sources.{TakesFrom}
 pub use Rattle.value_match.specs.Lives.{call_or_never, dequeue_call, dequeue_of, dequeues_kind, enqueue_of}
 pub use Rattle.value_match.specs.Lives.{enqueue_return, HasPlaces, HoldsLives, HoldsPlaces, is_dequeue_of}
 pub use Rattle.value_match.specs.Lives.{is_empty_answer, is_refused, IsLife, IsMaybeAt, life_from, lives_of}
-pub use Rattle.value_match.specs.Longest.{EntersBefore, FindsLongest, IsLongerOf, IsLongestOf, NonePasses}
-pub use Rattle.value_match.specs.Outcome.{IsMaybeOperation, IsOperation, IsSource, NamesChosenFresh}
-pub use Rattle.value_match.specs.Outcome.{NamesChosenRepeat, NamesStep}
+pub use Rattle.value_match.specs.Fronts.{EntersBefore, FindsLongest, IsLongerOf, IsLongestOf, NonePasses}
+pub use Rattle.value_match.specs.Outcome.{IsMaybeOperation, IsOperation, IsSource, NamesChosenFresh, NamesChosenRepeat}
+pub use Rattle.value_match.specs.Outcome.{NamesStep}
 pub use Rattle.value_match.specs.Timeline.{behind, initial_enqueue, initial_time, timeline_of}
-pub use Rattle.value_match.specs.Told.{place_behind, told_place, told_source}
+pub use Rattle.value_match.specs.Timeline.{place_behind, told_place, told_source}
 pub use Rattle.value_match.specs.Violations.{CoversFrom, IsClear, IsEnqueuedTooLate, IsFreshViolation}
 pub use Rattle.value_match.specs.Violations.{NoFreshViolation}
 pub use Rattle.value_match.specs.declared.accepted.Pair.{Pair}

@@ -1,16 +1,64 @@
 -- Values in the order of their enqueues' returns, and the longest of each front.
-use Rattle.value_match.proofs.Common.{[], ◌++◌, ◌+◌, ◌<◌, ◌∙◌, ◌∷◌, ◌≡◌, ◌≤◌, All, All-from_get_or, All-get_or}
-use Rattle.value_match.proofs.Common.{All-nil, All-permutation, All-push, Any, ap, AreEntriesOf, arith, below_more}
-use Rattle.value_match.proofs.Common.{cases_lt, Contains-permutation, Empty, enqueue_return, EntersBefore, false}
-use Rattle.value_match.proofs.Common.{FindsLongest, Front, get_or, get_or-map, get_or-set_other, get_or-set_same}
-use Rattle.value_match.proofs.Common.{get_or-take, get_or_default, HasFronts, IfSome, inl, inr, IsEntryOf}
-use Rattle.value_match.proofs.Common.{IsFrontAt, IsLongerOf, IsLongestOf, IsNonDecreasingBy, IsPartitionPoint}
-use Rattle.value_match.proofs.Common.{IsPermutation, IsPermutation-map, IsPermutation-refl, IsPermutation-sym}
-use Rattle.value_match.proofs.Common.{IsPermutation-trans, IsTableOf, length, length-map, length-set}
-use Rattle.value_match.proofs.Common.{length-take-le, List, ltb, ltb-false, ltb-true, map-append}
+use Rattle.value_match.proofs.Common.{[], All, All-from_get_or, All-get_or, All-nil, All-permutation, All-push}
+use Rattle.value_match.proofs.Common.{All-weaker, Any, ap, AreEntriesOf, arith, below_more, cases_lt, Contains}
+use Rattle.value_match.proofs.Common.{Contains-append_left, Contains-permutation, Contains-push, Empty, enqueue_return}
+use Rattle.value_match.proofs.Common.{EntersBefore, false, FindsLongest, Front, get_or, get_or-map, get_or-set_other}
+use Rattle.value_match.proofs.Common.{get_or-set_same, get_or-take, get_or_default, HasFronts, IfSome, inl, inr}
+use Rattle.value_match.proofs.Common.{IsEntryOf, IsFrontAt, IsLongerOf, IsLongestOf, IsNonDecreasingBy}
+use Rattle.value_match.proofs.Common.{IsPartitionPoint, IsPermutation, IsPermutation-map, IsPermutation-refl}
+use Rattle.value_match.proofs.Common.{IsPermutation-sym, IsPermutation-trans, IsTableOf, length, length-map}
+use Rattle.value_match.proofs.Common.{length-set, length-take-le, Life, List, ltb, ltb-false, ltb-true, map-append}
 use Rattle.value_match.proofs.Common.{MatchedValue, MatchOption, None, NonePasses, Option, refl, rules, set, Some}
-use Rattle.value_match.proofs.Common.{StaysAtLeast, subst, sym, take, take_all, take_more, true, values_at, ℕ}
-use Rattle.value_match.proofs.Longest.{longest_changes}
+use Rattle.value_match.proofs.Common.{StaysAtLeast, subst, sym, take, take_all, take_more, true, values_at, ℕ, ◌++◌}
+use Rattle.value_match.proofs.Common.{◌+◌, ◌<◌, ◌∙◌, ◌∷◌, ◌≡◌, ◌≤◌}
+use Rattle.value_match.proofs.Lists.{one_more}
+
+-- ---- one more value in a scan for the longest of those that pass
+
+-- what stays longer than a longer one stays longer
+pub stays_through : (x y z : Life) → StaysAtLeast x y → StaysAtLeast y z → StaysAtLeast x z
+stays_through x y z first second = (omega (arith, first.0, second.0), λ same. grind (arith, first, second))
+
+-- a value stays as long as itself
+pub stays_as_itself : (x : Life) → StaysAtLeast x x
+stays_as_itself x = (omega arith, λ same. omega arith)
+
+module _ (Passes : Life → Type 0) where
+  -- a value stays at least as long as another that passes
+  abbrev StaysPast : MatchedValue → MatchedValue → Type 0
+  StaysPast value other = Passes other.life → StaysAtLeast value.life other.life
+
+  alone : (seen : List MatchedValue) (x : MatchedValue) → NonePasses Passes seen → Passes x.life → IsLongestOf Passes (seen ++ x ∷ []) x
+  alone seen x none passes = record {
+    among = Contains-push seen x;
+    passes = passes;
+    longest = All-push (StaysPast x) seen x (All-weaker (λ value. ¬ (Passes value.life)) (StaysPast x)
+        (λ other not passes. absurd (not passes)) seen none) (λ _. stays_as_itself x.life);
+  }
+
+  taken : (seen : List MatchedValue) (x r : MatchedValue) (found : Option MatchedValue) → FindsLongest Passes seen found → Passes x.life
+      → MatchOption found (r ≡ x) (λ a. IsLongerOf a x r) → IsLongestOf Passes (seen ++ x ∷ []) r
+  taken seen x r None none passes same = subst (IsLongestOf Passes (seen ++ x ∷ [])) (sym same) (alone seen x none passes)
+  taken seen x r (Some a) is passes longer = record {
+    among = elim longer.is_one [
+      | inl same ↦ subst (Contains (seen ++ x ∷ [])) (sym same) (Contains-append_left seen (x ∷ []) a is.among)
+      | inr same ↦ subst (Contains (seen ++ x ∷ [])) (sym same) (Contains-push seen x)
+    ];
+    passes = elim longer.is_one [ inl same ↦ subst (λ y. Passes y.life) (sym same) is.passes | inr same ↦ subst (λ y. Passes y.life) (sym same) passes ];
+    longest = All-push (StaysPast r) seen x
+        (All-weaker (StaysPast a) (StaysPast r) (λ other stays passes'. stays_through r.life a.life other.life longer.stays_first (stays passes'))
+        seen is.longest)
+        (λ _. longer.stays_second);
+  }
+
+  -- the next value passes
+  pub longest_changes : (values : List MatchedValue) (i : ℕ) (x r : MatchedValue) (found : Option MatchedValue) → i < length values
+      → x ≡ get_or values i x → FindsLongest Passes (take i values) found
+      → Passes x.life → MatchOption found (r ≡ x) (λ a. IsLongerOf a x r) → FindsLongest Passes (take (i + 1) values) (Some r)
+  longest_changes values i x r found within is so_far passes longer =
+      subst (λ seen. IsLongestOf Passes seen r) (sym (one_more values i x within is)) (taken (take i values) x r found so_far passes longer)
+
+-- ---- values in the order of their enqueues' returns, and the longest of each front
 
 -- where there is no value, and no front
 abbrev nobody : MatchedValue

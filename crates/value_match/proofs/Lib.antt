@@ -1,21 +1,17 @@
 -- The way of the argument, from operations to matched values:
 -- Lists: what a list contains, and what is made of lists.
 -- CallPlaces, FreshDequeues: each dequeue's source, or the chosen dequeue of a value that was not there.
--- RepeatedDequeues: the one dequeue of each source and of each accepted value, or the chosen pair of one source.
+-- RepeatedDequeues: the one dequeue of each call and of each accepted value, or the chosen pair of one call.
 -- Lives: the lives that there are, each once.
--- TimelineLines, ToldPlaces: what is found at places of a timeline, told by places of the history.
--- CoverLives: what a cover's lives are.
+-- ToldPlaces: what is found at places of a timeline, told by places of the history.
 -- SortedOut: all operations sorted out into values, empty answers and refused enqueues.
--- Longest, Fronts: of the values whose enqueues returned before a ticket the one that stays longest.
+-- Fronts: of the values whose enqueues returned before a ticket the one that stays longest.
 mod Common
 pub mod Lists
 pub mod Lives
-pub mod Longest
 pub mod CallPlaces
 pub mod FreshDequeues
 pub mod RepeatedDequeues
 pub mod SortedOut
 pub mod Fronts
-pub mod TimelineLines
-pub mod CoverLives
 pub mod ToldPlaces

@@ -6,7 +6,7 @@ use Rattle.value_match.proofs.Common.{filter_map-append, get_or, get_or-map, inl
 use Rattle.value_match.proofs.Common.{length-map, List, map, None, not_in_none, Option, place_of, refl, Some, subst}
 use Rattle.value_match.proofs.Common.{suc, sym, take, take_all, take_more, true, zero, ℕ}
 use Rattle.std.proofs.lemmas.List.Elements.{All-contains_itself, All-filter, All-map, filter_passes}
-use Rattle.history_merge.proofs.DistinctValues.{cut_at}
+use Rattle.history_merge.proofs.Distinct.{cut_at}
 
 -- what a list contains, it contains behind one more element
 pub one_deeper : {X : Type 0} (x : X) (xs : List X) (y : X) → Contains xs y → Contains (x ∷ xs) y

@@ -1,11 +1,40 @@
 -- Values in the order of their enqueues' returns, and of each front of these the one that stays longest.
-use Rattle.std.specs.Prelude.{◌≡◌, ℕ, ◌+◌, ◌<◌, List, All, length, map, take, slice_index_or}
-use Rattle.std.specs.List.Sorted.{IsNonDecreasingBy, IsPermutation}
+use Rattle.std.specs.Prelude.{All, Contains, length, List, map, MatchOption, Option, slice_index_or, take, ℕ, ◌+◌, ◌<◌}
+use Rattle.std.specs.Prelude.{◌≡◌, ◌⊎◌}
 use Rattle.value_match.specs.declared.life.Life.{Life}
 use Rattle.value_match.specs.declared.life.MatchedValue.{MatchedValue}
-use Rattle.value_match.specs.declared.table.Front.{Front}
 use Rattle.value_match.specs.Lives.{enqueue_return}
-use Rattle.value_match.specs.Longest.{IsLongestOf}
+use Rattle.value_match.specs.Choice.{StaysAtLeast}
+use Rattle.std.specs.List.Sorted.{IsNonDecreasingBy, IsPermutation}
+use Rattle.value_match.specs.declared.table.Front.{Front}
+
+-- ---- of values that pass some test, the one that stays in the queue longest
+
+-- the value's enqueue returned before this time
+abbrev pub EntersBefore : ℕ → Life → Type 0
+EntersBefore time life = enqueue_return life < time
+
+-- one of the two values, which stays at least as long as each
+pub record IsLongerOf (first second longer : MatchedValue) : Type 0 where
+  pub is_one : (longer ≡ first) ⊎ (longer ≡ second)
+  pub stays_first : StaysAtLeast longer.life first.life
+  pub stays_second : StaysAtLeast longer.life second.life
+
+-- of the values that pass, the one that stays longest
+pub record IsLongestOf (Passes : Life → Type 0) (values : List MatchedValue) (value : MatchedValue) : Type 0 where
+  pub among : Contains values value
+  pub passes : Passes value.life
+  pub longest : All (λ other. Passes other.life → StaysAtLeast value.life other.life) values
+
+-- no value passes
+abbrev pub NonePasses : (Life → Type 0) → List MatchedValue → Type 0
+NonePasses Passes values = All (λ value. ¬ (Passes value.life)) values
+
+-- the longest of the values that pass, or none where none passes
+abbrev pub FindsLongest : (Life → Type 0) → List MatchedValue → Option MatchedValue → Type 0
+FindsLongest Passes values found = MatchOption found (NonePasses Passes values) (λ longest. IsLongestOf Passes values longest)
+
+-- ---- values in the order of their enqueues' returns, and of each front of these the one that stays longest
 
 -- the entry is a value's enqueue return, with its place
 pub record IsEntryOf (values : List MatchedValue) (entry : Front) : Type 0 where

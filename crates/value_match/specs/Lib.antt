@@ -3,8 +3,6 @@ pub mod Violations
 pub mod Choice
 pub mod Accepted
 pub mod Outcome
-pub mod Longest
 pub mod Fronts
 pub mod Timeline
-pub mod Told
 pub mod Inner

@@ -1,8 +1,10 @@
 -- What holds of a history, by its timeline, in which the initial values are enqueued before all else.
-use Rattle.std.specs.Prelude.{ℕ, ◌+◌, ◌-◌, ℤ, pos, ◌-ℤ◌, List}
+use Rattle.std.specs.Prelude.{if◌then◌else◌, List, nat_lt, None, Option, pos, Some, ℕ, ℤ, ◌+◌, ◌-ℤ◌, ◌-◌}
 use Rattle.event_records.specs.declared.limits.TheConstants.{ORIGIN}
 use Rattle.history_merge.specs.declared.operation.Operation.{Operation}
 use Rattle.history_merge.specs.Initial.{Contents, enqueue_at, timeline}
+use Rattle.value_match.specs.declared.violation.Source.{Source}
+use Rattle.value_match.specs.declared.violation.Source.TheVariants.{Enq, Initial}
 
 -- the operations of their timeline
 abbrev pub timeline_of : Contents → List Operation
@@ -27,3 +29,17 @@ ticket_of time = pos time -ℤ pos ORIGIN
 -- the place of an operation after this many initial values
 abbrev pub behind : ℕ → ℕ → ℕ
 behind initial_count place = initial_count + place
+
+-- ---- places of a history, told by those of its timeline
+
+-- the place of an operation, which stands after this many initial values
+abbrev pub told_place : ℕ → ℕ → ℕ
+told_place initial_count place = place - initial_count
+
+-- that place, if it does stand after them
+abbrev pub place_behind : ℕ → ℕ → Option ℕ
+place_behind initial_count place = if nat_lt place initial_count then None else Some (told_place initial_count place)
+
+-- where the value comes from whose enqueue stands at this place: the first enqueues are those of the initial values
+abbrev pub told_source : ℕ → ℕ → Source
+told_source initial_count place = if nat_lt place initial_count then Initial place else Enq (told_place initial_count place)

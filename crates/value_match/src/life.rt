@@ -3,7 +3,7 @@ ghost use Rattle.value_match.specs.declared.life.TheConstants.{NEVER};
 ghost use Rattle.value_match.specs.Timeline.{ticket_of};
 ghost use Rattle.value_match.specs.Choice.{StaysAtLeast};
 ghost use Rattle.value_match.specs.Lives.{enqueue_call, enqueue_return, dequeue_call, dequeue_return, entered_by, leaves_from};
-ghost use Rattle.value_match.specs.Longest.{IsLongerOf};
+ghost use Rattle.value_match.specs.Fronts.{IsLongerOf};
 
 use event_records::{MAX_TIME, ORIGIN};
 use history_merge::{OpId, Operation};

@@ -1,5 +1,5 @@
 ghost use Rattle.std.specs.Prelude.{◌≡◌, ◌<◌, length, map, slice_index_or};
-ghost use Rattle.value_match.specs.Told.{told_place};
+ghost use Rattle.value_match.specs.Timeline.{told_place};
 
 use crate::told::told_place;
 use history_merge::OpId;
@@ -16,7 +16,7 @@ pub struct Places<'a> {
 
 impl<'a> Model for Places<'a> {
     ghost use Rattle.std.specs.Prelude.{ℕ, List, map};
-    ghost use Rattle.value_match.specs.Told.{told_place};
+    ghost use Rattle.value_match.specs.Timeline.{told_place};
 
     ghost Value = { List ℕ };
 

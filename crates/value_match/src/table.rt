@@ -2,8 +2,7 @@ ghost use Rattle.std.specs.Prelude.{◌≡◌, ◌<◌, ◌≤◌, ◌↔◌, If
 ghost use Rattle.std.specs.List.Sorted.{IsNonDecreasingBy, IsPartitionPoint};
 ghost use Rattle.value_match.specs.Choice.{StaysAtLeast};
 ghost use Rattle.value_match.specs.declared.life.MatchedValue.{MatchedValue};
-ghost use Rattle.value_match.specs.Longest.{EntersBefore, FindsLongest, IsLongerOf};
-ghost use Rattle.value_match.specs.Fronts.{AreEntriesOf, IsByReturn, HasFronts, IsTableOf};
+ghost use Rattle.value_match.specs.Fronts.{AreEntriesOf, EntersBefore, FindsLongest, HasFronts, IsByReturn, IsLongerOf, IsTableOf};
 
 use crate::accepted::Values;
 use crate::life::MatchedValue;

@@ -1,7 +1,7 @@
 //! Places of a history, told by those of its timeline, in which the enqueues of its initial values come first.
 ghost use Rattle.std.specs.Prelude.{◌≡◌, option_map};
 ghost use Rattle.value_match.specs.declared.violation.Violation.TheVariants.{Fresh, Repeat};
-ghost use Rattle.value_match.specs.Told.{told_place, told_source};
+ghost use Rattle.value_match.specs.Timeline.{told_place, told_source};
 
 use crate::fresh::FreshPlaces;
 use crate::takers::RepeatPlaces;

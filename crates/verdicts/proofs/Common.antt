@@ -1,13 +1,13 @@
 -- The names that most proofs of this crate cite, passed on from one place. Declares nothing.
-pub use Rattle.std.proofs.Common.{[], ◌*◌, ◌++◌, ◌+◌, ◌-◌, ◌<◌, ◌||◌, ◌↔◌, ◌∙◌, ◌∷◌, ◌≡◌, ◌≢◌, ◌≤◌, ◌⊎◌, add-one, All}
-pub use Rattle.std.proofs.Common.{AllPairs, ap, append-nil, append_assoc, ap₂, arith, Bool, BTreeSet, cond, Contains}
-pub use Rattle.std.proofs.Common.{Decides, drop, drop-cons, eq-eqb, eqb-true, Err, false, filter, filter_map, find}
-pub use Rattle.std.proofs.Common.{flat_map, get_or, HoldsAt, IfOk, inl, inr, is_eq, IsPermutation, IsSome, IsTrue}
-pub use Rattle.std.proofs.Common.{le-leb, le-ltb, length, length-append, length-drop, List, lt-ltb, ltb-false}
-pub use Rattle.std.proofs.Common.{ltb-true, map, MatchBool, MatchOption, MatchResult, max, nat_cmp, nat_eq, nat_lt}
-pub use Rattle.std.proofs.Common.{ne_eqb, None, not, Ok, Option, option_and_then, option_map, option_to_list, position}
-pub use Rattle.std.proofs.Common.{refl, Result, rules, slice_get, Some, subst, suc, sym, take, take_all, tests, true}
-pub use Rattle.std.proofs.Common.{zero, ℕ}
+pub use Rattle.std.proofs.Common.{[], add-one, All, AllPairs, ap, append-nil, append_assoc, ap₂, arith, Bool, BTreeSet}
+pub use Rattle.std.proofs.Common.{cond, Contains, Decides, drop, drop-cons, eq-eqb, eqb-true, Err, false, filter}
+pub use Rattle.std.proofs.Common.{filter_map, find, flat_map, get_or, HoldsAt, IfOk, inl, inr, is_eq, IsPermutation}
+pub use Rattle.std.proofs.Common.{IsSome, IsTrue, le-leb, le-ltb, length, length-append, length-drop, List, lt-ltb}
+pub use Rattle.std.proofs.Common.{ltb-false, ltb-true, map, MatchBool, MatchOption, MatchResult, max, nat_cmp, nat_eq}
+pub use Rattle.std.proofs.Common.{nat_lt, ne_eqb, None, not, Ok, Option, option_and_then, option_map, option_to_list}
+pub use Rattle.std.proofs.Common.{position, refl, Result, rules, slice_get, Some, subst, suc, sym, take, take_all}
+pub use Rattle.std.proofs.Common.{tests, true, zero, ℕ, ◌*◌, ◌++◌, ◌+◌, ◌-◌, ◌<◌, ◌||◌, ◌↔◌, ◌∙◌, ◌∷◌, ◌≡◌, ◌≢◌, ◌≤◌}
+pub use Rattle.std.proofs.Common.{◌⊎◌}
 pub use Rattle.std.specs.Prelude.{⊤}
 pub use Rattle.std.proofs.lemmas.Bool.{cases_lt, cases_order, false≢true, not-true}
 pub use Rattle.std.proofs.lemmas.Bool.Decides.{Decides-at, nat_tests}
@@ -18,9 +18,8 @@ pub use Rattle.std.proofs.lemmas.Iterator.Consumers.{YieldsList-from_filter_map}
 pub use Rattle.std.proofs.lemmas.List.{append_cancel_left, flat_map_more, get_or_append_left, get_or_default}
 pub use Rattle.std.proofs.lemmas.List.{length-map, map-append, take_more, take_rest}
 pub use Rattle.std.proofs.lemmas.List.Elements.{All-cons, All-contains, All-filter, All-map, All-nil}
-pub use Rattle.std.proofs.lemmas.List.Elements.{Contains-append_cases}
-pub use Rattle.std.proofs.lemmas.List.Elements.{Contains-append_left, Contains-append_right, Contains-get_or}
-pub use Rattle.std.proofs.lemmas.List.Elements.{filter_agree, filter_map-append}
+pub use Rattle.std.proofs.lemmas.List.Elements.{Contains-append_cases, Contains-append_left, Contains-append_right}
+pub use Rattle.std.proofs.lemmas.List.Elements.{Contains-get_or, filter_agree, filter_map-append}
 pub use Rattle.std.proofs.lemmas.List.Folds.{Any-from_list_any, list_any-append, list_any-from_Any, map_fixed}
 pub use Rattle.std.proofs.lemmas.List.Kept.{AllPairs-cons, AllPairs-filter}
 pub use Rattle.std.proofs.lemmas.List.Sorted.{answers_always, Contains-permutation, IsNonDecreasingBy-from_sort_by_key}
@@ -38,8 +37,8 @@ pub use Rattle.event_records.specs.Turns.{answers, is_call, TakesTurns}
 pub use Rattle.event_records.specs.declared.event.Event.{Event}
 pub use Rattle.event_records.specs.declared.event.What.{What}
 pub use Rattle.event_records.specs.declared.event.What.TheVariants.{CallDeq, CallEnq, RetDeq, RetEmpty, RetEnq, RetNot}
-pub use Rattle.event_records.specs.declared.limits.TheConstants.{MAX_INITIAL, MAX_OPERATIONS, MAX_THREAD}
-pub use Rattle.event_records.specs.declared.limits.TheConstants.{MAX_TICKET, MAX_TIME, ORIGIN}
+pub use Rattle.event_records.specs.declared.limits.TheConstants.{MAX_INITIAL, MAX_OPERATIONS, MAX_THREAD, MAX_TICKET}
+pub use Rattle.event_records.specs.declared.limits.TheConstants.{MAX_TIME, ORIGIN}
 pub use Rattle.history_merge.specs.Complete.{AreComplete, AreDistinct, called_value, called_values, IsCompleteHistory}
 pub use Rattle.history_merge.specs.Initial.{Contents, enqueue_at, enqueues_from, HistoryView, initial_enqueues}
 pub use Rattle.history_merge.specs.Initial.{IsCompleteFrom, later_by, timeline}
@@ -50,14 +49,13 @@ pub use Rattle.history_merge.specs.declared.operation.OpKind.{OpKind}
 pub use Rattle.history_merge.specs.declared.operation.OpKind.TheVariants.{Deq, Empty, Enq, Not}
 pub use Rattle.history_merge.specs.declared.operation.Operation.{Operation}
 pub use Rattle.history_merge.proofs.Distinct.{call_before_return, call_by_return, calls_rise, CallsFor, contains_at}
-pub use Rattle.history_merge.proofs.Distinct.{contains_cons}
-pub use Rattle.history_merge.proofs.Distinct.{no_enqueue, operations_are_complete, returns_at_call, returns_at_no_call}
-pub use Rattle.history_merge.proofs.Distinct.{some_are_complete}
-pub use Rattle.history_merge.proofs.Distinct.{not_in_none, one_at, operation_within, pairs_at, place_of}
-pub use Rattle.history_merge.proofs.Distinct.{return_differs_from_call, return_in_range, same_call, same_enqueue}
-pub use Rattle.history_merge.proofs.Distinct.{same_event, same_return, same_value_call, traced}
-pub use Rattle.history_merge.proofs.Timelines.{timeline_is_complete, linearizable_from_exactly}
-pub use Rattle.history_merge.proofs.Later.{later_injective, map_map}
+pub use Rattle.history_merge.proofs.Distinct.{contains_cons, no_enqueue, not_in_none, one_at, operation_within}
+pub use Rattle.history_merge.proofs.Distinct.{operations_are_complete, pairs_at, place_of, return_differs_from_call}
+pub use Rattle.history_merge.proofs.Distinct.{return_in_range, returns_at_call, returns_at_no_call, same_call}
+pub use Rattle.history_merge.proofs.Distinct.{same_enqueue, same_event, same_return, same_value_call}
+pub use Rattle.history_merge.proofs.Distinct.{some_are_complete, traced}
+pub use Rattle.history_merge.proofs.Timelines.{later_injective, linearizable_from_exactly, map_map}
+pub use Rattle.history_merge.proofs.Timelines.{timeline_is_complete}
 pub use Rattle.value_match.specs.Choice.{IsChosenCover, IsChosenCoverFrom, IsChosenFresh, IsChosenFullViolation}
 pub use Rattle.value_match.specs.Choice.{IsChosenOrderViolation, IsChosenRepeat, IsChosenWitness, IsNextOfCover}
 pub use Rattle.value_match.specs.Choice.{StaysAtLeast}
@@ -76,15 +74,15 @@ pub use Rattle.value_match.specs.declared.life.Life.{Life}
 pub use Rattle.value_match.specs.declared.violation.CoverStep.{CoverStep}
 pub use Rattle.value_match.specs.declared.violation.Source.{Source}
 pub use Rattle.value_match.specs.declared.violation.Violation.{Violation}
-pub use Rattle.value_match.proofs.CoverLives.{AreLives, covers_are_lives}
-pub use Rattle.value_match.proofs.TimelineLines.{enqueue_place, enqueue_stands, few_initial, same_operation, timeline_at}
+pub use Rattle.value_match.proofs.ToldPlaces.{AreLives, covers_are_lives, enqueue_place, enqueue_stands, few_initial}
+pub use Rattle.value_match.proofs.ToldPlaces.{same_operation, timeline_at}
 pub use Rattle.value_match.proofs.Lists.{keeps, kept, mapped_from, mapped_to, one_deeper, passed_filter, passes_filter}
 pub use Rattle.value_match.proofs.Lives.{dequeued_if_called, one_life_of_enqueue}
 pub use Rattle.order_violation.specs.declared.pair.OrderPair.{OrderPair}
 pub use Rattle.empty_witness.specs.Answers.{IsGapAnswer, IsWitnessAnswer}
 pub use Rattle.empty_witness.proofs.Covers.{chosen_cover, chosen_cover_is_shortest, chosen_cover_violates}
 pub use Rattle.empty_witness.proofs.Covers.{violation_covers}
-pub use Rattle.linearizer.proofs.Keys.{AllPairs-tail, one_place}
+pub use Rattle.linearizer.proofs.Elements.{AllPairs-tail, one_place}
 pub use Rattle.linearizer.proofs.OneOrder.{chosen_order_exists, chosen_order_is_one, operations_rise}
 pub use Rattle.verdicts.specs.Claiming.{is_operation, IsPlaceWithin, line_at, lines_at, lines_of_history}
 pub use Rattle.verdicts.specs.Claiming.{operations_at, operations_named, verdict_places, violation_kind}
@@ -95,7 +93,7 @@ pub use Rattle.verdicts.specs.Inner.Selecting.{call_in, holds_ticket, SelectsNam
 pub use Rattle.verdicts.specs.Selection.{AreLinearizable, ArePartOf, contents_of, IsMinimal, IsShortestCover}
 pub use Rattle.verdicts.specs.Selection.{KeepsViolation, select, selects, StaysChosen, value_of, violation_lines}
 pub use Rattle.verdicts.specs.Shown.{maybe_place, place_of_source, places_of_step, violation_places}
-pub use Rattle.verdicts.specs.Verdicts.{timeline_of_history, IsVerdict}
+pub use Rattle.verdicts.specs.Verdicts.{IsVerdict, timeline_of_history}
 pub use Rattle.verdicts.specs.declared.shown.LinePlace.{LinePlace}
 pub use Rattle.verdicts.specs.declared.verdict.Verdict.TheVariants.{No, Yes}
 pub use Rattle.verdicts.specs.declared.verifying.ClaimLine.{ClaimLine}

@@ -1,28 +1,26 @@
 -- A complete history has a linearization if and only if it has no violation: beside one no order is legal, and without one there is one.
-use Rattle.verdicts.proofs.Common.{[], accept, accept_all, AllZip, ap, append-nil, AreComplete}
-use Rattle.verdicts.proofs.Common.{AreLeastFreeGaps, arith, call_by_return, cases_order, chosen_cover}
-use Rattle.verdicts.proofs.Common.{chosen_order_exists, Contains, Contains-permutation, contains_at, CoversFrom, Deq}
-use Rattle.verdicts.proofs.Common.{dequeue_of, Did, Empty, Enq, enqueue_of, eq-eqb, filter, fresh, FullViolation, inl}
-use Rattle.verdicts.proofs.Common.{inr, is_empty_answer, IsAccepted, IsClear, IsEnqueuedTooLate, IsLeastFreeGap}
-use Rattle.verdicts.proofs.Common.{IsLegalOrder, IsLife, IsLinearizable, IsNeverEnqueued, IsOrderViolation}
-use Rattle.verdicts.proofs.Common.{IsPermutation-sym, IsRepeatViolation, IsSome, IsViolationOf, Life, List, map}
-use Rattle.verdicts.proofs.Common.{MatchOption, no_enqueue, None, NoneDid, NoOrderViolation, Not, NoWitnessViolation}
-use Rattle.verdicts.proofs.Common.{one_deeper, Operation, OpKind, Option, option_map, order, pairs_at, Precedes, refl}
-use Rattle.verdicts.proofs.Common.{repeat, rules, slice_get, Some, sym, take, witness, zero, ℕ, ⊤, ◌++◌, ◌<◌, ◌∙◌, ◌∷◌}
-use Rattle.verdicts.proofs.Common.{◌≡◌, ◌≤◌, ◌⊎◌}
+use Rattle.verdicts.proofs.Common.{[], accept, accept_all, AllZip, ap, append-nil, AreComplete, AreLeastFreeGaps}
+use Rattle.verdicts.proofs.Common.{arith, call_by_return, cases_order, chosen_cover, chosen_order_exists, Contains}
+use Rattle.verdicts.proofs.Common.{Contains-permutation, contains_at, CoversFrom, Deq, dequeue_of, Did, Empty, Enq}
+use Rattle.verdicts.proofs.Common.{enqueue_of, eq-eqb, filter, fresh, FullViolation, inl, inr, is_empty_answer}
+use Rattle.verdicts.proofs.Common.{IsAccepted, IsClear, IsEnqueuedTooLate, IsLeastFreeGap, IsLegalOrder, IsLife}
+use Rattle.verdicts.proofs.Common.{IsLinearizable, IsNeverEnqueued, IsOrderViolation, IsPermutation-sym}
+use Rattle.verdicts.proofs.Common.{IsRepeatViolation, IsSome, IsViolationOf, Life, List, map, MatchOption, no_enqueue}
+use Rattle.verdicts.proofs.Common.{None, NoneDid, NoOrderViolation, Not, NoWitnessViolation, one_deeper, Operation}
+use Rattle.verdicts.proofs.Common.{OpKind, Option, option_map, order, pairs_at, Precedes, refl, repeat, rules}
+use Rattle.verdicts.proofs.Common.{slice_get, Some, sym, take, witness, zero, ℕ, ⊤, ◌++◌, ◌<◌, ◌∙◌, ◌∷◌, ◌≡◌, ◌≤◌, ◌⊎◌}
 use Rattle.std.proofs.lemmas.Option.{slice_get-map}
-use Rattle.value_match.proofs.TimelineLines.{mapped_option}
-use Rattle.history_merge.proofs.Runs.{enqueued, dequeued, enqueued_is_dequeued, IsQueueBefore, queue_before}
-use Rattle.history_merge.proofs.Places.{Member, Member-right, StandsBefore, enqueue_of_member, dequeue_of_member}
-use Rattle.history_merge.proofs.Places.{split_at_enqueue, split_at_dequeue, count, count-append, count_here}
-use Rattle.history_merge.proofs.Places.{count-le-calls, calls_of_kind, same_place, same_front}
-use Rattle.history_merge.proofs.Distinct.{place_of as listed_place}
-use Rattle.history_merge.proofs.Completeness.{calls-IsPermutation, one_calls}
-use Rattle.verdicts.specs.Laws.{ViolationExcludesOrder, LinearizableExactly}
-use Rattle.linearizer.proofs.EachPosition.{some_injective}
+use Rattle.value_match.proofs.ToldPlaces.{mapped_option}
+use Rattle.history_merge.proofs.Distinct.{calls-IsPermutation, calls_of_kind, count, count-append, count-le-calls}
+use Rattle.history_merge.proofs.Distinct.{count_here, dequeue_of_member, dequeued, enqueue_of_member, enqueued}
+use Rattle.history_merge.proofs.Distinct.{enqueued_is_dequeued, IsQueueBefore, Member, Member-right, one_calls}
+use Rattle.history_merge.proofs.Distinct.{place_of as listed_place, queue_before, same_front, same_place}
+use Rattle.history_merge.proofs.Distinct.{split_at_dequeue, split_at_enqueue, StandsBefore}
+use Rattle.verdicts.specs.Laws.{LinearizableExactly, ViolationExcludesOrder}
+use Rattle.linearizer.proofs.Positions.{some_injective}
 use Rattle.empty_witness.proofs.FreeGaps.{free_gap_or_covered}
 use Rattle.empty_witness.proofs.Answers.{is_empty_did}
-use Rattle.linearizer.proofs.LegalOrder.{chosen_order_is_legal}
+use Rattle.linearizer.proofs.OneOrder.{chosen_order_is_legal}
 
 kind_at : (xs : List Operation) (i : ℕ) (o : Operation) (k : OpKind) → slice_get xs i ≡ Some o → o.kind ≡ k → slice_get (map (λ o. o.kind) xs) i ≡ Some k
 kind_at xs i o k at is = slice_get-map (λ o. o.kind) xs i ∙ ap (option_map (λ o. o.kind)) at ∙ ap (λ k. Some k) is

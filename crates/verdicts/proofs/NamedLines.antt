@@ -1,14 +1,12 @@
 -- What the lines of a violation name, and what a selection by them holds.
-use Rattle.verdicts.proofs.Common.{[], AllByRecursion, ap, Bool, Contains, contains_cons, CoversFrom, Deq}
-use Rattle.verdicts.proofs.Common.{dequeue_of, Did, Enq, enqueue_of, flat_map, fresh}
-use Rattle.verdicts.proofs.Common.{FullViolation, inl, inr, IsFreshViolation, IsLife, IsOrderViolation}
-use Rattle.verdicts.proofs.Common.{IsRepeatViolation, IsViolationOf, Life, lines_of, List}
-use Rattle.verdicts.proofs.Common.{MatchOption, None, NoneDid, Not, not_in_none, Operation}
-use Rattle.verdicts.proofs.Common.{operations_of_life, OpKind, Option, option_map_or, option_to_list, order}
-use Rattle.verdicts.proofs.Common.{Precedes, refl, repeat, selects, Some, subst}
-use Rattle.verdicts.proofs.Common.{value_of, witness, ℕ, ◌∙◌, ◌∷◌, ◌≡◌, ◌⊎◌}
+use Rattle.verdicts.proofs.Common.{[], AllByRecursion, ap, Bool, Contains, contains_cons, CoversFrom, Deq, dequeue_of}
+use Rattle.verdicts.proofs.Common.{Did, Enq, enqueue_of, flat_map, fresh, FullViolation, inl, inr, IsFreshViolation}
+use Rattle.verdicts.proofs.Common.{IsLife, IsOrderViolation, IsRepeatViolation, IsViolationOf, Life, lines_of, List}
+use Rattle.verdicts.proofs.Common.{MatchOption, None, NoneDid, Not, not_in_none, Operation, operations_of_life, OpKind}
+use Rattle.verdicts.proofs.Common.{Option, option_map_or, option_to_list, order, Precedes, refl, repeat, selects, Some}
+use Rattle.verdicts.proofs.Common.{subst, value_of, witness, ℕ, ◌∙◌, ◌∷◌, ◌≡◌, ◌⊎◌}
 use Rattle.std.proofs.lemmas.List.Elements.{All-contains, All-from_recursion}
-use Rattle.linearizer.proofs.NoneTwice.{from_flat_map}
+use Rattle.linearizer.proofs.Elements.{from_flat_map}
 
 -- the operation has this value
 abbrev pub HasValue : Operation → ℕ → Type 0

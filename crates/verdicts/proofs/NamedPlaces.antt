@@ -1,29 +1,62 @@
 -- The lines of a violation of a timeline as they are shown, at the places of a history that it names; the places of a violation whose
 -- lines are operations.
-use Rattle.verdicts.proofs.Common.{nat_tests, [], All, All-cons, All-nil, AllZip, ap, AreLives, ArePlacesOf, arith, Bool, call_in}
-use Rattle.verdicts.proofs.Common.{cases_lt, ClaimLine, cond, cons_option, Contains, Contains-append_left}
-use Rattle.verdicts.proofs.Common.{Contains-append_right, contains_at, covers_are_lives, CoverStep, Deq, dequeue_of}
-use Rattle.verdicts.proofs.Common.{Did, Enq, enqueue_of, filter, flat_map, fresh, FullViolation, initial_time, inl}
-use Rattle.verdicts.proofs.Common.{inr, IsAt, IsMaybeAt, IsMaybeOperation, IsOperation, IsPlaceWithin, IsSource}
-use Rattle.verdicts.proofs.Common.{IsViolationOf, later_by, le-ltb, length, Life, line_at, LinePlace, lines_at}
-use Rattle.verdicts.proofs.Common.{lines_of, lines_of_history, List, lt-ltb, map, mapped_to, MatchOption}
-use Rattle.verdicts.proofs.Common.{MAX_INITIAL, maybe_place, Names, NamesCover, nat_lt, None, NoneDid, one_deeper}
-use Rattle.verdicts.proofs.Common.{Operation, operations_of_life, OpKind, Option, option_map, option_to_list, order}
-use Rattle.verdicts.proofs.Common.{ORIGIN, place_of, place_of_source, places_of_step, Precedes, refl, repeat}
-use Rattle.verdicts.proofs.Common.{same_operation, slice_get, slice_get_within, Some, Source, subst, sym, timeline}
-use Rattle.verdicts.proofs.Common.{timeline_at, value_in, value_of, Violation, violation_places, witness, zero, ℕ, ⊤}
-use Rattle.verdicts.proofs.Common.{◌+◌, ◌-◌, ◌<◌, ◌∙◌, ◌∷◌, ◌≡◌, ◌≤◌}
-use Rattle.verdicts.proofs.Retiming.{lifted, lifted_late, lifted_rises, retimed}
-use Rattle.verdicts.proofs.Retiming.{start}
+use Rattle.verdicts.proofs.Common.{[], All, All-cons, All-map, All-nil, AllZip, ap, AreComplete, AreLives, ArePartOf}
+use Rattle.verdicts.proofs.Common.{ArePlacesOf, arith, Bool, call_before_return, call_in, cases_lt, ClaimLine, cond}
+use Rattle.verdicts.proofs.Common.{cons_option, Contains, Contains-append_cases, Contains-append_left}
+use Rattle.verdicts.proofs.Common.{Contains-append_right, Contains-permutation, contains_at, contains_cons}
+use Rattle.verdicts.proofs.Common.{covers_are_lives, CoverStep, Deq, dequeue_of, Did, Empty, Enq, enqueue_of}
+use Rattle.verdicts.proofs.Common.{enqueue_place, Event, false, few_initial, filter, flat_map, fresh, FullViolation}
+use Rattle.verdicts.proofs.Common.{initial_enqueues, initial_time, inl, inr, is_operation, IsAt, IsChosenCoverFrom}
+use Rattle.verdicts.proofs.Common.{IsChosenFullViolation, IsChosenViolation, IsClear, IsCompleteHistory, IsCovered}
+use Rattle.verdicts.proofs.Common.{IsDecided, IsMatched, IsMaybeAt, IsMaybeOperation, IsOperation, IsPlaceWithin}
+use Rattle.verdicts.proofs.Common.{IsSource, IsVerdict, IsViolationOf, IsWitnessAnswer, later_by, le-ltb, length}
+use Rattle.verdicts.proofs.Common.{length-map, length_permutation, Life, line_at, linearizable_from_exactly, LinePlace}
+use Rattle.verdicts.proofs.Common.{lines_at, lines_of, lines_of_history, List, lt-ltb, ltb-false, map, mapped_to}
+use Rattle.verdicts.proofs.Common.{MatchOption, MAX_INITIAL, MAX_OPERATIONS, MAX_TICKET, maybe_place, Names}
+use Rattle.verdicts.proofs.Common.{NamesCover, nat_lt, nat_tests, No, no_enqueue, None, NoneDid, NoOrderViolation, not}
+use Rattle.verdicts.proofs.Common.{not-true, not_in_none, one_deeper, Operation, operations_named, operations_of}
+use Rattle.verdicts.proofs.Common.{operations_of_life, OpKind, Option, option_map, option_to_list, order, OrderPair}
+use Rattle.verdicts.proofs.Common.{ORIGIN, passed_filter, place_of, place_of_source, places_of_step, Precedes, refl}
+use Rattle.verdicts.proofs.Common.{repeat, same_operation, slice_get, slice_get_within, Some, Source, subst, sym}
+use Rattle.verdicts.proofs.Common.{timeline, timeline_at, timeline_is_complete, true, value_in, value_of}
+use Rattle.verdicts.proofs.Common.{verdict_places, Violation, violation_places, witness, Yes, zero, ℕ, ⊤, ◌+◌, ◌-◌}
+use Rattle.verdicts.proofs.Common.{◌<◌, ◌∙◌, ◌∷◌, ◌≡◌, ◌≤◌, ◌⊎◌}
+use Rattle.std.proofs.Common.{count_by}
+use Rattle.verdicts.proofs.Retiming.{lifted, lifted_late, lifted_rises, retimed, start}
 use Rattle.history_merge.specs.Inner.Timeline.{earlier_by}
-use Rattle.linearizer.proofs.Elements.{zip_joined}
-use Rattle.verdicts.specs.declared.shown.LinePlace.TheVariants.{Op, Initial}
-use Rattle.value_match.proofs.TimelineLines.{mapped_option}
-use Rattle.value_match.specs.Told.{told_place, told_source}
-use Rattle.value_match.proofs.ToldPlaces.{call_told, dequeue_told, empty_told, fresh_dequeues, maybe_told, source_told}
+use Rattle.linearizer.proofs.Elements.{none_twice-filter, NoneTwice, zip_joined}
+use Rattle.verdicts.specs.declared.shown.LinePlace.TheVariants.{Initial, Op}
+use Rattle.value_match.proofs.ToldPlaces.{call_told, dequeue_told, empty_told, fresh_dequeues, mapped_option}
+use Rattle.value_match.proofs.ToldPlaces.{maybe_told, source_told}
+use Rattle.value_match.specs.Timeline.{told_place, told_source}
+use Rattle.value_match.specs.declared.matching.Matched.{Matched}
+use Rattle.order_violation.specs.Pairs.{IsChosenPair}
+use Rattle.linearizer.specs.Order.{AreChosenAndLegal}
+use Rattle.verdicts.specs.Laws.{TrueClaimDecides, VerdictHasFewLines}
+use Rattle.verdicts.proofs.Exactly.{violation_excludes_order}
+use Rattle.verdicts.proofs.Chosen.{chosen_is_violation}
+use Rattle.history_merge.specs.Events.{events_of}
+use Rattle.history_merge.proofs.Formed.{all_formed, run_of_complete}
+use Rattle.history_merge.proofs.TheirEvents.{has_returned, length-events_of, told_of_run}
+use Rattle.std.specs.List.{remove}
+use Rattle.std.proofs.lemmas.List.Elements.{All-head, All-tail}
+use Rattle.std.proofs.lemmas.List.Sorted.{IsPermutation-remove}
+use Rattle.std.proofs.lemmas.List.Sums.{sum_by-cons}
+use Rattle.history_merge.proofs.Distinct.{each_timed}
+use Rattle.std.proofs.lemmas.Slice.Zip.{AllZip-long}
+use Rattle.verdicts.specs.declared.verdict.Verdict.{Verdict}
+use Rattle.verdicts.proofs.CoverGaps.{all_stay, chosen_are_lives, handover, IsCalledInside}
+use Rattle.history_merge.proofs.Timelines.{length_timeline}
+use Rattle.verdicts.proofs.NamedLines.{cover_lines, lines_are_operations}
+use Rattle.verdicts.proofs.Selections.{no_longer}
+use Rattle.linearizer.proofs.OneOrder.{none_twice_in_lives}
 use Rattle.value_match.specs.declared.violation.Source.TheVariants as source
 use Rattle.value_match.specs.declared.violation.Violation.TheVariants as violation
 use Rattle.verdicts.specs.declared.verifying.ClaimLine.TheVariants as line
+use Rattle.value_match.specs.declared.matching.Matched.TheVariants as matched
+use Rattle.empty_witness.specs.declared.answer.WitnessAnswer.TheVariants as found
+use Rattle.verdicts.specs.declared.shown.LinePlace.TheVariants as place
+use Rattle.verdicts.specs.declared.verifying.Claimed.TheVariants as claimed
 
 -- the value of a successful enqueue
 abbrev pub accepted_value : OpKind → ℕ
@@ -252,3 +285,243 @@ module _ (initial : List ℕ) (operations : List Operation) (few : length initia
       let are = covers_are_lives all empty empty cover is.covers in
       let steps = cover_at cover are (λ x at. among x (one_deeper empty (flat_map operations_of_life cover) x at)) in
       (violation.Witness (told_place k o.0) steps.0, (empty_told initial operations few o.0 empty o.1 is.answers_empty.1, steps.1))
+
+-- ---- a chosen violation decides a history, and so does a chosen order that is legal
+
+-- a chosen violation decides
+pub no_is_decided : (initial : List ℕ) (operations : List Operation) (violation : Violation) → AreComplete (timeline initial operations)
+    → IsChosenViolation initial operations violation → IsDecided initial operations (No violation)
+no_is_decided initial operations violation complete chosen =
+    let all = timeline initial operations in
+    let full = chosen_is_violation all chosen.0 complete chosen.2 in
+    let few = few_initial initial operations complete in
+    record {
+      chosen = chosen;
+      evidence = (chosen.0, chosen.1, full);
+      exact = λ exists. violation_excludes_order all chosen.0 complete full ((linearizable_from_exactly initial operations few).0 exists);
+      places = all_within initial operations few (violation_places violation) (lines_of chosen.0)
+          (each_shown initial operations few violation chosen.0 chosen.1);
+    }
+
+-- a chosen order decides
+pub yes_is_decided : (initial : List ℕ) (operations : List Operation) (places : List ℕ) → AreChosenAndLegal initial operations places
+    → IsDecided initial operations (Yes places)
+yes_is_decided initial operations places chosen = record {
+  chosen = (chosen.0, chosen.1, chosen.2);
+  evidence = (chosen.0, chosen.1, chosen.3);
+  exact = (chosen.0, chosen.3);
+  places = All-map (IsPlaceWithin initial operations) place.Op places (in_range operations places chosen.0 chosen.1);
+}
+
+-- the chosen pair is the chosen violation where the first two kinds are absent
+pub pair_is_chosen : (initial : List ℕ) (operations : List Operation) (pair : OrderPair) → IsClear (timeline initial operations)
+    → IsChosenPair initial operations pair → IsChosenViolation initial operations (violation.Order pair.enq_a pair.enq_b pair.deq_b pair.deq_a)
+pair_is_chosen initial operations pair clear is =
+    (order is.enq_a is.enq_b is.deq_b is.deq_a, (is.at_a, is.at_b, is.dequeued_b, is.dequeued_a), (clear.no_fresh, clear.no_repeat, is.is_chosen))
+
+-- the chosen empty answer with its cover is the chosen violation where the first three kinds are absent
+pub witness_is_chosen : (initial : List ℕ) (operations : List Operation) (empty : ℕ) (cover : List CoverStep) → IsClear (timeline initial operations)
+    → NoOrderViolation (timeline initial operations) → IsWitnessAnswer initial operations (found.Covered empty cover)
+    → IsChosenViolation initial operations (violation.Witness empty cover)
+witness_is_chosen initial operations empty cover clear none is = (witness is.0 is.1, (is.2, is.3), (clear.no_fresh, clear.no_repeat, none, is.4))
+
+-- what matching answers where it refuses is the chosen violation, so the `NO` is decided
+pub refused_is_decided : (initial : List ℕ) (operations : List Operation) (answer : Matched) (violation : Violation)
+    → AreComplete (timeline initial operations) → IsMatched initial operations answer
+    → (answer ≡ matched.Fresh violation) ⊎ (answer ≡ matched.Repeat violation) → IsDecided initial operations (No violation)
+refused_is_decided initial operations answer violation complete is refused = no_is_decided initial operations violation complete (elim refused [
+  | inl same ↦ let h = subst (IsMatched initial operations) same is in (fresh h.0 h.1, h.2, h.3)
+  | inr same ↦ let h = subst (IsMatched initial operations) same is in (repeat h.0 h.1 h.2, h.3, h.4)
+])
+
+-- a true claim decides: a linearization that it lists exists, and a violation that it shows leaves none
+pub true_claim_decides : TrueClaimDecides
+true_claim_decides initial events (claimed.Yes lines) complete few legal = (lines, legal)
+true_claim_decides initial events (claimed.No kind lines) complete few shows =
+    let operations = operations_of events in
+    let full = shows.2.0 in
+    λ exists. violation_excludes_order (timeline initial operations) full (timeline_is_complete initial events complete few) shows.2.3
+    ((linearizable_from_exactly initial operations few).0 exists)
+
+-- ---- the operations of a complete history tell its events
+
+-- the events of a complete history are those that its operations tell
+pub events_told : (events : List Event) → IsCompleteHistory events → events_of (operations_of events) ≡ events
+events_told events complete =
+    ap events_of (sym (all_formed events complete)) ∙ told_of_run events _ (run_of_complete events complete)
+
+-- two parts of one complete history are one, where they are complete and have the same operations
+pub part_is_one : (events xs ys : List Event) → IsCompleteHistory events → ArePartOf events xs → ArePartOf events ys → IsCompleteHistory xs
+    → IsCompleteHistory ys → operations_of xs ≡ operations_of ys → xs ≡ ys
+part_is_one events xs ys complete part_x part_y complete_x complete_y same =
+    sym (events_told xs complete_x) ∙ ap events_of same ∙ events_told ys complete_y
+
+-- ---- elements that stand once
+
+-- elements that stand once, each one of others, are no more than those
+no_more : {X : Type 0} (xs ys : List X) → NoneTwice xs → ((x : X) → Contains xs x → Contains ys x) → length xs ≤ length ys
+no_more [] ys once among = omega arith
+no_more {X} (x ∷ xs) ys once among =
+    let at = among x (zero, omega arith, refl) in
+    let moved = IsPermutation-remove ys at.0 x at.1 (sym at.2) in
+    let fewer = no_more xs (remove ys at.0) once.1 (λ z later. elim (contains_cons x (remove ys at.0) z
+    (Contains-permutation ys (x ∷ remove ys at.0) z moved (among z (one_deeper x xs z later)))) [
+      | inl same ↦ absurd (once.0 (subst (Contains xs) (sym same) later))
+      | inr left ↦ left
+    ]) in
+    omega (arith, length_permutation ys (x ∷ remove ys at.0) moved)
+
+all_returned : (operations : List Operation) → All (λ o. (o.call < o.ret) × (o.ret ≤ MAX_TICKET)) operations
+    → count_by has_returned operations ≡ length operations
+all_returned [] timed = refl
+all_returned (o ∷ rest) timed = grind (
+  arith,
+  nat_tests,
+  sum_by-cons (λ x. cond (has_returned x) 1 0) o rest,
+  All-head (λ o. (o.call < o.ret) × (o.ret ≤ MAX_TICKET)) o rest timed,
+  all_returned rest (All-tail (λ o. (o.call < o.ret) × (o.ret ≤ MAX_TICKET)) o rest timed),
+)
+
+-- a history has two events for each operation
+two_events : (events : List Event) → IsCompleteHistory events → length events ≡ length (operations_of events) + length (operations_of events)
+two_events events complete =
+    let told = ap length (events_told events complete) in
+    let each = length-events_of (operations_of events) in
+    let returned = all_returned (operations_of events) (each_timed events complete) in
+    omega arith
+
+-- ---- the lines of a violation
+
+module _ (operations : List Operation) (empty : Operation) (clear : IsClear operations) (did : Did operations empty Empty)
+    (covered : IsCovered operations empty) where
+  -- no value of a chosen cover stands in it twice, as each leaves before the later ones
+  cover_once : (cover : List Life) (before : Operation) → IsCalledInside operations empty clear did covered before
+      → IsChosenCoverFrom operations empty before.call cover → NoneTwice cover
+  cover_once [] before inside chosen = absurd chosen
+  cover_once (life ∷ []) before inside chosen = (not_in_none life, tt)
+  cover_once (life ∷ next ∷ rest) before inside chosen =
+      let after = handover operations empty clear did covered before life (next ∷ rest) next inside chosen (zero, omega arith, refl) in (
+        λ among. let stays = all_stay operations empty clear did covered (next ∷ rest) after.0 life after.1.inside after.1.further among in
+            omega (arith, after.1.calls),
+        cover_once (next ∷ rest) after.0 after.1.inside after.1.further,
+      )
+
+-- a chosen violation has up to four lines, or each operation of its lines stands once
+few_or_once : (operations : List Operation) (full : FullViolation) → AreComplete operations → IsChosenFullViolation operations full
+    → (length (lines_of full) ≤ 4) ⊎ NoneTwice (lines_of full)
+few_or_once operations (fresh deq None) complete chosen = inl (omega arith)
+few_or_once operations (fresh deq (Some enq)) complete chosen = inl (omega arith)
+few_or_once operations (repeat enq first second) complete chosen = inl (omega arith)
+few_or_once operations (order enq_a enq_b deq_b None) complete chosen = inl (omega arith)
+few_or_once operations (order enq_a enq_b deq_b (Some deq_a)) complete chosen = inl (omega arith)
+few_or_once operations (witness empty cover) complete chosen =
+    let clear : IsClear operations = record { complete = complete; no_fresh = chosen.0; no_repeat = chosen.1 } in
+    let did = chosen.3.answers_empty in
+    let other = no_enqueue empty Empty did.1 refl in
+    let window = call_before_return operations empty complete did.0 other in inr (
+      λ among.
+          let line = cover_lines operations cover (λ y in_cover. chosen_are_lives operations empty cover empty.call y chosen.3.cover_is_chosen in_cover)
+          empty among in
+          let clash : None ≡ Some line.is_life.0 = sym (ap value_of did.1) ∙ line.is_of.1 in
+          cc,
+      none_twice_in_lives operations clear cover (cover_once operations empty clear did chosen.3.is_covered cover empty
+          (record { among = did.0; after_call = omega arith; before_return = window; is_other = other }) chosen.3.cover_is_chosen)
+          (λ y in_cover. chosen_are_lives operations empty cover empty.call y chosen.3.cover_is_chosen in_cover),
+    )
+
+-- ---- the operations among the lines
+
+-- the operation is none of the enqueues of initial values
+abbrev is_own : Operation → Bool
+is_own o = not (nat_lt o.call ORIGIN)
+
+-- the line is that of an operation
+abbrev line_is_operation : ClaimLine → Bool
+line_is_operation (line.Op o) = true
+line_is_operation (line.Initial v) = false
+
+module _ (initial : List ℕ) (operations : List Operation) where
+  of_place : (p : LinePlace) (l : ClaimLine) → line_at initial operations p ≡ Some l → is_operation p ≡ line_is_operation l
+  of_place (place.Op p) l at = ap line_is_operation (mapped_option line.Op (slice_get operations p) l at).2
+  of_place (place.Initial p) l at = ap line_is_operation (mapped_option line.Initial (slice_get initial p) l at).2
+
+  of_line : (o : Operation) → line_is_operation (line_of o) ≡ is_own o
+  of_line o = grind arith
+
+  -- the places of operations are those of the history's own
+  counted : (places : List LinePlace) (listed : List Operation) → AllZip (IsShownAt initial operations) places listed
+      → length (filter is_operation places) ≡ length (filter is_own listed)
+  counted [] [] each = refl
+  counted (p ∷ places) (o ∷ listed) each =
+      let same = of_place p (line_of o) each.0.0 ∙ of_line o in grind (arith, counted places listed each.1)
+  counted _ _ each = absurd each
+
+-- the operations of a timeline that aren't the enqueues of initial values are the history's
+own_is_later : (initial : List ℕ) (operations : List Operation) (o : Operation) → length initial ≤ MAX_INITIAL → Contains (timeline initial operations) o
+    → is_own o ≡ true → Contains (map (later_by ORIGIN) operations) o
+own_is_later initial operations o few among own =
+    elim (Contains-append_cases (initial_enqueues initial) (map (later_by ORIGIN) operations) o among) [
+      | inl here ↦
+          let found = enqueue_place initial o here in
+          let call : initial_time (length initial) found.0 ≡ o.call = ap (λ (x : Operation). x.call) found.3 in
+          let within = slice_get_within initial found.0 found.1 found.2 in
+          let late = ltb-false o.call ORIGIN (not-true (nat_lt o.call ORIGIN) own) in
+          absurd (omega (arith, call, within, late))
+      | inr there ↦ there
+    ]
+
+-- the chosen verdict on a history names few operations, and has few lines
+pub verdict_has_few_lines : VerdictHasFewLines
+verdict_has_few_lines initial events verdict whole few_initial few_events chosen = by_verdict verdict chosen
+  where
+    operations : List Operation
+    operations = operations_of events
+
+    all : List Operation
+    all = timeline initial operations
+
+    complete : AreComplete all
+    complete = timeline_is_complete initial events whole few_initial
+
+    few : length operations ≤ MAX_OPERATIONS
+    few = let half = two_events events whole.complete in omega (arith, few_events, half)
+
+    by_verdict : (verdict : Verdict) → IsVerdict initial operations verdict
+        → (length (operations_named verdict) ≤ MAX_OPERATIONS) × (length (verdict_places verdict) ≤ MAX_OPERATIONS + length initial)
+    by_verdict (Yes places) is =
+        let moved = length_permutation all (timeline initial is.0) is.2.holds_each_once in
+        let many : length places ≡ length is.0 = simp length-map at (ap length is.1) in
+        let shown : length (map (λ p. place.Op p) places) ≡ length places = simp length-map in
+        let named = no_longer is_operation (map (λ p. place.Op p) places) in
+        let long = length_timeline initial operations in
+        let long' = length_timeline initial is.0 in
+        (omega (arith, few, moved), omega (arith, few, moved))
+    by_verdict (No violation) is =
+        let shown = each_shown initial operations few_initial violation is.0 is.1 in
+        let many = AllZip-long (IsShownAt initial operations) (violation_places violation) (lines_of is.0) shown in
+        let named = counted initial operations (violation_places violation) (lines_of is.0) shown in
+        let own = few_own in
+        let lines = few_shown in
+        (omega (arith, named, own), omega (arith, many, lines))
+      where
+        among : (o : Operation) → Contains (lines_of is.0) o → Contains all o
+        among = lines_are_operations all is.0 (chosen_is_violation all is.0 complete is.2)
+
+        few_shown : length (lines_of is.0) ≤ MAX_OPERATIONS + length initial
+        few_shown = elim (few_or_once all is.0 complete is.2) [
+          | inl short ↦ omega arith
+          | inr once ↦
+              let each = no_more (lines_of is.0) all once among in
+              let long = length_timeline initial operations in
+              omega (arith, few)
+        ]
+
+        few_own : length (filter is_own (lines_of is.0)) ≤ MAX_OPERATIONS
+        few_own = elim (few_or_once all is.0 complete is.2) [
+          | inl short ↦ let less = no_longer is_own (lines_of is.0) in omega arith
+          | inr once ↦
+              let each = no_more (filter is_own (lines_of is.0)) (map (later_by ORIGIN) operations) (none_twice-filter is_own (lines_of is.0) once)
+              (λ o at. let passed = passed_filter is_own (lines_of is.0) o at in own_is_later initial operations o few_initial (among o passed.0) passed.1) in
+              let long : length (map (later_by ORIGIN) operations) ≡ length operations = simp length-map in
+              omega (arith, few)
+        ]

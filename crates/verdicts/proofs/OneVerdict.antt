@@ -1,20 +1,22 @@
 -- What is found of a history is the only thing that can be found of it.
-use Rattle.verdicts.proofs.Common.{[], AllZip, ap, append_cancel_left, ap₂, AreComplete, ArePlacesOf, arith, behind}
-use Rattle.verdicts.proofs.Common.{chosen_order_is_one, CoverStep, dequeue_of, Did, Empty, enqueue_of, Event, filter}
-use Rattle.verdicts.proofs.Common.{fresh, FullViolation, initial_enqueues, is_empty_answer, IsAt, IsChosenCover}
-use Rattle.verdicts.proofs.Common.{IsChosenViolation, IsClear, IsCompleteFrom, IsCovered, IsGapAnswer, IsLeastFreeGap}
-use Rattle.verdicts.proofs.Common.{IsMaybeOperation, IsOperation, IsSource, IsViolationOf, later_by, later_injective}
-use Rattle.verdicts.proofs.Common.{length, Life, linearizable_from_exactly, List, map, MAX_INITIAL, Names, NamesCover}
-use Rattle.verdicts.proofs.Common.{NamesStep, No, None, one_at, Operation, operations_are_complete, operations_of}
-use Rattle.verdicts.proofs.Common.{operations_rise, Option, order, OrderPair, ORIGIN, passes_filter, place_of, refl}
-use Rattle.verdicts.proofs.Common.{repeat, Some, Source, subst, sym, time_of, timeline}
-use Rattle.verdicts.proofs.Common.{timeline_is_complete, true, Violation, witness, Yes, ℕ, ◌∙◌, ◌∷◌, ◌≡◌, ◌≤◌}
+use Rattle.verdicts.proofs.Common.{[], AllPairs, AllZip, ap, append_cancel_left, ap₂, AreComplete, ArePlacesOf, arith}
+use Rattle.verdicts.proofs.Common.{behind, cases_lt, chosen_order_is_one, Contains, Contains-permutation, CoverStep}
+use Rattle.verdicts.proofs.Common.{dequeue_of, Did, Empty, enqueue_of, Event, filter, fresh, FullViolation, get_or}
+use Rattle.verdicts.proofs.Common.{initial_enqueues, inl, inr, is_empty_answer, IsAt, IsChosenCover, IsChosenViolation}
+use Rattle.verdicts.proofs.Common.{IsClear, IsCompleteFrom, IsCovered, IsGapAnswer, IsLeastFreeGap, IsMaybeOperation}
+use Rattle.verdicts.proofs.Common.{IsNonDecreasingBy, IsOperation, IsPermutation, IsPermutation-sym}
+use Rattle.verdicts.proofs.Common.{IsPermutation-trans, IsSource, IsViolationOf, later_by, later_injective, length}
+use Rattle.verdicts.proofs.Common.{Life, linearizable_from_exactly, List, map, MAX_INITIAL, Names, NamesCover}
+use Rattle.verdicts.proofs.Common.{NamesStep, No, None, one_at, one_place, Operation, operations_are_complete}
+use Rattle.verdicts.proofs.Common.{operations_of, operations_rise, Option, order, OrderPair, ORIGIN, passes_filter}
+use Rattle.verdicts.proofs.Common.{place_of, refl, repeat, slice_get-get_or, Some, Source, subst, sym, time_of}
+use Rattle.verdicts.proofs.Common.{timeline, timeline_is_complete, true, Violation, witness, Yes, ℕ, ◌<◌, ◌↔◌, ◌∙◌}
+use Rattle.verdicts.proofs.Common.{◌∷◌, ◌≡◌, ◌≤◌}
+use Rattle.linearizer.proofs.OneOrder.{one_list}
 use Rattle.empty_witness.specs.declared.answer.GapAnswer.{GapAnswer}
-use Rattle.linearizer.proofs.Elements.{beside_first}
-use Rattle.verdicts.specs.Laws.{VerdictIsOne, MatchedIsOne, PairIsOne, GapIsOne, WitnessIsOne}
-use Rattle.verdicts.proofs.Chosen.{one_chosen_violation, one_order, one_cover, one_witness}
-use Rattle.verdicts.proofs.SameLists.{one_beside}
-use Rattle.linearizer.proofs.Keys.{one_place as one_place_of_key}
+use Rattle.linearizer.proofs.Elements.{beside_first, one_place as one_place_of_key}
+use Rattle.verdicts.specs.Laws.{GapIsOne, MatchedIsOne, PairIsOne, VerdictIsOne, WitnessIsOne}
+use Rattle.verdicts.proofs.Chosen.{one_chosen_violation, one_cover, one_order, one_witness}
 use Rattle.std.proofs.lemmas.List.Sorted.{IsPermutation-refl}
 use Rattle.verdicts.proofs.Exactly.{violation_excludes_order}
 use Rattle.value_match.specs.declared.matching.Matched.TheVariants as matched
@@ -22,6 +24,48 @@ use Rattle.value_match.specs.declared.violation.Source.TheVariants as source
 use Rattle.value_match.specs.declared.violation.Violation.TheVariants as violation
 use Rattle.empty_witness.specs.declared.answer.GapAnswer.TheVariants as gap
 use Rattle.empty_witness.specs.declared.answer.WitnessAnswer.TheVariants as found
+
+-- the keys rise from each element to each later one
+abbrev pub KeysRise : {X : Type 0} → (X → ℕ) → List X → Type 0
+KeysRise key xs = AllPairs (λ x y. key x < key y) xs
+
+-- two lists whose keys rise, with the same elements, are one
+pub same_lists : {X : Type 0} (key : X → ℕ) (xs ys : List X) → KeysRise key xs → KeysRise key ys → ((z : X) → Contains xs z → Contains ys z)
+    → ((z : X) → Contains ys z → Contains xs z) → xs ≡ ys
+same_lists key = one_list (λ x y. key x < key y) (λ x y less more. omega arith)
+
+-- a list sorted by a key, of the elements of one of which the keys rise, is that one
+sorted_is_same : {X : Type 0} (key : X → ℕ) (xs ys : List X) → KeysRise key xs → IsPermutation xs ys → IsNonDecreasingBy key ys → ys ≡ xs
+sorted_is_same {X} key xs ys rises moved sorted =
+    same_lists key ys xs rises' rises (λ z among. Contains-permutation ys xs z (IsPermutation-sym xs ys moved) among)
+    (λ z among. Contains-permutation xs ys z moved among)
+  where
+    rises' : KeysRise key ys
+    rises' i j d less within =
+        let le = sorted i j d (omega arith) within in
+        elim (cases_lt (key (get_or ys i d)) (key (get_or ys j d))) [
+          | inl below ↦ below
+          | inr above ↦ let here = one_place key xs ys i j (get_or ys i d) (get_or ys j d) rises moved (slice_get-get_or ys i d (omega arith))
+              (slice_get-get_or ys j d within) (omega arith) in absurd (omega arith)
+        ]
+
+-- a list, sorted by a key, is one of which the keys rise if and only if it has the same elements
+pub sorted_tells : {X : Type 0} (key : X → ℕ) (xs ys sorted : List X) → KeysRise key xs → IsPermutation ys sorted → IsNonDecreasingBy key sorted
+    → (sorted ≡ xs) ↔ IsPermutation xs ys
+sorted_tells {X} key xs ys sorted rises moved in_order = (
+  λ same. subst (λ zs. IsPermutation zs ys) same (IsPermutation-sym ys sorted moved),
+  λ whole. sorted_is_same key xs sorted rises (IsPermutation-trans xs ys sorted whole moved) in_order,
+)
+
+-- where only one thing can stand beside each element of a list, one list stands beside it
+pub one_beside : {X Y : Type 0} (R : X → Y → Type 0) → ((x : X) (y z : Y) → R x y → R x z → y ≡ z) → (xs : List X) (ys zs : List Y)
+    → AllZip R xs ys → AllZip R xs zs → ys ≡ zs
+one_beside R one [] [] [] first second = refl
+one_beside {X} {Y} R one (x ∷ xs) (y ∷ ys) (z ∷ zs) first second =
+    ap₂ (λ (w : Y) (ws : List Y). w ∷ ws) (one x y z first.0 second.0) (one_beside R one xs ys zs first.1 second.1)
+one_beside R one _ _ _ first second = absurd assumption
+
+-- ---- what is found of a history is the only thing that can be found of it
 
 -- an operation stands at one place
 one_place_at : (operations : List Operation) (p q : ℕ) (o : Operation) → AreComplete operations → IsAt operations p o → IsAt operations q o → p ≡ q

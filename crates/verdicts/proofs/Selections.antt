@@ -1,15 +1,31 @@
 -- What is carried from one list of operations to another, each operation by its image: lives, covers and violations. A chosen cover
 -- is a shortest one.
-use Rattle.verdicts.proofs.Common.{ap, AreComplete, arith, behind, chosen_cover_is_shortest, Contains}
-use Rattle.verdicts.proofs.Common.{Contains-append_left, Contains-append_right, CoversFrom, Deq, dequeue_of, Did}
-use Rattle.verdicts.proofs.Common.{Empty, Enq, enqueue_of, flat_map, fresh, FullViolation, inl, inr, IsChosenViolation}
-use Rattle.verdicts.proofs.Common.{IsLife, IsShortestCover, IsViolationOf, IsWitnessViolation, length, Life, lines_of}
-use Rattle.verdicts.proofs.Common.{List, map, map-append, MatchOption, Names, NamesStep, None, NoneDid, Not, one_at}
-use Rattle.verdicts.proofs.Common.{one_deeper, Operation, operations_of_life, OpKind, Option, option_map}
-use Rattle.verdicts.proofs.Common.{option_to_list, order, Precedes, refl, repeat, Some, subst, suc, sym, timeline}
-use Rattle.verdicts.proofs.Common.{value_of, Violation, witness, zero, ℕ, [], ◌++◌, ◌<◌, ◌∙◌, ◌∷◌, ◌≡◌}
+use Rattle.verdicts.proofs.Common.{[], All, All-filter, AllPairs, AllPairs-cons, AllPairs-filter, AllPairs-tail}
+use Rattle.verdicts.proofs.Common.{answers, Any-from_list_any, ap, AreComplete, AreDistinct, arith, behind, Bool}
+use Rattle.verdicts.proofs.Common.{called_value, called_values, chosen_cover_is_shortest, cond, cons_option, Contains}
+use Rattle.verdicts.proofs.Common.{Contains-append_cases, Contains-append_left, Contains-append_right, Contains-get_or}
+use Rattle.verdicts.proofs.Common.{CoversFrom, Deq, dequeue_of, Did, Empty, Enq, enqueue_of, eqb-true, Event, false}
+use Rattle.verdicts.proofs.Common.{filter, filter_map, find, flat_map, fresh, FullViolation, get_or, holds_ticket, inl}
+use Rattle.verdicts.proofs.Common.{inr, is_call, IsChosenViolation, IsCompleteFrom, IsCompleteHistory, IsLife}
+use Rattle.verdicts.proofs.Common.{IsShortestCover, IsTrue, IsViolationOf, IsWitnessViolation, keeps, kept, length}
+use Rattle.verdicts.proofs.Common.{Life, lines_of, List, list_any-from_Any, map, map-append, MatchOption, MAX_INITIAL}
+use Rattle.verdicts.proofs.Common.{MAX_THREAD, MAX_TICKET, Names, NamesStep, nat_eq, nat_tests, None, NoneDid, Not}
+use Rattle.verdicts.proofs.Common.{not, one_at, one_deeper, Operation, operations_are_complete, operations_of}
+use Rattle.verdicts.proofs.Common.{operations_of_life, OpKind, Option, option_map, option_to_list, order}
+use Rattle.verdicts.proofs.Common.{passed_filter, passes_filter, Precedes, projection, refl, repeat, returns_at_call}
+use Rattle.verdicts.proofs.Common.{same_call, same_return, slice_get, Some, subst, suc, sym, TakesTurns, timeline}
+use Rattle.verdicts.proofs.Common.{timeline_is_complete, true, value_of, Violation, witness, zero, ℕ, ◌++◌, ◌<◌, ◌||◌}
+use Rattle.verdicts.proofs.Common.{◌∙◌, ◌∷◌, ◌≡◌, ◌≢◌, ◌≤◌, ◌⊎◌}
 use Rattle.std.proofs.lemmas.Slice.Zip.{AllZip-long}
 use Rattle.verdicts.specs.Claims.{kind_of}
+use Rattle.std.proofs.lemmas.List.Elements.{All-contains}
+use Rattle.history_merge.proofs.TheirEvents.{next_is_first}
+use Rattle.history_merge.specs.Forming.{operation_so_far, operations_so_far}
+use Rattle.history_merge.specs.Inner.History.{next_of}
+use Rattle.history_merge.proofs.Formed.{all_formed}
+use Rattle.history_merge.proofs.Turns.{answered_is_call}
+use Rattle.std.proofs.lemmas.Bool.Decides.{same_from_decides}
+use Rattle.std.proofs.lemmas.List.Filters.{length-filter_both}
 use Rattle.value_match.specs.declared.violation.Violation.TheVariants as violation
 
 -- the operations of a life, each by its image
@@ -164,3 +180,245 @@ has_shortest_cover initial operations (violation.Witness place steps) complete (
     omega arith
 has_shortest_cover initial operations (violation.Witness place steps) complete (_, names', chosen) (witness empty cover) names = absurd names'
 has_shortest_cover initial operations _ complete chosen (witness empty cover) names = absurd names
+
+-- two filters may change places
+pub filters_swap : {X : Type 0} (p q : X → Bool) (xs : List X) → filter p (filter q xs) ≡ filter q (filter p xs)
+filters_swap p q [] = refl
+filters_swap p q (x ∷ xs) = grind (arith, filters_swap p q xs)
+
+-- what is found among all is found among what is kept, if it is kept
+find_kept : {X : Type 0} (p keeps : X → Bool) (xs : List X) (r : X) → find p xs ≡ Some r → keeps r ≡ true → find p (filter keeps xs) ≡ Some r
+find_kept p keeps [] r found is = cc
+find_kept p keeps (x ∷ xs) r found is = grind (arith, find_kept p keeps xs r)
+
+-- and what isn't found among all isn't found among these
+find_none_kept : {X : Type 0} (p keeps : X → Bool) (xs : List X) → find p xs ≡ None → find p (filter keeps xs) ≡ None
+find_none_kept p keeps [] none = none
+find_none_kept p keeps (x ∷ xs) none = grind (arith, find_none_kept p keeps xs)
+
+-- both tickets of each operation are kept, or neither
+abbrev pub KeepsBoth : (ℕ → Bool) → (Operation → Bool) → List Operation → Type 0
+KeepsBoth keeps test operations = (o : Operation) → Contains operations o → (keeps o.call ≡ test o) × (keeps o.ret ≡ test o)
+
+module _ (keeps : ℕ → Bool) (test : Operation → Bool) where
+  abbrev kept_events : List Event → List Event
+  kept_events events = filter (λ e. keeps e.ticket) events
+
+  -- the operations of the kept events are the operations that pass
+  kept_operations : (events : List Event) → KeepsBoth keeps test (operations_so_far events)
+      → operations_so_far (kept_events events) ≡ filter test (operations_so_far events)
+  kept_operations [] both = refl
+  kept_operations (e ∷ later) both = join (is_call e.what) refl (next_of e.thread later) refl both (kept_operations later)
+    where
+      join : (b : Bool) → is_call e.what ≡ b → (next : Option Event) → next_of e.thread later ≡ next
+          → KeepsBoth keeps test (cond b (operation_so_far e next ∷ operations_so_far later) (operations_so_far later))
+          → (KeepsBoth keeps test (operations_so_far later) → operations_so_far (kept_events later) ≡ filter test (operations_so_far later))
+          → operations_so_far (cond (keeps e.ticket) (e ∷ kept_events later) (kept_events later))
+          ≡ filter test (cond b (operation_so_far e next ∷ operations_so_far later) (operations_so_far later))
+      join false is next found both' rest = let more = rest both' in grind arith
+      join true is None found both' rest =
+          let own = both' (operation_so_far e None) (zero, omega arith, refl) in
+          let more = rest (λ o among. both' o (one_deeper (operation_so_far e None) (operations_so_far later) o among)) in
+          grind (arith, find_none_kept (λ r. nat_eq r.thread e.thread) (λ r. keeps r.ticket) later found)
+      join true is (Some a) found both' rest =
+          let own = both' (operation_so_far e (Some a)) (zero, omega arith, refl) in
+          let more = rest (λ o among. both' o (one_deeper (operation_so_far e (Some a)) (operations_so_far later) o among)) in
+          grind (arith, find_kept (λ r. nat_eq r.thread e.thread) (λ r. keeps r.ticket) later a found)
+
+  -- where a call is kept as its return is, what is kept takes turns
+  kept_turns : (events : List Event) → TakesTurns events
+      → ((before : List Event) (c a : Event) (rest : List Event) → events ≡ before ++ c ∷ a ∷ rest → IsTrue (answers c.what a.what)
+      → keeps c.ticket ≡ keeps a.ticket) → TakesTurns (kept_events events)
+  kept_turns [] turns alike = tt
+  kept_turns (c ∷ []) turns alike = elim turns [ ]
+  kept_turns (c ∷ a ∷ rest) turns alike = pick (keeps c.ticket) (keeps a.ticket) (alike [] c a rest refl turns.0) (kept_turns rest turns.1
+      (λ before c' a' rest' same. alike (c ∷ a ∷ before) c' a' rest' (ap (λ xs. c ∷ a ∷ xs) same)))
+    where
+      pick : (k l : Bool) → k ≡ l → TakesTurns (kept_events rest)
+          → TakesTurns (cond k (c ∷ cond l (a ∷ kept_events rest) (kept_events rest)) (cond l (a ∷ kept_events rest) (kept_events rest)))
+      pick true true same more = (turns.0, more)
+      pick false false same more = more
+      pick _ _ same more = cc
+
+-- a call and the return that follows it in its thread are an operation
+made_in : (thread : ℕ) (events before : List Event) (c a : Event) (rest : List Event) → projection thread events ≡ before ++ c ∷ a ∷ rest
+    → IsTrue (answers c.what a.what) → Contains (operations_so_far events) (operation_so_far c (Some a))
+made_in thread [] [] c a rest same is = cc
+made_in thread [] (b ∷ before) c a rest same is = cc
+made_in thread (e ∷ later) before c a rest same is =
+    pick (nat_eq e.thread thread) refl before same (λ before' same'. made_in thread later before' c a rest same' is)
+  where
+    o : Operation
+    o = operation_so_far c (Some a)
+
+    deeper : (b : Bool) → Contains (operations_so_far later) o
+        → Contains (cond b (operation_so_far e (next_of e.thread later) ∷ operations_so_far later) (operations_so_far later)) o
+    deeper true among = one_deeper (operation_so_far e (next_of e.thread later)) (operations_so_far later) o among
+    deeper false among = among
+
+    pick : (b : Bool) → nat_eq e.thread thread ≡ b → (before : List Event)
+        → cond b (e ∷ projection thread later) (projection thread later) ≡ before ++ c ∷ a ∷ rest
+        → ((before : List Event) → projection thread later ≡ before ++ c ∷ a ∷ rest → Contains (operations_so_far later) o)
+        → Contains (operations_so_far (e ∷ later)) o
+    pick false test before same more = deeper (is_call e.what) (more before same)
+    pick true test (x ∷ before) same more =
+        let others : projection thread later ≡ before ++ c ∷ a ∷ rest = cc in deeper (is_call e.what) (more before others)
+    pick true test [] same more =
+        let here : e ≡ c = cc in
+        let others : projection thread later ≡ a ∷ rest = cc in
+        let found : next_of e.thread later ≡ Some a = ap (λ t. next_of t later) (eqb-true e.thread thread test) ∙ next_is_first thread later
+        ∙ ap (λ es. slice_get es 0) others in
+        let calls : is_call e.what ≡ true = ap (λ (x : Event). is_call x.what) here ∙ answered_is_call c.what a.what is in
+        rw calls (zero, omega arith, ap (operation_so_far e) found ∙ ap (λ (x : Event). operation_so_far x (Some a)) here)
+
+-- what holds of all values of a list holds of those of its kept elements
+All-kept : {X Y : Type 0} (P : Y → Type 0) (f : X → Option Y) (keeps : X → Bool) (xs : List X) → All P (filter_map f xs)
+    → All P (filter_map f (filter keeps xs))
+All-kept P f passes xs all k d below =
+    let y = get_or (filter_map f (filter passes xs)) k d in
+    let from = kept f (filter passes xs) y (Contains-get_or (filter_map f (filter passes xs)) k d below) in
+    All-contains P (filter_map f xs) y all (keeps f xs from.0 y (passed_filter passes xs from.0 from.1).0 from.2)
+
+pairs_after_first : {Y : Type 0} (R : Y → Y → Type 0) (y : Y) (ys : List Y) → AllPairs R (y ∷ ys) → All (R y) ys
+pairs_after_first R y ys pairs k d below = pairs zero (suc k) d (omega arith) (omega arith)
+
+AllPairs-kept : {X Y : Type 0} (R : Y → Y → Type 0) (f : X → Option Y) (keeps : X → Bool) (xs : List X) → AllPairs R (filter_map f xs)
+    → AllPairs R (filter_map f (filter keeps xs))
+AllPairs-kept R f keeps [] pairs = pairs
+AllPairs-kept {X} {Y} R f keeps (x ∷ xs) pairs = pick (f x) refl (keeps x) pairs (AllPairs-kept R f keeps xs)
+  where
+    pick : (o : Option Y) → f x ≡ o → (k : Bool) → AllPairs R (cons_option o (filter_map f xs))
+        → (AllPairs R (filter_map f xs) → AllPairs R (filter_map f (filter keeps xs)))
+        → AllPairs R (filter_map f (cond k (x ∷ filter keeps xs) (filter keeps xs)))
+    pick None is false pairs' rest = rest pairs'
+    pick None is true pairs' rest = rw is (rest pairs')
+    pick (Some y) is false pairs' rest = rest (AllPairs-tail R y (filter_map f xs) pairs')
+    pick (Some y) is true pairs' rest =
+        rw is (AllPairs-cons R y (filter_map f (filter keeps xs)) (All-kept (R y) f keeps xs (pairs_after_first R y (filter_map f xs) pairs'))
+        (rest (AllPairs-tail R y (filter_map f xs) pairs')))
+
+-- where both events of an operation are kept, or neither, the kept events are a complete history
+pub kept_is_complete : (keeps : ℕ → Bool) (test : Operation → Bool) (events : List Event) → IsCompleteHistory events
+    → KeepsBoth keeps test (operations_so_far events) → IsCompleteHistory (filter (λ e. keeps e.ticket) events)
+kept_is_complete keeps test events complete both = record {
+  tickets_rise = AllPairs-filter (λ x y. x.ticket < y.ticket) (λ e. keeps e.ticket) events complete.tickets_rise;
+  tickets_in_range = All-filter (λ e. keeps e.ticket) (λ e. e.ticket ≤ MAX_TICKET) events complete.tickets_in_range;
+  threads_in_range = All-filter (λ e. keeps e.ticket) (λ e. e.thread ≤ MAX_THREAD) events complete.threads_in_range;
+  threads_take_turns = λ thread. subst TakesTurns (filters_swap (λ e. keeps e.ticket) (λ e. nat_eq e.thread thread) events)
+      (kept_turns keeps test (projection thread events) (complete.threads_take_turns thread) (λ before c a rest same is.
+      let own = both (operation_so_far c (Some a)) (made_in thread events before c a rest same is) in own.0 ∙ sym own.1));
+  values_are_distinct = AllPairs-kept (λ v w. v ≢ w) (λ e. called_value e.what) (λ e. keeps e.ticket) events complete.values_are_distinct;
+}
+
+-- a ticket is held where it is that of a call or a return
+held : (operations : List Operation) (o : Operation) (ticket : ℕ) → Contains operations o → (o.call ≡ ticket) ⊎ (o.ret ≡ ticket)
+    → holds_ticket operations ticket ≡ true
+held operations o ticket among is =
+    list_any-from_Any (λ o. nat_eq o.call ticket || nat_eq o.ret ticket) operations (among.0, o, among.1, among.2, grind (arith, nat_tests))
+
+holder : (operations : List Operation) (ticket : ℕ) → holds_ticket operations ticket ≡ true
+    → (o : Operation) × Contains operations o × ((o.call ≡ ticket) ⊎ (o.ret ≡ ticket))
+holder operations ticket holds =
+    let found = Any-from_list_any (λ o. nat_eq o.call ticket || nat_eq o.ret ticket) operations holds in
+    let test = found.4 in
+    (found.1, (found.0, found.2, found.3), grind (arith, nat_tests))
+
+module _ (operations : List Operation) (complete : AreComplete operations) (test : Operation → Bool) where
+  -- who holds a ticket of an operation is that operation
+  one_holder : (x o : Operation) (ticket : ℕ) → Contains operations x → Contains operations o → (x.call ≡ ticket) ⊎ (x.ret ≡ ticket)
+      → (o.call ≡ ticket) ⊎ (o.ret ≡ ticket) → x ≡ o
+  one_holder x o ticket in_x in_o (inl is_x) (inl is_o) = same_call operations x o complete in_x in_o (is_x ∙ sym is_o)
+  one_holder x o ticket in_x in_o (inl is_x) (inr is_o) = sym (returns_at_call operations o x complete in_o in_x (is_o ∙ sym is_x))
+  one_holder x o ticket in_x in_o (inr is_x) (inl is_o) = returns_at_call operations x o complete in_x in_o (is_x ∙ sym is_o)
+  one_holder x o ticket in_x in_o (inr is_x) (inr is_o) = same_return operations x o complete in_x in_o (is_x ∙ sym is_o)
+
+  held_as_tested : (o : Operation) (ticket : ℕ) → Contains operations o → (o.call ≡ ticket) ⊎ (o.ret ≡ ticket)
+      → holds_ticket (filter test operations) ticket ≡ test o
+  held_as_tested o ticket among is = same_from_decides (holds_ticket (filter test operations) ticket) (test o) (
+    λ holds.
+        let found = holder (filter test operations) ticket holds in
+        let passed = passed_filter test operations found.0 found.1 in
+        subst (λ x. test x ≡ true) (one_holder found.0 o ticket passed.0 among found.2 is) passed.1,
+    λ passes. held (filter test operations) o ticket (passes_filter test operations o passes among) is,
+  ) (λ passes. passes, λ passes. passes)
+
+  -- the tickets of an operation that passes are kept, both, and of no other
+  pub tickets_keep_both : KeepsBoth (holds_ticket (filter test operations)) test operations
+  tickets_keep_both o among = (held_as_tested o o.call among (inl refl), held_as_tested o o.ret among (inr refl))
+
+-- the events at the tickets of some operations
+abbrev pub events_at_tickets_of : List Operation → List Event → List Event
+events_at_tickets_of selected events = filter (λ e. holds_ticket selected e.ticket) events
+
+module _ (test : Operation → Bool) (events : List Event) (complete : IsCompleteHistory events) where
+  keep_both : KeepsBoth (holds_ticket (filter test (operations_of events))) test (operations_so_far events)
+  keep_both = subst (KeepsBoth (holds_ticket (filter test (operations_of events))) test) (sym (all_formed events complete))
+      (tickets_keep_both (operations_of events) (operations_are_complete events complete) test)
+
+  -- the events of selected operations are a complete history
+  pub selected_events_are_complete : IsCompleteHistory (events_at_tickets_of (filter test (operations_of events)) events)
+  selected_events_are_complete = kept_is_complete (holds_ticket (filter test (operations_of events))) test events complete keep_both
+
+  -- the operations of these events are the selected ones
+  pub operations_of_selected : operations_of (events_at_tickets_of (filter test (operations_of events)) events) ≡ filter test (operations_of events)
+  operations_of_selected =
+      sym (all_formed (events_at_tickets_of (filter test (operations_of events)) events) selected_events_are_complete)
+      ∙ kept_operations (holds_ticket (filter test (operations_of events))) test events keep_both ∙ ap (filter test) (all_formed events complete)
+
+-- some elements of a list are no more than all
+pub no_longer : {X : Type 0} (p : X → Bool) (xs : List X) → length (filter p xs) ≤ length xs
+no_longer p xs = let parts = length-filter_both p (λ x. not (p x)) (λ x. refl) xs in omega arith
+
+-- some of the values before others that are among those that stood there
+distinct_kept : (p : ℕ → Bool) (initial calls fewer : List ℕ) → AreDistinct (initial ++ calls) → AreDistinct fewer
+    → ((v : ℕ) → Contains fewer v → Contains calls v) → AreDistinct (filter p initial ++ fewer)
+distinct_kept p [] calls fewer distinct others among = others
+distinct_kept p (v ∷ rest) calls fewer distinct others among =
+    pick (p v) (distinct_kept p rest calls fewer (λ i j d below within. distinct (suc i) (suc j) d (omega arith) (omega arith)) others among)
+  where
+    in_whole : (w : ℕ) → Contains (filter p rest ++ fewer) w → Contains (rest ++ calls) w
+    in_whole w at = elim (Contains-append_cases (filter p rest) fewer w at) [
+      | inl early ↦ Contains-append_left rest calls w (passed_filter p rest w early).0
+      | inr late ↦ Contains-append_right rest calls w (among w late)
+    ]
+
+    differs : (w : ℕ) → Contains (rest ++ calls) w → v ≢ w
+    differs w at same = distinct zero (suc at.0) w (omega arith) (omega (arith, at.1)) (same ∙ sym at.2)
+
+    pick : (b : Bool) → AreDistinct (filter p rest ++ fewer) → AreDistinct (cond b (v ∷ filter p rest) (filter p rest) ++ fewer)
+    pick false later = later
+    pick true later = AllPairs-cons (λ x y. x ≢ y) v (filter p rest ++ fewer)
+        (λ k d below. differs (get_or (filter p rest ++ fewer) k d)
+        (in_whole (get_or (filter p rest ++ fewer) k d) (Contains-get_or (filter p rest ++ fewer) k d below))) later
+
+module _ (initial : List ℕ) (events : List Event) (whole : IsCompleteFrom initial events) (values : ℕ → Bool) (test : Operation → Bool) where
+  -- the events of the operations that pass a test
+  abbrev pub events_kept : List Event
+  events_kept = events_at_tickets_of (filter test (operations_of events)) events
+
+  -- the operations of the kept events are those that pass the test
+  pub operations_kept : operations_of events_kept ≡ filter test (operations_of events)
+  operations_kept = operations_of_selected test events whole.complete
+
+  -- the kept events are a complete history from the kept initial values
+  pub kept_is_complete_from : IsCompleteFrom (filter values initial) events_kept
+  kept_is_complete_from =
+      let complete = selected_events_are_complete test events whole.complete in
+      record {
+        complete = complete;
+        values_are_distinct = distinct_kept values initial (called_values events) (called_values events_kept) whole.values_are_distinct
+            complete.values_are_distinct in_whole;
+      }
+    where
+      in_whole : (v : ℕ) → Contains (called_values events_kept) v → Contains (called_values events) v
+      in_whole v at =
+          let found = kept (λ (e : Event). called_value e.what) events_kept v at in
+          let passed = passed_filter _ events found.0 found.1 in
+          keeps (λ (e : Event). called_value e.what) events found.0 v passed.0 found.2
+
+  -- what is timeline with the selected values is complete
+  pub kept_timeline_are_complete : length initial ≤ MAX_INITIAL → AreComplete (timeline (filter values initial) (filter test (operations_of events)))
+  kept_timeline_are_complete few =
+      let shorter = no_longer values initial in
+      subst (λ os. AreComplete (timeline (filter values initial) os)) operations_kept
+      (timeline_is_complete (filter values initial) events_kept kept_is_complete_from (omega arith))

@@ -1,7 +1,14 @@
 -- Spans that are added to others, and the first gap outside.
-use Rattle.std.specs.Prelude.{◌≡◌, ◌↔◌, ◌⊎◌, ℕ, ◌<◌, ◌≤◌, min, max, List, All}
+use Rattle.std.specs.Prelude.{All, List, max, min, ℕ, ◌<◌, ◌↔◌, ◌≡◌, ◌≤◌, ◌⊎◌}
 use Rattle.empty_witness.specs.declared.spans.Span.{Span}
 use Rattle.empty_witness.specs.Spans.{AreApart, Holds, LiesIn}
+use Rattle.history_merge.specs.declared.operation.Operation.{Operation}
+use Rattle.history_merge.specs.Initial.{timeline}
+use Rattle.value_match.specs.declared.life.Life.{Life}
+use Rattle.value_match.specs.declared.violation.CoverStep.{CoverStep}
+use Rattle.value_match.specs.Violations.{IsWitnessViolation}
+use Rattle.value_match.specs.Choice.{IsChosenCover}
+use Rattle.value_match.specs.Outcome.{NamesCover}
 
 -- from the first start of two spans to their last end
 pub record IsOfBoth (one other joined : Span) : Type 0 where
@@ -19,3 +26,10 @@ pub record IsFirstOutside (spans : List Span) (from c : ℕ) : Type 0 where
   pub no_less : from ≤ c
   pub outside : ¬ (LiesIn spans c)
   pub least : (b : ℕ) → from ≤ b → b < c → LiesIn spans b
+
+-- ---- the steps of a cover
+
+-- the steps name the chosen cover of the operation's window, which is a violation
+abbrev pub NamesChosenCover : List ℕ → List Operation → Operation → List CoverStep → Type 0
+NamesChosenCover initial operations o steps = (lives : List Life) × NamesCover initial operations steps lives
+    × IsChosenCover (timeline initial operations) o lives × IsWitnessViolation (timeline initial operations) o lives

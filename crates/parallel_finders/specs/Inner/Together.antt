@@ -2,7 +2,7 @@
 use Rattle.std.specs.Prelude.{ℕ, List, ◌++◌}
 use Rattle.history_merge.specs.declared.operation.Operation.{Operation}
 use Rattle.empty_witness.specs.declared.search.WindowsAnswer.{WindowsAnswer}
-use Rattle.empty_witness.specs.Covered.{AreWindowsAt}
+use Rattle.empty_witness.specs.Answers.{AreWindowsAt}
 
 -- if the first two are what is found at some places and at others, the third is what is found at all of them
 abbrev pub AreTogether : WindowsAnswer → WindowsAnswer → WindowsAnswer → Type 0

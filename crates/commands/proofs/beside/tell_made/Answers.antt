@@ -1,4 +1,4 @@
-use Rattle.commands.proofs.Runs.{memory_is_message}
+use Rattle.commands.proofs.OneAnswer.{memory_is_message}
 use Rattle.commands.proofs.beside.tell_made.Goals as goal
 
 pub returns-in-Err : goal.returns-in-Err

@@ -1,6 +1,6 @@
 use Rattle.commands.proofs.Common.{◌∙◌, arith, sym}
 use Rattle.std.proofs.lemmas.Option.{same_Some}
-use Rattle.commands.proofs.Runs.{memory_has_3, memory_printed, memory_ran_out, reads_out_of_memory}
+use Rattle.commands.proofs.OneAnswer.{memory_has_3, memory_printed, memory_ran_out, reads_out_of_memory}
 use Rattle.commands.proofs.command.run_command.Goals as goal
 
 pub returns-in-Err-clause-reads : goal.returns-in-Err-clause-reads

@@ -1,7 +1,6 @@
 use Rattle.commands.proofs.Common.{ap, inl, inr}
 use Rattle.commands.specs.Answers.{left_open}
-use Rattle.commands.proofs.OneAnswer.{from_nothing}
-use Rattle.commands.proofs.Runs.{few_events, merges_to_complete, played_found}
+use Rattle.commands.proofs.OneAnswer.{few_events, from_nothing, merges_to_complete, played_found}
 use Rattle.commands.proofs.sim.play.Goals as goal
 
 pub returns-in-Open-clause-found : goal.returns-in-Open-clause-found

@@ -1,5 +1,5 @@
 use Rattle.commands.proofs.Common.{refl}
-use Rattle.commands.proofs.Runs.{found_first, other_name, passed_more, same_name}
+use Rattle.commands.proofs.OneAnswer.{found_first, other_name, passed_more, same_name}
 use Rattle.commands.proofs.stress.find.Goals as goal
 
 pub returns-then-eq-clause-found : goal.returns-then-eq-clause-found

@@ -1,6 +1,5 @@
-use Rattle.commands.proofs.Common.{◌∙◌, IsLinearizable, List, operations_of, subst, sym, ℕ}
-use Rattle.commands.proofs.OneAnswer.{shows_none}
-use Rattle.commands.proofs.Runs.{judged_run, none_in_version_1}
+use Rattle.commands.proofs.Common.{IsLinearizable, List, operations_of, subst, sym, ℕ, ◌∙◌}
+use Rattle.commands.proofs.OneAnswer.{judged_run, none_in_version_1, shows_none}
 use Rattle.commands.proofs.stress.judge_run.Goals as goal
 
 pub returns-clause-found : goal.returns-clause-found

@@ -1,5 +1,5 @@
 use Rattle.commands.proofs.Common.{◌∙◌, err_from_is_err_and, settings_of}
-use Rattle.commands.proofs.Runs.{failed_run, recorded_run}
+use Rattle.commands.proofs.OneAnswer.{failed_run, recorded_run}
 use Rattle.commands.proofs.stress.run_plan.Goals as goal
 
 pub returns-clause-found : goal.returns-clause-found

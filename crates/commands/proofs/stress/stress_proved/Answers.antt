@@ -1,6 +1,6 @@
 use Rattle.commands.proofs.Common.{◌∙◌, arith, err_from_is_err_and, inl, IsLinearizable, List, operations_of}
 use Rattle.commands.proofs.Common.{settings_of, subst, ℕ}
-use Rattle.commands.proofs.Runs.{failed_run, recorded_run}
+use Rattle.commands.proofs.OneAnswer.{failed_run, recorded_run}
 use Rattle.commands.proofs.stress.stress_proved.Goals as goal
 
 pub returns-clause-found : goal.returns-clause-found

@@ -1,5 +1,5 @@
 use Rattle.commands.proofs.Common.{inl, inr, refl}
-use Rattle.commands.proofs.Runs.{other_name, same_name}
+use Rattle.commands.proofs.OneAnswer.{other_name, same_name}
 use Rattle.commands.proofs.stress.stress_unshelved.Goals as goal
 
 pub returns-then-eq-clause-found : goal.returns-then-eq-clause-found

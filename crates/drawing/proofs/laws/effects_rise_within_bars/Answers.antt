@@ -1,4 +1,4 @@
-use Rattle.drawing.proofs.Effects.{effects_are_in_bars, effects_rise}
+use Rattle.drawing.proofs.Rows.{effects_are_in_bars, effects_rise}
 use Rattle.drawing.proofs.laws.effects_rise_within_bars.Goals as goal
 
 pub returns : goal.returns

@@ -1,4 +1,4 @@
-use Rattle.drawing.proofs.Numbers as numbers
+use Rattle.drawing.proofs.Nearness as numbers
 use Rattle.drawing.proofs.laws.numbers_are_those_of_the_claim.Goals as goal
 
 pub returns : goal.returns

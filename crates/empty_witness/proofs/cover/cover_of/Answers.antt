@@ -1,7 +1,7 @@
 use Rattle.empty_witness.proofs.Common.{ap, arith, dequeue_call, EntersBefore, FindsLongest, IsLongestOf, length, List}
 use Rattle.empty_witness.proofs.Common.{NamesChosenCover, subst, sym, ℕ, ◌<◌, ◌∙◌}
-use Rattle.empty_witness.proofs.Walks.{longest_of_all, no_steps_yet, next_is_found, found_longest, frontier_rises}
-use Rattle.empty_witness.proofs.Walks.{one_more_step, cover_is_whole}
+use Rattle.empty_witness.proofs.Covers.{longest_of_all, no_steps_yet, next_is_found, found_longest, frontier_rises}
+use Rattle.empty_witness.proofs.Covers.{one_more_step, cover_is_whole}
 use Rattle.empty_witness.proofs.cover.cover_of.Goals.{After-longest_before, After-unwrap-value}
 use Rattle.empty_witness.proofs.cover.cover_of.Goals as goal
 

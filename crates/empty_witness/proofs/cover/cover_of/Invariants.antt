@@ -1,5 +1,5 @@
 use Rattle.empty_witness.proofs.Common.{◌-◌}
-use Rattle.empty_witness.proofs.Walks.{IsCoverSoFar}
+use Rattle.empty_witness.proofs.Covers.{IsCoverSoFar}
 use Rattle.empty_witness.proofs.cover.cover_of.Given as goal
 
 abbrev pub invariant-loop-frontier : goal.invariant-loop-frontier

@@ -1,4 +1,4 @@
-use Rattle.empty_witness.proofs.Outside.{gap_of_window}
+use Rattle.empty_witness.proofs.FreeGaps.{gap_of_window}
 use Rattle.empty_witness.proofs.gaps.least_free_gap.Goals as goal
 
 pub returns : goal.returns

@@ -1,6 +1,6 @@
 use Rattle.empty_witness.proofs.Common.{ap, arith, get_or, List, Operation, timeline_of, ◌∙◌, ◌≡◌}
 use Rattle.std.proofs.lemmas.Option.{get_or_from_slice_get}
-use Rattle.empty_witness.proofs.EmptyTimes.{called_behind}
+use Rattle.empty_witness.proofs.Answers.{called_behind}
 use Rattle.empty_witness.proofs.search.answer_at.Goals as goal
 
 pub returns-clause-late : goal.returns-clause-late

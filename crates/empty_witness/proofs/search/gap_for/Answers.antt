@@ -1,6 +1,6 @@
 use Rattle.empty_witness.proofs.Common.{ap, AreSpansOf, arith, behind, IsAt, IsEmptyAnswerAt, length, List, Operation}
 use Rattle.empty_witness.proofs.Common.{slice_get_within, subst, sym, timeline_of, ℕ, ◌≡◌}
-use Rattle.empty_witness.proofs.EmptyTimes.{empty_behind}
+use Rattle.empty_witness.proofs.Answers.{empty_behind}
 use Rattle.empty_witness.proofs.search.gap_for.Goals.{After-answer_at-answer}
 use Rattle.empty_witness.proofs.search.gap_for.Goals as goal
 

@@ -1,7 +1,7 @@
 use Rattle.empty_witness.proofs.Common.{[], ap, AreApart, arith, length, length-append, List, Span, subst, ◌++◌, ◌<◌}
 use Rattle.empty_witness.proofs.Common.{◌∷◌, ◌≡◌}
 use Rattle.std.proofs.lemmas.Result.{on_ok_weaker}
-use Rattle.empty_witness.proofs.Adding.{after_last, apart_before, before_last, joined_holds, with_joined}
+use Rattle.empty_witness.proofs.ValueSpans.{after_last, apart_before, before_last, joined_holds, with_joined}
 use Rattle.empty_witness.proofs.spans.+spans.Goals as goal
 
 pub returns-then-last-span : goal.returns-then-last-span

@@ -1,5 +1,5 @@
 use Rattle.empty_witness.proofs.Common.{ap, arith, get_or_read, length, refl, Span, sym, ◌+◌, ◌<◌, ◌∙◌, ◌≡◌}
-use Rattle.empty_witness.proofs.Adding.{last_grown}
+use Rattle.empty_witness.proofs.ValueSpans.{last_grown}
 use Rattle.empty_witness.proofs.spans.add_stay.Goals as goal
 
 pub returns : goal.returns

@@ -1,6 +1,5 @@
-use Rattle.history_merge.proofs.Common.{take-append_seam}
-use Rattle.history_merge.proofs.Common.{arith}
-use Rattle.history_merge.proofs.Clashes.{first_with-append, stands-append, stands-push}
+use Rattle.history_merge.proofs.Common.{arith, take-append_seam}
+use Rattle.history_merge.proofs.Faults.{first_with-append, stands-append, stands-push}
 use Rattle.history_merge.proofs.clash.clash_of.Goals as goal
 
 pub returns-in_ok-earlier-in-CallWhilePending : goal.returns-in_ok-earlier-in-CallWhilePending

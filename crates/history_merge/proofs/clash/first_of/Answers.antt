@@ -1,6 +1,5 @@
-use Rattle.history_merge.proofs.Common.{false≢true}
-use Rattle.history_merge.proofs.Common.{arith, nat_tests, common_steps}
-use Rattle.history_merge.proofs.Clashes.{searched_first, searched_more, searched_nothing}
+use Rattle.history_merge.proofs.Common.{arith, common_steps, false≢true, nat_tests}
+use Rattle.history_merge.proofs.Faults.{searched_first, searched_more, searched_nothing}
 use Rattle.history_merge.proofs.clash.first_of.Goals as goal
 
 pub loop-event-init : goal.loop-event-init

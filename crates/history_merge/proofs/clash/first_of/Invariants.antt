@@ -1,6 +1,6 @@
 use Rattle.history_merge.proofs.Common.{length, MAX_EVENTS}
 use Rattle.std.proofs.Common.{◌≤◌}
-use Rattle.history_merge.proofs.Clashes.{Searched}
+use Rattle.history_merge.proofs.Faults.{Searched}
 use Rattle.history_merge.proofs.clash.first_of.Given as goal
 
 abbrev pub invariant-loop-event : goal.invariant-loop-event

@@ -1,5 +1,5 @@
 use Rattle.std.proofs.Common.{arith, ◌++◌, ◌∙◌, List, ap, length, subst}
-use Rattle.history_merge.proofs.Completeness.{calls_before_returns}
+use Rattle.history_merge.proofs.Distinct.{calls_before_returns}
 use Rattle.history_merge.proofs.Distinct.{calls_rise}
 use Rattle.history_merge.specs.declared.operation.Operation.{Operation}
 use Rattle.history_stats.specs.AtOnce.{IsMost, stay_count, values_put_before}

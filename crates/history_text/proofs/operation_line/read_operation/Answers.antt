@@ -1,6 +1,5 @@
-use Rattle.history_text.proofs.Common.{err_from_is_err_and, sym, fields_of, arith}
-use Rattle.history_text.proofs.FormLines.{read_as, read_faulty, said_spelled}
-use Rattle.history_text.proofs.ClaimLines.{operation_spells}
+use Rattle.history_text.proofs.Common.{arith, err_from_is_err_and, fields_of, sym}
+use Rattle.history_text.proofs.FormLines.{operation_spells, read_as, read_faulty, said_spelled}
 use Rattle.history_text.proofs.operation_line.read_operation.Goals as goal
 
 pub operation_of-requires : goal.operation_of-requires

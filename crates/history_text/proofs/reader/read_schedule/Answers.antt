@@ -1,6 +1,6 @@
 use Rattle.history_text.proofs.Common.{◌≡◌, NoRoomForSchedule, refl}
 use Rattle.history_text.proofs.OneSchedule.{judged}
-use Rattle.history_text.proofs.Judging.{reads_what_is_there, stands}
+use Rattle.history_text.proofs.FirstFaults.{reads_what_is_there, stands}
 use Rattle.history_text.proofs.reader.read_schedule.Goals as goal
 
 pub returns-clause-whole : goal.returns-clause-whole

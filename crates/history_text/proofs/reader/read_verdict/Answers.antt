@@ -1,6 +1,6 @@
 use Rattle.history_text.proofs.Common.{◌≡◌, EndOfInput, IsOver, NoRoomForVerdict, refl, subst}
 use Rattle.history_text.proofs.OneVerdict.{judged, stands}
-use Rattle.history_text.proofs.Judging.{reads_what_is_there}
+use Rattle.history_text.proofs.FirstFaults.{reads_what_is_there}
 use Rattle.history_text.proofs.reader.read_verdict.Goals as goal
 
 pub returns-clause-whole : goal.returns-clause-whole

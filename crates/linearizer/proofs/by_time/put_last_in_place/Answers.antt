@@ -1,7 +1,7 @@
 use Rattle.linearizer.proofs.Common.{ap, arith, cases_lt, get_or, get_or-set_other, get_or_read, inl, inr, leb-true}
 use Rattle.linearizer.proofs.Common.{length, PackedTimed, set, ◌-◌, ◌<◌, ◌≡◌}
 use Rattle.std.proofs.Common.{length-set}
-use Rattle.linearizer.proofs.Inserting.{kept, long, one_more_shifted, put_permutes, put_rises}
+use Rattle.linearizer.proofs.Elements.{kept, long, one_more_shifted, put_permutes, put_rises}
 use Rattle.linearizer.proofs.by_time.put_last_in_place.Goals as goal
 
 pub loop-place-preserved : goal.loop-place-preserved

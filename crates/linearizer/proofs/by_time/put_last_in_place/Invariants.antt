@@ -1,5 +1,5 @@
 use Rattle.linearizer.proofs.Common.{get_or, length, PackedTimed, ℕ, ◌-◌, ◌<◌, ◌≤◌}
-use Rattle.linearizer.proofs.Inserting.{IsShifted}
+use Rattle.linearizer.proofs.Elements.{IsShifted}
 use Rattle.linearizer.proofs.by_time.put_last_in_place.Given as goal
 
 abbrev pub invariant-loop-place : goal.invariant-loop-place

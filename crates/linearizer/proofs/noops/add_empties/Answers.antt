@@ -1,7 +1,7 @@
 use Rattle.linearizer.proofs.Common.{ap, arith, filter, get_or, is_empty_answer, length, length_push, refl, rules}
 use Rattle.linearizer.proofs.Common.{slice_get_read, Some, sym, time_of, timeline_of, zip_end, zip_turn, ℕ, ◌<◌, ◌∙◌}
 use Rattle.linearizer.proofs.Common.{◌≡◌}
-use Rattle.linearizer.proofs.Additions.{IsNamed, adds_all, adds_empty, gap_beside, named, named_early, named_few}
+use Rattle.linearizer.proofs.Elements.{IsNamed, adds_all, adds_empty, gap_beside, named, named_early, named_few}
 use Rattle.linearizer.proofs.noops.add_empties.Goals.{After-place}
 use Rattle.history_merge.specs.declared.packed.TheConstants.{PACKED_LIMIT}
 use Rattle.linearizer.proofs.noops.add_empties.Goals as goal

@@ -1,6 +1,6 @@
 use Rattle.linearizer.proofs.Common.{ap, filter, is_refused, IsAt, refl, slice_get_read, Some, subst, sym, timeline_of}
 use Rattle.linearizer.proofs.Common.{◌∙◌}
-use Rattle.linearizer.proofs.Additions.{IsNamed, adds_refused, named, named_at, named_few, named_within}
+use Rattle.linearizer.proofs.Elements.{IsNamed, adds_refused, named, named_at, named_few, named_within}
 use Rattle.linearizer.proofs.noops.add_refused.Goals as goal
 use Rattle.linearizer.proofs.noops.add_refused.Goals.{After-place}
 

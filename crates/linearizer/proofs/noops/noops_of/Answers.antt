@@ -1,6 +1,6 @@
 use Rattle.linearizer.proofs.Common.{[], Adds, filter, is_empty_answer, IsNonDecreasingBy-from_sort_by_key, PLACES}
 use Rattle.linearizer.proofs.Common.{rules, subst, timeline_of, ◌*◌, ◌+◌}
-use Rattle.linearizer.proofs.Sorting.{noops_held, noops_never_fall, noops_within}
+use Rattle.linearizer.proofs.OneOrder.{noops_held, noops_never_fall, noops_within}
 use Rattle.linearizer.proofs.noops.noops_of.Goals as goal
 use Rattle.linearizer.proofs.noops.noops_of.Goals.{After-sort_unstable_by_key}
 

@@ -1,7 +1,7 @@
 use Rattle.linearizer.proofs.Common.{ap, AreChosenAndLegal, filter_map, IfOk-weaker, IsWholeOrder, length, List}
 use Rattle.linearizer.proofs.Common.{place_behind, sym, timeline_of, ℕ, ◌∙◌, ◌≡◌}
-use Rattle.value_match.proofs.TimelineLines.{few_initial}
-use Rattle.linearizer.proofs.ChosenPlaces.{chosen_and_legal}
+use Rattle.value_match.proofs.ToldPlaces.{few_initial}
+use Rattle.linearizer.proofs.OneOrder.{chosen_and_legal}
 use Rattle.linearizer.proofs.Told.{order_of_none, order_told}
 use Rattle.linearizer.proofs.order.linearize.Goals.{After-initial-initial_count}
 use Rattle.linearizer.proofs.order.linearize.Goals as goal

@@ -1,8 +1,8 @@
 use Rattle.linearizer.proofs.Common.{AreCalledInTime, AreEnqueueGaps, arith, gaps_in, IsInOrder, IsPassedOver}
 use Rattle.linearizer.proofs.Common.{IsSweepOf, lives_at, places_in, subst, timeline_of}
 use Rattle.linearizer.proofs.Choosing.{places_in_order}
-use Rattle.linearizer.proofs.Fitting.{each_has_times, few_values, is_first_overtaker, no_order_violation, passed_over}
-use Rattle.linearizer.proofs.OrderedPlaces.{lives_are}
+use Rattle.linearizer.proofs.Choosing.{each_has_times, few_values, is_first_overtaker, no_order_violation, passed_over}
+use Rattle.linearizer.proofs.Elements.{lives_are}
 use Rattle.linearizer.proofs.ordered_values.order_values.Goals as goal
 
 pub put_in_order-requires-clause-entries : goal.put_in_order-requires-clause-entries

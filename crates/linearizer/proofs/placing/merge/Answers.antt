@@ -1,7 +1,7 @@
 use Rattle.linearizer.proofs.Common.{AreEnqueueGaps, arith, gaps_in, inl, inr, IsEnqueueFrom, IsOrderOfPlaces, length}
 use Rattle.linearizer.proofs.Common.{length-map, lives_at, None, NoneBelow, places_in, subst, timeline_of}
 use Rattle.linearizer.proofs.Merging.{all_merged}
-use Rattle.linearizer.proofs.OrderedPlaces.{lives_long}
+use Rattle.linearizer.proofs.Elements.{lives_long}
 use Rattle.linearizer.proofs.placing.merge.Goals as goal
 
 pub place_enqueues-requires-clause-gaps : goal.place_enqueues-requires-clause-gaps

@@ -4,7 +4,7 @@ use Rattle.linearizer.proofs.Common.{refl, slice_get_read, slice_get_within, Som
 use Rattle.linearizer.proofs.Common.{timeline_of, ℕ, ◌+◌, ◌<◌, ◌∙◌, ◌≡◌}
 use Rattle.linearizer.proofs.Merging.{below_limit, below_next, dequeue_added, next_dequeue, passed, IsTurn}
 use Rattle.linearizer.proofs.Merging.{dequeue_stands, left_more, turn_alone, turn_is, turn_with_dequeue, turn_within}
-use Rattle.linearizer.proofs.OrderedPlaces.{lives_long}
+use Rattle.linearizer.proofs.Elements.{lives_long}
 use Rattle.linearizer.proofs.placing.place_dequeues.Goals as goal
 use Rattle.linearizer.proofs.placing.place_dequeues.Goals.{After-max-left, in-Some+else-stands_after+in_ok-place_noops+in_ok-push, in_default}
 

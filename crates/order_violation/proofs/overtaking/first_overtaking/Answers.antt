@@ -1,5 +1,5 @@
 use Rattle.order_violation.proofs.Common.{◌∙◌, arith, rules, subst, sym, EntersBefore, FindsFirst, FindsLongest}
-use Rattle.order_violation.proofs.Scans.{first_stays, first_changes, overtaken_one, overtaken_none}
+use Rattle.order_violation.proofs.Chosen.{first_stays, first_changes, overtaken_one, overtaken_none}
 use Rattle.order_violation.proofs.overtaking.first_overtaking.Goals as goal
 use Rattle.order_violation.proofs.overtaking.first_overtaking.Goals.{then-is_some, else-is_some}
 

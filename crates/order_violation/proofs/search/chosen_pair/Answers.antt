@@ -1,6 +1,5 @@
 use Rattle.order_violation.proofs.Common.{All-contains, ap, FindsLongest, length, List, Overtakes, subst, sym, ℕ}
-use Rattle.order_violation.specs.Overtaking.{IsFirstFound}
-use Rattle.order_violation.specs.Pairs.{IsOrderAnswer}
+use Rattle.order_violation.specs.Pairs.{IsFirstFound, IsOrderAnswer}
 use Rattle.value_match.specs.Timeline.{timeline_of}
 use Rattle.value_match.proofs.Lives.{value_of_life}
 use Rattle.order_violation.proofs.Chosen.{is_answer}

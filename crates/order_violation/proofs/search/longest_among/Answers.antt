@@ -1,6 +1,6 @@
 use Rattle.order_violation.proofs.Common.{◌<◌, arith, length, refl, rules, subst, sym, FindsLongest, Overtakes}
-use Rattle.value_match.proofs.Longest.{longest_changes}
-use Rattle.order_violation.proofs.Scans.{longest_stays}
+use Rattle.value_match.proofs.Fronts.{longest_changes}
+use Rattle.order_violation.proofs.Chosen.{longest_stays}
 use Rattle.order_violation.proofs.search.longest_among.Goals as goal
 use Rattle.order_violation.proofs.search.longest_among.Goals.{then-overtakes, else-overtakes}
 

@@ -1,6 +1,6 @@
 use Rattle.verdicts.proofs.Common.{subst, sym, IsDecided, No}
 use Rattle.order_violation.specs.Pairs.{IsOrderAnswer}
-use Rattle.verdicts.proofs.Decided.{no_is_decided, pair_is_chosen}
+use Rattle.verdicts.proofs.NamedPlaces.{no_is_decided, pair_is_chosen}
 use Rattle.verdicts.proofs.decision.overtaken.Goals as goal
 
 pub returns : goal.returns

@@ -1,4 +1,4 @@
-use Rattle.verdicts.proofs.FewLines.{verdict_has_few_lines}
+use Rattle.verdicts.proofs.NamedPlaces.{verdict_has_few_lines}
 use Rattle.verdicts.proofs.laws.a_verdict_has_few_lines.Goals as goal
 
 pub returns : goal.returns

@@ -1,5 +1,5 @@
 use Rattle.verdicts.proofs.Common.{answers_always, ap, Err, Ok, rules}
-use Rattle.verdicts.proofs.Lookups.{searched_by_call, stands_at_its_call}
+use Rattle.verdicts.proofs.ClaimedLines.{searched_by_call, stands_at_its_call}
 use Rattle.verdicts.proofs.lookup.has_operation.Goals as goal
 
 pub returns-in-Ok : goal.returns-in-Ok

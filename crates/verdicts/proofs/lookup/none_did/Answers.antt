@@ -1,5 +1,5 @@
 use Rattle.verdicts.proofs.Common.{cases_from_all, rules, tests, YieldsList-from_slice, ◌≡◌}
-use Rattle.verdicts.proofs.Lookups.{none_did_from_cases}
+use Rattle.verdicts.proofs.ClaimedLines.{none_did_from_cases}
 use Rattle.verdicts.proofs.lookup.none_did.Goals as goal
 
 pub returns : goal.returns

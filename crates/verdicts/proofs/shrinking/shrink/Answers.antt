@@ -1,9 +1,8 @@
-use Rattle.verdicts.proofs.Common.{ap, arith, contains, Event, filter, holds_ticket, IfOk-weaker, length}
-use Rattle.verdicts.proofs.Common.{nat_cmp, operations_of, selects, SelectsNamed, subst, timeline_is_complete}
-use Rattle.verdicts.proofs.Common.{violation_lines, ◌∙◌, ◌≡◌}
-use Rattle.verdicts.proofs.Selections.{has_shortest_cover}
-use Rattle.verdicts.proofs.ShrunkEvents.{no_longer}
-use Rattle.verdicts.proofs.ShrunkHistories.{IsShrunk, IsWhole, are_complete, are_shrunk}
+use Rattle.verdicts.proofs.Common.{ap, arith, contains, Event, filter, holds_ticket, IfOk-weaker, length, nat_cmp}
+use Rattle.verdicts.proofs.Common.{operations_of, selects, SelectsNamed, subst, timeline_is_complete, violation_lines}
+use Rattle.verdicts.proofs.Common.{◌∙◌, ◌≡◌}
+use Rattle.verdicts.proofs.Selections.{has_shortest_cover, no_longer}
+use Rattle.verdicts.proofs.ShrunkHistories.{are_complete, are_shrunk, IsShrunk, IsWhole}
 use Rattle.verdicts.proofs.shrinking.shrink.Goals as goal
 
 pub history_of-requires-clause-few_initial : goal.history_of-requires-clause-few_initial

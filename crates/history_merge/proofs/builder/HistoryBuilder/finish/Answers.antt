@@ -1,5 +1,5 @@
 use Rattle.history_merge.proofs.Common.{HasGathered, MatchResult-weaker, subst, sym}
-use Rattle.history_merge.proofs.ExactFaults.{complete_has_no_fault}
+use Rattle.history_merge.proofs.Faults.{complete_has_no_fault}
 use Rattle.history_merge.proofs.builder.HistoryBuilder.finish.Goals as goal
 
 pub returns-clause-refused : goal.returns-clause-refused

@@ -1,9 +1,8 @@
-use Rattle.history_merge.proofs.Common.{arith}
-use Rattle.history_merge.proofs.Common.{slice_get-get_or, take, take_more}
+use Rattle.history_merge.proofs.Common.{arith, slice_get-get_or, take, take_more}
 use Rattle.std.proofs.Common.{length-take-le}
-use Rattle.history_merge.proofs.DistinctValues.{distinct_more, twice_at}
+use Rattle.history_merge.proofs.Distinct.{distinct_more, twice_at}
 use Rattle.history_merge.proofs.KnownValues.{called_in_front}
-use Rattle.history_merge.proofs.TimelineOperations.{length_timeline}
+use Rattle.history_merge.proofs.Timelines.{length_timeline}
 use Rattle.history_merge.proofs.called.CalledValues.note_initial.Goals as goal
 
 pub slice_bounds-note_value-end : goal.slice_bounds-note_value-end

@@ -1,7 +1,6 @@
 use Rattle.history_merge.proofs.Common.{arith, events_of}
-use Rattle.history_merge.proofs.Completeness.{few_operations}
-use Rattle.history_merge.proofs.TimelineOperations.{length_timeline}
-use Rattle.history_merge.proofs.Timelines.{timeline_is_complete}
+use Rattle.history_merge.proofs.Distinct.{few_operations}
+use Rattle.history_merge.proofs.Timelines.{length_timeline, timeline_is_complete}
 use Rattle.history_merge.proofs.complete.History.timeline.Goals as goal
 
 pub returns-clause-complete : goal.returns-clause-complete

@@ -1,8 +1,6 @@
-use Rattle.history_merge.proofs.Common.{nat_tests}
-use Rattle.history_merge.proofs.Common.{[], ◌∷◌, arith}
+use Rattle.history_merge.proofs.Common.{[], arith, nat_tests, ◌∷◌}
 use Rattle.std.proofs.Common.{length-append}
-use Rattle.history_merge.proofs.Clashes.{kept-append}
-use Rattle.history_merge.proofs.MetFaults.{gathered_after_fault, none_met, run_of_formed}
+use Rattle.history_merge.proofs.Faults.{gathered_after_fault, kept-append, none_met, run_of_formed}
 use Rattle.history_merge.proofs.gathering.Gathering.add.Goals as goal
 
 pub returns-then-is_some-clause-added : goal.returns-then-is_some-clause-added

@@ -1,4 +1,4 @@
-use Rattle.history_merge.proofs.MetFaults.{none_met, run_of_forming}
+use Rattle.history_merge.proofs.Faults.{none_met, run_of_forming}
 use Rattle.history_merge.proofs.gathering.Gathering.clash.Goals as goal
 
 pub first_event-requires : goal.first_event-requires

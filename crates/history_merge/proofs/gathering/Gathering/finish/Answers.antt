@@ -1,11 +1,9 @@
-use Rattle.history_merge.proofs.Common.{arith}
-use Rattle.history_merge.proofs.Common.{◌∙◌, ap, Contents, Event, HasGathered, IsCompleteFrom, IsFormedOf}
-use Rattle.std.specs.Prelude.{ℕ, List}
-use Rattle.history_merge.proofs.ExactFaults.{complete_without_fault}
+use Rattle.history_merge.proofs.Common.{ap, arith, Contents, Event, HasGathered, IsCompleteFrom, IsFormedOf, ◌∙◌}
+use Rattle.std.specs.Prelude.{List, ℕ}
+use Rattle.history_merge.proofs.Faults.{complete_without_fault, kept_is_met, met_fault_is_first, still_forming}
 use Rattle.history_merge.proofs.Formed.{formed_of_complete}
-use Rattle.history_merge.proofs.MetFaults.{kept_is_met, met_fault_is_first, still_forming}
-use Rattle.history_merge.proofs.gathering.Gathering.finish.Goals as goal
 use Rattle.history_merge.proofs.gathering.Gathering.finish.Goals.{After-into_timeline}
+use Rattle.history_merge.proofs.gathering.Gathering.finish.Goals as goal
 
 pub returns-in-Some-clause-outcome : goal.returns-in-Some-clause-outcome
 returns-in-Some-clause-outcome c = grind (arith, met_fault_is_first, kept_is_met)

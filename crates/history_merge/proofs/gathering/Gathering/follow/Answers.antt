@@ -1,8 +1,7 @@
-use Rattle.history_merge.proofs.Common.{◌++◌, ◌∙◌, arith, called_values, Knows}
-use Rattle.history_merge.proofs.Common.{subst}
+use Rattle.history_merge.proofs.Common.{arith, called_values, Knows, subst, ◌++◌, ◌∙◌}
 use Rattle.std.proofs.Common.{length-append}
 use Rattle.history_merge.proofs.KnownValues.{called_so_far, repeats_is, values_more}
-use Rattle.history_merge.proofs.MetFaults.{met_fault-push, no_fault-push, of_err}
+use Rattle.history_merge.proofs.Faults.{met_fault-push, no_fault-push, of_err}
 use Rattle.history_merge.proofs.gathering.Gathering.follow.Goals as goal
 
 pub returns-in_err-take-clause-followed : goal.returns-in_err-take-clause-followed

@@ -1,7 +1,6 @@
-use Rattle.history_merge.proofs.Common.{arith, get_or_from_slice_get}
-use Rattle.history_merge.proofs.Common.{set, timeline, ◌+◌, ◌≡◌}
+use Rattle.history_merge.proofs.Common.{arith, get_or_from_slice_get, set, timeline, ◌+◌, ◌≡◌}
 use Rattle.std.proofs.Common.{get_or}
-use Rattle.history_merge.proofs.TimelineOperations.{completed, is_timeline, operations_back}
+use Rattle.history_merge.proofs.Timelines.{completed, is_timeline, operations_back}
 use Rattle.history_merge.proofs.timeline.Timeline.complete.Goals.{After-self-1}
 use Rattle.history_merge.proofs.timeline.Timeline.complete.Goals as goal
 

@@ -1,7 +1,5 @@
-use Rattle.history_merge.proofs.Common.{nat_tests, common_steps}
-use Rattle.history_merge.proofs.Common.{[], append-nil, arith}
-use Rattle.history_merge.proofs.Common.{refl, timeline, ◌≡◌}
-use Rattle.history_merge.proofs.TimelineOperations.{enqueues_more, is_timeline, operations_back}
+use Rattle.history_merge.proofs.Common.{[], append-nil, arith, common_steps, nat_tests, refl, timeline, ◌≡◌}
+use Rattle.history_merge.proofs.Timelines.{enqueues_more, is_timeline, operations_back}
 use Rattle.history_merge.proofs.timeline.Timeline.new.Goals.{After-loop-place}
 use Rattle.history_merge.proofs.timeline.Timeline.new.Goals as goal
 

@@ -1,6 +1,5 @@
 use Rattle.history_text.proofs.Common.{fields_of, sym}
-use Rattle.history_text.proofs.FormLines.{said_spelled}
-use Rattle.history_text.proofs.EventLines.{event_spells}
+use Rattle.history_text.proofs.FormLines.{event_spells, said_spelled}
 use Rattle.history_text.proofs.event_line.EventItem.from_line.Goals as goal
 
 pub event_of-requires : goal.event_of-requires

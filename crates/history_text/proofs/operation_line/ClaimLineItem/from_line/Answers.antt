@@ -1,6 +1,5 @@
-use Rattle.history_text.proofs.Common.{fields_of, ◌∙◌, sym, initial_forms, initial_of}
-use Rattle.history_text.proofs.FormLines.{read_as, said_spelled}
-use Rattle.history_text.proofs.ClaimLines.{initial_spells}
+use Rattle.history_text.proofs.Common.{fields_of, initial_forms, initial_of, sym, ◌∙◌}
+use Rattle.history_text.proofs.FormLines.{initial_spells, read_as, said_spelled}
 use Rattle.history_text.proofs.operation_line.ClaimLineItem.from_line.Goals as goal
 
 pub returns-then-is_initial-clause-value : goal.returns-then-is_initial-clause-value

@@ -1,5 +1,5 @@
 use Rattle.history_text.proofs.Common.{◌+◌, ◌∙◌, ◌≡◌, ap, Input, arith}
-use Rattle.history_text.proofs.Faults.{at_nothing, items_end, items_taken, items_faulty, nothing_is_cut}
+use Rattle.history_text.proofs.FirstFaults.{at_nothing, items_end, items_taken, items_faulty, nothing_is_cut}
 use Rattle.history_text.proofs.reader.TextReader.item_by_line.Goals as goal
 
 pub returns-in-Some-clause-ok : goal.returns-in-Some-clause-ok

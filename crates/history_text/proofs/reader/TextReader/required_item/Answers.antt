@@ -1,5 +1,5 @@
 use Rattle.history_text.proofs.Common.{◌∙◌, ap, Input, arith}
-use Rattle.history_text.proofs.Faults.{required_taken, next_line_faulty}
+use Rattle.history_text.proofs.FirstFaults.{required_taken, next_line_faulty}
 use Rattle.history_text.proofs.reader.TextReader.required_item.Goals as goal
 
 pub returns-clause-ok : goal.returns-clause-ok

@@ -1,5 +1,5 @@
 use Rattle.history_text.proofs.Common.{err_from_is_err_and}
-use Rattle.history_text.proofs.Faults.{no_line}
+use Rattle.history_text.proofs.FirstFaults.{no_line}
 use Rattle.history_text.proofs.reader.TextReader.whole_line.Goals as goal
 
 pub returns-in_err-line-clause-fault : goal.returns-in_err-line-clause-fault

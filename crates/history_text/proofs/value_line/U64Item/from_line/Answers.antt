@@ -1,6 +1,5 @@
-use Rattle.history_text.proofs.Common.{fields_of, ◌∙◌, sym, number_of, value_forms}
-use Rattle.history_text.proofs.FormLines.{read_as, said_spelled}
-use Rattle.history_text.proofs.EventLines.{value_spells}
+use Rattle.history_text.proofs.Common.{fields_of, number_of, sym, value_forms, ◌∙◌}
+use Rattle.history_text.proofs.FormLines.{read_as, said_spelled, value_spells}
 use Rattle.history_text.proofs.value_line.U64Item.from_line.Goals as goal
 
 pub returns-clause-value : goal.returns-clause-value

@@ -1,6 +1,5 @@
-use Rattle.history_text.proofs.Common.{fields_of, count_forms, number_of, sym}
-use Rattle.history_text.proofs.FormLines.{read_as, said_spelled}
-use Rattle.history_text.proofs.EventLines.{count_spells}
+use Rattle.history_text.proofs.Common.{count_forms, fields_of, number_of, sym}
+use Rattle.history_text.proofs.FormLines.{count_spells, read_as, said_spelled}
 use Rattle.history_text.proofs.value_line.UsizeItem.from_line.Goals as goal
 
 pub returns-clause-value : goal.returns-clause-value
