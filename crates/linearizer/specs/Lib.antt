@@ -1,3 +1,4 @@
-pub mod Order
 pub mod Values
+pub mod Order
+pub mod Ordering
 pub mod Inner

@@ -1,14 +1,9 @@
 -- The order of the accepted values, and the gaps at which their operations stand.
-use Rattle.std.specs.Prelude.{[], All, Contains, drop, fold, IsPermutation, List, map, max, min, take, ℕ, ⊤, ◌+◌, ◌-◌}
-use Rattle.std.specs.Prelude.{◌<◌, ◌∷◌, ◌≡◌, ◌≤◌}
+use Rattle.std.specs.Prelude.{◌≡◌, ℕ, ◌<◌, ◌≤◌, ◌-◌, ◌+◌, min, max, List, [], ◌∷◌, fold, map, take, drop, All, Contains, IsPermutation, ⊤}
 use Rattle.history_merge.specs.declared.operation.Operation.{Operation}
 use Rattle.value_match.specs.declared.life.Life.{Life}
 use Rattle.value_match.specs.declared.life.TheConstants.{NEVER}
-use Rattle.value_match.specs.Lives.{dequeue_return, entered_by, leaves_from, lives_of}
-use Rattle.value_match.specs.Violations.{NoOrderViolation}
-use Rattle.order_violation.specs.Pairs.{IsFirstOvertaker}
-use Rattle.linearizer.specs.declared.ordered_values.OrderFound.{OrderFound}
-use Rattle.linearizer.specs.declared.ordered_values.OrderFound.TheVariants as found
+use Rattle.value_match.specs.Lives.{lives_of, entered_by, leaves_from, dequeue_return}
 
 -- one of the lives, at which this number is least
 abbrev pub IsLeastBy : (Life → ℕ) → List Life → Life → Type 0
@@ -49,10 +44,3 @@ enqueue_gap lives i = least_entered_by (drop i lives) - 1
 -- the gap from which the values up to place i can all have left, and not before the enqueue
 abbrev pub dequeue_gap : List Life → ℕ → ℕ
 dequeue_gap lives i = max (greatest_leaves_from (take (i + 1) lives)) (enqueue_gap lives i)
-
--- ---- what ordering the values finds
-
--- the values of these operations in order, of which no two are an order violation; or the first of those that overtake another
-abbrev pub OrdersValues : List Operation → OrderFound → Type 0
-OrdersValues operations (found.InOrder order) = (order ≡ operations) × NoOrderViolation operations
-OrdersValues operations (found.Overtaker b) = ¬ (NoOrderViolation operations) × IsFirstOvertaker operations b

@@ -1,6 +1,6 @@
 ghost use Rattle.std.specs.Prelude.{IfOk};
 ghost use Rattle.value_match.specs.Timeline.{timeline_of};
-ghost use Rattle.linearizer.specs.Values.{OrdersValues};
+ghost use Rattle.linearizer.specs.Ordering.{OrdersValues};
 ghost use Rattle.linearizer.specs.Inner.Placement.{AreEnqueueGaps, IsOrderOfPlaces, gaps_in, lives_at, places_in};
 
 use crate::choice::{Swept, put_in_order};
