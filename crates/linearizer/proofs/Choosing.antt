@@ -641,10 +641,10 @@ all_swept values entries dequeues taken i j order swept all =
     }
 
 -- the choice among those left is called after one of these has entered
-pub passed_over : (values : List MatchedValue) (taken : List Bool) (done : List MatchedValue) (gaps : List ℕ) (place : ℕ) (entry : Timed)
+pub met_passed_over : (values : List MatchedValue) (taken : List Bool) (done : List MatchedValue) (gaps : List ℕ) (place : ℕ) (entry : Timed)
     (next : IsNext values taken place) → IsOrderedSoFar values done (left_of values taken) gaps → (least : IsLeastLeft entered_by values taken entry)
     → entry.time < enqueue_call next.value.life → IsPassedOver values next.value
-passed_over values taken done gaps place entry next so_far least late = record {
+met_passed_over values taken done gaps place entry next so_far least late = record {
   is_value = contains_at values place next.value next.is_at;
   remaining = lives_in (left_of values taken);
   among = λ life in_left.

@@ -261,8 +261,8 @@ module _ {X : Type 0} (old now : List X) (place : ℕ) (shifted : IsShifted old 
   long = omega (arith, ap length shifted.is, length-insert others place shifted.left_over within, few, inside)
 
   -- those before the place stay
-  pub kept : (k : ℕ) (d : X) → k < place → get_or now k d ≡ get_or old k d
-  kept k d below = ap (λ xs. get_or xs k d) shifted.is ∙ get_or-insert_below others place shifted.left_over d k below within
+  pub stays_before : (k : ℕ) (d : X) → k < place → get_or now k d ≡ get_or old k d
+  stays_before k d below = ap (λ xs. get_or xs k d) shifted.is ∙ get_or-insert_below others place shifted.left_over d k below within
       ∙ get_or-take (length old - 1) old k d (omega (arith, below, inside))
 
   -- the last is put at the place that is left
@@ -286,7 +286,7 @@ module _ {X : Type 0} (old now : List X) (place : ℕ) (shifted : IsShifted old 
       inner = omega (arith, within, some)
 
       reads : x ≡ get_or others (place - 1) x
-      reads = is x ∙ kept (place - 1) x (omega (arith, some)) ∙ sym (get_or-take (length old - 1) old (place - 1) x (omega (arith, inside, some)))
+      reads = is x ∙ stays_before (place - 1) x (omega (arith, some)) ∙ sym (get_or-take (length old - 1) old (place - 1) x (omega (arith, inside, some)))
 
   module _ (last : X) (is_last : last ≡ get_or old (length old - 1) last) where
     -- then all are there
@@ -305,7 +305,7 @@ module _ {X : Type 0} (old now : List X) (place : ℕ) (shifted : IsShifted old 
         low k d below =
             let up = rises k (place - 1) d (omega (arith, below)) (omega (arith, below, within)) in
             let read = ap number (get_or-take (length old - 1) old (place - 1) d (omega (arith, below, inside))) in
-            omega (arith, ap number (kept (place - 1) d (omega (arith, below))), sooner d (omega (arith, below)))
+            omega (arith, ap number (stays_before (place - 1) d (omega (arith, below))), sooner d (omega (arith, below)))
 
         high : (k : ℕ) (d : X) → place ≤ k → k < length others → number last ≤ number (get_or others k d)
         high k d from below =

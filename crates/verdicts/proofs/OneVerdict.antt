@@ -7,7 +7,7 @@ use Rattle.verdicts.proofs.Common.{IsClear, IsCompleteFrom, IsCovered, IsGapAnsw
 use Rattle.verdicts.proofs.Common.{IsNonDecreasingBy, IsOperation, IsPermutation, IsPermutation-sym}
 use Rattle.verdicts.proofs.Common.{IsPermutation-trans, IsSource, IsViolationOf, later_by, later_injective, length}
 use Rattle.verdicts.proofs.Common.{Life, linearizable_from_exactly, List, map, MAX_INITIAL, Names, NamesCover}
-use Rattle.verdicts.proofs.Common.{NamesStep, No, None, one_at, one_place, Operation, operations_are_complete}
+use Rattle.verdicts.proofs.Common.{NamesStep, No, None, one_at, Operation, operations_are_complete}
 use Rattle.verdicts.proofs.Common.{operations_of, operations_rise, Option, order, OrderPair, ORIGIN, passes_filter}
 use Rattle.verdicts.proofs.Common.{place_of, refl, repeat, slice_get-get_or, Some, Source, subst, sym, time_of}
 use Rattle.verdicts.proofs.Common.{timeline, timeline_is_complete, true, Violation, witness, Yes, ℕ, ◌<◌, ◌↔◌, ◌∙◌}
@@ -45,7 +45,7 @@ sorted_is_same {X} key xs ys rises moved sorted =
         let le = sorted i j d (omega arith) within in
         elim (cases_lt (key (get_or ys i d)) (key (get_or ys j d))) [
           | inl below ↦ below
-          | inr above ↦ let here = one_place key xs ys i j (get_or ys i d) (get_or ys j d) rises moved (slice_get-get_or ys i d (omega arith))
+          | inr above ↦ let here = one_place_of_key key xs ys i j (get_or ys i d) (get_or ys j d) rises moved (slice_get-get_or ys i d (omega arith))
               (slice_get-get_or ys j d within) (omega arith) in absurd (omega arith)
         ]
 

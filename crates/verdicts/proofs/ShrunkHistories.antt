@@ -356,8 +356,8 @@ same_or_not p xs = elim (all_or_one p xs) [
 module _ (whole x : HistoryView) (violation : Violation) (is_x : IsWhole x) (stays : StaysChosen whole violation x) (minimal : IsMinimal (contents_of x))
     (values empties : ℕ → Bool) (kept : (line : ClaimLine) → Contains (violation_lines whole violation) line
     → Contains (lines_of_history (select values empties (contents_of whole)).initial (select values empties (contents_of whole)).operations) line) where
-  abbrev full : FullViolation
-  full = stays.1.0
+  abbrev full_of_x : FullViolation
+  full_of_x = stays.1.0
 
   abbrev selected : Contents
   selected = select values empties (contents_of whole)
@@ -369,25 +369,25 @@ module _ (whole x : HistoryView) (violation : Violation) (is_x : IsWhole x) (sta
   abbrev part : Contents
   part = select values empties (contents_of x)
 
-  abbrev passes : Operation → Bool
-  passes = selects values (calls_behind empties)
+  abbrev passes_too : Operation → Bool
+  passes_too = selects values (calls_behind empties)
 
-  stands : StandsAs values (calls_behind empties) (lifted values x.initial) (start part.initial) (timeline part.initial part.operations)
+  stands_in_x : StandsAs values (calls_behind empties) (lifted values x.initial) (start part.initial) (timeline part.initial part.operations)
       (timeline_of_history x)
-  stands = part_stands x values empties part refl is_x
+  stands_in_x = part_stands x values empties part refl is_x
 
-  is_violation : IsViolationOf (timeline_of_history x) full
-  is_violation = chosen_is_violation (timeline_of_history x) full stands.complete stays.1.2
+  violates_x : IsViolationOf (timeline_of_history x) full_of_x
+  violates_x = chosen_is_violation (timeline_of_history x) full_of_x stands_in_x.complete stays.1.2
 
-  in_x : (o : Operation) → Contains (lines_of full) o → Contains (timeline_of_history x) o
-  in_x = lines_are_operations (timeline_of_history x) full is_violation
+  in_x : (o : Operation) → Contains (lines_of full_of_x) o → Contains (timeline_of_history x) o
+  in_x = lines_are_operations (timeline_of_history x) full_of_x violates_x
 
-  same_lines : violation_lines whole violation ≡ map line_of (lines_of full)
-  same_lines = sym (one_list_of_lines _ _ (violation_lines x stays.0) (violation_lines whole violation) stays.2)
-      ∙ shown_lines x.initial (operations_of x.events) is_x.few (violation_places stays.0) (lines_of full)
-      (each_shown x.initial (operations_of x.events) is_x.few stays.0 full stays.1.1)
+  lines_of_x : violation_lines whole violation ≡ map line_of (lines_of full_of_x)
+  lines_of_x = sym (one_list_of_lines _ _ (violation_lines x stays.0) (violation_lines whole violation) stays.2)
+      ∙ shown_lines x.initial (operations_of x.events) is_x.few (violation_places stays.0) (lines_of full_of_x)
+      (each_shown x.initial (operations_of x.events) is_x.few stays.0 full_of_x stays.1.1)
 
-  line_passes : (o : Operation) → Contains (lines_of full) o → passes o ≡ true
+  line_passes : (o : Operation) → Contains (lines_of full_of_x) o → passes_too o ≡ true
   line_passes o among = elim (cases_lt o.call ORIGIN) [
     | inl early ↦
         let found = among_enqueues x o (in_x o among) early in
@@ -400,13 +400,13 @@ module _ (whole x : HistoryView) (violation : Violation) (is_x : IsWhole x) (sta
   ]
     where
       here : Contains selected_lines (line_of o)
-      here = kept (line_of o) (subst (λ ls. Contains ls (line_of o)) (sym same_lines) (mapped_to line_of (lines_of full) o among))
+      here = kept (line_of o) (subst (λ ls. Contains ls (line_of o)) (sym lines_of_x) (mapped_to line_of (lines_of full_of_x) o among))
 
   not_linearizable : AreLinearizable part → ⊥
   not_linearizable linear =
-      violation_excludes_order (timeline part.initial part.operations) (mapped_violation stands.back full) stands.part_complete
-      (violation_back stands full (λ o among. (in_x o among, line_passes o among)) is_violation)
-      ((linearizable_from_exactly part.initial part.operations (few_initial part.initial part.operations stands.part_complete)).0 linear)
+      violation_excludes_order (timeline part.initial part.operations) (mapped_violation stands_in_x.back full_of_x) stands_in_x.part_complete
+      (violation_back stands_in_x full_of_x (λ o among. (in_x o among, line_passes o among)) violates_x)
+      ((linearizable_from_exactly part.initial part.operations (few_initial part.initial part.operations stands_in_x.part_complete)).0 linear)
 
   none_differs : part ≢ contents_of x → ⊥
   none_differs differs = not_linearizable (minimal.1 part (values, empties, refl) differs)

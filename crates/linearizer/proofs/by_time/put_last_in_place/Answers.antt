@@ -1,7 +1,7 @@
 use Rattle.linearizer.proofs.Common.{ap, arith, cases_lt, get_or, get_or-set_other, get_or_read, inl, inr, leb-true}
 use Rattle.linearizer.proofs.Common.{length, PackedTimed, set, ◌-◌, ◌<◌, ◌≡◌}
 use Rattle.std.proofs.Common.{length-set}
-use Rattle.linearizer.proofs.Elements.{kept, long, one_more_shifted, put_permutes, put_rises}
+use Rattle.linearizer.proofs.Elements.{stays_before, long, one_more_shifted, put_permutes, put_rises}
 use Rattle.linearizer.proofs.by_time.put_last_in_place.Goals as goal
 
 pub loop-place-preserved : goal.loop-place-preserved
@@ -21,11 +21,11 @@ loop-place-preserved c =
             | inr more ↦
                 let same : k ≡ place - 1 = omega (arith, from) in
                 let read = ap (λ timed. timed.time) (get_or_read now (place - 1) _ before c.index-timed-place.is d) in
-                let kept = ap (λ timed. timed.time) (kept old now place known.shifted known.inside (place - 1) d (omega (arith, some))) in
+                let stays_before = ap (λ timed. timed.time) (stays_before old now place known.shifted known.inside (place - 1) d (omega (arith, some))) in
                 let where_k = ap (λ j. (get_or old j d).time) same in
                 let first = ap (λ timed. timed.time) c.unpack.ensures in
                 let second = ap (λ timed. timed.time) c.unpack-in-loop-place.ensures in
-                omega (arith, read, kept, where_k, first, second, c.if-unpack.true)
+                omega (arith, read, stays_before, where_k, first, second, c.if-unpack.true)
             | inl after ↦ known.later k d (omega (arith, after)) below
           ];
     }

@@ -3,7 +3,7 @@ use Rattle.linearizer.proofs.Common.{false, get_or_from_slice_get, IsFirstLeft, 
 use Rattle.linearizer.proofs.Common.{NEVER, places_in, refl, replicate, rules, slice_get, slice_get_read}
 use Rattle.linearizer.proofs.Common.{slice_get_within, Some, subst, sym, ◌<◌, ◌∙◌, ◌≡◌, ◌≤◌}
 use Rattle.linearizer.proofs.Choosing.{IsLeastLeft, IsNext, least_left, next_at, not_past, all_swept, flags_within}
-use Rattle.linearizer.proofs.Choosing.{nothing_swept, passed_over, some_left, swept_next}
+use Rattle.linearizer.proofs.Choosing.{nothing_swept, met_passed_over, some_left, swept_next}
 use Rattle.linearizer.proofs.choice.put_in_order.Goals as goal
 use Rattle.linearizer.proofs.choice.put_in_order.Goals.{After-first_left-first_in, After-first_left-first_out, After-unpack-entry, After-choice-next}
 
@@ -116,7 +116,7 @@ returns-then-entry-enqueue_call c =
     let told = c.get-then-entry-enqueue_call.ensures
     ∙ get_or_from_slice_get c.args.values.now c.choice-next.result turn.value c.get-then-entry-enqueue_call.result turn.is_at in
     subst (IsPassedOver c.args.values.now) (sym told)
-    (passed_over c.args.values.now c.loop-entries.taken.items _ _ c.choice-next.result c.unpack-entry.result turn
+    (met_passed_over c.args.values.now c.loop-entries.taken.items _ _ c.choice-next.result c.unpack-entry.result turn
     c.loop-entries.invariant.so_far (least states.After-unpack-entry first) (omega (arith, called, c.if-entry-enqueue_call.true)))
 
 pub loop-entries-preserved : goal.loop-entries-preserved
