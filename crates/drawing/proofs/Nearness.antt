@@ -100,7 +100,7 @@ from_operations (Initial v ∷ lines) o among = one_deeper (Initial v) lines (Op
 -- only operations of the history are
 pub among_operations : (history : HistoryView) (claimed : Claimed) (around : Option ℕ) (o : Operation) → Contains (drawn_operations history claimed around) o
     → Contains (operations_of history.events) o
-among_operations history (Yes order) around o among = among
+among_operations history (Yes listed) around o among = among
 among_operations history (No kind lines) None o among = among
 among_operations history (No kind lines) (Some n) o among =
     (passed_filter (is_near_any history.events n (operations_in lines)) (operations_of history.events) o among).0
