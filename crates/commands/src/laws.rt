@@ -19,7 +19,7 @@ ghost use Rattle.commands.specs.Judging.{SimulatesIn};
 ghost use Rattle.commands.specs.Stressing.{StressesUnshelved, proved_name};
 
 /// No false alarm: the answer to an honest schedule that is done is `YES`.
-#[tactic(auto, using(crate::proofs::Distinct::honest_gets_a_yes))]
+#[tactic(auto, using(crate::proofs::OneAnswer::honest_gets_a_yes))]
 pub fn honest_schedules_get_a_yes()
     ensures { (setting : Setting) (schedule : List Attempt) (answer : Reply)
         → setting.threads ≤ MAX_THREADS → IsHonest setting schedule → IsDone setting schedule → SimulatesIn setting schedule answer

@@ -62,7 +62,7 @@ fn push_about(alloc: Global, text: &mut Vec<u8>, claimed: &Claimed) -> Added
 }
 
 /// Adds what stands between the tags of the picture.
-#[tactic(auto, using(crate::proofs::Loops::pieces), unfolding(crate::specs::Picture::inside))]
+#[tactic(auto, using(crate::proofs::Chains::pieces), unfolding(crate::specs::Picture::inside))]
 fn push_inside(text: &mut Vec<u8>, sheet: &Sheet<'_>) -> Added
     ensures { OnOk result (text.new.items ≡ text.old.items ++ text_of (inside (page_on sheet.now))) }
 {
