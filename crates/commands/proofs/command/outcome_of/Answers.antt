@@ -1,5 +1,5 @@
 use Rattle.commands.proofs.Common.{◌≡◌, settings_of, stress}
-use Rattle.commands.proofs.Runs.{same_settings}
+use Rattle.commands.proofs.OneAnswer.{same_settings}
 use Rattle.commands.proofs.command.outcome_of.Goals as goal
 
 pub returns-in-Stress-clause-stresses : goal.returns-in-Stress-clause-stresses
