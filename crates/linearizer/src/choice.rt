@@ -1,6 +1,7 @@
-ghost use Rattle.std.specs.Prelude.{◌<◌, ◌≤◌, All, IfOk, length};
+ghost use Rattle.std.specs.Prelude.{◌≡◌, ◌<◌, ◌≤◌, ◌↔◌, All, IfOk, IsTrue, Some, length, slice_get};
+ghost use Rattle.value_match.specs.declared.life.MatchedValue.{MatchedValue};
 ghost use Rattle.value_match.specs.declared.life.TheConstants.{NEVER};
-ghost use Rattle.value_match.specs.Lives.{dequeue_call, dequeue_return, entered_by};
+ghost use Rattle.value_match.specs.Lives.{dequeue_call, dequeue_return, enqueue_call, entered_by};
 ghost use Rattle.linearizer.specs.declared.timed.TheConstants.{PLACES};
 ghost use Rattle.linearizer.specs.Inner.Sweep.{IsDequeuedAt, TakesOneOf};
 ghost use Rattle.linearizer.specs.Inner.Swept.{IsSweepOf};
@@ -28,6 +29,7 @@ pub(crate) fn put_in_order(alloc: Global, values: &Values) -> Result<Swept, Allo
     requires entries { All (λ value. entered_by value.life < NEVER) values.now }
     requires dequeues { All (λ value. dequeue_return value.life ≤ NEVER) values.now }
     requires takes_time { All (λ value. dequeue_call value.life ≤ dequeue_return value.life) values.now }
+    requires in_time { All (λ value. enqueue_call value.life ≤ entered_by value.life) values.now }
     ensures { IfOk result (IsSweepOf values.now) }
 {
     let mut order = Vec::with_capacity(alloc, values.len())?;
@@ -42,7 +44,7 @@ pub(crate) fn put_in_order(alloc: Global, values: &Values) -> Result<Swept, Allo
         first_out = first_left(dequeues, &taken, first_out);
         let entry = entries[first_in].unpack();
         let next = choice(values, entry, dequeued_at(dequeues, first_out, entry.place));
-        if entry.time < values.get(next).life.enqueue_call() {
+        if is_late(values, next, entry) {
             return Ok(Swept::PassedOver(values.get(next)));
         }
         taken[next] = true;
@@ -73,4 +75,13 @@ fn choice(values: &Values, first_in: Timed, first_out: Timed) -> usize
         return first_out.place;
     }
     first_in.place
+}
+
+/// Whether the enqueue of the value at this place is called only after the first has entered. That of the first itself never is.
+fn is_late(values: &Values, next: usize, first_in: Timed) -> bool
+    requires next { next < length values.now }
+    requires in_time { (m : MatchedValue) → slice_get values.now first_in.place ≡ Some m → enqueue_call m.life ≤ first_in.time }
+    ensures { (m : MatchedValue) → slice_get values.now next ≡ Some m → IsTrue result ↔ (first_in.time < enqueue_call m.life) }
+{
+    next != first_in.place && first_in.time < values.get(next).life.enqueue_call()
 }

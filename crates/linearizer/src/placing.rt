@@ -78,6 +78,7 @@ fn place_enqueues(
 
 /// Adds the next dequeues in the order of the values, up to the first that stands after this position, if one is given;
 /// each after the no-ops that stand before it.
+#[inline(always)]
 fn place_dequeues(
     places: &mut Vec<OpId>,
     so_far: &mut Merged,
@@ -124,6 +125,7 @@ fn place_dequeues(
 }
 
 /// Adds the next no-ops, up to the first that stands after this position, if one is given.
+#[inline(always)]
 fn place_noops(
     places: &mut Vec<OpId>,
     count: &mut usize,

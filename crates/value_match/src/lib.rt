@@ -2,6 +2,7 @@
 #![tactic(auto)]
 
 mod accepted;
+mod call_table;
 mod fresh;
 mod life;
 mod matching;
@@ -12,7 +13,6 @@ mod presorting;
 mod sources;
 mod table;
 mod takers;
-mod thread_calls;
 mod told;
 mod values;
 mod violation;

@@ -3,11 +3,11 @@ ghost use Rattle.history_merge.specs.Complete.{AreComplete};
 ghost use Rattle.value_match.specs.Inner.Others.{AreNearWith, HoldsNear};
 ghost use Rattle.value_match.specs.Inner.Sources.{AreSettled, AreSources, HasTakersTo, HoldsSources, IsCallPlace};
 
+use crate::call_table::CallTable;
 use crate::fresh::comes_too_soon;
 use crate::matching::MAX_MATCHED;
 use crate::maybe_place::MaybePlace;
 use crate::others::{Call, is_called_at, others_of, place_among};
-use crate::thread_calls::ThreadCalls;
 use history_merge::{OpKind, PackedOperation};
 use std::alloc::{AllocError, Global};
 use std::collections::BTreeSet;
@@ -34,15 +34,13 @@ struct NearSources {
     wanted: BTreeSet<u64>,
 }
 
-/// The sources of all dequeues; the first `initial_count` operations enqueue initial values.
+/// The sources of all dequeues.
 ///
-/// Time O(n) for n operations where the values leave nearly in the order of their calls, or by recorder's names nearly in that
-/// of their threads' calls. Else the calls of the other values are sorted by value, and each of their dequeues costs a look-up,
-/// O(n log n).
+/// Time O(n) for n operations if the values leave nearly in the order of their calls or, with recorder's names, soon after these.
+/// Else the calls of the other values are sorted by value, and each of their dequeues costs a look-up, O(n log n).
 pub(crate) fn sources_of(
     alloc: Global,
     operations: &[PackedOperation],
-    initial_count: usize,
 ) -> Result<Sources, AllocError>
     requires complete { AreComplete operations.now }
     requires few { length operations.now ≤ MAX_MATCHED }
@@ -53,7 +51,7 @@ pub(crate) fn sources_of(
     let mut takers = Vec::with_capacity(alloc, 2 * operations.len())?;
     takers.resize(operations.len(), MaybePlace::none())?;
     let mut guess = Guess {
-        calls: ThreadCalls::new(alloc, operations, initial_count)?,
+        calls: CallTable::new(alloc, operations)?,
         from: 0,
         reach: REACH,
     };
@@ -126,11 +124,11 @@ fn near_sources(
     Ok(NearSources { sources, wanted })
 }
 
-/// Where the call for the next value is looked for: among those of its thread, or near the one found last, half as far from
-/// there after each miss.
+/// Where the call for the next value is looked for: in the table, or near the one found last, half as far from there after each
+/// miss.
 #[derive(Drop)]
 struct Guess {
-    calls: ThreadCalls,
+    calls: CallTable,
     from: usize,
     reach: usize,
 }
@@ -141,15 +139,12 @@ impl Guess {
     fn find(&mut self, operations: &[PackedOperation], value: u64) -> Option<usize>
         ensures { IfSome result (λ place. IsCallPlace operations.now value (Some place)) }
     {
-        if let Some(place) = self.calls.find(operations, value) {
-            self.from = place.saturating_add(1);
-            self.reach = REACH;
-            return Some(place);
-        }
-        let found = near_place(operations, value, self.from, self.reach);
+        let found = match self.calls.find(operations, value) {
+            Some(place) => Some(place),
+            None => near_place(operations, value, self.from, self.reach),
+        };
         match found {
             Some(place) => {
-                self.calls.go_on_behind(value, place);
                 self.from = place.saturating_add(1);
                 self.reach = REACH;
             }

@@ -99,13 +99,16 @@ one_cover (x ∷ xs) (y ∷ ys) lives lives' same =
 one_cover _ _ lives lives' same = cc
 
 one_maybe : (d d' : Option Operation) → option_to_list d ≡ option_to_list d' → d ≡ d'
-one_maybe d d' same = grind arith
+one_maybe None None same = refl
+one_maybe (Some d) (Some d') same = cc
+one_maybe _ _ same = cc
 
 -- two violations of one kind with the same lines are one, if the kind isn't that of a cover
 pub lines_tell_others : (x y : FullViolation) → kind_of x ≡ kind_of y → lines_of x ≡ lines_of y → kind_of x ≢ VWit → x ≡ y
-lines_tell_others (fresh deq enq) (fresh deq' enq') kinds lines other = grind (arith, one_maybe enq enq')
+lines_tell_others (fresh deq enq) (fresh deq' enq') kinds lines other = let last = one_maybe enq enq' (cc) in cc
 lines_tell_others (repeat enq first second) (repeat enq' first' second') kinds lines other = cc
-lines_tell_others (order enq_a enq_b deq_b deq_a) (order enq_a' enq_b' deq_b' deq_a') kinds lines other = grind (arith, one_maybe deq_a deq_a')
+lines_tell_others (order enq_a enq_b deq_b deq_a) (order enq_a' enq_b' deq_b' deq_a') kinds lines other =
+    let last = one_maybe deq_a deq_a' (cc) in cc
 lines_tell_others (witness empty cover) y kinds lines other = absurd (other refl)
 lines_tell_others _ _ kinds lines other = cc
 

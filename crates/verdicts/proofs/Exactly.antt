@@ -2,13 +2,13 @@
 use Rattle.verdicts.proofs.Common.{[], accept, accept_all, AllZip, ap, append-nil, AreComplete, AreLeastFreeGaps}
 use Rattle.verdicts.proofs.Common.{arith, call_by_return, cases_order, chosen_cover, chosen_order_exists, Contains}
 use Rattle.verdicts.proofs.Common.{Contains-permutation, contains_at, CoversFrom, Deq, dequeue_of, Did, Empty, Enq}
-use Rattle.verdicts.proofs.Common.{enqueue_of, eq-eqb, filter, fresh, FullViolation, inl, inr, is_empty_answer}
+use Rattle.verdicts.proofs.Common.{enqueue_of, eq-eqb, few_initial, filter, fresh, FullViolation, inl, inr, is_empty_answer}
 use Rattle.verdicts.proofs.Common.{IsAccepted, IsClear, IsEnqueuedTooLate, IsLeastFreeGap, IsLegalOrder, IsLife}
 use Rattle.verdicts.proofs.Common.{IsLinearizable, IsNeverEnqueued, IsOrderViolation, IsPermutation-sym}
-use Rattle.verdicts.proofs.Common.{IsRepeatViolation, IsSome, IsViolationOf, Life, List, map, MatchOption, no_enqueue}
-use Rattle.verdicts.proofs.Common.{None, NoneDid, NoOrderViolation, Not, NoWitnessViolation, one_deeper, Operation}
+use Rattle.verdicts.proofs.Common.{IsRepeatViolation, IsSome, IsViolationOf, Life, linearizable_from_exactly, List, map, MatchOption}
+use Rattle.verdicts.proofs.Common.{no_enqueue, None, NoneDid, NoOrderViolation, Not, NoWitnessViolation, one_deeper, Operation}
 use Rattle.verdicts.proofs.Common.{OpKind, Option, option_map, order, pairs_at, Precedes, refl, repeat, rules}
-use Rattle.verdicts.proofs.Common.{slice_get, Some, sym, take, witness, zero, ℕ, ⊤, ◌++◌, ◌<◌, ◌∙◌, ◌∷◌, ◌≡◌, ◌≤◌, ◌⊎◌}
+use Rattle.verdicts.proofs.Common.{slice_get, Some, sym, take, timeline, witness, zero, ℕ, ⊤, ◌++◌, ◌<◌, ◌∙◌, ◌∷◌, ◌≡◌, ◌≤◌, ◌⊎◌}
 use Rattle.std.proofs.lemmas.Option.{slice_get-map}
 use Rattle.value_match.proofs.ToldPlaces.{mapped_option}
 use Rattle.history_merge.proofs.Distinct.{calls-IsPermutation, calls_of_kind, count, count-append, count-le-calls}
@@ -267,7 +267,9 @@ module _ (operations listed : List Operation) (complete : AreComplete operations
 
 -- a violation excludes each linearization
 pub violation_excludes_order : ViolationExcludesOrder
-violation_excludes_order operations full complete violation linear = excludes_violation operations linear.0 complete linear.1 full violation
+violation_excludes_order initial operations full complete violation exists =
+    let linear = (linearizable_from_exactly initial operations (few_initial initial operations complete)).0 exists in
+    excludes_violation (timeline initial operations) linear.0 complete linear.1 full violation
 
 gaps_of : (operations answers : List Operation) → IsClear operations → NoWitnessViolation operations
     → ((o : Operation) → Contains answers o → Did operations o Empty) → (gaps : List ℕ) × AllZip (λ o c. IsLeastFreeGap operations o c) answers gaps
@@ -294,16 +296,17 @@ linearizable_without_violations operations clear no_order no_witness =
     let chosen = chosen_order_exists operations gaps.0 clear no_order gaps.1 in
     (chosen.0, chosen_order_is_legal operations chosen.0 clear no_order chosen.1)
 
--- a complete history is linearizable if and only if it has no violation
+-- a history is linearizable from its initial values if and only if it has no violation
 pub linearizable_exactly : LinearizableExactly
-linearizable_exactly operations complete = (
-  λ linear full violation. violation_excludes_order operations full complete violation linear,
-  λ none. linearizable_without_violations operations
+linearizable_exactly initial operations complete = (
+  λ exists full violation. violation_excludes_order initial operations full complete violation exists,
+  λ none. (linearizable_from_exactly initial operations (few_initial initial operations complete)).1
+      (linearizable_without_violations (timeline initial operations)
       (record {
         complete = complete;
         no_fresh = λ deq enq. none (fresh deq enq);
         no_repeat = λ enq first second. none (repeat enq first second);
       })
       (λ enq_a enq_b deq_b deq_a. none (order enq_a enq_b deq_b deq_a))
-      (λ empty cover. none (witness empty cover)),
+      (λ empty cover. none (witness empty cover))),
 )

@@ -10,7 +10,7 @@ use Rattle.verdicts.proofs.Common.{initial_enqueues, initial_time, inl, inr, is_
 use Rattle.verdicts.proofs.Common.{IsChosenFullViolation, IsChosenViolation, IsClear, IsCompleteHistory, IsCovered}
 use Rattle.verdicts.proofs.Common.{IsDecided, IsMatched, IsMaybeAt, IsMaybeOperation, IsOperation, IsPlaceWithin}
 use Rattle.verdicts.proofs.Common.{IsSource, IsVerdict, IsViolationOf, IsWitnessAnswer, later_by, le-ltb, length}
-use Rattle.verdicts.proofs.Common.{length-map, length_permutation, Life, line_at, linearizable_from_exactly, LinePlace}
+use Rattle.verdicts.proofs.Common.{length-map, length_permutation, Life, line_at, LinePlace}
 use Rattle.verdicts.proofs.Common.{lines_at, lines_of, lines_of_history, List, lt-ltb, ltb-false, map, mapped_to}
 use Rattle.verdicts.proofs.Common.{MatchOption, MAX_INITIAL, MAX_OPERATIONS, MAX_TICKET, maybe_place, Names}
 use Rattle.verdicts.proofs.Common.{NamesCover, nat_lt, nat_tests, No, no_enqueue, None, NoneDid, NoOrderViolation, not}
@@ -298,7 +298,7 @@ no_is_decided initial operations violation complete chosen =
     record {
       chosen = chosen;
       evidence = (chosen.0, chosen.1, full);
-      exact = λ exists. violation_excludes_order all chosen.0 complete full ((linearizable_from_exactly initial operations few).0 exists);
+      exact = violation_excludes_order initial operations chosen.0 complete full;
       places = all_within initial operations few (violation_places violation) (lines_of chosen.0)
           (each_shown initial operations few violation chosen.0 chosen.1);
     }
@@ -338,10 +338,7 @@ refused_is_decided initial operations answer violation complete is refused = no_
 pub true_claim_decides : TrueClaimDecides
 true_claim_decides initial events (claimed.Yes lines) complete few legal = (lines, legal)
 true_claim_decides initial events (claimed.No kind lines) complete few shows =
-    let operations = operations_of events in
-    let full = shows.2.0 in
-    λ exists. violation_excludes_order (timeline initial operations) full (timeline_is_complete initial events complete few) shows.2.3
-    ((linearizable_from_exactly initial operations few).0 exists)
+    violation_excludes_order initial (operations_of events) shows.2.0 (timeline_is_complete initial events complete few) shows.2.3
 
 -- ---- the operations of a complete history tell its events
 

@@ -6,7 +6,7 @@ use Rattle.verdicts.proofs.Common.{initial_enqueues, inl, inr, is_empty_answer, 
 use Rattle.verdicts.proofs.Common.{IsClear, IsCompleteFrom, IsCovered, IsGapAnswer, IsLeastFreeGap, IsMaybeOperation}
 use Rattle.verdicts.proofs.Common.{IsNonDecreasingBy, IsOperation, IsPermutation, IsPermutation-sym}
 use Rattle.verdicts.proofs.Common.{IsPermutation-trans, IsSource, IsViolationOf, later_by, later_injective, length}
-use Rattle.verdicts.proofs.Common.{Life, linearizable_from_exactly, List, map, MAX_INITIAL, Names, NamesCover}
+use Rattle.verdicts.proofs.Common.{Life, List, map, MAX_INITIAL, Names, NamesCover}
 use Rattle.verdicts.proofs.Common.{NamesStep, No, None, one_at, Operation, operations_are_complete}
 use Rattle.verdicts.proofs.Common.{operations_of, operations_rise, Option, order, OrderPair, ORIGIN, passes_filter}
 use Rattle.verdicts.proofs.Common.{place_of, refl, repeat, slice_get-get_or, Some, Source, subst, sym, time_of}
@@ -162,8 +162,7 @@ verdict_is_one initial events (Yes ps) (Yes qs) complete few x exact_x y exact_y
     let operations = operations_of events in
     let all = timeline initial operations in
     let all_complete = timeline_is_complete initial events complete few in
-    let linear = (linearizable_from_exactly initial operations few).0 exact_x in
-    let none = λ (b : FullViolation) (violates : IsViolationOf all b). violation_excludes_order all b all_complete violates linear in
+    let none = λ (b : FullViolation) (violates : IsViolationOf all b). violation_excludes_order initial operations b all_complete violates exact_x in
     let clear : IsClear all = record {
       complete = all_complete;
       no_fresh = λ deq enq. none (fresh deq enq);

@@ -2,10 +2,10 @@
 use Rattle.verdicts.proofs.Common.{ap, AreComplete, AreLinearizable, ArePartOf, arith, Bool, call_by_return, call_in}
 use Rattle.verdicts.proofs.Common.{cases_lt, ClaimLine, Contains, Contains-append_cases, Contains-append_left}
 use Rattle.verdicts.proofs.Common.{Contains-append_right, Contents, contents_of, Enq, enqueue_place, enqueue_stands}
-use Rattle.verdicts.proofs.Common.{Event, false, few_initial, filter, filter_agree, FullViolation, HistoryView}
+use Rattle.verdicts.proofs.Common.{Event, false, filter, filter_agree, FullViolation, HistoryView}
 use Rattle.verdicts.proofs.Common.{holds_ticket, initial_enqueue, initial_enqueues, inl, inr, IsChosenFullViolation}
 use Rattle.verdicts.proofs.Common.{IsChosenViolation, IsCompleteFrom, IsMinimal, IsViolationOf, keeps, KeepsViolation}
-use Rattle.verdicts.proofs.Common.{kept, later_by, length, line_at, linearizable_from_exactly, lines_of}
+use Rattle.verdicts.proofs.Common.{kept, later_by, length, line_at, lines_of}
 use Rattle.verdicts.proofs.Common.{lines_of_history, List, map, map_map, mapped_from, mapped_to, MAX_INITIAL, Names}
 use Rattle.verdicts.proofs.Common.{None, Operation, operations_of, Option, option_map_or, ORIGIN, passed_filter}
 use Rattle.verdicts.proofs.Common.{place_of, refl, same_call, select, selects, SelectsNamed, Some, StaysChosen, subst}
@@ -259,14 +259,12 @@ module _ (whole : HistoryView) (violation : Violation) (is_whole : IsWhole whole
   -- from the small history nothing can be left out
   pub is_minimal : IsMinimal (contents_of small)
   is_minimal = (
-    λ linear. violation_excludes_order (timeline_of_history small) small_full stands.part_complete is_violation
-        ((linearizable_from_exactly small.initial (operations_of small.events) is_small.few).0 linear),
+    violation_excludes_order small.initial (operations_of small.events) small_full stands.part_complete is_violation,
     λ part closed differs.
         let part_of = part_stands small closed.0 closed.1 part closed.2 is_small in
         let missing = one_missing small closed.0 closed.1 (λ same. differs (closed.2 ∙ same)) in
-        (linearizable_from_exactly part.initial part.operations (few_initial part.initial part.operations part_of.part_complete)).1
-        ((linearizable_exactly (timeline part.initial part.operations) part_of.part_complete).1
-        (none_is_left part_of missing.0 missing.1 missing.2 small_full small_chosen small_for)),
+        (linearizable_exactly part.initial part.operations part_of.part_complete).1
+        (none_is_left part_of missing.0 missing.1 missing.2 small_full small_chosen small_for),
   )
 
 -- ---- what is ensured of the small history
@@ -403,10 +401,9 @@ module _ (whole x : HistoryView) (violation : Violation) (is_x : IsWhole x) (sta
       here = kept (line_of o) (subst (λ ls. Contains ls (line_of o)) (sym lines_of_x) (mapped_to line_of (lines_of full_of_x) o among))
 
   not_linearizable : AreLinearizable part → ⊥
-  not_linearizable linear =
-      violation_excludes_order (timeline part.initial part.operations) (mapped_violation stands_in_x.back full_of_x) stands_in_x.part_complete
+  not_linearizable =
+      violation_excludes_order part.initial part.operations (mapped_violation stands_in_x.back full_of_x) stands_in_x.part_complete
       (violation_back stands_in_x full_of_x (λ o among. (in_x o among, line_passes o among)) violates_x)
-      ((linearizable_from_exactly part.initial part.operations (few_initial part.initial part.operations stands_in_x.part_complete)).0 linear)
 
   none_differs : part ≢ contents_of x → ⊥
   none_differs differs = not_linearizable (minimal.1 part (values, empties, refl) differs)

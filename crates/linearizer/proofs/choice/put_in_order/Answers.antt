@@ -1,7 +1,7 @@
-use Rattle.linearizer.proofs.Common.{All-contains, ap, arith, contains_at, dequeue_return, enqueue_call, entered_by}
-use Rattle.linearizer.proofs.Common.{false, get_or_from_slice_get, IsFirstLeft, IsPassedOver, length, length-map}
+use Rattle.linearizer.proofs.Common.{All-contains, ap, arith, cases_lt, contains_at, dequeue_return, enqueue_call}
+use Rattle.linearizer.proofs.Common.{entered_by, false, get_or_from_slice_get, inl, inr, IsFirstLeft, IsPassedOver, length, length-map}
 use Rattle.linearizer.proofs.Common.{NEVER, places_in, refl, replicate, rules, slice_get, slice_get_read}
-use Rattle.linearizer.proofs.Common.{slice_get_within, Some, subst, sym, ◌<◌, ◌∙◌, ◌≡◌, ◌≤◌}
+use Rattle.linearizer.proofs.Common.{slice_get_within, Some, subst, sym, true, ◌<◌, ◌∙◌, ◌≡◌, ◌≤◌}
 use Rattle.linearizer.proofs.Choosing.{IsLeastLeft, IsNext, least_left, next_at, not_past, all_swept, flags_within}
 use Rattle.linearizer.proofs.Choosing.{nothing_swept, met_passed_over, some_left, swept_next}
 use Rattle.linearizer.proofs.choice.put_in_order.Goals as goal
@@ -89,10 +89,19 @@ index_mut-requires c =
 pub get-requires : goal.get-requires
 get-requires c = let states = goal.at.get-requires c in chosen_within states.After-choice-next (inside states.After-first_left-first_in)
 
-pub get-requires-then-entry-enqueue_call : goal.get-requires-then-entry-enqueue_call
-get-requires-then-entry-enqueue_call c =
-    let states = goal.at.get-requires-then-entry-enqueue_call c in
-    chosen_within states.After-choice-next (inside states.After-first_left-first_in)
+pub is_late-requires-clause-next : goal.is_late-requires-clause-next
+is_late-requires-clause-next c =
+    let states = goal.at.is_late-requires-clause-next c in chosen_within states.After-choice-next (inside states.After-first_left-first_in)
+
+pub is_late-requires-clause-in_time : goal.is_late-requires-clause-in_time
+is_late-requires-clause-in_time c m at =
+    let states = goal.at.is_late-requires-clause-in_time c in
+    let first = least states.After-unpack-entry (inside states.After-first_left-first_in) in
+    let one : Some first.value ≡ Some m = sym first.is_at ∙ at in
+    let same : first.value ≡ m = cc in
+    let called = All-contains (λ value. enqueue_call value.life ≤ entered_by value.life) c.args.values.now m c.requires.in_time
+    (contains_at c.args.values.now c.unpack-entry.result.place m at) in
+    omega (arith, called, first.time_is, ap (λ m. entered_by m.life) same)
 
 pub new-requires-clause-place : goal.new-requires-clause-place
 new-requires-clause-place c =
@@ -106,32 +115,31 @@ new-requires-clause-time c =
     let first = inside states.After-first_left-first_in in
     omega (arith, bounded states.After-unpack-entry first, (least states.After-unpack-entry first).time_is)
 
-pub returns-then-entry-enqueue_call : goal.returns-then-entry-enqueue_call
-returns-then-entry-enqueue_call c =
-    let states = goal.at.returns-then-entry-enqueue_call c in
+pub returns-then-is_late : goal.returns-then-is_late
+returns-then-is_late c =
+    let states = goal.at.returns-then-is_late c in
     let first = inside states.After-first_left-first_in in
     let turn = next states.After-choice-next first in
-    let read = c.get.ensures ∙ get_or_from_slice_get c.args.values.now c.choice-next.result turn.value c.get.result turn.is_at in
-    let called = c.enqueue_call.ensures ∙ ap (λ m. enqueue_call m.life) read in
-    let told = c.get-then-entry-enqueue_call.ensures
-    ∙ get_or_from_slice_get c.args.values.now c.choice-next.result turn.value c.get-then-entry-enqueue_call.result turn.is_at in
+    let told = c.get.ensures ∙ get_or_from_slice_get c.args.values.now c.choice-next.result turn.value c.get.result turn.is_at in
     subst (IsPassedOver c.args.values.now) (sym told)
     (met_passed_over c.args.values.now c.loop-entries.taken.items _ _ c.choice-next.result c.unpack-entry.result turn
-    c.loop-entries.invariant.so_far (least states.After-unpack-entry first) (omega (arith, called, c.if-entry-enqueue_call.true)))
+    c.loop-entries.invariant.so_far (least states.After-unpack-entry first) ((c.is_late.ensures turn.value turn.is_at).0 c.if-is_late.true))
 
 pub loop-entries-preserved : goal.loop-entries-preserved
 loop-entries-preserved c =
     let states = goal.at.loop-entries-preserved c in
     let first = inside states.After-first_left-first_in in
     let turn = next states.After-choice-next first in
-    let read = c.get.ensures ∙ get_or_from_slice_get c.args.values.now c.choice-next.result turn.value c.get.result turn.is_at in
-    let called = c.enqueue_call.ensures ∙ ap (λ m. enqueue_call m.life) read in
+    let late = c.is_late.ensures turn.value turn.is_at in
+    let called : enqueue_call turn.value.life ≤ c.unpack-entry.result.time = elim (cases_lt c.unpack-entry.result.time (enqueue_call turn.value.life)) [
+      | inl above ↦ let yes : c.is_late.result ≡ true = late.1 above in absurd (cc (yes, c.if-is_late.false))
+      | inr below ↦ below
+    ] in
     rw (c.in_ok-push.ensures.items, c.new.ensures, c.saturating_sub.ensures)
     (swept_next c.args.values.now c.as_slice-entries.result.now c.as_slice-dequeues.result.now c.loop-entries.taken.items _ _ _ _
     c.loop-entries.order.items c.choice-next.result c.unpack-entry.result turn c.loop-entries.invariant
     (entered states.After-first_left-first_in) (dequeued states.After-first_left-first_out)
-    (least states.After-unpack-entry first) (bounded states.After-unpack-entry first) (omega (arith, called, c.if-entry-enqueue_call.false))
-    c.requires.takes_time)
+    (least states.After-unpack-entry first) (bounded states.After-unpack-entry first) called c.requires.takes_time)
 
 pub returns : goal.returns
 returns c = all_swept _ _ _ _ _ _ _ c.loop-entries.invariant (search rules)

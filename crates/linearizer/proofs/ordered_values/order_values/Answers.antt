@@ -17,6 +17,10 @@ pub put_in_order-requires-clause-takes_time : goal.put_in_order-requires-clause-
 put_in_order-requires-clause-takes_time c k d within =
     omega (arith, (each_has_times (timeline_of c.args.matching.now) c.values.result c.values.ensures.clear c.values.ensures.values k d within).dequeue_takes_time)
 
+pub put_in_order-requires-clause-in_time : goal.put_in_order-requires-clause-in_time
+put_in_order-requires-clause-in_time c k d within =
+    (each_has_times (timeline_of c.args.matching.now) c.values.result c.values.ensures.clear c.values.ensures.values k d within).enters_after_call
+
 pub put_in_order-requires-clause-few : goal.put_in_order-requires-clause-few
 put_in_order-requires-clause-few c = few_values (timeline_of c.args.matching.now) c.values.result c.values.ensures.values c.timeline-operations.ensures.few
 
