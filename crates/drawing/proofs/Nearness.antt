@@ -1,16 +1,16 @@
 -- Which operations are drawn: those that overlap one of a `NO`, and with no distance no others; and the bars in the lanes are these.
 use Rattle.drawing.proofs.Common.{[], ap, AreComplete, arith, Bool, cases_lt, Claimed, ClaimLine, cond, cond_both}
-use Rattle.drawing.proofs.Common.{cond_some, Contains, Contains-append_left, Contains-append_right, contains_at}
+use Rattle.drawing.proofs.Common.{Contains, Contains-append_left, Contains-append_right, contains_at}
 use Rattle.drawing.proofs.Common.{contains_cons, count_by, drawn_operations, eq-eqb, eqb-true, Event, events_before}
 use Rattle.drawing.proofs.Common.{false, find, flat_map, found_first, get_or, HistoryView, inl, inr, is_near_any}
-use Rattle.drawing.proofs.Common.{is_under_way, IsCompleteHistory, IsPartitionedBy-ltb, IsTraced, later_by, length}
-use Rattle.drawing.proofs.Common.{List, list_any, lt-ltb, map, MatchOption, nat_eq, nat_le, nat_lt, nat_tests, No}
+use Rattle.drawing.proofs.Common.{is_under_way, IsCompleteHistory, IsPartitionedBy-ltb, IsTraced, length}
+use Rattle.drawing.proofs.Common.{List, list_any, lt-ltb, map, nat_lt, nat_tests, No}
 use Rattle.drawing.proofs.Common.{None, not_in_none, one_at, one_deeper, Op, Operation, operation_in, operation_within}
-use Rattle.drawing.proofs.Common.{operations_are_complete, operations_in, operations_of, Option, option_map}
-use Rattle.drawing.proofs.Common.{option_to_list, pairs_at, passed_filter, passes_filter, position, position_or_len}
+use Rattle.drawing.proofs.Common.{operations_are_complete, operations_in, operations_of, Option}
+use Rattle.drawing.proofs.Common.{pairs_at, passed_filter, passes_filter, position, position_or_len}
 use Rattle.drawing.proofs.Common.{refl, returns_at_no_call, same_call, slice_get, slice_get-get_or, slice_get_within}
-use Rattle.drawing.proofs.Common.{Some, stand_near, standing_of, stands_in, subst, suc, sum_by-cons, sym, timeline}
-use Rattle.drawing.proofs.Common.{traced, true, Yes, zero, ℕ, ◌&&◌, ◌++◌, ◌+◌, ◌<◌, ◌||◌, ◌∙◌, ◌∷◌, ◌≡◌, ◌≤◌}
+use Rattle.drawing.proofs.Common.{Some, stand_near, standing_of, stands_in, subst, suc, sum_by-cons, sym}
+use Rattle.drawing.proofs.Common.{traced, true, Yes, zero, ℕ, ◌<◌, ◌||◌, ◌∙◌, ◌∷◌, ◌≡◌, ◌≤◌}
 use Rattle.std.proofs.lemmas.List.Folds.{Any-from_list_any, find_at, list_any-from_Any}
 use Rattle.std.specs.List.Sorted.{IsPartitionedBy}
 use Rattle.event_records.specs.Turns.{TicketsRise}
@@ -20,16 +20,11 @@ use Rattle.drawing.specs.Laws.{LinesAreOfHistory, LinesHaveNumbers, NoOtherBars,
 use Rattle.drawing.specs.Laws.{OverlappingAreDrawn}
 use Rattle.drawing.proofs.Below.{fewer, one_fewer}
 use Rattle.std.proofs.lemmas.List.Quantifiers.{position-Some}
-use Rattle.value_match.specs.Timeline.{initial_enqueue}
-use Rattle.verdicts.specs.Claims.{initial_enqueue_of, on_timeline, stands_for}
-use Rattle.std.proofs.lemmas.List.Elements.{All-contains, All-from_recursion}
-use Rattle.std.specs.List.{AllByRecursion}
-use Rattle.event_records.specs.declared.limits.TheConstants.{MAX_TICKET, ORIGIN}
-use Rattle.value_match.specs.declared.life.Life.{Life}
-use Rattle.value_match.specs.Lives.{dequeue_of, IsLife, operations_of_life}
-use Rattle.value_match.specs.Violations.{CoversFrom, fresh, FullViolation, IsViolationOf, lines_of, order, repeat}
-use Rattle.value_match.specs.Violations.{witness}
-use Rattle.value_match.proofs.ToldPlaces.{called_late}
+use Rattle.value_match.proofs.Lists.{kept}
+use Rattle.verdicts.proofs.NamedPlaces.{line_there}
+use Rattle.verdicts.proofs.ShrunkHistories.{operation_among, value_among}
+use Rattle.verdicts.specs.Claiming.{line_at, lines_at, lines_of_history}
+use Rattle.verdicts.specs.Shown.{violation_places}
 use Rattle.drawing.specs.declared.scene.Row.TheVariants as row
 
 -- ---- lists
@@ -263,91 +258,15 @@ initial_lines_have_numbers lines j v among = place_of_one lines (stands_in (row.
 
 -- ---- evidence
 
--- what stands for an enqueue before all else is an initial value
-value_among : (initial : List ℕ) (v : ℕ) (x : Operation) → initial_enqueue_of initial v ≡ Some x → Contains initial v
-value_among initial v x stands = go (position (λ w. nat_eq w v) initial) refl stands
-  where
-    go : (place : Option ℕ) → position (λ w. nat_eq w v) initial ≡ place → option_map (λ j. initial_enqueue (length initial) j v) place ≡ Some x → Contains initial v
-    go None is e = cc
-    go (Some j) is e =
-        let h = place_if 0 initial (λ w. nat_eq w v) j is in
-        subst (λ (w : ℕ). Contains initial w) (eqb-true h.0 v h.2) (contains_at initial j h.0 h.1)
-
--- ---- the operations of a violation
-
-module _ (operations : List Operation) where
-  abbrev AllAmong : List Operation → Type 0
-  AllAmong list = AllByRecursion (Contains operations) list
-
-  joined : (xs ys : List Operation) → AllAmong xs → AllAmong ys → AllAmong (xs ++ ys)
-  joined [] ys first later = later
-  joined (x ∷ xs) ys first later = (first.0, joined xs ys first.1 later)
-
-  -- what may stand in a list is among the operations if its case says so
-  if_some : (o : Option Operation) (A : Type 0) (P : Operation → Type 0) → ((d : Operation) → P d → Contains operations d) → MatchOption o A P
-      → AllAmong (option_to_list o)
-  if_some None A P each is = tt
-  if_some (Some d) A P each is = (each d is, tt)
-
-  life_lines : (life : Life) → IsLife operations life → AllAmong (operations_of_life life)
-  life_lines life is = (is.1.0, if_some (dequeue_of life) _ _ (λ d did. did.0) is.2)
-
-  cover_lines : (empty before : Operation) (cover : List Life) → CoversFrom operations empty before cover → AllAmong (flat_map operations_of_life cover)
-  cover_lines empty before [] covers = absurd covers
-  cover_lines empty before (life ∷ []) covers = joined (operations_of_life life) [] (life_lines life covers.0) tt
-  cover_lines empty before (life ∷ next ∷ rest) covers =
-      joined (operations_of_life life) (flat_map operations_of_life (next ∷ rest)) (life_lines life covers.0)
-      (go (dequeue_of life) (λ d. cover_lines empty d (next ∷ rest)) covers.2)
-    where
-      go : {P : Operation → Type 0} {Q : Type 0} (o : Option Operation) → ((d : Operation) → P d → Q) → MatchOption o ⊥ P → Q
-      go None later m = absurd m
-      go (Some d) later m = later d m
-
-  -- the lines of a violation are operations
-  full_lines : (full : FullViolation) → IsViolationOf operations full → AllAmong (lines_of full)
-  full_lines (fresh deq None) is = (is.dequeues.0, tt)
-  full_lines (fresh deq (Some enq)) is =
-      let enqueued : Contains operations enq = elim is.enqueues [ inl refused ↦ refused.0 | inr late ↦ late.0.0 ] in
-      (is.dequeues.0, (enqueued, tt))
-  full_lines (repeat enq first second) is = (is.enqueues.0, (is.dequeues.0, (is.dequeues_again.0, tt)))
-  full_lines (order enq_a enq_b deq_b deq_a) is =
-      (is.enqueues_a.0, (is.enqueues_b.0, (is.dequeues_b.0, if_some deq_a _ _ (λ d did. did.0.0) is.dequeued_later)))
-  full_lines (witness empty cover) is = (is.answers_empty.0, cover_lines empty empty cover is.covers)
-
--- ---- what lines of evidence stand for
-
--- a line of evidence stands for one of its operations
-stands : (initial : List ℕ) (lines : List ClaimLine) (shown : List Operation) (l : ClaimLine) → map (stands_for initial) lines ≡ map (λ o. Some o) shown
-    → Contains lines l → (x : Operation) × Contains shown x × (stands_for initial l ≡ Some x)
-stands initial [] shown l same among = absurd (not_in_none l among)
-stands initial (m ∷ lines) [] l same among = absurd (cc)
-stands initial (m ∷ lines) (x ∷ shown) l same among = elim (contains_cons m lines l among) [
-  | inl here ↦ let first : stands_for initial m ≡ Some x = cc in
-      (x, contains_at (x ∷ shown) 0 x refl, ap (stands_for initial) (sym here) ∙ first)
-  | inr there ↦
-      let later : map (stands_for initial) lines ≡ map (λ o. Some o) shown = cc in
-      let found = stands initial lines shown l later there in
-      (found.0, one_deeper x shown found.0 found.1, found.2)
-]
-
--- an operation that stands for another is that, earlier
-stands_later : (o x : Operation) → on_timeline o ≡ Some x → later_by ORIGIN o ≡ x
-stands_later o x is = (cond_some (nat_le o.call MAX_TICKET && nat_le o.ret MAX_TICKET) (later_by ORIGIN o) x is).1
-
 -- the lines of evidence are of the history
 pub lines_are_of_history : LinesAreOfHistory
-lines_are_of_history initial operations kind lines few claim = (listed, held)
+lines_are_of_history initial operations kind lines few (violation, is, same) = (
+  λ o among. operation_among initial operations o (there (Op o) among),
+  λ v among. value_among initial operations v (there (Initial v) among),
+)
   where
-    listed : (o : Operation) → Contains lines (Op o) → Contains operations o
-    listed o among =
-        let s = stands initial lines claim.0 (Op o) claim.1 among in
-        let later = stands_later o s.0 s.2 in
-        let shown = subst (λ os. Contains os s.0) (sym claim.2.2) s.1 in
-        let all = timeline initial operations in
-        let each = All-from_recursion (Contains all) (lines_of claim.2.0) (full_lines all claim.2.0 claim.2.3) in
-        let there = All-contains (Contains all) (lines_of claim.2.0) s.0 each shown in
-        let called : o.call + ORIGIN ≡ s.0.call = ap (λ (y : Operation). y.call) later in
-        (called_late initial operations s.0 o few (omega arith) later).1 there
-
-    held : (v : ℕ) → Contains lines (Initial v) → Contains initial v
-    held v among = let s = stands initial lines claim.0 (Initial v) claim.1 among in value_among initial v s.0 s.2
+    there : (l : ClaimLine) → Contains lines l → Contains (lines_of_history initial operations) l
+    there l among =
+        let listed : lines_at initial operations (violation_places violation) ≡ lines = cc in
+        let found = kept (line_at initial operations) (violation_places violation) l (subst (λ ls. Contains ls l) (sym listed) among) in
+        line_there initial operations few found.0 l found.2

@@ -12,7 +12,8 @@ use Rattle.verdicts.proofs.Common.{StandForLife, stands_for, subst, sym, true, V
 use Rattle.verdicts.proofs.Common.{VWit, witness, ℕ, ⊤, ◌++◌, ◌+◌, ◌<◌, ◌↔◌, ◌∙◌, ◌∷◌, ◌≡◌, ◌≢◌, ◌≤◌, ◌⊎◌}
 use Rattle.std.specs.Ordering.{ordering_index}
 use Rattle.std.proofs.lemmas.Cmp.{ranked}
-use Rattle.verdicts.specs.Claims.{kind_of, ShowsViolation}
+use Rattle.verdicts.specs.Claims.{kind_of}
+use Rattle.verdicts.specs.Inner.Claims.{ShowsViolation}
 use Rattle.verdicts.specs.Laws.{LinesTellViolation}
 use Rattle.verdicts.specs.declared.lookup.Lookup.{Lookup}
 use Rattle.linearizer.proofs.Positions.{some_injective}

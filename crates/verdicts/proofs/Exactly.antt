@@ -2,13 +2,17 @@
 use Rattle.verdicts.proofs.Common.{[], accept, accept_all, AllZip, ap, append-nil, AreComplete, AreLeastFreeGaps}
 use Rattle.verdicts.proofs.Common.{arith, call_by_return, cases_order, chosen_cover, chosen_order_exists, Contains}
 use Rattle.verdicts.proofs.Common.{Contains-permutation, contains_at, CoversFrom, Deq, dequeue_of, Did, Empty, Enq}
-use Rattle.verdicts.proofs.Common.{enqueue_of, eq-eqb, few_initial, filter, fresh, FullViolation, inl, inr, is_empty_answer}
+use Rattle.verdicts.proofs.Common.{enqueue_of, eq-eqb, few_initial, filter, fresh, FullViolation, inl, inr}
+use Rattle.verdicts.proofs.Common.{is_empty_answer}
 use Rattle.verdicts.proofs.Common.{IsAccepted, IsClear, IsEnqueuedTooLate, IsLeastFreeGap, IsLegalOrder, IsLife}
 use Rattle.verdicts.proofs.Common.{IsLinearizable, IsNeverEnqueued, IsOrderViolation, IsPermutation-sym}
-use Rattle.verdicts.proofs.Common.{IsRepeatViolation, IsSome, IsViolationOf, Life, linearizable_from_exactly, List, map, MatchOption}
-use Rattle.verdicts.proofs.Common.{no_enqueue, None, NoneDid, NoOrderViolation, Not, NoWitnessViolation, one_deeper, Operation}
+use Rattle.verdicts.proofs.Common.{IsRepeatViolation, IsSome, IsViolationOf, Life, linearizable_from_exactly}
+use Rattle.verdicts.proofs.Common.{List, map, MatchOption}
+use Rattle.verdicts.proofs.Common.{no_enqueue, None, NoneDid, NoOrderViolation, Not, NoWitnessViolation}
+use Rattle.verdicts.proofs.Common.{one_deeper, Operation}
 use Rattle.verdicts.proofs.Common.{OpKind, Option, option_map, order, pairs_at, Precedes, refl, repeat, rules}
-use Rattle.verdicts.proofs.Common.{slice_get, Some, sym, take, timeline, witness, zero, ℕ, ⊤, ◌++◌, ◌<◌, ◌∙◌, ◌∷◌, ◌≡◌, ◌≤◌, ◌⊎◌}
+use Rattle.verdicts.proofs.Common.{slice_get, Some, sym, take, timeline, witness, zero, ℕ, ⊤, ◌++◌, ◌<◌, ◌∙◌}
+use Rattle.verdicts.proofs.Common.{◌∷◌, ◌≡◌, ◌≤◌, ◌⊎◌}
 use Rattle.std.proofs.lemmas.Option.{slice_get-map}
 use Rattle.value_match.proofs.ToldPlaces.{mapped_option}
 use Rattle.history_merge.proofs.Distinct.{calls-IsPermutation, calls_of_kind, count, count-append, count-le-calls}

@@ -337,8 +337,8 @@ refused_is_decided initial operations answer violation complete is refused = no_
 -- a true claim decides: a linearization that it lists exists, and a violation that it shows leaves none
 pub true_claim_decides : TrueClaimDecides
 true_claim_decides initial events (claimed.Yes lines) complete few legal = (lines, legal)
-true_claim_decides initial events (claimed.No kind lines) complete few shows =
-    violation_excludes_order initial (operations_of events) shows.2.0 (timeline_is_complete initial events complete few) shows.2.3
+true_claim_decides initial events (claimed.No kind lines) complete few claim =
+    violation_excludes_order initial (operations_of events) claim.1.0 (timeline_is_complete initial events complete few) claim.1.2
 
 -- ---- the operations of a complete history tell its events
 

@@ -321,7 +321,7 @@ one_list_of_lines : (k l : ViolationKind) (xs ys : List ClaimLine) → claimed.N
 one_list_of_lines k l xs ys same = cc
 
 -- a line of an initial value or an operation among those of a history is of one of its own
-value_among : (initial : List ℕ) (operations : List Operation) (v : ℕ) → Contains (lines_of_history initial operations) (Initial v) → Contains initial v
+pub value_among : (initial : List ℕ) (operations : List Operation) (v : ℕ) → Contains (lines_of_history initial operations) (Initial v) → Contains initial v
 value_among initial operations v among = elim (Contains-append_cases (map Initial initial) (map Op operations) (Initial v) among) [
   | inl here ↦
       let found = mapped_from Initial initial (Initial v) here in
@@ -331,7 +331,7 @@ value_among initial operations v among = elim (Contains-append_cases (map Initia
   | inr there ↦ let found = mapped_from Op operations (Initial v) there in let clash : Op found.0 ≡ Initial v = found.2 in cc
 ]
 
-operation_among : (initial : List ℕ) (operations : List Operation) (o : Operation) → Contains (lines_of_history initial operations) (Op o)
+pub operation_among : (initial : List ℕ) (operations : List Operation) (o : Operation) → Contains (lines_of_history initial operations) (Op o)
     → Contains operations o
 operation_among initial operations o among = elim (Contains-append_cases (map Initial initial) (map Op operations) (Op o) among) [
   | inl here ↦ let found = mapped_from Initial initial (Op o) here in let clash : Initial found.0 ≡ Op o = found.2 in cc

@@ -1,5 +1,6 @@
 -- The claim of a verdict lists the operations and the initial values that the verdict names.
-use Rattle.verdicts.proofs.Common.{nat_tests, [], AllPairs, AllPairs-tail, AllZip, ap, ArePlacesOf, arith, called_values}
+use Rattle.verdicts.proofs.Common.{nat_tests, [], AllPairs, AllPairs-tail, AllZip, ap, ArePlacesOf, arith}
+use Rattle.verdicts.proofs.Common.{called_values}
 use Rattle.verdicts.proofs.Common.{cons_option, Contains, contains_at, contains_cons, eq-eqb, Event, fresh}
 use Rattle.verdicts.proofs.Common.{FullViolation, get_or_append_left, initial_enqueue, initial_time, inl, inr}
 use Rattle.verdicts.proofs.Common.{IsCompleteFrom, IsLegalOrder, le-leb, length, length-append, LinePlace, lines_of}
@@ -15,6 +16,18 @@ use Rattle.verdicts.specs.Claims.{kind_of}
 use Rattle.verdicts.specs.Laws.{EvidenceIsTrueClaim}
 use Rattle.verdicts.proofs.NamedPlaces.{IsShownAt, each_shown, shown_lines, accepted_value, early_line, later_line}
 use Rattle.verdicts.proofs.NamedPlaces.{line_of}
+use Rattle.verdicts.proofs.Common.{ap₂, ClaimLine, later_by, lines_at, ORIGIN, StandFor, ViolationKind, ◌↔◌}
+use Rattle.std.specs.Prelude.{nat_le, ◌&&◌}
+use Rattle.std.proofs.lemmas.List.Quantifiers.{position-Some}
+use Rattle.std.proofs.lemmas.Option.{cond_some}
+use Rattle.value_match.proofs.ToldPlaces.{mapped_option}
+use Rattle.verdicts.specs.declared.verifying.ClaimLine.TheVariants.{Op}
+use Rattle.verdicts.specs.Claims.{IsTrueClaim}
+use Rattle.verdicts.specs.Inner.Claims.{ShowsOnTimeline}
+use Rattle.verdicts.specs.Verdicts.{IsEvidence}
+use Rattle.verdicts.proofs.NamedLines.{lines_are_operations}
+use Rattle.verdicts.proofs.NamedPlaces.{violation_at}
+use Rattle.verdicts.specs.declared.verifying.Claimed.TheVariants as claimed
 use Rattle.verdicts.specs.declared.verdict.Verdict.TheVariants as found
 
 -- a violation and the operations that it names are of one kind
@@ -102,11 +115,62 @@ operations_there operations _ _ at = cc
 pub evidence_is_true : EvidenceIsTrueClaim
 evidence_is_true initial events (found.Yes places) whole few is =
     subst (IsLegalOrder initial (operations_of events)) (sym (operations_there (operations_of events) places is.0 is.1)) is.2
-evidence_is_true initial events (found.No violation) whole few is =
-    let operations = operations_of events in
-    let each = each_shown initial operations few violation is.0 is.1 in (
-      lines_of is.0,
-      ap (map (stands_for initial)) (shown_lines initial operations few (violation_places violation) (lines_of is.0) each)
-          ∙ lines_stand initial events whole few (lines_of is.0) (shown_among initial operations (violation_places violation) (lines_of is.0) each),
-      (is.0, sym (same_kind initial operations violation is.0 is.1), refl, is.2),
-    )
+evidence_is_true initial events (found.No violation) whole few is = (violation, is, refl)
+
+-- ---- the claim of a `NO` on the timeline
+
+-- a line that stands for an operation of the timeline is that operation's
+line_is : (initial : List ℕ) (l : ClaimLine) (o : Operation) → length initial ≤ MAX_INITIAL → stands_for initial l ≡ Some o → l ≡ line_of o
+line_is initial (Op x) o few is =
+    let later = (cond_some (nat_le x.call MAX_TICKET && nat_le x.ret MAX_TICKET) (later_by ORIGIN x) o is).1 in
+    sym (later_line x) ∙ ap line_of later
+line_is initial (Initial v) o few is =
+    let found = mapped_option (λ j. initial_enqueue (length initial) j v) (position (λ w. nat_eq w v) initial) o is in
+    let within = (position-Some (λ w. nat_eq w v) initial found.0 0 found.1).0 in
+    sym (early_line (initial_enqueue (length initial) found.0 v) (omega arith)) ∙ ap line_of found.2
+
+lines_are : (initial : List ℕ) (lines : List ClaimLine) (shown : List Operation) → length initial ≤ MAX_INITIAL → StandFor initial lines shown
+    → lines ≡ map line_of shown
+lines_are initial [] [] few stand = refl
+lines_are initial (l ∷ lines) (o ∷ shown) few stand =
+    let first : stands_for initial l ≡ Some o = cc in
+    let later : StandFor initial lines shown = cc in
+    λ i. line_is initial l o few first i ∷ lines_are initial lines shown few later i
+lines_are initial _ _ few stand = absurd (cc)
+
+module _ (initial : List ℕ) (events : List Event) (whole : IsCompleteFrom initial events) (few : length initial ≤ MAX_INITIAL) where
+  abbrev operations : List Operation
+  operations = operations_of events
+
+  evidence_is_shown : (violation : Violation) → IsEvidence initial operations (found.No violation)
+      → ShowsOnTimeline initial operations (violation_kind violation) (lines_at initial operations (violation_places violation))
+  evidence_is_shown violation is =
+      let each = each_shown initial operations few violation is.0 is.1 in (
+        lines_of is.0,
+        ap (map (stands_for initial)) (shown_lines initial operations few (violation_places violation) (lines_of is.0) each)
+            ∙ lines_stand initial events whole few (lines_of is.0) (shown_among initial operations (violation_places violation) (lines_of is.0) each),
+        (is.0, sym (same_kind initial operations violation is.0 is.1), refl, is.2),
+      )
+
+  shown_is_evidence : (kind : ViolationKind) (lines : List ClaimLine) → ShowsOnTimeline initial operations kind lines
+      → IsTrueClaim initial operations (claimed.No kind lines)
+  shown_is_evidence kind lines (shown, stand, (full, same, lists, is)) =
+      let found = violation_at initial operations few full is (lines_are_operations (timeline initial operations) full is) in
+      let named = shown_lines initial operations few (violation_places found.0) (lines_of full) (each_shown initial operations few found.0 full found.1) in (
+        found.0,
+        (full, found.1, is),
+        ap₂ claimed.No (same_kind initial operations found.0 full found.1 ∙ same)
+            (named ∙ ap (map line_of) lists ∙ sym (lines_are initial lines shown few stand)),
+      )
+
+  -- a claim of `NO` is true if and only if its lines show a violation on the timeline
+  pub shown_exactly : (kind : ViolationKind) (lines : List ClaimLine) → ShowsOnTimeline initial operations kind lines
+      ↔ IsTrueClaim initial operations (claimed.No kind lines)
+  shown_exactly kind lines = (
+    shown_is_evidence kind lines,
+    λ (violation, is, same).
+        let kinds : violation_kind violation ≡ kind = cc in
+        let listed : lines_at initial operations (violation_places violation) ≡ lines = cc in
+        subst (λ k. ShowsOnTimeline initial operations k lines) kinds
+        (subst (ShowsOnTimeline initial operations (violation_kind violation)) listed (evidence_is_shown violation is)),
+  )

@@ -2,11 +2,10 @@
 ghost use Rattle.std.specs.Prelude.{◌≡◌, ◌<◌, ◌≤◌, ◌↔◌, IfSome, IsTrue, Contains, length, nat_eq, position, slice_index_or};
 ghost use Rattle.history_merge.specs.declared.operation.Operation.{Operation};
 ghost use Rattle.event_records.specs.declared.limits.TheConstants.{MAX_INITIAL};
-ghost use Rattle.history_merge.specs.Initial.{timeline};
+ghost use Rattle.history_merge.specs.Initial.{IsCompleteFrom, timeline};
 ghost use Rattle.history_merge.specs.Operations.{Did, NoneDid, operations_of};
 ghost use Rattle.value_match.specs.Timeline.{initial_enqueue};
-ghost use Rattle.verdicts.specs.Claims.{initial_enqueue_of, on_timeline, stands_for};
-ghost use Rattle.verdicts.specs.Inner.Claims.{CallsRise, IsLookedUp};
+ghost use Rattle.verdicts.specs.Inner.Claims.{CallsRise, IsLookedUp, initial_enqueue_of, on_timeline, stands_for};
 
 use crate::verifying::ClaimLine;
 use event_records::{MAX_TICKET, ORIGIN};
@@ -25,6 +24,8 @@ impl<'a> Lookup<'a> {
         ensures initial { result.initial.now ≡ history.now.initial }
         ensures timeline { result.timeline.now ≡ timeline history.now.initial (operations_of history.now.events) }
         ensures looked_up { IsLookedUp result }
+        ensures complete { IsCompleteFrom history.now.initial history.now.events }
+        ensures few { length history.now.initial ≤ MAX_INITIAL }
     {
         Lookup {
             initial: history.initial(),

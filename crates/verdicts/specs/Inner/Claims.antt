@@ -1,16 +1,52 @@
 -- What the lines of a claim are shown to be.
-use Rattle.std.specs.Prelude.{[], ◌∷◌, ◌≡◌, ◌<◌, ◌≤◌, List, length, AllPairs, Option, None, Some, MatchOption}
-use Rattle.event_records.specs.declared.limits.TheConstants.{MAX_INITIAL}
+use Rattle.std.specs.Prelude.{[], ◌∷◌, ◌≡◌, ◌<◌, ◌≤◌, ◌&&◌, ℕ, nat_le, nat_eq, if◌then◌else◌}
+use Rattle.std.specs.Prelude.{List, length, map, AllPairs, Option, None, Some, MatchOption, option_map, position}
+use Rattle.event_records.specs.declared.limits.TheConstants.{MAX_INITIAL, MAX_TICKET, ORIGIN}
+use Rattle.history_merge.specs.Initial.{later_by, timeline}
+use Rattle.value_match.specs.Timeline.{initial_enqueue}
 use Rattle.history_merge.specs.declared.operation.Operation.{Operation}
 use Rattle.verdicts.specs.declared.lookup.Lookup.{Lookup}
 use Rattle.verdicts.specs.declared.verifying.ClaimLine.{ClaimLine}
 use Rattle.verdicts.specs.declared.verifying.ViolationKind.{ViolationKind}
 use Rattle.history_merge.specs.declared.operation.OpKind.TheVariants.{Empty}
-use Rattle.value_match.specs.Violations.{IsEnqueuedTooLate, IsNeverEnqueued, IsOrderViolation, IsRepeatViolation}
+use Rattle.value_match.specs.Violations.{FullViolation, IsEnqueuedTooLate, IsNeverEnqueued, IsOrderViolation}
+use Rattle.value_match.specs.Violations.{IsRepeatViolation}
+use Rattle.value_match.specs.Violations.{IsViolationOf, lines_of}
 use Rattle.verdicts.specs.declared.verifying.ViolationKind.TheVariants.{VFresh, VOrd, VRepeat, VWit}
-use Rattle.verdicts.specs.Claims.{stands_for}
+use Rattle.verdicts.specs.declared.verifying.ClaimLine.TheVariants.{Op, Initial}
+use Rattle.verdicts.specs.Claims.{kind_of}
 use Rattle.value_match.specs.Lives.{IsLife}
 use Rattle.history_merge.specs.Operations.{Did, Precedes}
+
+-- ---- what lines stand for on the timeline
+
+-- the enqueue of this value where it is an initial one
+abbrev pub initial_enqueue_of : List ℕ → ℕ → Option Operation
+initial_enqueue_of initial v = option_map (λ j. initial_enqueue (length initial) j v) (position (λ w. nat_eq w v) initial)
+
+-- the operation, where its tickets are in their range
+abbrev pub on_timeline : Operation → Option Operation
+on_timeline o = if nat_le o.call MAX_TICKET && nat_le o.ret MAX_TICKET then Some (later_by ORIGIN o) else None
+
+-- an operation, or the enqueue of an initial value
+abbrev pub stands_for : List ℕ → ClaimLine → Option Operation
+stands_for initial (Op o) = on_timeline o
+stands_for initial (Initial v) = initial_enqueue_of initial v
+
+-- the lines stand for these operations, one by one
+abbrev pub StandFor : List ℕ → List ClaimLine → List Operation → Type 0
+StandFor initial lines shown = map (stands_for initial) lines ≡ map Some shown
+
+-- the operations are those of a violation of this kind
+abbrev pub ShowsViolation : List Operation → ViolationKind → List Operation → Type 0
+ShowsViolation operations kind shown = (full : FullViolation) × (kind_of full ≡ kind) × (lines_of full ≡ shown) × IsViolationOf operations full
+
+-- the lines are those of a violation of this kind on the timeline
+abbrev pub ShowsOnTimeline : List ℕ → List Operation → ViolationKind → List ClaimLine → Type 0
+ShowsOnTimeline initial operations kind lines = (shown : List Operation) × StandFor initial lines shown × ShowsViolation
+    (timeline initial operations) kind shown
+
+-- ---- what is looked up
 
 -- each operation is called before the later ones
 abbrev pub CallsRise : List Operation → Type 0

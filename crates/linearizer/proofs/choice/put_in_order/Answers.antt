@@ -1,5 +1,6 @@
 use Rattle.linearizer.proofs.Common.{All-contains, ap, arith, cases_lt, contains_at, dequeue_return, enqueue_call}
-use Rattle.linearizer.proofs.Common.{entered_by, false, get_or_from_slice_get, inl, inr, IsFirstLeft, IsPassedOver, length, length-map}
+use Rattle.linearizer.proofs.Common.{entered_by, false, get_or_from_slice_get, inl, inr, IsFirstLeft}
+use Rattle.linearizer.proofs.Common.{IsPassedOver, length, length-map}
 use Rattle.linearizer.proofs.Common.{NEVER, places_in, refl, replicate, rules, slice_get, slice_get_read}
 use Rattle.linearizer.proofs.Common.{slice_get_within, Some, subst, sym, true, ◌<◌, ◌∙◌, ◌≡◌, ◌≤◌}
 use Rattle.linearizer.proofs.Choosing.{IsLeastLeft, IsNext, least_left, next_at, not_past, all_swept, flags_within}
