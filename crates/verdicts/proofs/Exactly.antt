@@ -20,7 +20,6 @@ use Rattle.history_merge.proofs.Distinct.{count_here, dequeue_of_member, dequeue
 use Rattle.history_merge.proofs.Distinct.{enqueued_is_dequeued, IsQueueBefore, Member, Member-right, one_calls}
 use Rattle.history_merge.proofs.Distinct.{place_of as listed_place, queue_before, same_front, same_place}
 use Rattle.history_merge.proofs.Distinct.{split_at_dequeue, split_at_enqueue, StandsBefore}
-use Rattle.verdicts.specs.Laws.{LinearizableExactly, ViolationExcludesOrder}
 use Rattle.linearizer.proofs.Positions.{some_injective}
 use Rattle.empty_witness.proofs.FreeGaps.{free_gap_or_covered}
 use Rattle.empty_witness.proofs.Answers.{is_empty_did}
@@ -270,7 +269,8 @@ module _ (operations listed : List Operation) (complete : AreComplete operations
       excludes_cover place.0 empty place.1 violation.answers_empty.1 cover place.0 empty place.1 (omega arith) violation.covers
 
 -- a violation excludes each linearization
-pub violation_excludes_order : ViolationExcludesOrder
+pub violation_excludes_order : (initial : List ℕ) (operations : List Operation) (full : FullViolation) → AreComplete (timeline initial operations)
+    → IsViolationOf (timeline initial operations) full → ¬ (IsLinearizable initial operations)
 violation_excludes_order initial operations full complete violation exists =
     let linear = (linearizable_from_exactly initial operations (few_initial initial operations complete)).0 exists in
     excludes_violation (timeline initial operations) linear.0 complete linear.1 full violation
@@ -300,17 +300,16 @@ linearizable_without_violations operations clear no_order no_witness =
     let chosen = chosen_order_exists operations gaps.0 clear no_order gaps.1 in
     (chosen.0, chosen_order_is_legal operations chosen.0 clear no_order chosen.1)
 
--- a history is linearizable from its initial values if and only if it has no violation
-pub linearizable_exactly : LinearizableExactly
-linearizable_exactly initial operations complete = (
-  λ exists full violation. violation_excludes_order initial operations full complete violation exists,
-  λ none. (linearizable_from_exactly initial operations (few_initial initial operations complete)).1
-      (linearizable_without_violations (timeline initial operations)
-      (record {
-        complete = complete;
-        no_fresh = λ deq enq. none (fresh deq enq);
-        no_repeat = λ enq first second. none (repeat enq first second);
-      })
-      (λ enq_a enq_b deq_b deq_a. none (order enq_a enq_b deq_b deq_a))
-      (λ empty cover. none (witness empty cover))),
-)
+-- a history without violations is linearizable from its initial values
+pub linearizable_without : (initial : List ℕ) (operations : List Operation) → AreComplete (timeline initial operations)
+    → ((full : FullViolation) → ¬ (IsViolationOf (timeline initial operations) full)) → IsLinearizable initial operations
+linearizable_without initial operations complete none =
+    (linearizable_from_exactly initial operations (few_initial initial operations complete)).1
+    (linearizable_without_violations (timeline initial operations)
+    (record {
+      complete = complete;
+      no_fresh = λ deq enq. none (fresh deq enq);
+      no_repeat = λ enq first second. none (repeat enq first second);
+    })
+    (λ enq_a enq_b deq_b deq_a. none (order enq_a enq_b deq_b deq_a))
+    (λ empty cover. none (witness empty cover)))

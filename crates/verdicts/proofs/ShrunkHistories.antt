@@ -16,7 +16,7 @@ use Rattle.verdicts.proofs.Chosen.{chosen_is_violation}
 use Rattle.verdicts.proofs.Selections.{filters_swap, kept_is_complete_from, kept_timeline_are_complete, mapped_kind}
 use Rattle.verdicts.proofs.Selections.{mapped_lines, mapped_violation, no_longer, operations_kept}
 use Rattle.value_match.specs.declared.life.TheConstants.{NEVER}
-use Rattle.verdicts.proofs.Exactly.{linearizable_exactly, violation_excludes_order}
+use Rattle.verdicts.proofs.Exactly.{linearizable_without, violation_excludes_order}
 use Rattle.verdicts.proofs.Retiming.{all_or_one, back_there, chosen_back, lifted, lifted_late, lifted_rises, map_agree}
 use Rattle.verdicts.proofs.Retiming.{none_is_left, retimed, selected_of_timeline, selected_stands, StandsAs, start}
 use Rattle.verdicts.proofs.Retiming.{timeline_late, violation_back}
@@ -263,7 +263,7 @@ module _ (whole : HistoryView) (violation : Violation) (is_whole : IsWhole whole
     λ part closed differs.
         let part_of = part_stands small closed.0 closed.1 part closed.2 is_small in
         let missing = one_missing small closed.0 closed.1 (λ same. differs (closed.2 ∙ same)) in
-        (linearizable_exactly part.initial part.operations part_of.part_complete).1
+        linearizable_without part.initial part.operations part_of.part_complete
         (none_is_left part_of missing.0 missing.1 missing.2 small_full small_chosen small_for),
   )
 

@@ -13,7 +13,9 @@ use Rattle.verdicts.proofs.Common.{ℕ, ◌-◌, ◌∙◌, ◌∷◌, ◌≡◌
 use Rattle.value_match.specs.declared.violation.Violation.TheVariants.{Fresh, Repeat, Order, Witness}
 use Rattle.verdicts.specs.declared.verifying.ClaimLine.TheVariants.{Initial}
 use Rattle.verdicts.specs.Claims.{kind_of}
-use Rattle.verdicts.specs.Laws.{EvidenceIsTrueClaim}
+use Rattle.verdicts.specs.Laws.{EvidenceIsTrueClaim, LinearizableExactly, ViolationExcludesOrder}
+use Rattle.verdicts.proofs.Common.{timeline_is_complete}
+use Rattle.verdicts.proofs.Exactly.{linearizable_without, violation_excludes_order}
 use Rattle.verdicts.proofs.NamedPlaces.{IsShownAt, each_shown, shown_lines, accepted_value, early_line, later_line}
 use Rattle.verdicts.proofs.NamedPlaces.{line_of}
 use Rattle.verdicts.proofs.Common.{ap₂, ClaimLine, later_by, lines_at, ORIGIN, StandFor, ViolationKind, ◌↔◌}
@@ -116,6 +118,25 @@ pub evidence_is_true : EvidenceIsTrueClaim
 evidence_is_true initial events (found.Yes places) whole few is =
     subst (IsLegalOrder initial (operations_of events)) (sym (operations_there (operations_of events) places is.0 is.1)) is.2
 evidence_is_true initial events (found.No violation) whole few is = (violation, is, refl)
+
+-- ---- evidence for a `NO` decides
+
+-- it leaves no linearization
+pub evidence_excludes_order : ViolationExcludesOrder
+evidence_excludes_order initial events violation whole few is =
+    violation_excludes_order initial (operations_of events) is.0 (timeline_is_complete initial events whole few) is.2
+
+-- where there is none, there is one
+pub linearizable_exactly : LinearizableExactly
+linearizable_exactly initial events whole few = (
+  λ exists violation is. evidence_excludes_order initial events violation whole few is exists,
+  λ none. linearizable_without initial operations (timeline_is_complete initial events whole few) (λ full is.
+      let found = violation_at initial operations few full is (lines_are_operations (timeline initial operations) full is) in
+      none found.0 (full, found.1, is)),
+)
+  where
+    operations : List Operation
+    operations = operations_of events
 
 -- ---- the claim of a `NO` on the timeline
 
