@@ -10,9 +10,9 @@ use Rattle.empty_witness.proofs.Common.{le-ltb, length, Life, life_is_contained,
 use Rattle.empty_witness.proofs.Common.{lt-ltb, MatchBool-at_false, MatchBool-at_true, MatchedValue, MatchOption}
 use Rattle.empty_witness.proofs.Common.{MatchOption-at_some, NamesChosenCover, no_enqueue, None, NoneDid, not_in_none}
 use Rattle.empty_witness.proofs.Common.{one_deeper, one_more_zipped, Operation, Option, option_map, places_of_value}
-use Rattle.empty_witness.proofs.Common.{Precedes, refl, return_differs_from_call, return_in_range, rules, Some}
+use Rattle.empty_witness.proofs.Common.{refl, return_differs_from_call, return_in_range, rules, Some}
 use Rattle.empty_witness.proofs.Common.{StaysAtLeast, subst, suc, sym, take, take-append-drop, timeline, value_is_life}
-use Rattle.empty_witness.proofs.Common.{value_of_life, value_told, zero, ℕ, ⊤, ◌++◌, ◌+◌, ◌<◌, ◌∷◌, ◌≡◌, ◌≢◌, ◌≤◌, ◌⊎◌}
+use Rattle.empty_witness.proofs.Common.{value_of_life, value_told, zero, ℕ, ◌++◌, ◌+◌, ◌<◌, ◌∷◌, ◌≡◌, ◌≢◌, ◌≤◌, ◌⊎◌}
 use Rattle.std.proofs.Common.{append_assoc}
 use Rattle.value_match.specs.declared.life.TheConstants.{NEVER}
 use Rattle.value_match.proofs.Fronts.{stays_as_itself, stays_through}
@@ -88,32 +88,25 @@ next_of_cover operations frontier some clear is before = elim (longest_of (lives
   | inr none ↦ let late = none some (life_is_contained operations some clear is) in absurd (omega arith)
 ]
 
--- a cover that begins with one value and goes on from its dequeue
-go_on : (operations : List Operation) (empty before d : Operation) (life : Life) (rest : List Life) → IsLife operations life
-    → Precedes (enqueue_of life) before → dequeue_of life ≡ Some d → CoversFrom operations empty d rest
-    → CoversFrom operations empty before (life ∷ rest)
-go_on operations empty before d life [] is precedes dequeues covers = absurd covers
-go_on operations empty before d life (next ∷ rest) is precedes dequeues covers =
-    (is, precedes, subst (λ o. MatchOption o ⊥ (λ d. CoversFrom operations empty d (next ∷ rest))) (sym dequeues) covers)
-
-stays_past : (empty : Operation) (dequeue : Option Operation) → empty.ret < call_or_never dequeue → MatchOption dequeue ⊤ (λ d. Precedes empty d)
-stays_past empty None past = search rules
-stays_past empty (Some d) past = past
+-- a cover that goes on after its first value
+go_on : (operations : List Operation) (empty : Operation) (frontier : ℕ) (life : Life) (rest : List Life) → IsLife operations life
+    → enqueue_return life < frontier → dequeue_call life < NEVER → CoversFrom operations empty (dequeue_call life) rest
+    → CoversFrom operations empty frontier (life ∷ rest)
+go_on operations empty frontier life [] is enters dequeued covers = absurd covers
+go_on operations empty frontier life (next ∷ rest) is enters dequeued covers = (is, enters, dequeued, covers)
 
 -- the chosen cover is a violation
-chosen_covers : (operations : List Operation) (empty before : Operation) (frontier : ℕ) (cover : List Life) → empty.ret < NEVER
-    → before.call ≡ frontier → IsChosenCoverFrom operations empty frontier cover → CoversFrom operations empty before cover
-chosen_covers operations empty before frontier [] in_range same chosen = absurd chosen
-chosen_covers operations empty before frontier (life ∷ rest) in_range same chosen = elim (cases_lt empty.ret (dequeue_call life)) [
+chosen_covers : (operations : List Operation) (empty : Operation) (frontier : ℕ) (cover : List Life) → empty.ret < NEVER
+    → IsChosenCoverFrom operations empty frontier cover → CoversFrom operations empty frontier cover
+chosen_covers operations empty frontier [] in_range chosen = absurd chosen
+chosen_covers operations empty frontier (life ∷ rest) in_range chosen = elim (cases_lt empty.ret (dequeue_call life)) [
   | inl past ↦
       let ends = MatchBool-at_true (rest ≡ []) (IsChosenCoverFrom operations empty (dequeue_call life) rest) (lt-ltb _ _ past) chosen.1 in
-      subst (λ r. CoversFrom operations empty before (life ∷ r)) (sym ends)
-      (chosen.0.is_life, omega (arith, chosen.0.before_frontier), stays_past empty (dequeue_of life) past)
+      subst (λ r. CoversFrom operations empty frontier (life ∷ r)) (sym ends) (chosen.0.is_life, chosen.0.before_frontier, past)
   | inr leaves ↦
       let further = MatchBool-at_false (rest ≡ []) (IsChosenCoverFrom operations empty (dequeue_call life) rest) (le-ltb _ _ leaves) chosen.1 in
-      let found = dequeued_if_called life (omega arith) in
-      go_on operations empty before found.0 life rest chosen.0.is_life (omega (arith, chosen.0.before_frontier)) found.1
-      (chosen_covers operations empty found.0 (dequeue_call life) rest in_range (sym (ap call_or_never found.1)) further)
+      go_on operations empty frontier life rest chosen.0.is_life chosen.0.before_frontier (omega arith)
+      (chosen_covers operations empty (dequeue_call life) rest in_range further)
 ]
 
 -- a chosen cover is a witness violation
@@ -121,7 +114,7 @@ pub chosen_cover_violates : (operations : List Operation) (empty : Operation) (c
     → IsChosenCover operations empty cover → IsWitnessViolation operations empty cover
 chosen_cover_violates operations empty cover clear did chosen =
     let range = return_in_range operations empty clear.complete did.0 in
-    record { answers_empty = did; covers = chosen_covers operations empty empty empty.call cover (omega arith) refl chosen }
+    record { answers_empty = did; covers = chosen_covers operations empty empty.call cover (omega arith) chosen }
 
 -- the chosen cover from an operation on, at most this many tickets before the empty dequeue returns
 cover_from : (left : ℕ) (operations : List Operation) (empty before : Operation) → IsClear operations → Did operations empty Empty
@@ -156,54 +149,35 @@ chosen_cover operations empty clear did covered =
     let cover = cover_from empty.ret operations empty empty clear did covered did.0 other (omega arith) less (omega arith) in
     (cover.0, cover.1, chosen_cover_violates operations empty cover.0 clear did cover.1)
 
--- where a cover ends, its last value stays past the empty dequeue's return
-ends_past : (empty : Operation) (dequeue : Option Operation) → empty.ret < NEVER → MatchOption dequeue ⊤ (λ d. Precedes empty d)
-    → empty.ret < call_or_never dequeue
-ends_past empty None in_range none = in_range
-ends_past empty (Some d) in_range past = past
-
--- where it goes on, its value has a dequeue
-goes_on : (dequeue : Option Operation) (P : Operation → Type 0) → MatchOption dequeue ⊥ P → (d : Operation) × (dequeue ≡ Some d) × P d
-goes_on None P further = absurd further
-goes_on (Some d) P further = (d, refl, further)
-
--- at each gap from an operation's call to the empty dequeue's return, some value of the cover is definitely in the queue
-covered_by : (operations : List Operation) (empty before : Operation) (cover : List Life) (c : ℕ) → CoversFrom operations empty before cover
-    → before.call ≤ c → c < empty.ret → empty.ret < NEVER → (life : Life) × IsLife operations life × Covers life c
-covered_by operations empty before [] c covers above below in_range = absurd covers
-covered_by operations empty before (life ∷ []) c covers above below in_range =
-    (life, covers.0, (omega (arith, covers.1), omega (arith, ends_past empty (dequeue_of life) in_range covers.2)))
-covered_by operations empty before (life ∷ next ∷ rest) c covers above below in_range =
-    let d = goes_on (dequeue_of life) (λ d. CoversFrom operations empty d (next ∷ rest)) covers.2 in
-    let calls : dequeue_call life ≡ d.0.call = ap call_or_never d.1 in
-    elim (cases_lt c d.0.call) [
-      | inl here ↦ (life, covers.0, (omega (arith, covers.1), omega arith))
-      | inr later ↦ covered_by operations empty d.0 (next ∷ rest) c d.2 later below in_range
-    ]
+-- at each gap from the frontier to the empty dequeue's return, some value of the cover is definitely in the queue
+covered_by : (operations : List Operation) (empty : Operation) (frontier : ℕ) (cover : List Life) (c : ℕ) → CoversFrom operations empty frontier cover
+    → frontier ≤ c → c < empty.ret → (life : Life) × IsLife operations life × Covers life c
+covered_by operations empty frontier [] c covers above below = absurd covers
+covered_by operations empty frontier (life ∷ []) c covers above below = (life, covers.0, (omega (arith, covers.1), omega (arith, covers.2)))
+covered_by operations empty frontier (life ∷ next ∷ rest) c covers above below = elim (cases_lt c (dequeue_call life)) [
+  | inl here ↦ (life, covers.0, (omega (arith, covers.1), here))
+  | inr later ↦ covered_by operations empty (dequeue_call life) (next ∷ rest) c covers.3 later below
+]
 
 -- a witness violation covers its empty dequeue
-pub violation_covers : (operations : List Operation) (empty : Operation) (cover : List Life) → IsClear operations
-    → IsWitnessViolation operations empty cover → IsCovered operations empty
-violation_covers operations empty cover clear violation c window =
-    let range = return_in_range operations empty clear.complete violation.answers_empty.0 in
-    covered_by operations empty empty cover c violation.covers window.0 window.1 (omega arith)
+pub violation_covers : (operations : List Operation) (empty : Operation) (cover : List Life) → IsWitnessViolation operations empty cover
+    → IsCovered operations empty
+violation_covers operations empty cover violation c window =
+    covered_by operations empty empty.call cover c violation.covers window.0 window.1
 
 -- a cover that begins no later than the chosen one has no fewer values
-no_shorter : (operations : List Operation) (empty before : Operation) (frontier : ℕ) (cover other : List Life) → empty.ret < NEVER
-    → IsChosenCoverFrom operations empty frontier cover → CoversFrom operations empty before other
-    → before.call ≤ frontier → length cover ≤ length other
-no_shorter operations empty before frontier [] other in_range chosen covers le = absurd chosen
-no_shorter operations empty before frontier (x ∷ xs) [] in_range chosen covers le = absurd covers
-no_shorter operations empty before frontier (x ∷ xs) (y ∷ []) in_range chosen covers le =
+no_shorter : (operations : List Operation) (empty : Operation) (from frontier : ℕ) (cover other : List Life)
+    → IsChosenCoverFrom operations empty frontier cover → CoversFrom operations empty from other → from ≤ frontier → length cover ≤ length other
+no_shorter operations empty from frontier [] other chosen covers le = absurd chosen
+no_shorter operations empty from frontier (x ∷ xs) [] chosen covers le = absurd covers
+no_shorter operations empty from frontier (x ∷ xs) (y ∷ []) chosen covers le =
     let stays = chosen.0.longest y covers.0 (omega (arith, covers.1)) in
-    let past : empty.ret < dequeue_call x = omega (arith, stays.0, ends_past empty (dequeue_of y) in_range covers.2) in
+    let past : empty.ret < dequeue_call x = omega (arith, stays.0, covers.2) in
     let ends = MatchBool-at_true (xs ≡ []) (IsChosenCoverFrom operations empty (dequeue_call x) xs) (lt-ltb _ _ past) chosen.1 in
     let long : length xs ≡ 0 = ap length ends in
     omega arith
-no_shorter operations empty before frontier (x ∷ xs) (y ∷ next ∷ ys) in_range chosen covers le =
+no_shorter operations empty from frontier (x ∷ xs) (y ∷ next ∷ ys) chosen covers le =
     let stays = chosen.0.longest y covers.0 (omega (arith, covers.1)) in
-    let d = goes_on (dequeue_of y) (λ d. CoversFrom operations empty d (next ∷ ys)) covers.2 in
-    let calls : dequeue_call y ≡ d.0.call = ap call_or_never d.1 in
     elim (cases_lt empty.ret (dequeue_call x)) [
       | inl past ↦
           let ends = MatchBool-at_true (xs ≡ []) (IsChosenCoverFrom operations empty (dequeue_call x) xs) (lt-ltb _ _ past) chosen.1 in
@@ -211,16 +185,15 @@ no_shorter operations empty before frontier (x ∷ xs) (y ∷ next ∷ ys) in_ra
           omega arith
       | inr leaves ↦
           let further = MatchBool-at_false (xs ≡ []) (IsChosenCoverFrom operations empty (dequeue_call x) xs) (le-ltb _ _ leaves) chosen.1 in
-          let rest = no_shorter operations empty d.0 (dequeue_call x) xs (next ∷ ys) in_range further d.2 (omega (arith, stays.0)) in
+          let rest = no_shorter operations empty (dequeue_call y) (dequeue_call x) xs (next ∷ ys) further covers.3 stays.0 in
           omega arith
     ]
 
 -- no cover is shorter than the chosen one
-pub chosen_cover_is_shortest : (operations : List Operation) (empty : Operation) (cover other : List Life) → IsClear operations
+pub chosen_cover_is_shortest : (operations : List Operation) (empty : Operation) (cover other : List Life)
     → IsChosenCover operations empty cover → IsWitnessViolation operations empty other → length cover ≤ length other
-chosen_cover_is_shortest operations empty cover other clear chosen violation =
-    let range = return_in_range operations empty clear.complete violation.answers_empty.0 in
-    no_shorter operations empty empty empty.call cover other (omega arith) chosen violation.covers (omega arith)
+chosen_cover_is_shortest operations empty cover other chosen violation =
+    no_shorter operations empty empty.call empty.call cover other chosen violation.covers (omega arith)
 
 -- ---- the walk along the chosen cover, from the call of an empty dequeue to its return
 

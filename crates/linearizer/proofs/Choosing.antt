@@ -13,13 +13,13 @@ use Rattle.linearizer.proofs.Common.{IsPermutation, IsPermutation-cons, IsPermut
 use Rattle.linearizer.proofs.Common.{IsPermutation-pop_more, IsPermutation-refl, IsPermutation-sym}
 use Rattle.linearizer.proofs.Common.{IsPermutation-trans, IsTaken, IsTimeOf, IsValueOrder, least_entered_by}
 use Rattle.linearizer.proofs.Common.{leaves_from, length, length-append, length-map, length-replicate, length-take}
-use Rattle.linearizer.proofs.Common.{length_permutation, length_push, Life, life_a, life_from, life_of_contained, List}
+use Rattle.linearizer.proofs.Common.{length_permutation, length_push, Life, life_from, life_of_contained, List}
 use Rattle.linearizer.proofs.Common.{lives_in, lives_of, map-append, mapped_from, mapped_to, MatchedValue, MAX_MATCHED}
 use Rattle.linearizer.proofs.Common.{NEVER, nil_from_length, none_overtakes, NoOrderViolation, not_in_none, one_at}
 use Rattle.linearizer.proofs.Common.{Operation, Option, Overtakes, place_of, PLACES, places_in, places_of_value, refl}
 use Rattle.linearizer.proofs.Common.{replicate, set, slice_get, slice_get-get_or, slice_get_within, Some, subst, suc}
 use Rattle.linearizer.proofs.Common.{sym, take, TakesOneOf, Timed, true, value_is_life, value_of_life}
-use Rattle.linearizer.proofs.Common.{violation_overtakes, zero, ℕ, ◌++◌, ◌+◌, ◌-◌, ◌<◌, ◌∙◌, ◌∷◌, ◌≡◌, ◌≤◌, ◌⊎◌}
+use Rattle.linearizer.proofs.Common.{zero, ℕ, ◌++◌, ◌+◌, ◌-◌, ◌<◌, ◌∙◌, ◌∷◌, ◌≡◌, ◌≤◌, ◌⊎◌}
 use Rattle.linearizer.proofs.ValueOrder.{choice_in_other_order, least_at, made, stands_in_order, turn_of}
 use Rattle.linearizer.proofs.Positions.{at_most_least, least_of_later}
 use Rattle.linearizer.proofs.Times.{HasLifeTimes, times_of_life}
@@ -40,18 +40,15 @@ no_later remaining x y is among takes_time later =
 -- no two values are dequeued against the order of their enqueues
 pub no_order_violation : (operations : List Operation) (lives : List Life) → IsClear operations → IsValueOrder operations lives → AreCalledInTime lives
     → NoOrderViolation operations
-no_order_violation operations lives clear order in_time enq_a enq_b deq_b deq_a violation =
-    let a : Life = record { enqueue = enq_a; dequeue = deq_a } in
-    let b : Life = record { enqueue = enq_b; dequeue = Some deq_b } in
-    let is_a = life_a operations enq_a enq_b deq_b deq_a violation in
-    let at_a = place_of lives a (stands_in_order operations lives clear order a is_a) in
-    let at_b = place_of lives b (stands_in_order operations lives clear order b (violation.b, violation.enqueues_b, violation.dequeues_b)) in
+no_order_violation operations lives clear order in_time a b violation =
+    let at_a = place_of lives a (stands_in_order operations lives clear order a violation.is_a) in
+    let at_b = place_of lives b (stands_in_order operations lives clear order b violation.is_b) in
     elim (cases_lt at_b.0 at_a.0) [
-      | inl second ↦ omega (arith, least_of_later lives at_b.0 at_a.0 a (omega arith) at_a.1, in_time at_b.0 b at_b.1, violation.enqueued_first)
+      | inl second ↦ omega (arith, least_of_later lives at_b.0 at_a.0 a (omega arith) at_a.1, in_time at_b.0 b at_b.1, violation.overtakes.0)
       | inr first ↦
           let turn = turn_of lives at_a.0 at_b.0 a b order.each_is_choice first at_a.1 at_b.1 in
-          no_later turn.remaining a b turn.is_choice turn.remains (omega (arith, (times_of_life operations a clear is_a).dequeue_takes_time))
-          (violation_overtakes operations enq_a enq_b deq_b deq_a clear violation).1
+          let times = times_of_life operations a clear violation.is_a in
+          no_later turn.remaining a b turn.is_choice turn.remains (omega (arith, times.dequeue_takes_time)) violation.overtakes.1
     ]
 
 -- a value that is passed over is dequeued first of those that overtake another

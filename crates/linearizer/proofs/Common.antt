@@ -29,8 +29,8 @@ pub use Rattle.linearizer.specs.declared.position.Placed.{Placed}
 pub use Rattle.linearizer.specs.declared.timed.PackedTimed.{PackedTimed}
 pub use Rattle.linearizer.specs.declared.timed.TheConstants.{PLACES}
 pub use Rattle.linearizer.specs.declared.timed.Timed.{Timed}
-pub use Rattle.order_violation.proofs.Chosen.{did_dequeue, life_a, none_overtakes, violation_overtakes}
-pub use Rattle.order_violation.specs.Pairs.{IsFirstOvertaker, Overtakes}
+pub use Rattle.order_violation.proofs.Chosen.{did_dequeue, none_overtakes}
+pub use Rattle.order_violation.specs.Pairs.{IsFirstOvertaker}
 pub use Rattle.std.proofs.Common.{[], ap, ap₂, arith, Bool, cond, drop, false, filter_map, get_or, get_or-set_other}
 pub use Rattle.std.proofs.Common.{inl, inr, length, length-take-le, List, map, max, min, None, Option, refl, replicate}
 pub use Rattle.std.proofs.Common.{rules, set, Some, subst, suc, swap, sym, take, true, vec_len, zero, ℕ, ◌*◌, ◌++◌}
@@ -76,7 +76,7 @@ pub use Rattle.value_match.specs.Lives.{is_dequeue_of, is_empty_answer, is_empty
 pub use Rattle.value_match.specs.Lives.{IsFreeGap, IsLeastFreeGap, IsLife, IsMaybeAt, leaves_from, life_from, lives_of}
 pub use Rattle.value_match.specs.Lives.{operations_of_life, return_or_never}
 pub use Rattle.value_match.specs.Timeline.{place_behind, time_of, timeline_of}
-pub use Rattle.value_match.specs.Violations.{IsClear, NoOrderViolation}
+pub use Rattle.value_match.specs.Violations.{IsClear, NoOrderViolation, Overtakes}
 pub use Rattle.value_match.specs.declared.life.Life.{Life}
 pub use Rattle.value_match.specs.declared.life.MatchedValue.{MatchedValue}
 pub use Rattle.value_match.specs.declared.life.TheConstants.{NEVER}

@@ -1,8 +1,8 @@
 -- A value that overtakes another is an order violation, and each order violation is one.
-use Rattle.order_violation.proofs.Common.{[], All, All-append, All-contains, All-nil, All-push, ap, arith}
+use Rattle.order_violation.proofs.Common.{[], All, All-append, All-contains, All-nil, All-push, arith}
 use Rattle.order_violation.proofs.Common.{call_or_never, Contains, Contains-append_left, Contains-append_right}
 use Rattle.order_violation.proofs.Common.{Contains-push, dequeue_call, dequeue_of, dequeue_return, enqueue_call}
-use Rattle.order_violation.proofs.Common.{enqueue_of, EntersBefore, false, FindsFirst, FindsLongest, get_or}
+use Rattle.order_violation.proofs.Common.{EntersBefore, false, FindsFirst, FindsLongest, get_or}
 use Rattle.order_violation.proofs.Common.{HoldsLives, inl, inr, is_some, IsFirstOvertaking, IsLife, IsLongestOf}
 use Rattle.order_violation.proofs.Common.{IsMaybeAt, IsSoonerOf, length, Life, List, MatchedValue, MatchOption, None}
 use Rattle.order_violation.proofs.Common.{NonePasses, Option, option_map, Overtakes, refl, return_or_never, Some}
@@ -10,104 +10,50 @@ use Rattle.order_violation.proofs.Common.{StaysAtLeast, subst, sym, take, true, 
 use Rattle.order_violation.specs.Pairs.{IsChosenPair, IsFirstFound, IsFirstOvertaker, IsOrderAnswer, told_pair}
 use Rattle.history_merge.specs.declared.operation.Operation.{Operation}
 use Rattle.history_merge.specs.declared.operation.OpKind.TheVariants.{Deq}
-use Rattle.history_merge.specs.Operations.{Did, NoneDid, Precedes}
+use Rattle.history_merge.specs.Operations.{Did, NoneDid}
 use Rattle.history_merge.specs.Complete.{AreComplete}
 use Rattle.history_merge.specs.Initial.{timeline}
 use Rattle.history_merge.proofs.Distinct.{call_by_return, return_in_range}
 use Rattle.value_match.specs.declared.life.TheConstants.{NEVER}
-use Rattle.value_match.specs.Timeline.{behind, told_place, told_source}
+use Rattle.value_match.specs.Timeline.{told_place, told_source}
+use Rattle.value_match.specs.Outcome.{IsMaybeOperation}
 use Rattle.value_match.specs.Violations.{IsClear, IsOrderViolation, NoOrderViolation}
 use Rattle.std.proofs.lemmas.Option.{MatchOption-at_some}
-use Rattle.value_match.proofs.Lives.{places_of_value, value_is_life, value_of_life}
+use Rattle.value_match.proofs.Lives.{dequeued_if_called, places_of_value, value_is_life, value_of_life}
 use Rattle.value_match.proofs.ToldPlaces.{few_initial, value_told}
 use Rattle.value_match.proofs.Lists.{one_more}
-
-call_in_range : (operations : List Operation) (v : ℕ) (dequeue : Option Operation) → AreComplete operations
-    → MatchOption dequeue (NoneDid operations (Deq v)) (λ d. Did operations d (Deq v)) → call_or_never dequeue ≤ NEVER
-call_in_range operations v None complete none = omega arith
-call_in_range operations v (Some d) complete did =
-    let range = return_in_range operations d complete did.0 in let order = call_by_return operations d complete did.0 in omega arith
 
 -- what ends a life is a dequeue of its value
 pub did_dequeue : (operations : List Operation) (life : Life) (d : Operation) (is : IsLife operations life) → dequeue_of life ≡ Some d
     → Did operations d (Deq is.0)
 did_dequeue operations life d is dequeues = MatchOption-at_some (NoneDid operations (Deq is.0)) (λ d. Did operations d (Deq is.0)) d dequeues is.2
 
--- a value that overtakes another is dequeued
-dequeued : (operations : List Operation) (a b : Life) → IsClear operations → IsLife operations a → Overtakes b a → (d : Operation) × (dequeue_of b ≡ Some d)
-dequeued operations a b clear is_a overtakes = go (dequeue_of b) refl
-  where
-    go : (dequeue : Option Operation) → dequeue_of b ≡ dequeue → (d : Operation) × (dequeue_of b ≡ Some d)
-    go (Some d) same = (d, same)
-    go None same =
-        let never : dequeue_return b ≡ NEVER = rw same refl in
-        let range = call_in_range operations is_a.0 (dequeue_of a) clear.complete is_a.2 in
-        absurd (omega (arith, overtakes.1))
-
-dequeued_later : (operations : List Operation) (v : ℕ) (deq_b : Operation) (dequeue : Option Operation)
-    → MatchOption dequeue (NoneDid operations (Deq v)) (λ d. Did operations d (Deq v)) → deq_b.ret < call_or_never dequeue
-    → MatchOption dequeue (NoneDid operations (Deq v)) (λ d. Did operations d (Deq v) × Precedes deq_b d)
-dequeued_later operations v deq_b None none later = none
-dequeued_later operations v deq_b (Some d) did later = (did, later)
-
--- b is dequeued before a, which was enqueued before b
-overtaking_violates : (operations : List Operation) (a b : Life) (deq_b : Operation) → IsLife operations a → IsLife operations b
-    → dequeue_of b ≡ Some deq_b → Overtakes b a → IsOrderViolation operations (enqueue_of a) (enqueue_of b) deq_b (dequeue_of a)
-overtaking_violates operations a b deq_b is_a is_b dequeues overtakes = record {
-  a = is_a.0;
-  b = is_b.0;
-  enqueues_a = is_a.1;
-  enqueues_b = is_b.1;
-  dequeues_b = did_dequeue operations b deq_b is_b dequeues;
-  enqueued_first = overtakes.0;
-  dequeued_later = dequeued_later operations is_a.0 deq_b (dequeue_of a) is_a.2
-      (subst (λ dequeue. return_or_never dequeue < dequeue_call a) dequeues overtakes.1);
-}
+-- no dequeue is called after NEVER, and one that returns before it is called before it
+called_by : (operations : List Operation) (v : ℕ) (dequeue : Option Operation) → AreComplete operations
+    → MatchOption dequeue (NoneDid operations (Deq v)) (λ d. Did operations d (Deq v))
+    → (call_or_never dequeue ≤ NEVER) × (return_or_never dequeue < NEVER → call_or_never dequeue < NEVER)
+called_by operations v None complete none = (omega arith, λ before. before)
+called_by operations v (Some d) complete did =
+    let range = return_in_range operations d complete did.0 in
+    let order = call_by_return operations d complete did.0 in
+    (omega arith, λ before. omega arith)
 
 -- where there is no order violation, no value overtakes another
 pub none_overtakes : (operations : List Operation) (a b : Life) → IsClear operations → NoOrderViolation operations → IsLife operations a
     → IsLife operations b → ¬ (Overtakes b a)
 none_overtakes operations a b clear none is_a is_b overtakes =
-    let dequeue = dequeued operations a b clear is_a overtakes in
-    none (enqueue_of a) (enqueue_of b) dequeue.0 (dequeue_of a) (overtaking_violates operations a b dequeue.0 is_a is_b dequeue.1 overtakes)
-
--- the lives of an order violation
-pub life_a : (operations : List Operation) (enq_a enq_b deq_b : Operation) (deq_a : Option Operation)
-    → IsOrderViolation operations enq_a enq_b deq_b deq_a → IsLife operations (record { enqueue = enq_a; dequeue = deq_a })
-life_a operations enq_a enq_b deq_b deq_a violation = (violation.a, violation.enqueues_a, named deq_a violation.dequeued_later)
-  where
-    named : (dequeue : Option Operation) → MatchOption dequeue (NoneDid operations (Deq violation.a))
-        (λ d. Did operations d (Deq violation.a) × Precedes deq_b d)
-        → MatchOption dequeue (NoneDid operations (Deq violation.a)) (λ d. Did operations d (Deq violation.a))
-    named None none = none
-    named (Some d) later = later.0
-
-pub life_b : (operations : List Operation) (enq_a enq_b deq_b : Operation) (deq_a : Option Operation)
-    → IsOrderViolation operations enq_a enq_b deq_b deq_a → IsLife operations (record { enqueue = enq_b; dequeue = Some deq_b })
-life_b operations enq_a enq_b deq_b deq_a violation = (violation.b, violation.enqueues_b, violation.dequeues_b)
-
--- the value that was enqueued later overtakes the other
-pub violation_overtakes : (operations : List Operation) (enq_a enq_b deq_b : Operation) (deq_a : Option Operation) → IsClear operations
-    → IsOrderViolation operations enq_a enq_b deq_b deq_a
-    → Overtakes (record { enqueue = enq_b; dequeue = Some deq_b }) (record { enqueue = enq_a; dequeue = deq_a })
-violation_overtakes operations enq_a enq_b deq_b deq_a clear violation = (violation.enqueued_first, before deq_a violation.dequeued_later)
-  where
-    before : (dequeue : Option Operation) → MatchOption dequeue (NoneDid operations (Deq violation.a))
-        (λ d. Did operations d (Deq violation.a) × Precedes deq_b d) → deq_b.ret < call_or_never dequeue
-    before None none = let range = return_in_range operations deq_b clear.complete violation.dequeues_b.0 in omega arith
-    before (Some d) later = later.1
+    let last = (called_by operations is_a.0 (dequeue_of a) clear.complete is_a.2).0 in
+    let called = (called_by operations is_b.0 (dequeue_of b) clear.complete is_b.2).1 (omega (arith, overtakes.1)) in
+    none a b (record { is_a = is_a; is_b = is_b; is_dequeued = called; overtakes = overtakes })
 
 -- if no value overtakes another, there is no order violation
 pub no_overtaking : (operations : List Operation) (values : List MatchedValue) → IsClear operations → HoldsLives operations values
     → All (λ b. NonePasses (Overtakes b.life) values) values → NoOrderViolation operations
-no_overtaking operations values clear holds none enq_a enq_b deq_b deq_a violation =
-    let life : Life = record { enqueue = enq_a; dequeue = deq_a } in
-    let later : Life = record { enqueue = enq_b; dequeue = Some deq_b } in
-    let (a, among_a, is_a) = value_of_life operations values life clear holds (life_a operations enq_a enq_b deq_b deq_a violation) in
-    let (b, among_b, is_b) = value_of_life operations values later clear holds (life_b operations enq_a enq_b deq_b deq_a violation) in
-    let overtakes : Overtakes later life = violation_overtakes operations enq_a enq_b deq_b deq_a clear violation in
+no_overtaking operations values clear holds none x y violation =
+    let (a, among_a, is_a) = value_of_life operations values x clear holds violation.is_a in
+    let (b, among_b, is_b) = value_of_life operations values y clear holds violation.is_b in
     All-contains (λ a. ¬ (Overtakes b.life a.life)) values a (All-contains (λ b. NonePasses (Overtakes b.life) values) values b none among_b) among_a
-    (rw (is_a, is_b) overtakes)
+    (rw (is_a, is_b) violation.overtakes)
 
 -- the first of the values that overtake another is the first of all lives that do
 pub first_of_lives : (operations : List Operation) (values : List MatchedValue) (b : MatchedValue) → IsClear operations → HoldsLives operations values
@@ -147,29 +93,21 @@ module _ (initial : List ℕ) (operations : List Operation) (values : List Match
   abbrev k : ℕ
   k = length initial
 
-  dequeue_of_b : (d : Operation) × (dequeue_of b.life ≡ Some d)
-  dequeue_of_b = dequeued all a.life b.life clear (value_is_life all values a holds longest.among) longest.passes
+  stays_longest : (other : Life) → IsOrderViolation all other b.life → StaysAtLeast a.life other
+  stays_longest other violation =
+      let (x, among, same) = value_of_life all values other clear holds violation.is_a in
+      subst (StaysAtLeast a.life) same (All-contains (λ y. Overtakes b.life y.life → StaysAtLeast a.life y.life) values x longest.longest among
+      (subst (Overtakes b.life) (sym same) violation.overtakes))
 
-  comes_first : (enq_a' enq_b' deq_b' : Operation) (deq_a' : Option Operation) → IsOrderViolation all enq_a' enq_b' deq_b' deq_a'
-      → dequeue_of_b.0.ret ≤ deq_b'.ret
-  comes_first enq_a' enq_b' deq_b' deq_a' violation =
-      let le = first.first (record { enqueue = enq_b'; dequeue = Some deq_b' }) (record { enqueue = enq_a'; dequeue = deq_a' })
-      (life_b all enq_a' enq_b' deq_b' deq_a' violation) (life_a all enq_a' enq_b' deq_b' deq_a' violation)
-      (violation_overtakes all enq_a' enq_b' deq_b' deq_a' clear violation) in
-      let here : dequeue_return b.life ≡ dequeue_of_b.0.ret = ap return_or_never dequeue_of_b.1 in
-      omega arith
-
-  stays_longest : (enq_a' : Operation) (deq_a' : Option Operation) → IsOrderViolation all enq_a' (enqueue_of b.life) dequeue_of_b.0 deq_a'
-      → StaysAtLeast a.life (record { enqueue = enq_a'; dequeue = deq_a' })
-  stays_longest enq_a' deq_a' violation =
-      let life : Life = record { enqueue = enq_a'; dequeue = deq_a' } in
-      let (x, among, same) = value_of_life all values life clear holds (life_a all enq_a' (enqueue_of b.life) dequeue_of_b.0 deq_a' violation) in
-      let overtakes = violation_overtakes all enq_a' (enqueue_of b.life) dequeue_of_b.0 deq_a' clear violation in
-      let is_b : ◌≡◌ {A = Life} (record { enqueue = enqueue_of b.life; dequeue = Some dequeue_of_b.0 }) b.life =
-      λ i. record { enqueue = enqueue_of b.life; dequeue = sym dequeue_of_b.1 i } in
-      subst (StaysAtLeast a.life) same
-      (All-contains (λ other. Overtakes b.life other.life → StaysAtLeast a.life other.life) values x longest.longest among
-      (subst (Overtakes b.life) (sym same) (subst (λ l. Overtakes l life) is_b overtakes)))
+  is_violation : IsOrderViolation all a.life b.life
+  is_violation =
+      let is_a = value_is_life all values a holds longest.among in
+      let last = (called_by all is_a.0 (dequeue_of a.life) clear.complete is_a.2).0 in record {
+        is_a = is_a;
+        is_b = first.is_life;
+        is_dequeued = (called_by all first.is_life.0 (dequeue_of b.life) clear.complete first.is_life.2).1 (omega (arith, longest.passes.1));
+        overtakes = longest.passes;
+      }
 
   -- the first value that overtakes another, with the longest that it overtakes, is the chosen pair
   pub is_chosen_pair : (p : ℕ) → b.dequeue ≡ Some p → IsChosenPair initial operations (record {
@@ -179,23 +117,17 @@ module _ (initial : List ℕ) (operations : List Operation) (values : List Match
     deq_a = option_map (told_place k) a.dequeue;
   })
   is_chosen_pair p named =
-      let is_a = value_is_life all values a holds longest.among in
-      let is_b = first.is_life in
-      let at_a = value_told initial operations (few_initial initial operations clear.complete) a (places_of_value all values a holds longest.among) is_a in
-      let at_b = value_told initial operations (few_initial initial operations clear.complete) b first.has_places is_b in
-      record {
-        enq_a = enqueue_of a.life;
-        enq_b = enqueue_of b.life;
-        deq_b = dequeue_of_b.0;
-        deq_a = dequeue_of a.life;
-        at_a = at_a.0;
-        at_b = at_b.0;
-        dequeued_b = subst (IsMaybeAt all (Some (behind k (told_place k p)))) dequeue_of_b.1
-            (subst (λ q. IsMaybeAt all (option_map (behind k) (option_map (told_place k) q)) (dequeue_of b.life)) named at_b.1);
-        dequeued_a = at_a.1;
+      let few = few_initial initial operations clear.complete in
+      let at_b = value_told initial operations few b first.has_places first.is_life in record {
+        a = a.life;
+        b = b.life;
+        names = (
+          value_told initial operations few a (places_of_value all values a holds longest.among) is_violation.is_a,
+          (at_b.0, subst (λ q. IsMaybeOperation initial operations (option_map (told_place k) q) (dequeue_of b.life)) named at_b.1),
+        );
         is_chosen = record {
-          violates = overtaking_violates all a.life b.life dequeue_of_b.0 is_a is_b dequeue_of_b.1 longest.passes;
-          first = comes_first;
+          violates = is_violation;
+          first = λ x y violation. first.first y x violation.is_b violation.is_a violation.overtakes;
           longest = stays_longest;
         };
       }
@@ -203,7 +135,8 @@ module _ (initial : List ℕ) (operations : List Operation) (values : List Match
   -- so their pair is the answer
   pub is_answer : IsOrderAnswer initial operations (told_pair k a b)
   is_answer =
-      let place = place_there all b.dequeue (dequeue_of b.life) dequeue_of_b.0 first.has_places.1 dequeue_of_b.1 in
+      let dequeue = dequeued_if_called b.life is_violation.is_dequeued in
+      let place = place_there all b.dequeue (dequeue_of b.life) dequeue.0 first.has_places.1 dequeue.1 in
       rw place.1 (is_chosen_pair place.0 place.1)
 
 -- ---- the first that overtakes another, of two lists of candidates and of one more in a scan

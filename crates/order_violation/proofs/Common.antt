@@ -10,4 +10,5 @@ pub use Rattle.value_match.specs.Lives.{enqueue_of, HoldsLives, IsLife, IsMaybeA
 pub use Rattle.value_match.specs.Fronts.{EntersBefore, FindsLongest, IsLongestOf, NonePasses}
 pub use Rattle.value_match.specs.declared.life.Life.{Life}
 pub use Rattle.value_match.specs.declared.life.MatchedValue.{MatchedValue}
-pub use Rattle.order_violation.specs.Pairs.{FindsFirst, IsFirstOvertaking, IsSoonerOf, Overtakes}
+pub use Rattle.order_violation.specs.Pairs.{FindsFirst, IsFirstOvertaking, IsSoonerOf}
+pub use Rattle.value_match.specs.Violations.{Overtakes}

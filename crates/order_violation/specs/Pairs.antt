@@ -1,22 +1,20 @@
 -- A pair of values dequeued against the order of their enqueues.
-use Rattle.std.specs.Prelude.{All, Contains, List, MatchOption, None, Option, option_map, Some, ℕ, ◌<◌, ◌≡◌, ◌≤◌, ◌⊎◌}
+use Rattle.std.specs.Prelude.{All, Contains, List, MatchOption, None, Option, option_map, Some, ℕ, ◌≡◌, ◌≤◌, ◌⊎◌}
 use Rattle.history_merge.specs.declared.operation.Operation.{Operation}
 use Rattle.value_match.specs.declared.life.Life.{Life}
 use Rattle.value_match.specs.declared.life.MatchedValue.{MatchedValue}
-use Rattle.value_match.specs.Lives.{dequeue_call, dequeue_return, enqueue_call, enqueue_return, HasPlaces, IsLife}
+use Rattle.value_match.specs.Lives.{dequeue_return, HasPlaces, IsLife}
 use Rattle.value_match.specs.Fronts.{NonePasses}
-use Rattle.value_match.specs.Violations.{NoOrderViolation}
+use Rattle.value_match.specs.Violations.{NoOrderViolation, order, Overtakes}
 use Rattle.history_merge.specs.Initial.{timeline}
 use Rattle.value_match.specs.Timeline.{told_place, told_source}
-use Rattle.value_match.specs.Outcome.{IsMaybeOperation, IsOperation, IsSource}
+use Rattle.value_match.specs.Outcome.{Names}
+use Rattle.value_match.specs.declared.violation.Violation.{Violation}
+use Rattle.value_match.specs.declared.violation.Violation.TheVariants.{Order}
 use Rattle.value_match.specs.Choice.{IsChosenOrderViolation}
 use Rattle.order_violation.specs.declared.pair.OrderPair.{OrderPair}
 
 -- ---- values that are dequeued before others which were enqueued before them
-
--- b is dequeued before a is, though a was enqueued before b
-abbrev pub Overtakes : Life → Life → Type 0
-Overtakes b a = (enqueue_return a < enqueue_call b) × (dequeue_return b < dequeue_call a)
 
 -- one of the two values, which is dequeued no later than each
 pub record IsSoonerOf (first second sooner : MatchedValue) : Type 0 where
@@ -51,17 +49,16 @@ IsFirstFound operations found = MatchOption found (NoOrderViolation operations) 
 
 -- ---- a pair of values dequeued against the order of their enqueues
 
--- the pair names the operations of the history's chosen violation of this kind
+-- the violation that the pair shows
+abbrev pub violation_of : OrderPair → Violation
+violation_of pair = Order pair.enq_a pair.enq_b pair.deq_b pair.deq_a
+
+-- the pair names the values of the history's chosen violation of this kind
 pub record IsChosenPair (initial : List ℕ) (operations : List Operation) (pair : OrderPair) : Type 0 where
-  pub enq_a : Operation
-  pub enq_b : Operation
-  pub deq_b : Operation
-  pub deq_a : Option Operation
-  pub at_a : IsSource initial operations pair.enq_a enq_a
-  pub at_b : IsSource initial operations pair.enq_b enq_b
-  pub dequeued_b : IsOperation initial operations pair.deq_b deq_b
-  pub dequeued_a : IsMaybeOperation initial operations pair.deq_a deq_a
-  pub is_chosen : IsChosenOrderViolation (timeline initial operations) enq_a enq_b deq_b deq_a
+  pub a : Life
+  pub b : Life
+  pub names : Names initial operations (violation_of pair) (order a b)
+  pub is_chosen : IsChosenOrderViolation (timeline initial operations) a b
 
 -- the pair of two values, by the places of the history, if the second is dequeued
 abbrev pub told_pair : ℕ → MatchedValue → MatchedValue → Option OrderPair

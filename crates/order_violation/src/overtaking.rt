@@ -2,7 +2,8 @@ ghost use Rattle.std.specs.Prelude.{◌↔◌, List, IsTrue};
 ghost use Rattle.value_match.specs.declared.life.MatchedValue.{MatchedValue};
 ghost use Rattle.value_match.specs.Lives.{enqueue_call};
 ghost use Rattle.value_match.specs.Fronts.{EntersBefore, FindsLongest};
-ghost use Rattle.order_violation.specs.Pairs.{Overtakes, IsSoonerOf, FindsFirst};
+ghost use Rattle.order_violation.specs.Pairs.{IsSoonerOf, FindsFirst};
+ghost use Rattle.value_match.specs.Violations.{Overtakes};
 
 use value_match::{Life, LongestTable, MatchedValue, Values};
 

@@ -1,6 +1,7 @@
 ghost use Rattle.std.specs.Prelude.{◌≡◌, IfOk};
 ghost use Rattle.value_match.specs.Fronts.{FindsLongest};
-ghost use Rattle.order_violation.specs.Pairs.{IsFirstFound, IsOrderAnswer, Overtakes, told_pair};
+ghost use Rattle.order_violation.specs.Pairs.{IsFirstFound, IsOrderAnswer, told_pair};
+ghost use Rattle.value_match.specs.Violations.{Overtakes};
 ghost use Rattle.value_match.specs.Timeline.{timeline_of};
 
 use crate::overtaking::{first_overtaking, overtakes};

@@ -2,7 +2,7 @@
 use Rattle.value_match.proofs.Common.{[], ap, ap₂, AreChosenFresh, AreChosenRepeat, AreComplete, ArePlacesOf, arith}
 use Rattle.value_match.proofs.Common.{behind, Bool, cases_Bool, cases_lt, cond, cons_option, Contains}
 use Rattle.value_match.proofs.Common.{Contains-append_cases, Contains-append_right, contains_at, CoversFrom, Deq}
-use Rattle.value_match.proofs.Common.{dequeue_of, Did, Empty, Enq, enqueue_at, enqueue_of, enqueues_from, false}
+use Rattle.value_match.proofs.Common.{dequeue_call, dequeue_of, Did, Empty, Enq, enqueue_at, enqueue_of, enqueues_from, false}
 use Rattle.value_match.proofs.Common.{filter, filter-append, filter_map, FreshPlaces, HasPlaces, HoldsPlaces}
 use Rattle.value_match.proofs.Common.{initial_enqueue, initial_enqueues, initial_time, inl, inr, is_empty_answer}
 use Rattle.value_match.proofs.Common.{is_refused, IsAt, IsFreshViolation, IsLife, IsMaybeAt, IsMaybeOperation}
@@ -30,20 +30,16 @@ dequeues operations v None none = tt
 dequeues operations v (Some d) did = (v, did.1)
 
 -- the lives of a cover
-pub covers_are_lives : (operations : List Operation) (empty before : Operation) (cover : List Life) → CoversFrom operations empty before cover → AreLives cover
-covers_are_lives operations empty before [] covers = absurd covers
-covers_are_lives operations empty before (life ∷ []) covers =
+pub covers_are_lives : (operations : List Operation) (empty : Operation) (frontier : ℕ) (cover : List Life) → CoversFrom operations empty frontier cover
+    → AreLives cover
+covers_are_lives operations empty frontier [] covers = absurd covers
+covers_are_lives operations empty frontier (life ∷ []) covers =
     ((covers.0.0, covers.0.1.1), dequeues operations covers.0.0 (dequeue_of life) covers.0.2, tt)
-covers_are_lives operations empty before (life ∷ next ∷ rest) covers = (
+covers_are_lives operations empty frontier (life ∷ next ∷ rest) covers = (
   (covers.0.0, covers.0.1.1),
   dequeues operations covers.0.0 (dequeue_of life) covers.0.2,
-  further (dequeue_of life) covers.2 (λ d. covers_are_lives operations empty d (next ∷ rest)),
+  covers_are_lives operations empty (dequeue_call life) (next ∷ rest) covers.3,
 )
-  where
-    further : (d : Option Operation) → MatchOption d ⊥ (λ d. CoversFrom operations empty d (next ∷ rest))
-        → ((d : Operation) → CoversFrom operations empty d (next ∷ rest) → AreLives (next ∷ rest)) → AreLives (next ∷ rest)
-    further None covers' more = absurd covers'
-    further (Some d) covers' more = more d covers'
 
 -- ---- the operations of the timeline: the enqueues of the initial values, and the operations, later
 

@@ -1,5 +1,5 @@
 -- What a violation names, and what matching answers.
-use Rattle.std.specs.Prelude.{◌≡◌, ℕ, ◌<◌, List, Option, length, option_map}
+use Rattle.std.specs.Prelude.{◌≡◌, ℕ, ◌<◌, List, Option, Some, length, option_map}
 use Rattle.std.specs.List.{AllZip}
 use Rattle.history_merge.specs.declared.operation.Operation.{Operation}
 use Rattle.history_merge.specs.Initial.{timeline}
@@ -44,9 +44,9 @@ abbrev pub Names : List ℕ → List Operation → Violation → FullViolation �
 Names initial operations (Fresh deq enq) (fresh d e) = IsOperation initial operations deq d × IsMaybeOperation initial operations enq e
 Names initial operations (Repeat enq first second) (repeat e d d') =
     IsSource initial operations enq e × IsOperation initial operations first d × IsOperation initial operations second d'
-Names initial operations (Order enq_a enq_b deq_b deq_a) (order a b d d') =
-    IsSource initial operations enq_a a × IsSource initial operations enq_b b
-    × IsOperation initial operations deq_b d × IsMaybeOperation initial operations deq_a d'
+Names initial operations (Order enq_a enq_b deq_b deq_a) (order a b) =
+    NamesStep initial operations (record { source = enq_a; dequeue = deq_a }) a
+    × NamesStep initial operations (record { source = enq_b; dequeue = Some deq_b }) b
 Names initial operations (Witness empty cover) (witness o lives) = IsOperation initial operations empty o × NamesCover initial operations cover lives
 Names initial operations _ _ = ⊥
 

@@ -1,13 +1,15 @@
 -- The chosen violation is a violation, and the only one chosen.
-use Rattle.verdicts.proofs.Common.{IsRepeatViolation, cases_lt, ◌≤◌, [], ◌∙◌, ◌∷◌, ◌≡◌, ap, arith, Bool, Contains, false, inl, inr, List}
-use Rattle.verdicts.proofs.Common.{MatchBool, MatchOption, nat_lt, None, Option, refl, Some, subst, sym, true, ℕ}
-use Rattle.verdicts.proofs.Common.{AreComplete, call_or_never, CallsFor, chosen_cover_violates, Deq, dequeue_call, Did}
-use Rattle.verdicts.proofs.Common.{Enq, enqueue_of, enqueue_return, fresh, FullViolation, IsChosenCoverFrom}
-use Rattle.verdicts.proofs.Common.{IsChosenFresh, IsChosenFullViolation, IsChosenOrderViolation, IsChosenRepeat}
-use Rattle.verdicts.proofs.Common.{IsChosenWitness, IsClear, IsEnqueuedTooLate, IsFreshViolation, IsNeverEnqueued}
-use Rattle.verdicts.proofs.Common.{IsNextOfCover, IsOrderViolation, IsViolationOf, Life, NoFreshViolation, NoneDid}
-use Rattle.verdicts.proofs.Common.{NoRepeatViolation, Not, one_life_of_enqueue, Operation, order, Precedes, repeat}
-use Rattle.verdicts.proofs.Common.{same_call, same_enqueue, same_return, same_value_call, StaysAtLeast, witness}
+use Rattle.verdicts.proofs.Common.{[], ap, AreComplete, arith, Bool, call_or_never, CallsFor, cases_lt}
+use Rattle.verdicts.proofs.Common.{chosen_cover_violates, Contains, Deq, dequeue_call, dequeue_of, dequeue_return}
+use Rattle.verdicts.proofs.Common.{dequeued_if_called, Did, did_dequeue, Enq, enqueue_of, enqueue_return, false, fresh}
+use Rattle.verdicts.proofs.Common.{FullViolation, inl, inr, IsChosenCoverFrom, IsChosenFresh, IsChosenFullViolation}
+use Rattle.verdicts.proofs.Common.{IsChosenOrderViolation, IsChosenRepeat, IsChosenWitness, IsClear, IsEnqueuedTooLate}
+use Rattle.verdicts.proofs.Common.{IsFreshViolation, IsLife, IsNeverEnqueued, IsNextOfCover, IsOrderViolation}
+use Rattle.verdicts.proofs.Common.{IsRepeatViolation, IsViolationOf, Life, List, MatchBool, MatchOption, nat_lt, NEVER}
+use Rattle.verdicts.proofs.Common.{NoFreshViolation, None, NoneDid, NoRepeatViolation, Not}
+use Rattle.verdicts.proofs.Common.{Operation, Option, order, refl, repeat, return_or_never, same_call}
+use Rattle.verdicts.proofs.Common.{same_enqueue, same_return, same_value_call, Some, StaysAtLeast, subst, sym, true}
+use Rattle.verdicts.proofs.Common.{witness, ℕ, ◌<◌, ◌∙◌, ◌∷◌, ◌≡◌, ◌≤◌}
 
 are_clear : (operations : List Operation) → AreComplete operations → NoFreshViolation operations → NoRepeatViolation operations → IsClear operations
 are_clear operations complete no_fresh no_repeat = record { complete = complete; no_fresh = no_fresh; no_repeat = no_repeat }
@@ -17,7 +19,7 @@ pub chosen_is_violation : (operations : List Operation) (full : FullViolation) �
     → IsViolationOf operations full
 chosen_is_violation operations (fresh deq enq) complete chosen = chosen.violates
 chosen_is_violation operations (repeat enq first second) complete chosen = chosen.1.violates
-chosen_is_violation operations (order enq_a enq_b deq_b deq_a) complete chosen = chosen.2.violates
+chosen_is_violation operations (order a b) complete chosen = chosen.2.violates
 chosen_is_violation operations (witness empty cover) complete chosen =
     chosen_cover_violates operations empty cover (are_clear operations complete chosen.0 chosen.1) chosen.3.answers_empty chosen.3.cover_is_chosen
 
@@ -97,47 +99,54 @@ one_repeat operations enq enq' first first' second second' complete x y =
 both_stay : (x y : Life) → StaysAtLeast x y → StaysAtLeast y x → (dequeue_call x ≡ dequeue_call y) × (enqueue_return x ≡ enqueue_return y)
 both_stay x y first second = (omega arith, omega arith)
 
-one_dequeue : (operations : List Operation) (deq_b : Operation) (a b : ℕ) (d d' : Option Operation) → AreComplete operations → a ≡ b
-    → MatchOption d (NoneDid operations (Deq a)) (λ d. Did operations d (Deq a) × Precedes deq_b d)
-    → MatchOption d' (NoneDid operations (Deq b)) (λ d. Did operations d (Deq b) × Precedes deq_b d)
+one_dequeue : (operations : List Operation) (v w : ℕ) (d d' : Option Operation) → AreComplete operations → v ≡ w
+    → MatchOption d (NoneDid operations (Deq v)) (λ d. Did operations d (Deq v)) → MatchOption d' (NoneDid operations (Deq w)) (λ d. Did operations d (Deq w))
     → call_or_never d ≡ call_or_never d' → d ≡ d'
-one_dequeue operations deq_b a b None None complete values x y calls = refl
-one_dequeue operations deq_b a b None (Some d) complete values x y calls = absurd (x d y.0.0 (y.0.1 ∙ ap (λ v. Deq v) (sym values)))
-one_dequeue operations deq_b a b (Some d) None complete values x y calls = absurd (y d x.0.0 (x.0.1 ∙ ap (λ v. Deq v) values))
-one_dequeue operations deq_b a b (Some d) (Some d') complete values x y calls = ap (λ o. Some o) (same_call operations d d' complete x.0.0 y.0.0 calls)
+one_dequeue operations v w None None complete values x y calls = refl
+one_dequeue operations v w None (Some d) complete values x y calls = absurd (x d y.0 (y.1 ∙ ap (λ v. Deq v) (sym values)))
+one_dequeue operations v w (Some d) None complete values x y calls = absurd (y d x.0 (x.1 ∙ ap (λ v. Deq v) values))
+one_dequeue operations v w (Some d) (Some d') complete values x y calls = ap (λ o. Some o) (same_call operations d d' complete x.0 y.0 calls)
+
+-- lives that begin and end at the same times are one
+one_life : (operations : List Operation) (x y : Life) → AreComplete operations → IsLife operations x → IsLife operations y
+    → enqueue_return x ≡ enqueue_return y → dequeue_call x ≡ dequeue_call y → x ≡ y
+one_life operations x y complete is_x is_y returns calls =
+    let enqueues = same_return operations (enqueue_of x) (enqueue_of y) complete is_x.1.0 is_y.1.0 returns in
+    let kinds : Enq is_x.0 ≡ Enq is_y.0 = sym is_x.1.1 ∙ ap (λ o. o.kind) enqueues ∙ is_y.1.1 in
+    let dequeues = one_dequeue operations is_x.0 is_y.0 (dequeue_of x) (dequeue_of y) complete (cc) is_x.2 is_y.2 calls in
+    λ i. record { enqueue = enqueues i; dequeue = dequeues i }
+
+-- so are lives of one dequeue
+one_left : (operations : List Operation) (x y : Life) → AreComplete operations → IsLife operations x → IsLife operations y
+    → dequeue_call x < NEVER → dequeue_call y < NEVER → dequeue_return x ≡ dequeue_return y → x ≡ y
+one_left operations x y complete is_x is_y called_x called_y returns =
+    let (d, at_x) = dequeued_if_called x called_x in
+    let (e, at_y) = dequeued_if_called y called_y in
+    let did_x = did_dequeue operations x d is_x at_x in
+    let did_y = did_dequeue operations y e is_y at_y in
+    let one = same_return operations d e complete did_x.0 did_y.0 (sym (ap return_or_never at_x) ∙ returns ∙ ap return_or_never at_y) in
+    let values : is_y.0 ≡ is_x.0 = one_kind e is_y.0 is_x.0 did_y.1 (subst (λ o. o.kind ≡ Deq is_x.0) one did_x.1) in
+    let enqueues = same_enqueue operations (enqueue_of x) (enqueue_of y) is_x.0 complete is_x.1 (subst (λ v. Did operations (enqueue_of y) (Enq v)) values is_y.1) in
+    one_life operations x y complete is_x is_y (ap (λ (o : Operation). o.ret) enqueues)
+    (ap call_or_never at_x ∙ ap (λ (o : Operation). o.call) one ∙ sym (ap call_or_never at_y))
 
 -- one order violation is chosen
-pub one_order : (operations : List Operation) (enq_a enq_b deq_b enq_a' enq_b' deq_b' : Operation) (deq_a deq_a' : Option Operation) → AreComplete operations
-    → IsChosenOrderViolation operations enq_a enq_b deq_b deq_a → IsChosenOrderViolation operations enq_a' enq_b' deq_b' deq_a'
-    → order enq_a enq_b deq_b deq_a ≡ order enq_a' enq_b' deq_b' deq_a'
-one_order operations enq_a enq_b deq_b enq_a' enq_b' deq_b' deq_a deq_a' complete x y =
-    let le = x.first enq_a' enq_b' deq_b' deq_a' y.violates in
-    let ge = y.first enq_a enq_b deq_b deq_a x.violates in
-    let deqs = same_return operations deq_b deq_b' complete x.violates.dequeues_b.0 y.violates.dequeues_b.0 (omega arith) in
-    let b = x.violates.b in
-    let values : y.violates.b ≡ b = one_kind deq_b' y.violates.b b y.violates.dequeues_b.1 (subst (λ o. o.kind ≡ Deq b) deqs x.violates.dequeues_b.1) in
-    let enqs = same_enqueue operations enq_b enq_b' b complete x.violates.enqueues_b
-    (subst (λ w. Did operations enq_b' (Enq w)) values y.violates.enqueues_b) in
-    let there = subst (λ d. IsOrderViolation operations enq_a' enq_b d deq_a') (sym deqs)
-    (subst (λ e. IsOrderViolation operations enq_a' e deq_b' deq_a') (sym enqs) y.violates) in
-    let back = subst (λ d. IsOrderViolation operations enq_a enq_b' d deq_a) deqs
-    (subst (λ e. IsOrderViolation operations enq_a e deq_b deq_a) enqs x.violates) in
-    let both = both_stay (record { enqueue = enq_a; dequeue = deq_a }) (record { enqueue = enq_a'; dequeue = deq_a' }) (x.longest enq_a' deq_a' there)
-    (y.longest enq_a deq_a back) in
-    let firsts = same_return operations enq_a enq_a' complete x.violates.enqueues_a.0 y.violates.enqueues_a.0 both.1 in
-    let kinds : Enq x.violates.a ≡ Enq y.violates.a = sym x.violates.enqueues_a.1 ∙ ap (λ o. o.kind) firsts ∙ y.violates.enqueues_a.1 in
-    let alike : x.violates.a ≡ y.violates.a = cc in
-    let later = subst (λ d. MatchOption deq_a' (NoneDid operations (Deq y.violates.a)) (λ e. Did operations e (Deq y.violates.a) × Precedes d e))
-    (sym deqs) y.violates.dequeued_later in
-    let lasts = one_dequeue operations deq_b x.violates.a y.violates.a deq_a deq_a' complete alike x.violates.dequeued_later later both.0 in
+pub one_order : (operations : List Operation) (a b a' b' : Life) → AreComplete operations
+    → IsChosenOrderViolation operations a b → IsChosenOrderViolation operations a' b' → order a b ≡ order a' b'
+one_order operations a b a' b' complete x y =
+    let le = x.first a' b' y.violates in
+    let ge = y.first a b x.violates in
+    let bs = one_left operations b b' complete x.violates.is_b y.violates.is_b x.violates.is_dequeued y.violates.is_dequeued (omega arith) in
+    let both = both_stay a a' (x.longest a' (subst (IsOrderViolation operations a') (sym bs) y.violates))
+    (y.longest a (subst (IsOrderViolation operations a) bs x.violates)) in
+    let firsts = one_life operations a a' complete x.violates.is_a y.violates.is_a both.1 both.0 in
     cc
 
 one_next : (operations : List Operation) (frontier : ℕ) (x y : Life) → IsClear operations → IsNextOfCover operations frontier x
     → IsNextOfCover operations frontier y → x ≡ y
 one_next operations frontier x y clear next_x next_y =
     let both = both_stay x y (next_x.longest y next_y.is_life next_y.before_frontier) (next_y.longest x next_x.is_life next_x.before_frontier) in
-    let enqs = same_return operations (enqueue_of x) (enqueue_of y) clear.complete next_x.is_life.1.0 next_y.is_life.1.0 both.1 in
-    one_life_of_enqueue operations x y clear next_x.is_life next_y.is_life enqs
+    one_life operations x y clear.complete next_x.is_life next_y.is_life both.1 both.0
 
 -- one cover is chosen
 pub one_cover : (operations : List Operation) (empty : Operation) (frontier : ℕ) (xs ys : List Life) → IsClear operations
@@ -177,8 +186,8 @@ one_chosen_violation operations _ (fresh deq enq) complete x y = absurd (x.0 deq
 one_chosen_violation operations (repeat e f s) (repeat e' f' s') complete x y = one_repeat operations e e' f f' s s' complete x.1 y.1
 one_chosen_violation operations (repeat e f s) _ complete x y = absurd (y.1 e f s x.1.violates)
 one_chosen_violation operations _ (repeat e f s) complete x y = absurd (x.1 e f s y.1.violates)
-one_chosen_violation operations (order a b d c) (order a' b' d' c') complete x y = one_order operations a b d a' b' d' c c' complete x.2 y.2
-one_chosen_violation operations (order a b d c) (witness o lives) complete x y = absurd (y.2 a b d c x.2.violates)
-one_chosen_violation operations (witness o lives) (order a b d c) complete x y = absurd (x.2 a b d c y.2.violates)
+one_chosen_violation operations (order a b) (order a' b') complete x y = one_order operations a b a' b' complete x.2 y.2
+one_chosen_violation operations (order a b) (witness o lives) complete x y = absurd (y.2 a b x.2.violates)
+one_chosen_violation operations (witness o lives) (order a b) complete x y = absurd (x.2 a b y.2.violates)
 one_chosen_violation operations (witness o lives) (witness o' lives') complete x y =
     one_witness operations o o' lives lives' (are_clear operations complete x.0 x.1) x.3 y.3

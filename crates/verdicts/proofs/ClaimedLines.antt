@@ -1,15 +1,17 @@
 -- A violation's kind and lines tell which one it is. Which lines show a violation of each kind and which a cover, by the operations that
 -- they stand for; when lines are a linearization.
-use Rattle.verdicts.proofs.Common.{[], AllWithin, ap, AreLives, arith, Bool, CallsRise, cases_lt, ClaimLine, Contains}
-use Rattle.verdicts.proofs.Common.{covers_are_lives, CoversFrom, Deq, dequeue_of, Did, drop, Empty, Enq, enqueue_of}
-use Rattle.verdicts.proofs.Common.{Err, false, flat_map, fresh, FullViolation, get_or, get_or_default, HoldsAt, inl}
-use Rattle.verdicts.proofs.Common.{inr, IsBinarySearchResult, IsLife, IsNeverEnqueued, IsNonDecreasingBy}
-use Rattle.verdicts.proofs.Common.{IsOrderViolation, IsSearchInRange, IsTrue, IsViolationOf, length, Life, lines_of}
-use Rattle.verdicts.proofs.Common.{List, map, MatchBool, MatchOption, MatchResult, max, nat_cmp, nat_tests, None}
-use Rattle.verdicts.proofs.Common.{NoneDid, Not, Ok, Operation, operations_of_life, OpKind, Option, option_to_list}
-use Rattle.verdicts.proofs.Common.{order, Precedes, refl, repeat, Result, ShowsKind, Some, StandFor, StandForCover}
-use Rattle.verdicts.proofs.Common.{StandForLife, stands_for, subst, sym, true, VFresh, ViolationKind, VOrd, VRepeat}
-use Rattle.verdicts.proofs.Common.{VWit, witness, ℕ, ⊤, ◌++◌, ◌+◌, ◌<◌, ◌↔◌, ◌∙◌, ◌∷◌, ◌≡◌, ◌≢◌, ◌≤◌, ◌⊎◌}
+use Rattle.verdicts.proofs.Common.{[], AllWithin, ap, AreLives, arith, Bool, call_or_never, CallsRise, cases_lt}
+use Rattle.verdicts.proofs.Common.{ClaimLine, Contains, covers_are_lives, CoversFrom, Deq, dequeue_call}
+use Rattle.verdicts.proofs.Common.{dequeue_of, dequeued_if_called, Did, drop, Empty, Enq, enqueue_of, Err, false}
+use Rattle.verdicts.proofs.Common.{flat_map, fresh, FullViolation, get_or, get_or_default, HoldsAt, initial_enqueue}
+use Rattle.verdicts.proofs.Common.{inl, inr, IsBinarySearchResult, IsLife, IsNeverEnqueued, IsNonDecreasingBy}
+use Rattle.verdicts.proofs.Common.{IsOrderViolation, IsSearchInRange, IsTrue, IsViolationOf, later_by, length, Life}
+use Rattle.verdicts.proofs.Common.{lines_of, List, map, MatchBool, MatchOption, MatchResult, max, MAX_TICKET, nat_cmp}
+use Rattle.verdicts.proofs.Common.{nat_tests, NEVER, None, NoneDid, Not, Ok, Operation, operations_of_life}
+use Rattle.verdicts.proofs.Common.{OpKind, Option, option_to_list, order, ORIGIN, position, Precedes, refl, repeat}
+use Rattle.verdicts.proofs.Common.{Result, ShowsKind, Some, StandFor, StandForCover, StandForLife, stands_for, subst}
+use Rattle.verdicts.proofs.Common.{sym, true, VFresh, ViolationKind, VOrd, VRepeat, VWit, witness, ℕ, ⊤, ◌++◌, ◌+◌}
+use Rattle.verdicts.proofs.Common.{◌<◌, ◌↔◌, ◌∙◌, ◌∷◌, ◌≡◌, ◌≢◌, ◌≤◌, ◌⊎◌}
 use Rattle.std.specs.Ordering.{ordering_index}
 use Rattle.std.proofs.lemmas.Cmp.{ranked}
 use Rattle.verdicts.specs.Claims.{kind_of}
@@ -17,6 +19,10 @@ use Rattle.verdicts.specs.Inner.Claims.{ShowsViolation}
 use Rattle.verdicts.specs.Laws.{LinesTellViolation}
 use Rattle.verdicts.specs.declared.lookup.Lookup.{Lookup}
 use Rattle.linearizer.proofs.Positions.{some_injective}
+use Rattle.verdicts.specs.declared.verifying.ClaimLine.TheVariants.{Initial, Op}
+use Rattle.value_match.proofs.ToldPlaces.{mapped_option}
+use Rattle.std.specs.Prelude.{nat_eq, nat_le, ◌&&◌}
+use Rattle.std.proofs.lemmas.Option.{cond_some}
 
 -- ---- operations looked up by their calls
 
@@ -104,24 +110,31 @@ one_maybe None None same = refl
 one_maybe (Some d) (Some d') same = cc
 one_maybe _ _ same = cc
 
--- two violations of one kind with the same lines are one, if the kind isn't that of a cover
-pub lines_tell_others : (x y : FullViolation) → kind_of x ≡ kind_of y → lines_of x ≡ lines_of y → kind_of x ≢ VWit → x ≡ y
-lines_tell_others (fresh deq enq) (fresh deq' enq') kinds lines other = let last = one_maybe enq enq' (cc) in cc
-lines_tell_others (repeat enq first second) (repeat enq' first' second') kinds lines other = cc
-lines_tell_others (order enq_a enq_b deq_b deq_a) (order enq_a' enq_b' deq_b' deq_a') kinds lines other =
-    let last = one_maybe deq_a deq_a' (cc) in cc
-lines_tell_others (witness empty cover) y kinds lines other = absurd (other refl)
-lines_tell_others _ _ kinds lines other = cc
+-- two pairs of values with the same lines are one, where the second of each is dequeued
+one_pair : (a b a' b' : Life) → dequeue_call b < NEVER → dequeue_call b' < NEVER → lines_of (order a b) ≡ lines_of (order a' b') → order a b ≡ order a' b'
+one_pair a b a' b' called called' lines =
+    let (d, at) = dequeued_if_called b called in
+    let (d', at') = dequeued_if_called b' called' in
+    let first : enqueue_of a ≡ enqueue_of a' = cc in
+    let second : enqueue_of b ≡ enqueue_of b' = cc in
+    let rest : option_to_list (dequeue_of b) ++ option_to_list (dequeue_of a) ≡ option_to_list (dequeue_of b') ++ option_to_list (dequeue_of a') = cc in
+    let named : d ∷ option_to_list (dequeue_of a) ≡ d' ∷ option_to_list (dequeue_of a') = rw (at, at') at rest in
+    let one : dequeue_of b ≡ dequeue_of b' = at ∙ ap (λ o. Some o) (cc) ∙ sym at' in
+    let last = one_maybe (dequeue_of a) (dequeue_of a') (cc) in
+    λ i. order (record { enqueue = first i; dequeue = last i }) (record { enqueue = second i; dequeue = one i })
 
 -- two violations of one kind with the same lines are one
 pub lines_tell_violation : LinesTellViolation
+lines_tell_violation operations others (fresh deq enq) (fresh deq' enq') is is' kinds lines = let last = one_maybe enq enq' (cc) in cc
+lines_tell_violation operations others (repeat enq first second) (repeat enq' first' second') is is' kinds lines = cc
+lines_tell_violation operations others (order a b) (order a' b') is is' kinds lines = one_pair a b a' b' is.is_dequeued is'.is_dequeued lines
 lines_tell_violation operations others (witness empty cover) (witness empty' cover') is is' kinds lines =
     let one : empty ≡ empty' = cc in
     let later : flat_map operations_of_life cover ≡ flat_map operations_of_life cover' = cc in
-    let covers = one_cover cover cover' (covers_are_lives operations empty empty cover is.covers)
-    (covers_are_lives others empty' empty' cover' is'.covers) later in
+    let covers = one_cover cover cover' (covers_are_lives operations empty empty.call cover is.covers)
+    (covers_are_lives others empty' empty'.call cover' is'.covers) later in
     cc
-lines_tell_violation operations others x y is is' kinds lines = lines_tell_others x y kinds lines (λ same. cc)
+lines_tell_violation operations others _ _ is is' kinds lines = cc
 
 -- two equivalences, one after the other
 pub through : {P Q R : Type 0} → P ↔ Q → Q ↔ R → P ↔ R
@@ -157,28 +170,6 @@ is_life operations enqueue dequeue v is = (
   λ life. let same : life.0 ≡ v = same_enq (sym life.1.1 ∙ is) in ((life.1.0, is), subst (λ w. HasDequeue operations w dequeue) same life.2),
 )
 
--- a is dequeued after b, or never
-abbrev pub IsDequeuedLater : List Operation → Operation → ℕ → Option Operation → Type 0
-IsDequeuedLater operations deq_b a deq_a = MatchOption deq_a (NoneDid operations (Deq a)) (λ d. Did operations d (Deq a) × Precedes deq_b d)
-
--- when operations are an order violation
-pub is_order : (operations : List Operation) (enq_a enq_b deq_b : Operation) (deq_a : Option Operation) (a b : ℕ) → enq_a.kind ≡ Enq a → enq_b.kind ≡ Enq b
-    → (Did operations enq_a (Enq a) × Did operations enq_b (Enq b) × Did operations deq_b (Deq b) × Precedes enq_a enq_b
-    × IsDequeuedLater operations deq_b a deq_a)
-    ↔ IsOrderViolation operations enq_a enq_b deq_b deq_a
-is_order operations enq_a enq_b deq_b deq_a a b is_a is_b = (
-  λ h. record { a = a; b = b; enqueues_a = h.0; enqueues_b = h.1; dequeues_b = h.2; enqueued_first = h.3; dequeued_later = h.4 },
-  λ h.
-      let same_a : h.a ≡ a = same_enq (sym h.enqueues_a.1 ∙ is_a) in
-      let same_b : h.b ≡ b = same_enq (sym h.enqueues_b.1 ∙ is_b) in (
-        (h.enqueues_a.0, is_a),
-        (h.enqueues_b.0, is_b),
-        subst (λ w. Did operations deq_b (Deq w)) same_b h.dequeues_b,
-        h.enqueued_first,
-        subst (λ w. IsDequeuedLater operations deq_b w deq_a) same_a h.dequeued_later,
-      ),
-)
-
 module _ (f : Lookup) where
   -- what a line stands for
   abbrev pub stands : ClaimLine → Option Operation
@@ -186,53 +177,80 @@ module _ (f : Lookup) where
 
   -- ---- lines of a cover
 
-  -- a life that begins before an operation
-  abbrev BeginsBefore : Operation → Operation → Option Operation → Type 0
-  BeginsBefore before e d = IsLife f.timeline.now (record { enqueue = e; dequeue = d }) × Precedes e before
+  -- a life that begins before the frontier
+  abbrev BeginsBefore : ℕ → Operation → Option Operation → Type 0
+  BeginsBefore frontier e d = IsLife f.timeline.now (record { enqueue = e; dequeue = d }) × (e.ret < frontier)
+
+  -- a dequeue that a line stands for is called within the scale
+  stood_in_range : (line : ClaimLine) (d : Operation) (v : ℕ) → stands line ≡ Some d → d.kind ≡ Deq v → d.call < NEVER
+  stood_in_range (Op o) d v at is = let told = cond_some (nat_le o.call MAX_TICKET && nat_le o.ret MAX_TICKET) (later_by ORIGIN o) d at in
+      let call : o.call + ORIGIN ≡ d.call = ap (λ (x : Operation). x.call) told.1 in grind (arith, nat_tests, told.0)
+  stood_in_range (Initial w) d v at is =
+      let found = mapped_option (λ j. initial_enqueue (length f.initial.now) j w) (position (λ u. nat_eq u w) f.initial.now) d at in
+      let kinds : Enq w ≡ Deq v = ap (λ (x : Operation). x.kind) found.2 ∙ is in
+      cc
 
   -- lines that stand for those of a cover, by its lives
-  last_life : (empty before e : Operation) (d : Option Operation) (lines : List ClaimLine) → StandFor f.initial.now lines (e ∷ (option_to_list d ++ []))
-      → BeginsBefore before e d → MatchOption d ⊤ (λ d. Precedes empty d) → StandForCover f empty before lines
-  last_life empty before e None (l ∷ []) same begins past = (e, (cc), begins.0, begins.1)
-  last_life empty before e (Some d) (l ∷ m ∷ []) same begins past = (e, d, ((cc), (cc), begins.0, begins.1), past)
-  last_life empty before e None _ same begins past = cc
-  last_life empty before e (Some d) _ same begins past = cc
+  last_life : (empty : Operation) (frontier : ℕ) (e : Operation) (d : Option Operation) (lines : List ClaimLine)
+      → StandFor f.initial.now lines (e ∷ (option_to_list d ++ [])) → BeginsBefore frontier e d → empty.ret < call_or_never d
+      → StandForCover f empty frontier lines
+  last_life empty frontier e None (l ∷ []) same begins past = (e, (cc), begins.0, begins.1, past)
+  last_life empty frontier e (Some d) (l ∷ m ∷ []) same begins past =
+      let at : stands m ≡ Some d = cc in
+      (e, d, ((cc), at, begins.0, begins.1, stood_in_range m d begins.0.0 at begins.0.2.1), past)
+  last_life empty frontier e None _ same begins past = cc
+  last_life empty frontier e (Some d) _ same begins past = cc
 
-  further_life : (empty before e : Operation) (d : Option Operation) (next : Life) (rest : List Life) (lines : List ClaimLine)
-      → StandFor f.initial.now lines (e ∷ (option_to_list d ++ flat_map operations_of_life (next ∷ rest))) → BeginsBefore before e d
-      → MatchOption d ⊥ (λ d. CoversFrom f.timeline.now empty d (next ∷ rest))
-      → ((d : Operation) (later : List ClaimLine) → StandFor f.initial.now later (flat_map operations_of_life (next ∷ rest))
-      → CoversFrom f.timeline.now empty d (next ∷ rest) → StandForCover f empty d later)
-      → StandForCover f empty before lines
-  further_life empty before e None next rest lines same begins none more = absurd none
-  further_life empty before e (Some d) next rest (l ∷ m ∷ n ∷ lines) same begins covers more =
-      (e, d, ((cc), (cc), begins.0, begins.1), more d (n ∷ lines) (cc) covers)
-  further_life empty before e (Some d) next rest _ same begins covers more = cc
+  further_life : (empty : Operation) (frontier : ℕ) (e : Operation) (d : Option Operation) (next : Life) (rest : List Life) (lines : List ClaimLine)
+      → StandFor f.initial.now lines (e ∷ (option_to_list d ++ flat_map operations_of_life (next ∷ rest))) → BeginsBefore frontier e d
+      → call_or_never d < NEVER → ((later : List ClaimLine) → StandFor f.initial.now later (flat_map operations_of_life (next ∷ rest))
+      → StandForCover f empty (call_or_never d) later)
+      → StandForCover f empty frontier lines
+  further_life empty frontier e None next rest lines same begins called more = absurd (omega arith)
+  further_life empty frontier e (Some d) next rest (l ∷ m ∷ n ∷ lines) same begins called more =
+      (e, d, ((cc), (cc), begins.0, begins.1, called), more (n ∷ lines) (cc))
+  further_life empty frontier e (Some d) next rest _ same begins called more = cc
 
-  cover_lines : (empty before : Operation) (cover : List Life) (lines : List ClaimLine) → StandFor f.initial.now lines (flat_map operations_of_life cover)
-      → CoversFrom f.timeline.now empty before cover → StandForCover f empty before lines
-  cover_lines empty before [] lines same covers = absurd covers
-  cover_lines empty before (life ∷ []) lines same covers =
-      last_life empty before (enqueue_of life) (dequeue_of life) lines same (covers.0, covers.1) covers.2
-  cover_lines empty before (life ∷ next ∷ rest) lines same covers =
-      further_life empty before (enqueue_of life) (dequeue_of life) next rest lines same (covers.0, covers.1) covers.2
-      (λ d later same' covers'. cover_lines empty d (next ∷ rest) later same' covers')
+  cover_lines : (empty : Operation) (frontier : ℕ) (cover : List Life) (lines : List ClaimLine) → StandFor f.initial.now lines (flat_map operations_of_life cover)
+      → CoversFrom f.timeline.now empty frontier cover → StandForCover f empty frontier lines
+  cover_lines empty frontier [] lines same covers = absurd covers
+  cover_lines empty frontier (life ∷ []) lines same covers =
+      last_life empty frontier (enqueue_of life) (dequeue_of life) lines same (covers.0, covers.1) covers.2
+  cover_lines empty frontier (life ∷ next ∷ rest) lines same covers =
+      further_life empty frontier (enqueue_of life) (dequeue_of life) next rest lines same (covers.0, covers.1) covers.2
+      (λ later same'. cover_lines empty (dequeue_call life) (next ∷ rest) later same' covers.3)
 
   -- a cover that lines stand for
-  shown_cover : (empty before : Operation) (lines : List ClaimLine) → StandForCover f empty before lines
-      → (cover : List Life) × StandFor f.initial.now lines (flat_map operations_of_life cover) × CoversFrom f.timeline.now empty before cover
-  shown_cover empty before [] covers = absurd covers
-  shown_cover empty before (l ∷ []) (e, at, is, begins) = (record { enqueue = e; dequeue = None } ∷ [], λ i. at i ∷ [], (is, begins, tt))
-  shown_cover empty before (l ∷ m ∷ []) (e, d, life, past) =
+  shown_cover : (empty : Operation) (frontier : ℕ) (lines : List ClaimLine) → StandForCover f empty frontier lines
+      → (cover : List Life) × StandFor f.initial.now lines (flat_map operations_of_life cover) × CoversFrom f.timeline.now empty frontier cover
+  shown_cover empty frontier [] covers = absurd covers
+  shown_cover empty frontier (l ∷ []) (e, at, is, begins, past) =
+      (record { enqueue = e; dequeue = None } ∷ [], λ i. at i ∷ [], (is, begins, past))
+  shown_cover empty frontier (l ∷ m ∷ []) (e, d, life, past) =
       (record { enqueue = e; dequeue = Some d } ∷ [], λ i. life.0 i ∷ life.1 i ∷ [], (life.2, life.3, past))
-  shown_cover empty before (l ∷ m ∷ n ∷ lines) (e, d, life, more) =
-      let later = shown_cover empty d (n ∷ lines) more in
+  shown_cover empty frontier (l ∷ m ∷ n ∷ lines) (e, d, life, more) =
+      let later = shown_cover empty d.call (n ∷ lines) more in
       (record { enqueue = e; dequeue = Some d } ∷ later.0, λ i. life.0 i ∷ life.1 i ∷ later.1 i, with_first later.0 later.2)
     where
-      with_first : (cover : List Life) → CoversFrom f.timeline.now empty d cover
-          → CoversFrom f.timeline.now empty before (record { enqueue = e; dequeue = Some d } ∷ cover)
+      with_first : (cover : List Life) → CoversFrom f.timeline.now empty d.call cover
+          → CoversFrom f.timeline.now empty frontier (record { enqueue = e; dequeue = Some d } ∷ cover)
       with_first [] covers = absurd covers
-      with_first (next ∷ rest) covers = (life.2, life.3, covers)
+      with_first (next ∷ rest) covers = (life.2, life.3, life.4, covers)
+
+  -- lines that stand for those of two values
+  order_lines : (a b : Life) (lines : List ClaimLine) → StandFor f.initial.now lines (lines_of (order a b)) → IsOrderViolation f.timeline.now a b
+      → ShowsKind f VOrd lines
+  order_lines a b lines are is = by_dequeues (dequeue_of a) (dequeue_of b) lines are is is.is_dequeued
+    where
+      by_dequeues : (c d : Option Operation) (lines : List ClaimLine)
+          → StandFor f.initial.now lines (enqueue_of a ∷ enqueue_of b ∷ (option_to_list d ++ option_to_list c))
+          → IsOrderViolation f.timeline.now (record { enqueue = enqueue_of a; dequeue = c }) (record { enqueue = enqueue_of b; dequeue = d })
+          → call_or_never d < NEVER → ShowsKind f VOrd lines
+      by_dequeues c None lines are is called = absurd (omega arith)
+      by_dequeues None (Some d) (l ∷ m ∷ n ∷ []) are is called = (enqueue_of a, enqueue_of b, d, (cc), (cc), (cc), is)
+      by_dequeues (Some c) (Some d) (l ∷ m ∷ n ∷ k ∷ []) are is called = (enqueue_of a, enqueue_of b, d, c, (cc), (cc), (cc), (cc), is)
+      by_dequeues None (Some d) _ are is called = cc
+      by_dequeues (Some c) (Some d) _ are is called = cc
 
   -- lines of a violation's kind are those of one
   kind_lines : (full : FullViolation) (kind : ViolationKind) (lines : List ClaimLine) → kind_of full ≡ kind → StandFor f.initial.now lines (lines_of full)
@@ -240,9 +258,8 @@ module _ (f : Lookup) where
   kind_lines (fresh d None) VFresh (l ∷ []) same are is = (d, (cc), is)
   kind_lines (fresh d (Some e)) VFresh (l ∷ m ∷ []) same are is = (d, e, (cc), (cc), is)
   kind_lines (repeat x y z) VRepeat (l ∷ m ∷ n ∷ []) same are is = (x, y, z, (cc), (cc), (cc), is)
-  kind_lines (order a b d None) VOrd (l ∷ m ∷ n ∷ []) same are is = (a, b, d, (cc), (cc), (cc), is)
-  kind_lines (order a b d (Some c)) VOrd (l ∷ m ∷ n ∷ k ∷ []) same are is = (a, b, d, c, (cc), (cc), (cc), (cc), is)
-  kind_lines (witness o cover) VWit (l ∷ lines) same are is = (o, (cc), is.answers_empty, cover_lines o o cover lines (cc) is.covers)
+  kind_lines (order a b) VOrd lines same are is = order_lines a b lines are is
+  kind_lines (witness o cover) VWit (l ∷ lines) same are is = (o, (cc), is.answers_empty, cover_lines o o.call cover lines (cc) is.covers)
   kind_lines _ _ _ same are is = cc
 
   shown_kind : (kind : ViolationKind) (lines : List ClaimLine) → ShowsKind f kind lines
@@ -252,11 +269,14 @@ module _ (f : Lookup) where
   shown_kind VRepeat (l ∷ m ∷ n ∷ []) (x, y, z, at, at', at'', is) =
       (x ∷ y ∷ z ∷ [], λ i. at i ∷ at' i ∷ at'' i ∷ [], (repeat x y z, refl, refl, is))
   shown_kind VOrd (l ∷ m ∷ n ∷ []) (a, b, d, at, at', at'', is) =
-      (a ∷ b ∷ d ∷ [], λ i. at i ∷ at' i ∷ at'' i ∷ [], (order a b d None, refl, refl, is))
-  shown_kind VOrd (l ∷ m ∷ n ∷ k ∷ []) (a, b, d, c, at, at', at'', last, is) =
-      (a ∷ b ∷ d ∷ c ∷ [], λ i. at i ∷ at' i ∷ at'' i ∷ last i ∷ [], (order a b d (Some c), refl, refl, is))
+      (a ∷ b ∷ d ∷ [], λ i. at i ∷ at' i ∷ at'' i ∷ [], (order (record { enqueue = a; dequeue = None }) (record { enqueue = b; dequeue = Some d }), refl, refl, is))
+  shown_kind VOrd (l ∷ m ∷ n ∷ k ∷ []) (a, b, d, c, at, at', at'', last, is) = (
+    a ∷ b ∷ d ∷ c ∷ [],
+    λ i. at i ∷ at' i ∷ at'' i ∷ last i ∷ [],
+    (order (record { enqueue = a; dequeue = Some c }) (record { enqueue = b; dequeue = Some d }), refl, refl, is),
+  )
   shown_kind VWit (l ∷ lines) (e, at, did, covers) =
-      let cover = shown_cover e e lines covers in
+      let cover = shown_cover e e.call lines covers in
       (e ∷ flat_map operations_of_life cover.0, λ i. at i ∷ cover.1 i, (witness e cover.0, refl, refl, record { answers_empty = did; covers = cover.2 }))
   shown_kind _ _ shows = absurd shows
 
@@ -270,21 +290,21 @@ module _ (f : Lookup) where
 
   -- the first line is the empty answer, the others stand for its cover
   pub witness_lines_are : (lines : List ClaimLine) (d : ClaimLine) (x : Operation) → 1 ≤ length lines → stands (get_or lines 0 d) ≡ Some x
-      → (Did f.timeline.now x Empty × StandForCover f x x (drop 1 lines)) ↔ ShowsKind f VWit lines
+      → (Did f.timeline.now x Empty × StandForCover f x x.call (drop 1 lines)) ↔ ShowsKind f VWit lines
   witness_lines_are [] d x long at = absurd (omega arith)
   witness_lines_are (l ∷ lines) d x long at = (
     λ (did, covers). (x, at, did, covers),
-    λ (e, at', did, covers). subst (λ o. Did f.timeline.now o Empty × StandForCover f o o lines) (some_injective (sym at' ∙ at)) (did, covers),
+    λ (e, at', did, covers). subst (λ o. Did f.timeline.now o Empty × StandForCover f o o.call lines) (some_injective (sym at' ∙ at)) (did, covers),
   )
 
   -- more lines that begin with a life stand for a cover where the later ones do, from its dequeue on
-  pub more_lines_cover : (empty before : Operation) (lines : List ClaimLine) (d : ClaimLine) (e x : Operation) → 3 ≤ length lines
-      → StandForLife f before (get_or lines 0 d) (get_or lines 1 d) e x → StandForCover f empty x (drop 2 lines) ↔ StandForCover f empty before lines
-  more_lines_cover empty before (l ∷ m ∷ n ∷ lines) d e x long life = (
+  pub more_lines_cover : (empty : Operation) (frontier : ℕ) (lines : List ClaimLine) (d : ClaimLine) (e x : Operation) → 3 ≤ length lines
+      → StandForLife f frontier (get_or lines 0 d) (get_or lines 1 d) e x → StandForCover f empty x.call (drop 2 lines) ↔ StandForCover f empty frontier lines
+  more_lines_cover empty frontier (l ∷ m ∷ n ∷ lines) d e x long life = (
     λ covers. (e, x, life, covers),
-    λ (e', x', life', covers). subst (λ o. StandForCover f empty o (n ∷ lines)) (some_injective (sym life'.1 ∙ life.1)) covers,
+    λ (e', x', life', covers). subst (λ o. StandForCover f empty o.call (n ∷ lines)) (some_injective (sym life'.1 ∙ life.1)) covers,
   )
-  more_lines_cover empty before _ d e x long life = absurd (omega arith)
+  more_lines_cover empty frontier _ d e x long life = absurd (omega arith)
 
 -- ---- precedence
 

@@ -62,6 +62,9 @@ pub use Rattle.value_match.specs.Choice.{StaysAtLeast}
 pub use Rattle.value_match.specs.Timeline.{behind, initial_enqueue, initial_time, time_of}
 pub use Rattle.value_match.specs.Lives.{AreLeastFreeGaps, call_or_never, Covers, dequeue_call, dequeue_of}
 pub use Rattle.value_match.specs.Lives.{dequeue_return, enqueue_of, enqueue_return, is_empty_answer, IsCovered}
+pub use Rattle.value_match.specs.Lives.{enqueue_call, return_or_never}
+pub use Rattle.value_match.specs.declared.life.TheConstants.{NEVER}
+pub use Rattle.order_violation.proofs.Chosen.{did_dequeue}
 pub use Rattle.value_match.specs.Lives.{IsLeastFreeGap, IsLife, IsMaybeAt, leaves_from, lives_of, operations_of_life}
 pub use Rattle.value_match.specs.Outcome.{IsChosenViolation, IsMatched, IsMaybeOperation, IsOperation, IsSource, Names}
 pub use Rattle.value_match.specs.Outcome.{NamesCover, NamesStep}

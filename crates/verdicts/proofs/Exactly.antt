@@ -1,18 +1,17 @@
 -- A complete history has a linearization if and only if it has no violation: beside one no order is legal, and without one there is one.
 use Rattle.verdicts.proofs.Common.{[], accept, accept_all, AllZip, ap, append-nil, AreComplete, AreLeastFreeGaps}
-use Rattle.verdicts.proofs.Common.{arith, call_by_return, cases_order, chosen_cover, chosen_order_exists, Contains}
-use Rattle.verdicts.proofs.Common.{Contains-permutation, contains_at, CoversFrom, Deq, dequeue_of, Did, Empty, Enq}
-use Rattle.verdicts.proofs.Common.{enqueue_of, eq-eqb, few_initial, filter, fresh, FullViolation, inl, inr}
-use Rattle.verdicts.proofs.Common.{is_empty_answer}
-use Rattle.verdicts.proofs.Common.{IsAccepted, IsClear, IsEnqueuedTooLate, IsLeastFreeGap, IsLegalOrder, IsLife}
-use Rattle.verdicts.proofs.Common.{IsLinearizable, IsNeverEnqueued, IsOrderViolation, IsPermutation-sym}
-use Rattle.verdicts.proofs.Common.{IsRepeatViolation, IsSome, IsViolationOf, Life, linearizable_from_exactly}
-use Rattle.verdicts.proofs.Common.{List, map, MatchOption}
-use Rattle.verdicts.proofs.Common.{no_enqueue, None, NoneDid, NoOrderViolation, Not, NoWitnessViolation}
-use Rattle.verdicts.proofs.Common.{one_deeper, Operation}
-use Rattle.verdicts.proofs.Common.{OpKind, Option, option_map, order, pairs_at, Precedes, refl, repeat, rules}
-use Rattle.verdicts.proofs.Common.{slice_get, Some, sym, take, timeline, witness, zero, ℕ, ⊤, ◌++◌, ◌<◌, ◌∙◌}
-use Rattle.verdicts.proofs.Common.{◌∷◌, ◌≡◌, ◌≤◌, ◌⊎◌}
+use Rattle.verdicts.proofs.Common.{arith, call_by_return, call_or_never, cases_order, chosen_cover}
+use Rattle.verdicts.proofs.Common.{chosen_order_exists, Contains, Contains-permutation, contains_at, CoversFrom, Deq}
+use Rattle.verdicts.proofs.Common.{dequeue_call, dequeue_of, dequeue_return, dequeued_if_called, Did, did_dequeue}
+use Rattle.verdicts.proofs.Common.{Empty, Enq, enqueue_of, eq-eqb, few_initial, filter, fresh, FullViolation, inl, inr}
+use Rattle.verdicts.proofs.Common.{is_empty_answer, IsAccepted, IsClear, IsEnqueuedTooLate, IsLeastFreeGap}
+use Rattle.verdicts.proofs.Common.{IsLegalOrder, IsLife, IsLinearizable, IsNeverEnqueued, IsOrderViolation}
+use Rattle.verdicts.proofs.Common.{IsPermutation-sym, IsRepeatViolation, IsSome, IsViolationOf, Life}
+use Rattle.verdicts.proofs.Common.{linearizable_from_exactly, List, map, MatchOption, no_enqueue, None, NoneDid}
+use Rattle.verdicts.proofs.Common.{NoOrderViolation, Not, NoWitnessViolation, one_deeper, Operation, OpKind, Option}
+use Rattle.verdicts.proofs.Common.{option_map, order, pairs_at, Precedes, refl, repeat, return_or_never, rules}
+use Rattle.verdicts.proofs.Common.{slice_get, Some, sym, take, timeline, witness, zero, ℕ, ◌++◌, ◌<◌, ◌∙◌, ◌∷◌, ◌≡◌}
+use Rattle.verdicts.proofs.Common.{◌≤◌, ◌⊎◌}
 use Rattle.std.proofs.lemmas.Option.{slice_get-map}
 use Rattle.value_match.proofs.ToldPlaces.{mapped_option}
 use Rattle.history_merge.proofs.Distinct.{calls-IsPermutation, calls_of_kind, count, count-append, count-le-calls}
@@ -191,26 +190,32 @@ module _ (operations listed : List Operation) (complete : AreComplete operations
     | inr (inr above) ↦ absurd (not_later j i y x at_y at_x above precedes)
   ]
 
-  -- a dequeue of a that stands before that of b is not the later one, and there is no other
-  not_dequeued_later : (a : ℕ) (deq_b : Operation) (later : Option Operation)
-      → MatchOption later (NoneDid operations (Deq a)) (λ d. Did operations d (Deq a) × Precedes deq_b d)
-      → (i k : ℕ) (o : Operation) → i < k → slice_get listed i ≡ Some o → o.kind ≡ Deq a → slice_get listed k ≡ Some deq_b → ⊥
-  not_dequeued_later a deq_b None none i k o below at is at_k = none o (is_operation i o at) is
-  not_dequeued_later a deq_b (Some d) said i k o below at is at_k = not_later i k d deq_b (stands_there i a o d at is said.0) at_k below said.1
+  -- a dequeue of a value that stands before an operation wasn't called after it, and a value that is dequeued has its one dequeue
+  not_left_later : (v time : ℕ) (prior : Operation) (named : Option Operation) → MatchOption named (NoneDid operations (Deq v)) (λ d. Did operations d (Deq v))
+      → prior.ret ≡ time → time < call_or_never named → (i k : ℕ) (o : Operation) → i < k → slice_get listed i ≡ Some o → o.kind ≡ Deq v
+      → slice_get listed k ≡ Some prior → ⊥
+  not_left_later v time prior None none same later i k o below at is at_k = none o (is_operation i o at) is
+  not_left_later v time prior (Some d) did same later i k o below at is at_k =
+      not_later i k d prior (stands_there i v o d at is did) at_k below (omega arith)
 
-  excludes_order : (enq_a enq_b deq_b : Operation) (deq_a : Option Operation) → IsOrderViolation operations enq_a enq_b deq_b deq_a → ⊥
-  excludes_order enq_a enq_b deq_b deq_a violation =
-      let x = place_of enq_a violation.enqueues_a.0 in
-      let y = place_of enq_b violation.enqueues_b.0 in
-      let z = place_of deq_b violation.dequeues_b.0 in
-      let first = enqueues_differ x.0 y.0 enq_a enq_b x.1 y.1 violation.enqueued_first in
-      let put = enqueue_before z.0 violation.b deq_b z.1 violation.dequeues_b.1 in
-      let same = call_has_one_place put.0 y.0 violation.b put.1 enq_b put.3 y.1 (calls_it violation.b put.1.kind (inl put.4))
-      (calls_it violation.b enq_b.kind (inl violation.enqueues_b.1)) in
-      let stands = dequeued_before x.0 y.0 z.0 violation.a violation.b enq_a enq_b deq_b x.1 violation.enqueues_a.1 y.1 violation.enqueues_b.1 z.1
-      violation.dequeues_b.1 first (omega (arith, put.2)) in
-      let found = operation_at listed stands.0 (Deq violation.a) stands.2 in
-      not_dequeued_later violation.a deq_b deq_a violation.dequeued_later stands.0 z.0 found.0 stands.1 found.1 found.2 z.1
+  excludes_order : (a b : Life) → IsOrderViolation operations a b → ⊥
+  excludes_order a b violation =
+      let v = violation.is_a.0 in
+      let w = violation.is_b.0 in
+      let dequeue = dequeued_if_called b violation.is_dequeued in
+      let did = did_dequeue operations b dequeue.0 violation.is_b dequeue.1 in
+      let x = place_of (enqueue_of a) violation.is_a.1.0 in
+      let y = place_of (enqueue_of b) violation.is_b.1.0 in
+      let z = place_of dequeue.0 did.0 in
+      let first = enqueues_differ x.0 y.0 (enqueue_of a) (enqueue_of b) x.1 y.1 violation.overtakes.0 in
+      let put = enqueue_before z.0 w dequeue.0 z.1 did.1 in
+      let same = call_has_one_place put.0 y.0 w put.1 (enqueue_of b) put.3 y.1 (calls_it w put.1.kind (inl put.4))
+      (calls_it w (enqueue_of b).kind (inl violation.is_b.1.1)) in
+      let stands = dequeued_before x.0 y.0 z.0 v w (enqueue_of a) (enqueue_of b) dequeue.0 x.1 violation.is_a.1.1 y.1 violation.is_b.1.1 z.1
+      did.1 first (omega (arith, put.2)) in
+      let found = operation_at listed stands.0 (Deq v) stands.2 in
+      not_left_later v (dequeue_return b) dequeue.0 (dequeue_of a) violation.is_a.2 (sym (ap return_or_never dequeue.1)) violation.overtakes.1
+      stands.0 z.0 found.0 stands.1 found.1 found.2 z.1
 
   -- nothing that was put in before an empty answer is still there, so its dequeue stands before the answer
   gone_at_empty : (j v : ℕ) (o : Operation) → slice_get listed j ≡ Some o → o.kind ≡ Empty → (i : ℕ) (x : Operation) → slice_get listed i ≡ Some x
@@ -236,37 +241,27 @@ module _ (operations listed : List Operation) (complete : AreComplete operations
       let found = operation_at listed stands.0 (Deq is.0) stands.2 in
       (stands.0, found.0, stands.1, found.1, found.2)
 
-  excludes_cover : (j : ℕ) (empty : Operation) → slice_get listed j ≡ Some empty → empty.kind ≡ Empty
-      → (cover : List Life) (p : ℕ) (prior : Operation) → slice_get listed p ≡ Some prior → p ≤ j → CoversFrom operations empty prior cover → ⊥
-  excludes_cover j empty at is [] p prior at_p near covers = covers
-  excludes_cover j empty at is (life ∷ []) p prior at_p near covers =
-      let gone = dequeued_first j empty at is life covers.0 p prior at_p near covers.1 in
-      last (dequeue_of life) covers.0.2 covers.2 gone.0 gone.1 gone.2 gone.3 gone.4
-    where
-      -- the named dequeue is the one that stands before the answer, and so comes no later
-      last : (dequeue : Option Operation) → MatchOption dequeue (NoneDid operations (Deq covers.0.0)) (λ d. Did operations d (Deq covers.0.0))
-          → MatchOption dequeue ⊤ (λ d. Precedes empty d) → (i : ℕ) (o : Operation) → i < j → slice_get listed i ≡ Some o → o.kind ≡ Deq covers.0.0 → ⊥
-      last None none after i o below at_i is_i = none o (is_operation i o at_i) is_i
-      last (Some d) did after i o below at_i is_i = not_later i j d empty (stands_there i covers.0.0 o d at_i is_i did) at below after
-  excludes_cover j empty at is (life ∷ next ∷ rest) p prior at_p near covers =
-      let gone = dequeued_first j empty at is life covers.0 p prior at_p near covers.1 in
-      step (dequeue_of life) covers.0.2 covers.2 gone.0 gone.1 gone.2 gone.3 gone.4 (excludes_cover j empty at is (next ∷ rest))
-    where
-      step : (dequeue : Option Operation) → MatchOption dequeue (NoneDid operations (Deq covers.0.0)) (λ d. Did operations d (Deq covers.0.0))
-          → MatchOption dequeue ⊥ (λ d. CoversFrom operations empty d (next ∷ rest))
-          → (i : ℕ) (o : Operation) → i < j → slice_get listed i ≡ Some o → o.kind ≡ Deq covers.0.0
-          → ((p : ℕ) (prior : Operation) → slice_get listed p ≡ Some prior → p ≤ j → CoversFrom operations empty prior (next ∷ rest) → ⊥) → ⊥
-      step None none unnamed i o below at_i is_i more = unnamed
-      step (Some d) did further i o below at_i is_i more = more i d (stands_there i covers.0.0 o d at_i is_i did) (omega arith) further
+  excludes_cover : (j : ℕ) (empty : Operation) → slice_get listed j ≡ Some empty → empty.kind ≡ Empty → (cover : List Life) (p : ℕ) (prior : Operation)
+      → slice_get listed p ≡ Some prior → p ≤ j → (frontier : ℕ) → prior.call ≡ frontier → CoversFrom operations empty frontier cover → ⊥
+  excludes_cover j empty at is [] p prior at_p near frontier same covers = covers
+  excludes_cover j empty at is (life ∷ []) p prior at_p near frontier same covers =
+      let gone = dequeued_first j empty at is life covers.0 p prior at_p near (omega (arith, covers.1)) in
+      not_left_later covers.0.0 empty.ret empty (dequeue_of life) covers.0.2 refl covers.2 gone.0 j gone.1 gone.2 gone.3 gone.4 at
+  excludes_cover j empty at is (life ∷ next ∷ rest) p prior at_p near frontier same covers =
+      let gone = dequeued_first j empty at is life covers.0 p prior at_p near (omega (arith, covers.1)) in
+      let dequeue = dequeued_if_called life covers.2 in
+      let did = did_dequeue operations life dequeue.0 covers.0 dequeue.1 in
+      excludes_cover j empty at is (next ∷ rest) gone.0 dequeue.0 (stands_there gone.0 covers.0.0 gone.1 dequeue.0 gone.3 gone.4 did) (omega (arith, gone.2))
+      (dequeue_call life) (sym (ap call_or_never dequeue.1)) covers.3
 
   excludes_violation : (full : FullViolation) → IsViolationOf operations full → ⊥
   excludes_violation (fresh deq None) violation = excludes_never deq violation
   excludes_violation (fresh deq (Some enq)) violation = excludes_late deq enq violation
   excludes_violation (repeat enq first second) violation = excludes_repeat enq first second violation
-  excludes_violation (order enq_a enq_b deq_b deq_a) violation = excludes_order enq_a enq_b deq_b deq_a violation
+  excludes_violation (order a b) violation = excludes_order a b violation
   excludes_violation (witness empty cover) violation =
       let place = place_of empty violation.answers_empty.0 in
-      excludes_cover place.0 empty place.1 violation.answers_empty.1 cover place.0 empty place.1 (omega arith) violation.covers
+      excludes_cover place.0 empty place.1 violation.answers_empty.1 cover place.0 empty place.1 (omega arith) empty.call refl violation.covers
 
 -- a violation excludes each linearization
 pub violation_excludes_order : (initial : List ℕ) (operations : List Operation) (full : FullViolation) → AreComplete (timeline initial operations)
@@ -311,5 +306,5 @@ linearizable_without initial operations complete none =
       no_fresh = λ deq enq. none (fresh deq enq);
       no_repeat = λ enq first second. none (repeat enq first second);
     })
-    (λ enq_a enq_b deq_b deq_a. none (order enq_a enq_b deq_b deq_a))
+    (λ a b. none (order a b))
     (λ empty cover. none (witness empty cover)))

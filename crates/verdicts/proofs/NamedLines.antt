@@ -1,5 +1,6 @@
 -- What the lines of a violation name, and what a selection by them holds.
-use Rattle.verdicts.proofs.Common.{[], AllByRecursion, ap, Bool, Contains, contains_cons, CoversFrom, Deq, dequeue_of}
+use Rattle.verdicts.proofs.Common.{[], AllByRecursion, ap, arith, Bool, Contains, Contains-append_cases, Contains-append_left}
+use Rattle.verdicts.proofs.Common.{Contains-append_right, contains_cons, CoversFrom, Deq, dequeue_call, dequeue_of, one_deeper, zero, ◌++◌}
 use Rattle.verdicts.proofs.Common.{Did, Enq, enqueue_of, flat_map, fresh, FullViolation, inl, inr, IsFreshViolation}
 use Rattle.verdicts.proofs.Common.{IsLife, IsOrderViolation, IsRepeatViolation, IsViolationOf, Life, lines_of, List}
 use Rattle.verdicts.proofs.Common.{MatchOption, None, NoneDid, Not, not_in_none, Operation, operations_of_life, OpKind}
@@ -54,23 +55,6 @@ repeat_lines operations enq first second is = each_of (IsOpOf operations is.valu
 abbrev pub IsOpOfTwo : List Operation → ℕ → ℕ → Operation → Type 0
 IsOpOfTwo operations a b o = IsOpOf operations a o ⊎ IsOpOf operations b o
 
--- the lines of an order violation are of its two values
-pub order_lines : (operations : List Operation) (enq_a enq_b deq_b : Operation) (deq_a : Option Operation)
-    (is : IsOrderViolation operations enq_a enq_b deq_b deq_a)
-    → (o : Operation) → Contains (enq_a ∷ enq_b ∷ deq_b ∷ option_to_list deq_a) o → IsOpOfTwo operations is.a is.b o
-order_lines operations enq_a enq_b deq_b deq_a is = each_of (IsOpOfTwo operations is.a is.b) (enq_a ∷ enq_b ∷ deq_b ∷ option_to_list deq_a) (
-  inl (op_of operations enq_a (Enq is.a) is.a is.enqueues_a refl),
-  (
-    inr (op_of operations enq_b (Enq is.b) is.b is.enqueues_b refl),
-    (inr (op_of operations deq_b (Deq is.b) is.b is.dequeues_b refl), last deq_a is.dequeued_later),
-  ),
-)
-  where
-    last : (d : Option Operation) → MatchOption d (NoneDid operations (Deq is.a)) (λ d. Did operations d (Deq is.a) × Precedes deq_b d)
-        → AllByRecursion (IsOpOfTwo operations is.a is.b) (option_to_list d)
-    last None none = tt
-    last (Some d) did = (inl (op_of operations d (Deq is.a) is.a did.0 refl), tt)
-
 -- one of the operations, of the value of a life
 pub record IsOpOfLife (operations : List Operation) (cover : List Life) (o : Operation) : Type 0 where
   pub life : Life
@@ -89,6 +73,29 @@ life_lines operations life is = each_of (IsOpOf operations is.0) (enqueue_of lif
     dequeue None none = tt
     dequeue (Some d) did = (op_of operations d (Deq is.0) is.0 did refl, tt)
 
+-- the operations of both values are the lines of an order violation
+pub line_of_a : (a b : Life) (o : Operation) → Contains (operations_of_life a) o → Contains (lines_of (order a b)) o
+line_of_a a b o at = elim (contains_cons (enqueue_of a) (option_to_list (dequeue_of a)) o at) [
+  | inl same ↦ (zero, omega arith, same)
+  | inr later ↦ one_deeper (enqueue_of a) (operations_of_life b ++ option_to_list (dequeue_of a)) o
+      (Contains-append_right (operations_of_life b) (option_to_list (dequeue_of a)) o later)
+]
+
+pub line_of_b : (a b : Life) (o : Operation) → Contains (operations_of_life b) o → Contains (lines_of (order a b)) o
+line_of_b a b o at = one_deeper (enqueue_of a) (operations_of_life b ++ option_to_list (dequeue_of a)) o
+    (Contains-append_left (operations_of_life b) (option_to_list (dequeue_of a)) o at)
+
+-- so they are of its two values
+pub order_lines : (operations : List Operation) (a b : Life) (is : IsOrderViolation operations a b) (o : Operation) → Contains (lines_of (order a b)) o
+    → IsOpOfTwo operations is.is_a.0 is.is_b.0 o
+order_lines operations a b is o at = elim (contains_cons (enqueue_of a) (operations_of_life b ++ option_to_list (dequeue_of a)) o at) [
+  | inl same ↦ inl (life_lines operations a is.is_a o (zero, omega arith, same))
+  | inr later ↦ elim (Contains-append_cases (operations_of_life b) (option_to_list (dequeue_of a)) o later) [
+    | inl of_b ↦ inr (life_lines operations b is.is_b o of_b)
+    | inr of_a ↦ inl (life_lines operations a is.is_a o (one_deeper (enqueue_of a) (option_to_list (dequeue_of a)) o of_a))
+  ]
+]
+
 -- the lines of a cover are of its values
 pub cover_lines : (operations : List Operation) (cover : List Life) → ((life : Life) → Contains cover life → IsLife operations life)
     → (o : Operation) → Contains (flat_map operations_of_life cover) o → IsOpOfLife operations cover o
@@ -97,23 +104,17 @@ cover_lines operations cover lives o at =
     let is = lives found.0 found.1 in
     record { life = found.0; among = found.1; is_life = is; is_of = life_lines operations found.0 is o found.2 }
 
-goes_on : (d : Option Operation) (P : Operation → Type 0) → MatchOption d ⊥ P → (x : Operation) × P x
-goes_on None P further = absurd further
-goes_on (Some d) P further = (d, further)
-
 -- the values of a cover are lives
-pub covered_lives : (operations : List Operation) (empty before : Operation) (cover : List Life) → CoversFrom operations empty before cover
+pub covered_lives : (operations : List Operation) (empty : Operation) (frontier : ℕ) (cover : List Life) → CoversFrom operations empty frontier cover
     → (life : Life) → Contains cover life → IsLife operations life
-covered_lives operations empty before [] covers life among = absurd covers
-covered_lives operations empty before (x ∷ []) covers life among = elim (contains_cons x [] life among) [
+covered_lives operations empty frontier [] covers life among = absurd covers
+covered_lives operations empty frontier (x ∷ []) covers life among = elim (contains_cons x [] life among) [
   | inl same ↦ subst (IsLife operations) same covers.0
   | inr later ↦ absurd (not_in_none life later)
 ]
-covered_lives operations empty before (x ∷ next ∷ rest) covers life among = elim (contains_cons x (next ∷ rest) life among) [
+covered_lives operations empty frontier (x ∷ next ∷ rest) covers life among = elim (contains_cons x (next ∷ rest) life among) [
   | inl same ↦ subst (IsLife operations) same covers.0
-  | inr later ↦
-      let d = goes_on (dequeue_of x) (λ d. CoversFrom operations empty d (next ∷ rest)) covers.2 in
-      covered_lives operations empty d.0 (next ∷ rest) d.1 life later
+  | inr later ↦ covered_lives operations empty (dequeue_call x) (next ∷ rest) covers.3 life later
 ]
 
 -- the lines of a violation are operations
@@ -121,12 +122,11 @@ pub lines_are_operations : (operations : List Operation) (full : FullViolation) 
     → Contains (lines_of full) o → Contains operations o
 lines_are_operations operations (fresh deq enq) is o at = ((fresh_lines operations deq enq is).1 o at).0
 lines_are_operations operations (repeat enq first second) is o at = (repeat_lines operations enq first second is o at).0
-lines_are_operations operations (order enq_a enq_b deq_b deq_a) is o at =
-    elim (order_lines operations enq_a enq_b deq_b deq_a is o at) [ inl of_a ↦ of_a.0 | inr of_b ↦ of_b.0 ]
+lines_are_operations operations (order a b) is o at = elim (order_lines operations a b is o at) [ inl of_a ↦ of_a.0 | inr of_b ↦ of_b.0 ]
 lines_are_operations operations (witness empty cover) is o at =
     elim (contains_cons empty (flat_map operations_of_life cover) o at) [
       | inl same ↦ subst (Contains operations) same is.answers_empty.0
-      | inr later ↦ (cover_lines operations cover (covered_lives operations empty empty cover is.covers) o later).is_of.0
+      | inr later ↦ (cover_lines operations cover (covered_lives operations empty empty.call cover is.covers) o later).is_of.0
     ]
 
 -- whether an operation of a value is selected depends on the value alone

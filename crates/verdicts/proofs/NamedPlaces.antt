@@ -4,29 +4,29 @@ use Rattle.verdicts.proofs.Common.{[], All, All-cons, All-map, All-nil, AllZip, 
 use Rattle.verdicts.proofs.Common.{ArePlacesOf, arith, Bool, call_before_return, call_in, cases_lt, ClaimLine, cond}
 use Rattle.verdicts.proofs.Common.{cons_option, Contains, Contains-append_cases, Contains-append_left}
 use Rattle.verdicts.proofs.Common.{Contains-append_right, Contains-permutation, contains_at, contains_cons}
-use Rattle.verdicts.proofs.Common.{covers_are_lives, CoverStep, Deq, dequeue_of, Did, Empty, Enq, enqueue_of}
-use Rattle.verdicts.proofs.Common.{enqueue_place, Event, false, few_initial, filter, flat_map, fresh, FullViolation}
-use Rattle.verdicts.proofs.Common.{initial_enqueues, initial_time, inl, inr, is_operation, IsAt, IsChosenCoverFrom}
-use Rattle.verdicts.proofs.Common.{IsChosenFullViolation, IsChosenViolation, IsClear, IsCompleteHistory, IsCovered}
-use Rattle.verdicts.proofs.Common.{IsDecided, IsMatched, IsMaybeAt, IsMaybeOperation, IsOperation, IsPlaceWithin}
-use Rattle.verdicts.proofs.Common.{IsSource, IsVerdict, IsViolationOf, IsWitnessAnswer, later_by, le-ltb, length}
-use Rattle.verdicts.proofs.Common.{length-map, length_permutation, Life, line_at, LinePlace}
+use Rattle.verdicts.proofs.Common.{covers_are_lives, CoverStep, Deq, dequeue_call, dequeue_of, dequeued_if_called, Did}
+use Rattle.verdicts.proofs.Common.{Empty, Enq, enqueue_of, enqueue_place, Event, false, few_initial, filter, flat_map}
+use Rattle.verdicts.proofs.Common.{fresh, FullViolation, initial_enqueues, initial_time, inl, inr, is_operation, IsAt}
+use Rattle.verdicts.proofs.Common.{IsChosenCoverFrom, IsChosenFullViolation, IsChosenViolation, IsClear}
+use Rattle.verdicts.proofs.Common.{IsCompleteHistory, IsCovered, IsDecided, IsMatched, IsMaybeAt, IsMaybeOperation}
+use Rattle.verdicts.proofs.Common.{IsOperation, IsPlaceWithin, IsSource, IsVerdict, IsViolationOf, IsWitnessAnswer}
+use Rattle.verdicts.proofs.Common.{later_by, le-ltb, length, length-map, length_permutation, Life, line_at, LinePlace}
 use Rattle.verdicts.proofs.Common.{lines_at, lines_of, lines_of_history, List, lt-ltb, ltb-false, map, mapped_to}
 use Rattle.verdicts.proofs.Common.{MatchOption, MAX_INITIAL, MAX_OPERATIONS, MAX_TICKET, maybe_place, Names}
-use Rattle.verdicts.proofs.Common.{NamesCover, nat_lt, nat_tests, No, no_enqueue, None, NoneDid, NoOrderViolation, not}
-use Rattle.verdicts.proofs.Common.{not-true, not_in_none, one_deeper, Operation, operations_named, operations_of}
-use Rattle.verdicts.proofs.Common.{operations_of_life, OpKind, Option, option_map, option_to_list, order, OrderPair}
-use Rattle.verdicts.proofs.Common.{ORIGIN, passed_filter, place_of, place_of_source, places_of_step, Precedes, refl}
-use Rattle.verdicts.proofs.Common.{repeat, same_operation, slice_get, slice_get_within, Some, Source, subst, sym}
-use Rattle.verdicts.proofs.Common.{timeline, timeline_at, timeline_is_complete, true, value_in, value_of}
-use Rattle.verdicts.proofs.Common.{verdict_places, Violation, violation_places, witness, Yes, zero, ℕ, ⊤, ◌+◌, ◌-◌}
-use Rattle.verdicts.proofs.Common.{◌<◌, ◌∙◌, ◌∷◌, ◌≡◌, ◌≤◌, ◌⊎◌}
-use Rattle.std.proofs.Common.{count_by}
+use Rattle.verdicts.proofs.Common.{NamesCover, NamesStep, nat_lt, nat_tests, NEVER, No, no_enqueue, None}
+use Rattle.verdicts.proofs.Common.{NoOrderViolation, not, not-true, not_in_none, one_deeper, Operation}
+use Rattle.verdicts.proofs.Common.{operations_named, operations_of, operations_of_life, OpKind, Option, option_map}
+use Rattle.verdicts.proofs.Common.{option_to_list, order, OrderPair, ORIGIN, passed_filter, place_of, place_of_source}
+use Rattle.verdicts.proofs.Common.{places_of_step, refl, repeat, same_operation, slice_get, slice_get_within}
+use Rattle.verdicts.proofs.Common.{Some, Source, subst, sym, timeline, timeline_at, timeline_is_complete, true}
+use Rattle.verdicts.proofs.Common.{value_in, value_of, verdict_places, Violation, violation_places, witness, Yes, zero}
+use Rattle.verdicts.proofs.Common.{ℕ, ⊤, ◌+◌, ◌-◌, ◌<◌, ◌∙◌, ◌∷◌, ◌≡◌, ◌≤◌, ◌⊎◌}
+use Rattle.std.proofs.Common.{count_by, ◌++◌}
 use Rattle.verdicts.proofs.Retiming.{lifted, lifted_late, lifted_rises, retimed, start}
 use Rattle.history_merge.specs.Inner.Timeline.{earlier_by}
 use Rattle.linearizer.proofs.Elements.{none_twice-filter, NoneTwice, zip_joined}
 use Rattle.verdicts.specs.declared.shown.LinePlace.TheVariants.{Initial, Op}
-use Rattle.value_match.proofs.ToldPlaces.{call_told, dequeue_told, empty_told, fresh_dequeues, mapped_option}
+use Rattle.value_match.proofs.ToldPlaces.{call_told, dequeue_told, dequeues, empty_told, fresh_dequeues, mapped_option}
 use Rattle.value_match.proofs.ToldPlaces.{maybe_told, source_told}
 use Rattle.value_match.specs.Timeline.{told_place, told_source}
 use Rattle.value_match.specs.declared.matching.Matched.{Matched}
@@ -47,7 +47,7 @@ use Rattle.std.proofs.lemmas.Slice.Zip.{AllZip-long}
 use Rattle.verdicts.specs.declared.verdict.Verdict.{Verdict}
 use Rattle.verdicts.proofs.CoverGaps.{all_stay, chosen_are_lives, handover, IsCalledInside}
 use Rattle.history_merge.proofs.Timelines.{length_timeline}
-use Rattle.verdicts.proofs.NamedLines.{cover_lines, lines_are_operations}
+use Rattle.verdicts.proofs.NamedLines.{cover_lines, line_of_a, line_of_b, lines_are_operations}
 use Rattle.verdicts.proofs.Selections.{no_longer}
 use Rattle.linearizer.proofs.OneOrder.{none_twice_in_lives}
 use Rattle.value_match.specs.declared.violation.Source.TheVariants as source
@@ -176,8 +176,14 @@ module _ (initial : List ℕ) (operations : List Operation) (few : length initia
   each_shown (violation.Fresh deq enq) (fresh d e) names = (shown_at deq d names.0, maybe_shown enq e names.1)
   each_shown (violation.Repeat enq first second) (repeat e d f) names =
       (source_shown enq e names.0, (shown_at first d names.1, (shown_at second f names.2, tt)))
-  each_shown (violation.Order enq_a enq_b deq_b deq_a) (order a b d e) names =
-      (source_shown enq_a a names.0, (source_shown enq_b b names.1, (shown_at deq_b d names.2, maybe_shown deq_a e names.3)))
+  each_shown (violation.Order enq_a enq_b deq_b deq_a) (order a b) names = (
+    source_shown enq_a (enqueue_of a) names.0.0,
+    (
+      source_shown enq_b (enqueue_of b) names.1.0,
+      zip_joined (IsShownAt initial operations) (maybe_place (Some deq_b)) (maybe_place deq_a) (option_to_list (dequeue_of b))
+          (option_to_list (dequeue_of a)) (maybe_shown (Some deq_b) (dequeue_of b) names.1.1) (maybe_shown deq_a (dequeue_of a) names.0.1),
+    ),
+  )
   each_shown (violation.Witness empty cover) (witness o lives) names = (shown_at empty o names.0, cover_shown cover lives names.1)
   each_shown _ _ names = absurd names
 
@@ -221,24 +227,39 @@ module _ (initial : List ℕ) (operations : List Operation) (few : length initia
   maybe_at None among = (None, tt)
   maybe_at (Some d) among = let at = place_of all d (among d (zero, omega arith, refl)) in (Some at.0, at.1)
 
+  life_at : (life : Life) → MatchOption (dequeue_of life) ⊤ (λ d. (v : ℕ) × (d.kind ≡ Deq v)) → AreAmong (operations_of_life life)
+      → (step : CoverStep) × NamesStep initial operations step life
+  life_at life ends among =
+      let enqueue = place_of all (enqueue_of life) (among (enqueue_of life) (zero, omega arith, refl)) in
+      let dequeue = maybe_at (dequeue_of life) (λ o at. among o (one_deeper (enqueue_of life) (option_to_list (dequeue_of life)) o at)) in (
+        record { source = told_source k enqueue.0; dequeue = option_map (told_place k) dequeue.0 },
+        (
+          source_told initial operations few enqueue.0 (enqueue_of life) enqueue.1,
+          maybe_told initial operations few dequeue.0 (dequeue_of life) dequeue.1 ends,
+        ),
+      )
+
   cover_at : (cover : List Life) → AreLives cover → AreAmong (flat_map operations_of_life cover)
       → (steps : List CoverStep) × NamesCover initial operations steps cover
   cover_at [] are among = ([], tt)
   cover_at (life ∷ cover) are among =
-      let own = λ (o : Operation) (at : Contains (operations_of_life life) o). among o (Contains-append_left (operations_of_life life)
-      (flat_map operations_of_life cover) o at) in
-      let enqueue = place_of all (enqueue_of life) (own (enqueue_of life) (zero, omega arith, refl)) in
-      let dequeue = maybe_at (dequeue_of life) (λ o at. own o (one_deeper (enqueue_of life) (option_to_list (dequeue_of life)) o at)) in
-      let rest = cover_at cover are.2 (λ o at. among o (Contains-append_right (operations_of_life life) (flat_map operations_of_life cover) o at)) in (
-        record { source = told_source k enqueue.0; dequeue = option_map (told_place k) dequeue.0 } ∷ rest.0,
-        (
-          (
-            source_told initial operations few enqueue.0 (enqueue_of life) enqueue.1,
-            maybe_told initial operations few dequeue.0 (dequeue_of life) dequeue.1 are.1,
-          ),
-          rest.1,
-        ),
-      )
+      let first = life_at life are.1 (λ o at. among o (Contains-append_left (operations_of_life life) (flat_map operations_of_life cover) o at)) in
+      let rest = cover_at cover are.2 (λ o at. among o (Contains-append_right (operations_of_life life) (flat_map operations_of_life cover) o at)) in
+      (first.0 ∷ rest.0, (first.1, rest.1))
+
+  -- a value that is dequeued has a place of its dequeue
+  dequeued_at : (step : CoverStep) (life : Life) → NamesStep initial operations step life → dequeue_call life < NEVER
+      → (p : ℕ) × NamesStep initial operations (record { source = step.source; dequeue = Some p }) life
+  dequeued_at step life names called =
+      let d = dequeued_if_called life called in
+      let found = place_there step.dequeue (dequeue_of life) d.0 names.1 d.1 in
+      (found.0, (names.0, subst (λ p. IsMaybeOperation initial operations p (dequeue_of life)) found.1 names.1))
+    where
+      place_there : (place : Option ℕ) (o : Option Operation) (d : Operation) → IsMaybeOperation initial operations place o → o ≡ Some d
+          → (p : ℕ) × (place ≡ Some p)
+      place_there (Some p) o d at is = (p, refl)
+      place_there None None d at is = cc
+      place_there None (Some e) d at is = absurd at
 
   -- a violation has places
   pub violation_at : (full : FullViolation) → IsViolationOf (timeline initial operations) full → AreAmong (lines_of full)
@@ -261,28 +282,14 @@ module _ (initial : List ℕ) (operations : List Operation) (few : length initia
           dequeue_told initial operations few f.0 second is.value f.1 is.dequeues_again.1,
         ),
       )
-  violation_at (order enq_a enq_b deq_b deq_a) is among =
-      let a = place_of all enq_a (among enq_a (zero, omega arith, refl)) in
-      let b = place_of all enq_b (among enq_b (1, omega arith, refl)) in
-      let d = place_of all deq_b (among deq_b (2, omega arith, refl)) in
-      let e = maybe_at deq_a (λ o at. among o (one_deeper enq_a (enq_b ∷ deq_b ∷ option_to_list deq_a) o
-      (one_deeper enq_b (deq_b ∷ option_to_list deq_a) o (one_deeper deq_b (option_to_list deq_a) o at)))) in (
-        violation.Order (told_source k a.0) (told_source k b.0) (told_place k d.0) (option_map (told_place k) e.0),
-        (
-          source_told initial operations few a.0 enq_a a.1,
-          source_told initial operations few b.0 enq_b b.1,
-          dequeue_told initial operations few d.0 deq_b is.b d.1 is.dequeues_b.1,
-          maybe_told initial operations few e.0 deq_a e.1 (dequeues deq_a is.dequeued_later),
-        ),
-      )
-    where
-      dequeues : (d : Option Operation) → MatchOption d (NoneDid all (Deq is.a)) (λ x. Did all x (Deq is.a) × Precedes deq_b x)
-          → MatchOption d ⊤ (λ x. (v : ℕ) × (x.kind ≡ Deq v))
-      dequeues None none = tt
-      dequeues (Some x) did = (is.a, did.0.1)
+  violation_at (order a b) is among =
+      let at_a = life_at a (dequeues all is.is_a.0 (dequeue_of a) is.is_a.2) (λ o at. among o (line_of_a a b o at)) in
+      let at_b = life_at b (dequeues all is.is_b.0 (dequeue_of b) is.is_b.2) (λ o at. among o (line_of_b a b o at)) in
+      let named = dequeued_at at_b.0 b at_b.1 is.is_dequeued in
+      (violation.Order at_a.0.source at_b.0.source named.0 at_a.0.dequeue, (at_a.1, named.1))
   violation_at (witness empty cover) is among =
       let o = place_of all empty (among empty (zero, omega arith, refl)) in
-      let are = covers_are_lives all empty empty cover is.covers in
+      let are = covers_are_lives all empty empty.call cover is.covers in
       let steps = cover_at cover are (λ x at. among x (one_deeper empty (flat_map operations_of_life cover) x at)) in
       (violation.Witness (told_place k o.0) steps.0, (empty_told initial operations few o.0 empty o.1 is.answers_empty.1, steps.1))
 
@@ -317,7 +324,7 @@ yes_is_decided initial operations places chosen = record {
 pub pair_is_chosen : (initial : List ℕ) (operations : List Operation) (pair : OrderPair) → IsClear (timeline initial operations)
     → IsChosenPair initial operations pair → IsChosenViolation initial operations (violation.Order pair.enq_a pair.enq_b pair.deq_b pair.deq_a)
 pair_is_chosen initial operations pair clear is =
-    (order is.enq_a is.enq_b is.deq_b is.deq_a, (is.at_a, is.at_b, is.dequeued_b, is.dequeued_a), (clear.no_fresh, clear.no_repeat, is.is_chosen))
+    (order is.a is.b, is.names, (clear.no_fresh, clear.no_repeat, is.is_chosen))
 
 -- the chosen empty answer with its cover is the chosen violation where the first three kinds are absent
 pub witness_is_chosen : (initial : List ℕ) (operations : List Operation) (empty : ℕ) (cover : List CoverStep) → IsClear (timeline initial operations)
@@ -409,8 +416,13 @@ few_or_once : (operations : List Operation) (full : FullViolation) → AreComple
 few_or_once operations (fresh deq None) complete chosen = inl (omega arith)
 few_or_once operations (fresh deq (Some enq)) complete chosen = inl (omega arith)
 few_or_once operations (repeat enq first second) complete chosen = inl (omega arith)
-few_or_once operations (order enq_a enq_b deq_b None) complete chosen = inl (omega arith)
-few_or_once operations (order enq_a enq_b deq_b (Some deq_a)) complete chosen = inl (omega arith)
+few_or_once operations (order a b) complete chosen = inl (two_lives (dequeue_of a) (dequeue_of b))
+  where
+    two_lives : (d e : Option Operation) → length (enqueue_of a ∷ enqueue_of b ∷ (option_to_list e ++ option_to_list d)) ≤ 4
+    two_lives None None = omega arith
+    two_lives None (Some e) = omega arith
+    two_lives (Some d) None = omega arith
+    two_lives (Some d) (Some e) = omega arith
 few_or_once operations (witness empty cover) complete chosen =
     let clear : IsClear operations = record { complete = complete; no_fresh = chosen.0; no_repeat = chosen.1 } in
     let did = chosen.3.answers_empty in

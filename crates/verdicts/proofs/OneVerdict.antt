@@ -12,6 +12,7 @@ use Rattle.verdicts.proofs.Common.{operations_of, operations_rise, Option, order
 use Rattle.verdicts.proofs.Common.{place_of, refl, repeat, slice_get-get_or, Some, Source, subst, sym, time_of}
 use Rattle.verdicts.proofs.Common.{timeline, timeline_is_complete, true, Violation, witness, Yes, ℕ, ◌<◌, ◌↔◌, ◌∙◌}
 use Rattle.verdicts.proofs.Common.{◌∷◌, ◌≡◌, ◌≤◌}
+use Rattle.order_violation.specs.Pairs.{violation_of}
 use Rattle.linearizer.proofs.OneOrder.{one_list}
 use Rattle.empty_witness.specs.declared.answer.GapAnswer.{GapAnswer}
 use Rattle.linearizer.proofs.Elements.{beside_first, one_place as one_place_of_key}
@@ -125,12 +126,12 @@ module _ (initial : List ℕ) (operations : List Operation) (complete : AreCompl
       let firsts = one_place d d' first at.1 at'.1 in
       let seconds = one_place f f' second at.2 at'.2 in
       cc
-  one_named (order enq_a enq_b deq_b deq_a) (violation.Order a b d c) (violation.Order a' b' d' c') at at' =
-      let as' = one_source a a' enq_a at.0 at'.0 in
-      let bs = one_source b b' enq_b at.1 at'.1 in
-      let ds = one_place d d' deq_b at.2 at'.2 in
-      let cs = maybe_one_place deq_a c c' at.3 at'.3 in
-      cc
+  one_named (order x y) (violation.Order a b d c) (violation.Order a' b' d' c') at at' =
+      let first = one_step (record { source = a; dequeue = c }) (record { source = a'; dequeue = c' }) x at.0 at'.0 in
+      let second = one_step (record { source = b; dequeue = Some d }) (record { source = b'; dequeue = Some d' }) y at.1 at'.1 in
+      let ds : Some d ≡ Some d' = ap (λ (s : CoverStep). s.dequeue) second in
+      let one : d ≡ d' = cc in
+      λ i. violation.Order (first i).source (second i).source (one i) (first i).dequeue
   one_named (witness empty lives) (violation.Witness o cover) (violation.Witness o' cover') at at' =
       ap₂ (λ (p : ℕ) (steps : List CoverStep). violation.Witness p steps) (one_place o o' empty at.0 at'.0)
       (one_named_cover lives cover cover' at.1 at'.1)
@@ -197,22 +198,14 @@ abbrev pair_of : Violation → OrderPair
 pair_of (violation.Order a b d c) = record { enq_a = a; enq_b = b; deq_b = d; deq_a = c }
 pair_of _ = record { enq_a = source.Enq 0; enq_b = source.Enq 0; deq_b = 0; deq_a = None }
 
--- the violation that a pair shows
-abbrev violation_of : OrderPair → Violation
-violation_of pair = violation.Order pair.enq_a pair.enq_b pair.deq_b pair.deq_a
-
 -- one pair is found
 pub pair_is_one : PairIsOne
 pair_is_one initial operations None None complete x y = refl
-pair_is_one initial operations None (Some q) complete x y = absurd (x y.enq_a y.enq_b y.deq_b y.deq_a y.is_chosen.violates)
-pair_is_one initial operations (Some p) None complete x y = absurd (y x.enq_a x.enq_b x.deq_b x.deq_a x.is_chosen.violates)
+pair_is_one initial operations None (Some q) complete x y = absurd (x y.a y.b y.is_chosen.violates)
+pair_is_one initial operations (Some p) None complete x y = absurd (y x.a x.b x.is_chosen.violates)
 pair_is_one initial operations (Some p) (Some q) complete x y =
-    let all = timeline initial operations in
-    let b : FullViolation = order x.enq_a x.enq_b x.deq_b x.deq_a in
-    let c : FullViolation = order y.enq_a y.enq_b y.deq_b y.deq_a in
-    let violations : b ≡ c = one_order all x.enq_a x.enq_b x.deq_b y.enq_a y.enq_b y.deq_b x.deq_a y.deq_a complete x.is_chosen y.is_chosen in
-    let named = one_violation initial operations complete (violation_of p) (violation_of q) b c violations (x.at_a, x.at_b, x.dequeued_b, x.dequeued_a)
-    (y.at_a, y.at_b, y.dequeued_b, y.dequeued_a) in
+    let violations = one_order (timeline initial operations) x.a x.b y.a y.b complete x.is_chosen y.is_chosen in
+    let named = one_violation initial operations complete (violation_of p) (violation_of q) (order x.a x.b) (order y.a y.b) violations x.names y.names in
     ap (λ pair. Some pair) (ap pair_of named)
 
 one_least_gap : (operations : List Operation) (o : Operation) (c d : ℕ) → IsLeastFreeGap operations o c → IsLeastFreeGap operations o d → c ≡ d

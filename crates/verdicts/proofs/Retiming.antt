@@ -3,23 +3,24 @@
 -- at other times.
 use Rattle.verdicts.proofs.Common.{[], ap, AreComplete, arith, Bool, call_before_return, call_by_return, call_or_never}
 use Rattle.verdicts.proofs.Common.{cases_lt, cond, Contains, Contains-append_cases, Contains-append_left}
-use Rattle.verdicts.proofs.Common.{Contains-append_right, contains_cons, Covers, dequeue_call, dequeue_of, Did, Empty}
-use Rattle.verdicts.proofs.Common.{Enq, enqueue_at, enqueue_of, enqueue_place, enqueue_return, enqueues_from, eq-eqb}
-use Rattle.verdicts.proofs.Common.{eqb-true, false, filter, flat_map, fresh, FullViolation, initial_enqueues}
-use Rattle.verdicts.proofs.Common.{initial_time, inl, inr, IsChosenCoverFrom, IsChosenFullViolation, IsChosenWitness}
-use Rattle.verdicts.proofs.Common.{IsClear, IsCovered, IsLife, IsOrderViolation, IsViolationOf, IsWitnessViolation}
-use Rattle.verdicts.proofs.Common.{later_by, le-ltb, length, Life, lines_of, List, lt-ltb, ltb-true, map, map_fixed}
-use Rattle.verdicts.proofs.Common.{mapped_from, mapped_to, MatchBool, MAX_INITIAL, nat_eq, nat_lt, nat_tests}
-use Rattle.verdicts.proofs.Common.{no_enqueue, NoFreshViolation, None, NoOrderViolation, NoRepeatViolation}
-use Rattle.verdicts.proofs.Common.{not_in_none, one_deeper, one_life_of_enqueue, Operation, operations_of_life, Option}
-use Rattle.verdicts.proofs.Common.{option_map, option_to_list, order, ORIGIN, passed_filter, passes_filter, refl}
-use Rattle.verdicts.proofs.Common.{repeat, same_call, same_enqueue, same_operation, selects, Some, StaysAtLeast, subst}
-use Rattle.verdicts.proofs.Common.{suc, sym, timeline, true, value_of, violation_covers, witness, zero, ℕ, ◌++◌, ◌+◌}
-use Rattle.verdicts.proofs.Common.{◌-◌, ◌<◌, ◌∙◌, ◌∷◌, ◌≡◌, ◌≤◌, ◌⊎◌}
+use Rattle.verdicts.proofs.Common.{Contains-append_right, contains_cons, Covers, dequeue_call, dequeue_of}
+use Rattle.verdicts.proofs.Common.{dequeue_return, dequeued_if_called, Did, did_dequeue, Empty, Enq, enqueue_at}
+use Rattle.verdicts.proofs.Common.{enqueue_of, enqueue_place, enqueue_return, enqueues_from, eq-eqb, eqb-true, false}
+use Rattle.verdicts.proofs.Common.{filter, flat_map, fresh, FullViolation, initial_enqueues, initial_time, inl, inr}
+use Rattle.verdicts.proofs.Common.{IsChosenCoverFrom, IsChosenFullViolation, IsChosenWitness, IsClear, IsCovered}
+use Rattle.verdicts.proofs.Common.{IsLife, IsOrderViolation, IsViolationOf, IsWitnessViolation, later_by, le-ltb}
+use Rattle.verdicts.proofs.Common.{length, Life, lines_of, List, lt-ltb, ltb-true, map, map_fixed, mapped_from}
+use Rattle.verdicts.proofs.Common.{mapped_to, MatchBool, MAX_INITIAL, nat_eq, nat_lt, nat_tests, no_enqueue}
+use Rattle.verdicts.proofs.Common.{NoFreshViolation, None, NoOrderViolation, NoRepeatViolation, not_in_none}
+use Rattle.verdicts.proofs.Common.{one_deeper, one_life_of_enqueue, Operation, operations_of_life, Option, option_map}
+use Rattle.verdicts.proofs.Common.{option_to_list, order, ORIGIN, passed_filter, passes_filter, refl, repeat}
+use Rattle.verdicts.proofs.Common.{return_in_range, return_or_never, same_call, same_enqueue, same_operation, selects}
+use Rattle.verdicts.proofs.Common.{Some, StaysAtLeast, subst, suc, sym, timeline, true, value_of, violation_covers}
+use Rattle.verdicts.proofs.Common.{witness, zero, ℕ, ◌++◌, ◌+◌, ◌-◌, ◌<◌, ◌∙◌, ◌∷◌, ◌≡◌, ◌≤◌, ◌⊎◌}
 use Rattle.value_match.specs.declared.life.TheConstants.{NEVER}
 use Rattle.history_merge.specs.Operations.{IsInWindow}
-use Rattle.verdicts.proofs.NamedLines.{AreFor, cover_lines, fresh_lines, HasValue, IsOpOfLife, life_lines}
-use Rattle.verdicts.proofs.NamedLines.{lines_are_operations, order_lines, repeat_lines, selects_as_value}
+use Rattle.verdicts.proofs.NamedLines.{AreFor, cover_lines, fresh_lines, HasValue, IsOpOfLife, life_lines, line_of_a}
+use Rattle.verdicts.proofs.NamedLines.{line_of_b, lines_are_operations, order_lines, repeat_lines, selects_as_value}
 use Rattle.std.proofs.lemmas.Bool.{ltb_from_iff}
 use Rattle.verdicts.proofs.Chosen.{chosen_is_violation}
 use Rattle.verdicts.proofs.CoverGaps.{chosen_are_lives, left_by, match_then}
@@ -68,6 +69,13 @@ module _ {low : ℕ} {h : ℕ → ℕ} (rises : Rises low h) where
     λ is. below_back a b from_b (omega (arith, same_a, same_b, ltb-true a' b' is)),
     λ less. lt-ltb a' b' (omega (arith, same_a, same_b, rises a b from_a less)),
   )
+
+-- no operation is called or returns at NEVER or later
+times_in_range : (operations : List Operation) (o : Operation) → AreComplete operations → Contains operations o → (o.call < NEVER) × (o.ret < NEVER)
+times_in_range operations o complete among =
+    let range = return_in_range operations o complete among in
+    let ordered = call_by_return operations o complete among in
+    (omega arith, omega arith)
 
 -- the first list is what is selected of the second, at other times; from a time on, which is none before the first list's, the times rise
 pub record StandsAs (values calls : ℕ → Bool) (h : ℕ → ℕ) (low : ℕ) (xs ys : List Operation) : Type 0 where
@@ -119,6 +127,7 @@ module _ {values calls : ℕ → Bool} {h : ℕ → ℕ} {low : ℕ} {xs ys : Li
         none (stands.back y) found.0 (ap (λ (o : Operation). o.kind) found.1 ∙ did_y);
     precedes = λ x y in_x in_y. stands.rises x.ret y.call (stands.late x in_x).1;
     in_turn = λ x y in_x in_y. stands.rises x.ret y.ret (stands.late x in_x).1;
+    in_range = λ x in_x. times_in_range ys (retimed h x) stands.complete (stands.there x in_x).0;
   }
 
   carries_back : Carries ys xs stands.back IsSelected
@@ -129,6 +138,7 @@ module _ {values calls : ℕ → Bool} {h : ℕ → ℕ} {low : ℕ} {xs ys : Li
         (omega (arith, returned x is_x, called y is_y, less));
     in_turn = λ x y is_x is_y less. below_back stands.rises (stands.back x).ret (stands.back y).ret (stands.late (stands.back y) (in_part y is_y)).1
         (omega (arith, returned x is_x, returned y is_y, less));
+    in_range = λ x is_x. times_in_range xs (stands.back x) stands.part_complete (in_part x is_x);
   }
 
   -- a life of these is one of the list
@@ -150,8 +160,7 @@ module _ {values calls : ℕ → Bool} {h : ℕ → ℕ} {low : ℕ} {xs ys : Li
   no_repeat_back none enq first second is = none (retimed h enq) (retimed h first) (retimed h second) (violation_there (repeat enq first second) is)
 
   pub no_order_back : NoOrderViolation ys → NoOrderViolation xs
-  no_order_back none enq_a enq_b deq_b deq_a is = none (retimed h enq_a) (retimed h enq_b) (retimed h deq_b) (option_map (retimed h) deq_a)
-      (violation_there (order enq_a enq_b deq_b deq_a) is)
+  no_order_back none a b is = none (retimed_life h a) (retimed_life h b) (violation_there (order a b) is)
 
   -- where the first two kinds are absent from the list, they are absent here
   pub clear_back : NoFreshViolation ys → NoRepeatViolation ys → IsClear xs
@@ -182,6 +191,32 @@ module _ {values calls : ℕ → Bool} {h : ℕ → ℕ} {low : ℕ} {xs ys : Li
         λ same. no_later (enqueue_of x) (enqueue_of y) (are (enqueue_of x) (zero, omega arith, refl)) among
             (stays.1 (sym other ∙ ap h same ∙ own.0)),
       )
+
+  -- a value that is dequeued no later there is dequeued no later here
+  sooner_back : (x y : Life) → AreSelected (operations_of_life x) → dequeue_call x < NEVER → IsLife xs y → dequeue_call y < NEVER
+      → dequeue_return x ≤ dequeue_return (retimed_life h y) → dequeue_return (mapped_life stands.back x) ≤ dequeue_return y
+  sooner_back x y are called_x is_y called_y le =
+      let (d, at_x) = dequeued_if_called x called_x in
+      let (e, at_y) = dequeued_if_called y called_y in
+      let x_there : dequeue_return x ≡ d.ret = ap return_or_never at_x in
+      let y_there : dequeue_return (retimed_life h y) ≡ h e.ret = ap (λ o. return_or_never (option_map (retimed h) o)) at_y in
+      let x_here : dequeue_return (mapped_life stands.back x) ≡ (stands.back d).ret = ap (λ o. return_or_never (option_map stands.back o)) at_x in
+      let y_here : dequeue_return y ≡ e.ret = ap return_or_never at_y in
+      let own = are d (one_deeper (enqueue_of x) (option_to_list (dequeue_of x)) d (subst (λ o. Contains (option_to_list o) d) (sym at_x) (zero, omega arith, refl))) in
+      let later = no_later d e own (did_dequeue xs y e is_y at_y).0 (omega arith) in
+      omega arith
+
+  -- a life whose operations are selected is the image of its own
+  brought_life : (life : Life) → AreSelected (operations_of_life life) → retimed_life h (mapped_life stands.back life) ≡ life
+  brought_life life are =
+      let first = are (enqueue_of life) (zero, omega arith, refl) in
+      let enqueue = (stands.brings (enqueue_of life) first.0 first.1).1 in
+      let dequeue = brought (dequeue_of life) (λ o at. are o (one_deeper (enqueue_of life) (option_to_list (dequeue_of life)) o at)) in
+      λ i. record { enqueue = enqueue i; dequeue = dequeue i }
+    where
+      brought : (d : Option Operation) → AreSelected (option_to_list d) → option_map (retimed h) (option_map stands.back d) ≡ d
+      brought None are = refl
+      brought (Some d) are = let is = are d (zero, omega arith, refl) in ap (λ o. Some o) (stands.brings d is.0 is.1).1
 
   -- at each gap of a covered window some life of these is definitely in the queue
   pub covered_by : (o : Operation) → Contains xs o → IsCovered xs o → (c : ℕ) → IsInWindow (retimed h o) c
@@ -238,41 +273,25 @@ module _ {values calls : ℕ → Bool} {h : ℕ → ℕ} {low : ℕ} {xs ys : Li
           (chosen.1.soonest (retimed h enq') (retimed h first') (retimed h second') (violation_there (repeat enq' first' second') is));
     },
   )
-  chosen_back (order enq_a enq_b deq_b deq_a) are chosen = (
+  chosen_back (order a b) are chosen = (
     no_fresh_back chosen.0,
     no_repeat_back chosen.1,
     record {
-      violates = violation_back (order enq_a enq_b deq_b deq_a) are chosen.2.violates;
-      first = λ enq_a' enq_b' deq_b' deq_a' is. no_later deq_b deq_b' (are deq_b (2, omega arith, refl)) is.dequeues_b.0
-          (chosen.2.first (retimed h enq_a') (retimed h enq_b') (retimed h deq_b') (option_map (retimed h) deq_a')
-          (violation_there (order enq_a' enq_b' deq_b' deq_a') is));
-      longest = λ enq_a' deq_a' is. stays_back (record { enqueue = enq_a; dequeue = deq_a }) (record { enqueue = enq_a'; dequeue = deq_a' })
-          own is.enqueues_a.0 (chosen.2.longest (retimed h enq_a') (option_map (retimed h) deq_a') (there enq_a' deq_a' is));
+      violates = violation_back (order a b) are chosen.2.violates;
+      first = λ x y is. sooner_back b y (λ o at. are o (line_of_b a b o at)) chosen.2.violates.is_dequeued is.is_b is.is_dequeued
+          (chosen.2.first (retimed_life h x) (retimed_life h y) (violation_there (order x y) is));
+      longest = λ x is. stays_back a x (λ o at. are o (line_of_a a b o at)) is.is_a.1.0 (chosen.2.longest (retimed_life h x)
+          (subst (IsOrderViolation ys (retimed_life h x)) (brought_life b (λ o at. are o (line_of_b a b o at)))
+          (violation_there (order x (mapped_life stands.back b)) is)));
     },
   )
-    where
-      own : AreSelected (enq_a ∷ option_to_list deq_a)
-      own o at = elim (contains_cons enq_a (option_to_list deq_a) o at) [
-        | inl same ↦ are o (0, omega arith, same)
-        | inr later ↦ are o (suc (suc (suc later.0)), omega (arith, later.1), later.2)
-      ]
-
-      -- the pair of b with another a
-      there : (enq_a' : Operation) (deq_a' : Option Operation) → IsOrderViolation xs enq_a' (stands.back enq_b) (stands.back deq_b) deq_a'
-          → IsOrderViolation ys (retimed h enq_a') enq_b deq_b (option_map (retimed h) deq_a')
-      there enq_a' deq_a' is =
-          let b = are enq_b (1, omega arith, refl) in
-          let d = are deq_b (2, omega arith, refl) in
-          subst (λ e. IsOrderViolation ys (retimed h enq_a') e deq_b (option_map (retimed h) deq_a')) (stands.brings enq_b b.0 b.1).1
-          (subst (λ e. IsOrderViolation ys (retimed h enq_a') (retimed h (stands.back enq_b)) e (option_map (retimed h) deq_a')) (stands.brings deq_b d.0 d.1).1
-          (violation_there (order enq_a' (stands.back enq_b) (stands.back deq_b) deq_a') is))
   chosen_back (witness empty cover) are chosen = (
     no_fresh_back chosen.0,
     no_repeat_back chosen.1,
     no_order_back chosen.2,
     record {
       answers_empty = is.answers_empty;
-      is_covered = violation_covers xs (stands.back empty) (map (mapped_life stands.back) cover) (clear_back chosen.0 chosen.1) is;
+      is_covered = violation_covers xs (stands.back empty) (map (mapped_life stands.back) cover) is;
       first = λ empty' did covered. no_later empty empty' own did.0 (chosen.3.first (retimed h empty') ((stands.there empty' did.0).0, did.1)
           (λ c window. let z = covered_by empty' did.0 covered c window in (retimed_life h z.0, life_there z.0 z.1, z.2)));
       cover_is_chosen = chosen_cover_back empty own cover empty.call (stands.back empty).call (called empty own)
@@ -460,18 +479,17 @@ all_or_one {X} p (x ∷ xs) = pick (p x) refl (all_or_one p xs)
 first_line : (full : FullViolation) → (o : Operation) × Contains (lines_of full) o
 first_line (fresh deq enq) = (deq, (zero, omega arith, refl))
 first_line (repeat enq first second) = (enq, (zero, omega arith, refl))
-first_line (order enq_a enq_b deq_b deq_a) = (enq_a, (zero, omega arith, refl))
+first_line (order a b) = (enqueue_of a, (zero, omega arith, refl))
 first_line (witness empty cover) = (empty, (zero, omega arith, refl))
 
 -- two different values are out of order
-not_itself : (operations : List Operation) (enq_a enq_b deq_b : Operation) (deq_a : Option Operation)
-    (is : IsOrderViolation operations enq_a enq_b deq_b deq_a) → AreComplete operations → is.a ≡ is.b → ⊥
-not_itself operations enq_a enq_b deq_b deq_a is complete same =
-    let one = same_enqueue operations enq_a enq_b is.b complete (subst (λ v. Did operations enq_a (Enq v)) same is.enqueues_a) is.enqueues_b in
-    let ordered = call_by_return operations enq_b complete is.enqueues_b.0 in
+not_itself : (operations : List Operation) (a b : Life) (is : IsOrderViolation operations a b) → AreComplete operations → is.is_a.0 ≡ is.is_b.0 → ⊥
+not_itself operations a b is complete same =
+    let one = same_enqueue operations (enqueue_of a) (enqueue_of b) is.is_b.0 complete (subst (λ v. Did operations (enqueue_of a) (Enq v)) same is.is_a.1)
+    is.is_b.1 in
+    let ordered = call_by_return operations (enqueue_of b) complete is.is_b.1.0 in
     let returns = ap (λ o. o.ret) one in
-    let first = is.enqueued_first in
-    absurd (omega arith)
+    absurd (omega (arith, is.overtakes.0))
 
 -- an operation that is left out of these, and with it all of its value
 module _ {values calls : ℕ → Bool} {h : ℕ → ℕ} {low : ℕ} {xs ys : List Operation} (stands : StandsAs values calls h low xs ys)
@@ -491,11 +509,11 @@ module _ {values calls : ℕ → Bool} {h : ℕ → ℕ} {low : ℕ} {xs ys : Li
 
   -- where all are of two values, one is left, which isn't out of order with itself
   no_order : (m n : ℕ) → HasValue missing m → ((o : Operation) → Contains ys o → HasValue o m ⊎ HasValue o n)
-      → (enq_a enq_b deq_b : Operation) (deq_a : Option Operation) → IsOrderViolation xs enq_a enq_b deq_b deq_a → ⊥
-  no_order m n is_missing of_two enq_a enq_b deq_b deq_a is =
-      let both : Some is.a ≡ Some is.b = sym (ap value_of is.enqueues_a.1) ∙ other enq_a is.enqueues_a.0 ∙ sym (other enq_b is.enqueues_b.0)
-      ∙ ap value_of is.enqueues_b.1 in
-      not_itself xs enq_a enq_b deq_b deq_a is stands.part_complete (cc)
+      → (a b : Life) → IsOrderViolation xs a b → ⊥
+  no_order m n is_missing of_two a b is =
+      let both : Some is.is_a.0 ≡ Some is.is_b.0 = sym (ap value_of is.is_a.1.1) ∙ other (enqueue_of a) is.is_a.1.0
+      ∙ sym (other (enqueue_of b) is.is_b.1.0) ∙ ap value_of is.is_b.1.1 in
+      not_itself xs a b is stands.part_complete (cc)
     where
       other : (o : Operation) → Contains xs o → HasValue o n
       other o among = elim (of_two (retimed h o) (stands.there o among).0) [
@@ -561,7 +579,7 @@ module _ {values calls : ℕ → Bool} {h : ℕ → ℕ} {low : ℕ} {xs ys : Li
 
         by_value : (w : Option ℕ) → value_of missing.kind ≡ w → ⊥
         by_value (Some v) is_missing = not_covered_without v is_missing o is.answers_empty.0 same
-            (violation_covers xs o lives (clear_back stands clear.no_fresh clear.no_repeat) is)
+            (violation_covers xs o lives is)
         by_value None none =
             let one : retimed h o ≡ missing = same ∙ sym (is_the_empty_answer missing was none) in
             let clash : true ≡ false = sym at.1 ∙ ap (selects values calls) one ∙ left_out in
@@ -574,16 +592,16 @@ module _ {values calls : ℕ → Bool} {h : ℕ → ℕ} {low : ℕ} {xs ys : Li
       nothing_left lines.0 (λ o among. let line = are o among in sym line.1.same_value ∙ (lines.1 line.0 line.1.among).1) other is
   none_is_left (repeat enq first second) chosen are other is = nothing_left chosen.1.violates.value (λ o among. let line = are o among in
       sym line.1.same_value ∙ (repeat_lines ys enq first second chosen.1.violates line.0 line.1.among).1) other is
-  none_is_left (order enq_a enq_b deq_b deq_a) chosen are other is = left other is
+  none_is_left (order x y) chosen are other is = left other is
     where
       a : ℕ
-      a = chosen.2.violates.a
+      a = chosen.2.violates.is_a.0
 
       b : ℕ
-      b = chosen.2.violates.b
+      b = chosen.2.violates.is_b.0
 
       of_two : (o : Operation) → Contains ys o → HasValue o a ⊎ HasValue o b
-      of_two o among = let line = are o among in elim (order_lines ys enq_a enq_b deq_b deq_a chosen.2.violates line.0 line.1.among) [
+      of_two o among = let line = are o among in elim (order_lines ys x y chosen.2.violates line.0 line.1.among) [
         | inl of_a ↦ inl (sym line.1.same_value ∙ of_a.1)
         | inr of_b ↦ inr (sym line.1.same_value ∙ of_b.1)
       ]
@@ -591,9 +609,9 @@ module _ {values calls : ℕ → Bool} {h : ℕ → ℕ} {low : ℕ} {xs ys : Li
       left : (other : FullViolation) → IsViolationOf xs other → ⊥
       left (fresh deq enq) is = no_fresh_back stands chosen.0 deq enq is
       left (repeat enq first second) is = no_repeat_back stands chosen.1 enq first second is
-      left (order x y z w) is = elim (of_two missing was) [
-        | inl of_a ↦ no_order a b of_a of_two x y z w is
-        | inr of_b ↦ no_order b a of_b (λ o among. elim (of_two o among) [ inl first ↦ inr first | inr second ↦ inl second ]) x y z w is
+      left (order z w) is = elim (of_two missing was) [
+        | inl of_a ↦ no_order a b of_a of_two z w is
+        | inr of_b ↦ no_order b a of_b (λ o among. elim (of_two o among) [ inl first ↦ inr first | inr second ↦ inl second ]) z w is
       ]
       left (witness o lives) is = elim (of_two (retimed h o) (stands.there o is.answers_empty.0).0) [
         | inl of_a ↦ let clash : None ≡ Some a = sym (ap value_of is.answers_empty.1) ∙ of_a in cc
@@ -604,6 +622,6 @@ module _ {values calls : ℕ → Bool} {h : ℕ → ℕ} {low : ℕ} {xs ys : Li
       left : (other : FullViolation) → IsViolationOf xs other → ⊥
       left (fresh deq enq) is = no_fresh_back stands chosen.0 deq enq is
       left (repeat enq first second) is = no_repeat_back stands chosen.1 enq first second is
-      left (order x y z w) is = no_order_back stands chosen.2 x y z w is
+      left (order x y) is = no_order_back stands chosen.2 x y is
       left (witness o lives) is =
           no_cover empty cover (record { complete = stands.complete; no_fresh = chosen.0; no_repeat = chosen.1 }) chosen.3 are o lives is

@@ -1,23 +1,25 @@
 -- What is carried from one list of operations to another, each operation by its image: lives, covers and violations. A chosen cover
 -- is a shortest one.
 use Rattle.verdicts.proofs.Common.{[], All, All-filter, AllPairs, AllPairs-cons, AllPairs-filter, AllPairs-tail}
-use Rattle.verdicts.proofs.Common.{answers, Any-from_list_any, ap, AreComplete, AreDistinct, arith, behind, Bool}
-use Rattle.verdicts.proofs.Common.{called_value, called_values, chosen_cover_is_shortest, cond, cons_option, Contains}
-use Rattle.verdicts.proofs.Common.{Contains-append_cases, Contains-append_left, Contains-append_right, Contains-get_or}
-use Rattle.verdicts.proofs.Common.{CoversFrom, Deq, dequeue_of, Did, Empty, Enq, enqueue_of, eqb-true, Event, false}
-use Rattle.verdicts.proofs.Common.{filter, filter_map, find, flat_map, fresh, FullViolation, get_or, holds_ticket, inl}
-use Rattle.verdicts.proofs.Common.{inr, is_call, IsChosenViolation, IsCompleteFrom, IsCompleteHistory, IsLife}
-use Rattle.verdicts.proofs.Common.{IsShortestCover, IsTrue, IsViolationOf, IsWitnessViolation, keeps, kept, length}
-use Rattle.verdicts.proofs.Common.{Life, lines_of, List, list_any-from_Any, map, map-append, MatchOption, MAX_INITIAL}
-use Rattle.verdicts.proofs.Common.{MAX_THREAD, MAX_TICKET, Names, NamesStep, nat_eq, nat_tests, None, NoneDid, Not}
-use Rattle.verdicts.proofs.Common.{not, one_at, one_deeper, Operation, operations_are_complete, operations_of}
+use Rattle.verdicts.proofs.Common.{answers, Any-from_list_any, ap, ap₂, AreComplete, AreDistinct, arith, behind, Bool}
+use Rattle.verdicts.proofs.Common.{call_or_never, called_value, called_values, chosen_cover_is_shortest, cond}
+use Rattle.verdicts.proofs.Common.{cons_option, Contains, Contains-append_cases, Contains-append_left}
+use Rattle.verdicts.proofs.Common.{Contains-append_right, Contains-get_or, contains_cons, CoversFrom, Deq, dequeue_of}
+use Rattle.verdicts.proofs.Common.{Did, Empty, Enq, enqueue_of, eqb-true, Event, false, filter, filter_map, find}
+use Rattle.verdicts.proofs.Common.{flat_map, fresh, FullViolation, get_or, holds_ticket, inl, inr, is_call}
+use Rattle.verdicts.proofs.Common.{IsChosenViolation, IsCompleteFrom, IsCompleteHistory, IsLife, IsShortestCover}
+use Rattle.verdicts.proofs.Common.{IsTrue, IsViolationOf, IsWitnessViolation, keeps, kept, length, Life, lines_of}
+use Rattle.verdicts.proofs.Common.{List, list_any-from_Any, map, map-append, MatchOption, MAX_INITIAL, MAX_THREAD}
+use Rattle.verdicts.proofs.Common.{MAX_TICKET, Names, NamesStep, nat_eq, nat_tests, NEVER, None, NoneDid, Not, not}
+use Rattle.verdicts.proofs.Common.{not_in_none, one_at, one_deeper, Operation, operations_are_complete, operations_of}
 use Rattle.verdicts.proofs.Common.{operations_of_life, OpKind, Option, option_map, option_to_list, order}
-use Rattle.verdicts.proofs.Common.{passed_filter, passes_filter, Precedes, projection, refl, repeat, returns_at_call}
-use Rattle.verdicts.proofs.Common.{same_call, same_return, slice_get, Some, subst, suc, sym, TakesTurns, timeline}
-use Rattle.verdicts.proofs.Common.{timeline_is_complete, true, value_of, Violation, witness, zero, ℕ, ◌++◌, ◌<◌, ◌||◌}
-use Rattle.verdicts.proofs.Common.{◌∙◌, ◌∷◌, ◌≡◌, ◌≢◌, ◌≤◌, ◌⊎◌}
+use Rattle.verdicts.proofs.Common.{passed_filter, passes_filter, Precedes, projection, refl, repeat, return_or_never}
+use Rattle.verdicts.proofs.Common.{returns_at_call, same_call, same_return, slice_get, Some, subst, suc, sym}
+use Rattle.verdicts.proofs.Common.{TakesTurns, timeline, timeline_is_complete, true, value_of, Violation, witness}
+use Rattle.verdicts.proofs.Common.{zero, ℕ, ◌++◌, ◌<◌, ◌||◌, ◌∙◌, ◌∷◌, ◌≡◌, ◌≢◌, ◌≤◌, ◌⊎◌}
 use Rattle.std.proofs.lemmas.Slice.Zip.{AllZip-long}
 use Rattle.verdicts.specs.Claims.{kind_of}
+use Rattle.verdicts.proofs.NamedLines.{line_of_a, line_of_b}
 use Rattle.std.proofs.lemmas.List.Elements.{All-contains}
 use Rattle.history_merge.proofs.TheirEvents.{next_is_first}
 use Rattle.history_merge.specs.Forming.{operation_so_far, operations_so_far}
@@ -36,7 +38,7 @@ mapped_life g life = record { enqueue = g (enqueue_of life); dequeue = option_ma
 abbrev pub mapped_violation : (Operation → Operation) → FullViolation → FullViolation
 mapped_violation g (fresh deq enq) = fresh (g deq) (option_map g enq)
 mapped_violation g (repeat enq first second) = repeat (g enq) (g first) (g second)
-mapped_violation g (order enq_a enq_b deq_b deq_a) = order (g enq_a) (g enq_b) (g deq_b) (option_map g deq_a)
+mapped_violation g (order a b) = order (mapped_life g a) (mapped_life g b)
 mapped_violation g (witness empty cover) = witness (g empty) (map (mapped_life g) cover)
 
 module _ (g : Operation → Operation) where
@@ -55,14 +57,17 @@ module _ (g : Operation → Operation) where
   pub mapped_lines : (full : FullViolation) → lines_of (mapped_violation g full) ≡ map g (lines_of full)
   mapped_lines (fresh deq enq) = ap (λ os. g deq ∷ os) (maybe_line enq)
   mapped_lines (repeat enq first second) = refl
-  mapped_lines (order enq_a enq_b deq_b deq_a) = ap (λ os. g enq_a ∷ g enq_b ∷ g deq_b ∷ os) (maybe_line deq_a)
+  mapped_lines (order a b) =
+      ap (λ os. g (enqueue_of a) ∷ g (enqueue_of b) ∷ os)
+      (ap₂ (λ (ds es : List Operation). ds ++ es) (maybe_line (dequeue_of b)) (maybe_line (dequeue_of a))
+      ∙ sym (map-append g (option_to_list (dequeue_of b)) (option_to_list (dequeue_of a))))
   mapped_lines (witness empty cover) = ap (λ os. g empty ∷ os) (cover_lines cover)
 
   -- and its kind is the same
   pub mapped_kind : (full : FullViolation) → kind_of (mapped_violation g full) ≡ kind_of full
   mapped_kind (fresh deq enq) = refl
   mapped_kind (repeat enq first second) = refl
-  mapped_kind (order enq_a enq_b deq_b deq_a) = refl
+  mapped_kind (order a b) = refl
   mapped_kind (witness empty cover) = refl
 
 -- what follows for the image of an operation, or where there is none
@@ -78,6 +83,7 @@ pub record Carries (from to : List Operation) (g : Operation → Operation) (IsT
       → NoneDid from kind → NoneDid to kind
   pub precedes : (x y : Operation) → IsTaken x → IsTaken y → Precedes x y → Precedes (g x) (g y)
   pub in_turn : (x y : Operation) → IsTaken x → IsTaken y → x.ret < y.ret → (g x).ret < (g y).ret
+  pub in_range : (x : Operation) → IsTaken x → ((g x).call < NEVER) × ((g x).ret < NEVER)
 
 module _ {from to : List Operation} {g : Operation → Operation} {IsTaken : Operation → Type 0} (c : Carries from to g IsTaken) where
   -- all of these are taken
@@ -93,24 +99,41 @@ module _ {from to : List Operation} {g : Operation → Operation} {IsTaken : Ope
         (λ d at. c.did d (Deq is.0) (taken d (one_deeper (enqueue_of life) (option_to_list (dequeue_of life)) d at))),
   )
 
-  cover_carried : (empty before : Operation) (cover : List Life) → IsTaken empty → IsTaken before → AreTaken (flat_map operations_of_life cover)
-      → CoversFrom from empty before cover → CoversFrom to (g empty) (g before) (map (mapped_life g) cover)
-  cover_carried empty before [] is_empty is_before taken covers = covers
-  cover_carried empty before (life ∷ []) is_empty is_before taken covers =
+  -- what returns before a call, if there is one, does so there
+  before_call : (x : Operation) (d : Option Operation) → IsTaken x → AreTaken (option_to_list d) → x.ret < call_or_never d
+      → (g x).ret < call_or_never (option_map g d)
+  before_call x None is_x are less = (c.in_range x is_x).1
+  before_call x (Some d) is_x are less = c.precedes x d is_x (are d (zero, omega arith, refl)) less
+
+  -- what is dequeued before another is, or never, is so there
+  left_before : (x d : Option Operation) → AreTaken (option_to_list x) → AreTaken (option_to_list d) → call_or_never x < NEVER
+      → return_or_never x < call_or_never d → return_or_never (option_map g x) < call_or_never (option_map g d)
+  left_before None d are_x are called less = absurd (omega arith)
+  left_before (Some x) d are_x are called less = before_call x d (are_x x (zero, omega arith, refl)) are less
+
+  called_there : (x : Option Operation) → AreTaken (option_to_list x) → call_or_never x < NEVER → call_or_never (option_map g x) < NEVER
+  called_there None are called = called
+  called_there (Some x) are called = (c.in_range x (are x (zero, omega arith, refl))).0
+
+  cover_carried : (empty : Operation) (before : Option Operation) (cover : List Life) → IsTaken empty → AreTaken (option_to_list before)
+      → AreTaken (flat_map operations_of_life cover) → CoversFrom from empty (call_or_never before) cover
+      → CoversFrom to (g empty) (call_or_never (option_map g before)) (map (mapped_life g) cover)
+  cover_carried empty before [] is_empty are_before taken covers = covers
+  cover_carried empty before (life ∷ []) is_empty are_before taken covers =
       let own : AreTaken (operations_of_life life) = λ o at. taken o (Contains-append_left (operations_of_life life) [] o at) in (
         life_carried life own covers.0,
-        c.precedes (enqueue_of life) before (own (enqueue_of life) (zero, omega arith, refl)) is_before covers.1,
-        mapped_then _ _ g (dequeue_of life) covers.2 (λ none. none)
-            (λ d at. c.precedes empty d is_empty (own d (one_deeper (enqueue_of life) (option_to_list (dequeue_of life)) d at))),
+        before_call (enqueue_of life) before (own (enqueue_of life) (zero, omega arith, refl)) are_before covers.1,
+        before_call empty (dequeue_of life) is_empty (λ o at. own o (one_deeper (enqueue_of life) (option_to_list (dequeue_of life)) o at)) covers.2,
       )
-  cover_carried empty before (life ∷ next ∷ rest) is_empty is_before taken covers =
+  cover_carried empty before (life ∷ next ∷ rest) is_empty are_before taken covers =
       let own : AreTaken (operations_of_life life) = λ o at. taken o
-      (Contains-append_left (operations_of_life life) (flat_map operations_of_life (next ∷ rest)) o at) in (
+      (Contains-append_left (operations_of_life life) (flat_map operations_of_life (next ∷ rest)) o at) in
+      let last : AreTaken (option_to_list (dequeue_of life)) = λ o at. own o (one_deeper (enqueue_of life) (option_to_list (dequeue_of life)) o at) in (
         life_carried life own covers.0,
-        c.precedes (enqueue_of life) before (own (enqueue_of life) (zero, omega arith, refl)) is_before covers.1,
-        mapped_then _ _ g (dequeue_of life) covers.2 (λ none. none) (λ d at. cover_carried empty d (next ∷ rest) is_empty
-            (own d (one_deeper (enqueue_of life) (option_to_list (dequeue_of life)) d at))
-            (λ o later. taken o (Contains-append_right (operations_of_life life) (flat_map operations_of_life (next ∷ rest)) o later))),
+        before_call (enqueue_of life) before (own (enqueue_of life) (zero, omega arith, refl)) are_before covers.1,
+        called_there (dequeue_of life) last covers.2,
+        cover_carried empty (dequeue_of life) (next ∷ rest) is_empty last
+            (λ o later. taken o (Contains-append_right (operations_of_life life) (flat_map operations_of_life (next ∷ rest)) o later)) covers.3,
       )
 
   -- a violation is one there
@@ -141,25 +164,25 @@ module _ {from to : List Operation} {g : Operation → Operation} {IsTaken : Ope
         dequeues_again = c.did second (Deq is.value) later is.dequeues_again;
         in_order = c.in_turn first second sooner later is.in_order;
       }
-  violation_carried (order enq_a enq_b deq_b deq_a) taken is =
-      let a = taken enq_a (zero, omega arith, refl) in
-      let b = taken enq_b (1, omega arith, refl) in
-      let d = taken deq_b (2, omega arith, refl) in record {
-        a = is.a;
-        enqueues_a = c.did enq_a (Enq is.a) a is.enqueues_a;
-        b = is.b;
-        enqueues_b = c.did enq_b (Enq is.b) b is.enqueues_b;
-        dequeues_b = c.did deq_b (Deq is.b) d is.dequeues_b;
-        enqueued_first = c.precedes enq_a enq_b a b is.enqueued_first;
-        dequeued_later = mapped_then _ _ g deq_a is.dequeued_later (c.none_did enq_a is.a (Enq is.a) (Deq is.a) is.enqueues_a refl refl)
-            (λ x at later.
-            let taken_x = taken x (suc (suc (suc at.0)), omega (arith, at.1), at.2) in
-            (c.did x (Deq is.a) taken_x later.0, c.precedes deq_b x d taken_x later.1));
+  violation_carried (order a b) taken is =
+      let own_a : AreTaken (operations_of_life a) = λ o at. taken o (line_of_a a b o at) in
+      let own_b : AreTaken (operations_of_life b) = λ o at. taken o (line_of_b a b o at) in
+      let last_b : AreTaken (option_to_list (dequeue_of b)) = λ o at. own_b o (one_deeper (enqueue_of b) (option_to_list (dequeue_of b)) o at) in record {
+        is_a = life_carried a own_a is.is_a;
+        is_b = life_carried b own_b is.is_b;
+        is_dequeued = called_there (dequeue_of b) last_b is.is_dequeued;
+        overtakes = (
+          c.precedes (enqueue_of a) (enqueue_of b) (own_a (enqueue_of a) (zero, omega arith, refl)) (own_b (enqueue_of b) (zero, omega arith, refl))
+              is.overtakes.0,
+          left_before (dequeue_of b) (dequeue_of a) last_b (λ o at. own_a o (one_deeper (enqueue_of a) (option_to_list (dequeue_of a)) o at))
+              is.is_dequeued is.overtakes.1,
+        );
       }
   violation_carried (witness empty cover) taken is =
       let first = taken empty (zero, omega arith, refl) in record {
         answers_empty = c.did empty Empty first is.answers_empty;
-        covers = cover_carried empty empty cover first first (λ o at. taken o (one_deeper empty (flat_map operations_of_life cover) o at)) is.covers;
+        covers = cover_carried empty (Some empty) cover first (λ o at. elim (contains_cons empty [] o at) [ inl same ↦ subst IsTaken same first | inr none ↦ absurd (not_in_none o none) ])
+            (λ o at. taken o (one_deeper empty (flat_map operations_of_life cover) o at)) is.covers;
       }
 
 -- the chosen violation has a shortest cover
@@ -168,12 +191,12 @@ pub has_shortest_cover : (initial : List ℕ) (operations : List Operation) (nam
     → (full : FullViolation) → Names initial operations named full → IsShortestCover (timeline initial operations) full
 has_shortest_cover initial operations named complete chosen (fresh deq enq) names = tt
 has_shortest_cover initial operations named complete chosen (repeat enq first second) names = tt
-has_shortest_cover initial operations named complete chosen (order enq_a enq_b deq_b deq_a) names = tt
+has_shortest_cover initial operations named complete chosen (order a b) names = tt
 has_shortest_cover initial operations (violation.Witness place steps) complete (witness empty' cover', names', chosen) (witness empty cover) names =
     λ other is.
     let same = one_at (timeline initial operations) (behind (length initial) place) empty empty' names.0 names'.0 in
     let shortest = chosen_cover_is_shortest (timeline initial operations) empty' cover' other
-    (record { complete = complete; no_fresh = chosen.0; no_repeat = chosen.1 }) chosen.3.cover_is_chosen
+    chosen.3.cover_is_chosen
     (subst (λ o. IsWitnessViolation (timeline initial operations) o other) same is) in
     let long = AllZip-long (NamesStep initial operations) steps cover names.1 in
     let long' = AllZip-long (NamesStep initial operations) steps cover' names'.1 in

@@ -37,7 +37,7 @@ pub same_kind : (initial : List ℕ) (operations : List Operation) (violation : 
     → violation_kind violation ≡ kind_of full
 same_kind initial operations (Fresh deq enq) (fresh d e) names = refl
 same_kind initial operations (Repeat enq first second) (repeat e d d') names = refl
-same_kind initial operations (Order enq_a enq_b deq_b deq_a) (order a b d d') names = refl
+same_kind initial operations (Order enq_a enq_b deq_b deq_a) (order a b) names = refl
 same_kind initial operations (Witness empty cover) (witness o lives) names = refl
 same_kind initial operations _ _ names = absurd names
 

@@ -16,7 +16,7 @@ use Rattle.verdicts.specs.Verdicts.{IsEvidence}
 abbrev pub kind_of : FullViolation → ViolationKind
 kind_of (fresh deq enq) = VFresh
 kind_of (repeat enq first second) = VRepeat
-kind_of (order enq_a enq_b deq_b deq_a) = VOrd
+kind_of (order a b) = VOrd
 kind_of (witness empty cover) = VWit
 
 -- the lines are a linearization for a queue that holds these values first, or the claim is that of a `NO` that is evidence

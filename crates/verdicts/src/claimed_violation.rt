@@ -1,12 +1,13 @@
-ghost use Rattle.std.specs.Prelude.{◌↔◌, IsTrue, MatchOption, [], ◌∷◌};
-ghost use Rattle.history_merge.specs.Operations.{Did, NoneDid, Precedes};
-ghost use Rattle.value_match.specs.Lives.{IsLife};
+ghost use Rattle.std.specs.Prelude.{◌≡◌, ◌<◌, ◌↔◌, IsTrue, MatchOption, [], ◌∷◌};
+ghost use Rattle.history_merge.specs.Operations.{Did, NoneDid};
+ghost use Rattle.value_match.specs.Lives.{enqueue_return, IsLife};
 ghost use Rattle.value_match.specs.Violations.{IsNeverEnqueued, IsEnqueuedTooLate, IsRepeatViolation, IsOrderViolation};
 ghost use Rattle.verdicts.specs.Inner.Claims.{IsDequeueFrom, IsLookedUp, ShowsKind, StandForCover};
 
 use crate::lookup::Lookup;
 use crate::verifying::{ClaimLine, ViolationKind};
 use history_merge::{OpKind, Operation};
+use value_match::{Life, NEVER};
 
 /// Whether the lines are those of a violation of this kind.
 pub(crate) fn shows_violation(operations: &Lookup, kind: ViolationKind, lines: &[ClaimLine]) -> bool
@@ -124,66 +125,33 @@ fn shows_order(operations: &Lookup, lines: &[ClaimLine]) -> bool
     ) else {
         return false;
     };
+    let b = life_of(enq_b, Some(deq_b));
     match rest {
-        [] => is_order(operations, enq_a, enq_b, deq_b, None),
+        [] => is_order(operations, life_of(enq_a, None), b),
         [deq_a] => match operations.shown_by(*deq_a) {
-            Some(deq_a) => is_order(operations, enq_a, enq_b, deq_b, Some(deq_a)),
+            Some(deq_a) => is_order(operations, life_of(enq_a, Some(deq_a)), b),
             None => false,
         },
         _ => false,
     }
 }
 
-fn is_order(
-    operations: &Lookup,
-    enq_a: Operation,
-    enq_b: Operation,
-    deq_b: Operation,
-    deq_a: Option<Operation>,
-) -> bool
-    requires { IsLookedUp operations.now }
-    ensures { IsTrue result ↔ IsOrderViolation operations.now.timeline.now enq_a enq_b deq_b deq_a }
+fn life_of(enqueue: Operation, dequeue: Option<Operation>) -> Life
+    ensures { result ≡ record { enqueue = enqueue; dequeue = dequeue } }
 {
-    let (OpKind::Enq(a), OpKind::Enq(b)) = (enq_a.kind, enq_b.kind) else {
-        return false;
-    };
-    are_enqueued_in_turn(operations, enq_a, a, enq_b, b)
-        && operations.did(deq_b, OpKind::Deq(b))
-        && is_dequeued_later(operations, deq_b, a, deq_a)
+    Life { enqueue, dequeue }
 }
 
-/// Whether these are enqueues of the values a and b, one after the other.
-fn are_enqueued_in_turn(
-    operations: &Lookup,
-    enq_a: Operation,
-    a: u64,
-    enq_b: Operation,
-    b: u64,
-) -> bool
+/// Whether these are two values, of which b is dequeued and overtakes a.
+fn is_order(operations: &Lookup, a: Life, b: Life) -> bool
     requires { IsLookedUp operations.now }
-    ensures { IsTrue result
-        ↔ (Did operations.now.timeline.now enq_a (OpKind.Enq a) × Did operations.now.timeline.now enq_b (OpKind.Enq b) × Precedes enq_a enq_b) }
+    ensures { IsTrue result ↔ IsOrderViolation operations.now.timeline.now a b }
 {
-    operations.did(enq_a, OpKind::Enq(a))
-        && operations.did(enq_b, OpKind::Enq(b))
-        && enq_a.ret < enq_b.call
-}
-
-/// Whether this dequeue of a was called after the dequeue of b had returned, or there is none.
-fn is_dequeued_later(
-    operations: &Lookup,
-    deq_b: Operation,
-    a: u64,
-    deq_a: Option<Operation>,
-) -> bool
-    requires { IsLookedUp operations.now }
-    ensures { IsTrue result
-        ↔ MatchOption deq_a (NoneDid operations.now.timeline.now (OpKind.Deq a)) (λ d. Did operations.now.timeline.now d (OpKind.Deq a) × Precedes deq_b d) }
-{
-    match deq_a {
-        None => operations.none_did(OpKind::Deq(a)),
-        Some(deq_a) => operations.did(deq_a, OpKind::Deq(a)) && deq_b.ret < deq_a.call,
-    }
+    is_life(operations, a)
+        && is_life(operations, b)
+        && b.dequeue_call() < NEVER
+        && a.enqueue_return() < b.enqueue_call()
+        && b.dequeue_return() < a.dequeue_call()
 }
 
 /// An empty answer and the values of a cover.
@@ -204,23 +172,24 @@ fn shows_witness(operations: &Lookup, lines: &[ClaimLine]) -> bool
 /// The enqueue and the dequeue of each value of a cover in turn; the last value may lack a dequeue.
 fn shows_cover(operations: &Lookup, empty: Operation, lines: &[ClaimLine]) -> bool
     requires { IsLookedUp operations.now }
-    ensures { IsTrue result ↔ StandForCover operations.now empty empty lines.now }
+    ensures { IsTrue result ↔ StandForCover operations.now empty empty.call lines.now }
 {
-    let mut before = empty;
+    let mut frontier = empty.call;
     let mut rest = lines;
     while let [enqueue, dequeue, _, ..] = rest {
-        match dequeue_from(operations, before, *enqueue, *dequeue) {
-            Some(dequeue) => before = dequeue,
+        match dequeue_from(operations, frontier, *enqueue, *dequeue) {
+            Some(dequeue) => frontier = dequeue.call,
             None => return false,
         }
         rest = &rest[2..];
     }
     match rest {
         [enqueue] => match operations.shown_by(*enqueue) {
-            Some(enqueue) => is_life_from(operations, before, enqueue, None),
+            Some(enqueue) => is_life_from(operations, frontier, life_of(enqueue, None))
+                && empty.ret < NEVER,
             None => false,
         },
-        [enqueue, dequeue] => match dequeue_from(operations, before, *enqueue, *dequeue) {
+        [enqueue, dequeue] => match dequeue_from(operations, frontier, *enqueue, *dequeue) {
             Some(dequeue) => empty.ret < dequeue.call,
             None => false,
         },
@@ -228,42 +197,43 @@ fn shows_cover(operations: &Lookup, empty: Operation, lines: &[ClaimLine]) -> bo
     }
 }
 
-/// The dequeue of a value, where the lines stand for its enqueue and its dequeue, and it was enqueued before the operation
-/// given was called.
+/// The dequeue of a value, where the lines stand for its enqueue and its dequeue, and it was enqueued before the frontier.
 fn dequeue_from(
     operations: &Lookup,
-    before: Operation,
+    frontier: u64,
     enqueue: ClaimLine,
     dequeue: ClaimLine,
 ) -> Option<Operation>
     requires { IsLookedUp operations.now }
-    ensures { IsDequeueFrom operations.now before enqueue dequeue result }
+    ensures { IsDequeueFrom operations.now frontier enqueue dequeue result }
 {
     let enqueue = operations.shown_by(enqueue)?;
     let dequeue = operations.shown_by(dequeue)?;
-    if !is_life_from(operations, before, enqueue, Some(dequeue)) {
+    if dequeue.call >= NEVER
+        || !is_life_from(operations, frontier, life_of(enqueue, Some(dequeue)))
+    {
         return None;
     }
     Some(dequeue)
 }
 
-/// Whether a value was enqueued before the operation given was called, and this is its dequeue, or it has none.
-fn is_life_from(
-    operations: &Lookup,
-    before: Operation,
-    enqueue: Operation,
-    dequeue: Option<Operation>,
-) -> bool
+/// Whether a value was enqueued before the frontier, and this is its life.
+fn is_life_from(operations: &Lookup, frontier: u64, life: Life) -> bool
     requires { IsLookedUp operations.now }
-    ensures { IsTrue result
-        ↔ (IsLife operations.now.timeline.now (record { enqueue = enqueue; dequeue = dequeue }) × Precedes enqueue before) }
+    ensures { IsTrue result ↔ (IsLife operations.now.timeline.now life × (enqueue_return life < frontier)) }
 {
-    let OpKind::Enq(value) = enqueue.kind else {
+    is_life(operations, life) && life.enqueue_return() < frontier
+}
+
+/// Whether these are the operations of a value: a successful enqueue, and a dequeue if there is one.
+fn is_life(operations: &Lookup, life: Life) -> bool
+    requires { IsLookedUp operations.now }
+    ensures { IsTrue result ↔ IsLife operations.now.timeline.now life }
+{
+    let OpKind::Enq(value) = life.enqueue.kind else {
         return false;
     };
-    operations.did(enqueue, OpKind::Enq(value))
-        && has_dequeue(operations, value, dequeue)
-        && enqueue.ret < before.call
+    operations.did(life.enqueue, OpKind::Enq(value)) && has_dequeue(operations, value, life.dequeue)
 }
 
 /// Whether this is a dequeue of the value, or there is none.

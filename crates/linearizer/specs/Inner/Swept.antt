@@ -3,7 +3,7 @@ use Rattle.std.specs.Prelude.{◌<◌, List, Contains}
 use Rattle.value_match.specs.declared.life.Life.{Life}
 use Rattle.value_match.specs.declared.life.MatchedValue.{MatchedValue}
 use Rattle.value_match.specs.Lives.{enqueue_call, entered_by}
-use Rattle.order_violation.specs.Pairs.{Overtakes}
+use Rattle.value_match.specs.Violations.{Overtakes}
 use Rattle.linearizer.specs.Values.{IsChoice}
 use Rattle.linearizer.specs.Inner.Placement.{lives_in}
 use Rattle.linearizer.specs.Inner.Sweep.{IsInOrder}

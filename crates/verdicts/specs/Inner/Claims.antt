@@ -16,7 +16,8 @@ use Rattle.verdicts.specs.declared.verifying.ViolationKind.TheVariants.{VFresh, 
 use Rattle.verdicts.specs.declared.verifying.ClaimLine.TheVariants.{Op, Initial}
 use Rattle.verdicts.specs.Claims.{kind_of}
 use Rattle.value_match.specs.Lives.{IsLife}
-use Rattle.history_merge.specs.Operations.{Did, Precedes}
+use Rattle.history_merge.specs.Operations.{Did}
+use Rattle.value_match.specs.declared.life.TheConstants.{NEVER}
 
 -- ---- what lines stand for on the timeline
 
@@ -57,20 +58,20 @@ pub record IsLookedUp (f : Lookup) : Type 0 where
   pub calls_rise : CallsRise f.timeline.now
   pub few : length f.initial.now ≤ MAX_INITIAL
 
--- the lines stand for a life that begins before an operation
-abbrev pub StandForLife : Lookup → Operation → ClaimLine → ClaimLine → Operation → Operation → Type 0
-StandForLife f before enqueue dequeue e d = (stands_for f.initial.now enqueue ≡ Some e) × (stands_for f.initial.now dequeue ≡ Some d)
-    × IsLife f.timeline.now (record { enqueue = e; dequeue = Some d }) × Precedes e before
+-- the lines stand for a life that begins before the frontier, and that a dequeue ends
+abbrev pub StandForLife : Lookup → ℕ → ClaimLine → ClaimLine → Operation → Operation → Type 0
+StandForLife f frontier enqueue dequeue e d = (stands_for f.initial.now enqueue ≡ Some e) × (stands_for f.initial.now dequeue ≡ Some d)
+    × IsLife f.timeline.now (record { enqueue = e; dequeue = Some d }) × (e.ret < frontier) × (d.call < NEVER)
 
--- the lines stand for the operations of a cover from the operation given to the empty answer, life by life
-abbrev pub StandForCover : Lookup → Operation → Operation → List ClaimLine → Type 0
-StandForCover f empty before [] = ⊥
-StandForCover f empty before (enqueue ∷ []) = (e : Operation) × (stands_for f.initial.now enqueue ≡ Some e)
-    × IsLife f.timeline.now (record { enqueue = e; dequeue = None }) × Precedes e before
-StandForCover f empty before (enqueue ∷ dequeue ∷ []) =
-    (e : Operation) × (d : Operation) × StandForLife f before enqueue dequeue e d × Precedes empty d
-StandForCover f empty before (enqueue ∷ dequeue ∷ next ∷ rest) =
-    (e : Operation) × (d : Operation) × StandForLife f before enqueue dequeue e d × StandForCover f empty d (next ∷ rest)
+-- the lines stand for the operations of a cover from the frontier to the empty answer, life by life
+abbrev pub StandForCover : Lookup → Operation → ℕ → List ClaimLine → Type 0
+StandForCover f empty frontier [] = ⊥
+StandForCover f empty frontier (enqueue ∷ []) = (e : Operation) × (stands_for f.initial.now enqueue ≡ Some e)
+    × IsLife f.timeline.now (record { enqueue = e; dequeue = None }) × (e.ret < frontier) × (empty.ret < NEVER)
+StandForCover f empty frontier (enqueue ∷ dequeue ∷ []) =
+    (e : Operation) × (d : Operation) × StandForLife f frontier enqueue dequeue e d × (empty.ret < d.call)
+StandForCover f empty frontier (enqueue ∷ dequeue ∷ next ∷ rest) =
+    (e : Operation) × (d : Operation) × StandForLife f frontier enqueue dequeue e d × StandForCover f empty d.call (next ∷ rest)
 
 -- the lines stand for the operations of a violation of this kind, line by line
 abbrev pub ShowsKind : Lookup → ViolationKind → List ClaimLine → Type 0
@@ -82,15 +83,16 @@ ShowsKind f VRepeat (enq ∷ first ∷ second ∷ []) = (x : Operation) × (y : 
     × IsRepeatViolation f.timeline.now x y z
 ShowsKind f VOrd (enq_a ∷ enq_b ∷ deq_b ∷ []) = (a : Operation) × (b : Operation) × (d : Operation)
     × (stands_for f.initial.now enq_a ≡ Some a) × (stands_for f.initial.now enq_b ≡ Some b) × (stands_for f.initial.now deq_b ≡ Some d)
-    × IsOrderViolation f.timeline.now a b d None
+    × IsOrderViolation f.timeline.now (record { enqueue = a; dequeue = None }) (record { enqueue = b; dequeue = Some d })
 ShowsKind f VOrd (enq_a ∷ enq_b ∷ deq_b ∷ deq_a ∷ []) = (a : Operation) × (b : Operation) × (d : Operation) × (c : Operation)
     × (stands_for f.initial.now enq_a ≡ Some a) × (stands_for f.initial.now enq_b ≡ Some b) × (stands_for f.initial.now deq_b ≡ Some d)
-    × (stands_for f.initial.now deq_a ≡ Some c) × IsOrderViolation f.timeline.now a b d (Some c)
-ShowsKind f VWit (empty ∷ cover) = (e : Operation) × (stands_for f.initial.now empty ≡ Some e) × Did f.timeline.now e Empty × StandForCover f e e cover
+    × (stands_for f.initial.now deq_a ≡ Some c)
+    × IsOrderViolation f.timeline.now (record { enqueue = a; dequeue = Some c }) (record { enqueue = b; dequeue = Some d })
+ShowsKind f VWit (empty ∷ cover) = (e : Operation) × (stands_for f.initial.now empty ≡ Some e) × Did f.timeline.now e Empty × StandForCover f e e.call cover
 ShowsKind f _ _ = ⊥
 
 -- this is the dequeue of that life, or the lines stand for none
-abbrev pub IsDequeueFrom : Lookup → Operation → ClaimLine → ClaimLine → Option Operation → Type 0
-IsDequeueFrom f before enqueue dequeue found = MatchOption found
-    ((e d : Operation) → ¬ (StandForLife f before enqueue dequeue e d))
-    (λ d. (e : Operation) × StandForLife f before enqueue dequeue e d)
+abbrev pub IsDequeueFrom : Lookup → ℕ → ClaimLine → ClaimLine → Option Operation → Type 0
+IsDequeueFrom f frontier enqueue dequeue found = MatchOption found
+    ((e d : Operation) → ¬ (StandForLife f frontier enqueue dequeue e d))
+    (λ d. (e : Operation) × StandForLife f frontier enqueue dequeue e d)
