@@ -20,11 +20,8 @@ use Rattle.drawing.specs.Laws.{LinesAreOfHistory, LinesHaveNumbers, NoOtherBars,
 use Rattle.drawing.specs.Laws.{OverlappingAreDrawn}
 use Rattle.drawing.proofs.Below.{fewer, one_fewer}
 use Rattle.std.proofs.lemmas.List.Quantifiers.{position-Some}
-use Rattle.value_match.proofs.Lists.{kept}
-use Rattle.verdicts.proofs.NamedPlaces.{line_there}
+use Rattle.verdicts.proofs.ShownLines.{each_there}
 use Rattle.verdicts.proofs.ShrunkHistories.{operation_among, value_among}
-use Rattle.verdicts.specs.Claiming.{line_at, lines_at, lines_of_history}
-use Rattle.verdicts.specs.Shown.{violation_places}
 use Rattle.drawing.specs.declared.scene.Row.TheVariants as row
 
 -- ---- lists
@@ -260,13 +257,7 @@ initial_lines_have_numbers lines j v among = place_of_one lines (stands_in (row.
 
 -- the lines of evidence are of the history
 pub lines_are_of_history : LinesAreOfHistory
-lines_are_of_history initial operations kind lines few (violation, is, same) = (
-  λ o among. operation_among initial operations o (there (Op o) among),
-  λ v among. value_among initial operations v (there (Initial v) among),
+lines_are_of_history initial operations kind lines few shows = (
+  λ o among. operation_among initial operations o (each_there initial operations kind lines shows (Op o) among),
+  λ v among. value_among initial operations v (each_there initial operations kind lines shows (Initial v) among),
 )
-  where
-    there : (l : ClaimLine) → Contains lines l → Contains (lines_of_history initial operations) l
-    there l among =
-        let listed : lines_at initial operations (violation_places violation) ≡ lines = cc in
-        let found = kept (line_at initial operations) (violation_places violation) l (subst (λ ls. Contains ls l) (sym listed) among) in
-        line_there initial operations few found.0 l found.2

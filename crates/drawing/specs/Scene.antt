@@ -1,5 +1,5 @@
 -- The scene of a picture, which characters and pixels draw alike: its rows from top to bottom, and its lanes side by side.
-use Rattle.std.specs.Prelude.{ℕ, ◌+◌, ◌==◌, ◌&&◌, ◌||◌, if◌then◌else◌, max, fold, length, decimal, nat_lt, nat_eq, Bool, true, false, Option}
+use Rattle.std.specs.Prelude.{ℕ, ◌+◌, ◌==◌, ◌&&◌, ◌||◌, if◌then◌else◌, max, fold, length, decimal, nat_lt, nat_eq, Bool, Option}
 use Rattle.std.specs.Prelude.{Some, None, List, [], ◌∷◌, ◌++◌, count_by, codes, option_map}
 use Rattle.std.specs.List.{concat, find, flat_map, enumerate_from, list_any}
 use Rattle.event_records.specs.declared.event.Event.{Event}

@@ -1,28 +1,22 @@
 -- A violation's kind and lines tell which one it is. Which lines show a violation of each kind and which a cover, by the operations that
 -- they stand for; when lines are a linearization.
-use Rattle.verdicts.proofs.Common.{[], AllWithin, ap, AreLives, arith, Bool, call_or_never, CallsRise, cases_lt}
-use Rattle.verdicts.proofs.Common.{ClaimLine, Contains, covers_are_lives, CoversFrom, Deq, dequeue_call}
-use Rattle.verdicts.proofs.Common.{dequeue_of, dequeued_if_called, Did, drop, Empty, Enq, enqueue_of, Err, false}
-use Rattle.verdicts.proofs.Common.{flat_map, fresh, FullViolation, get_or, get_or_default, HoldsAt, initial_enqueue}
-use Rattle.verdicts.proofs.Common.{inl, inr, IsBinarySearchResult, IsLife, IsNeverEnqueued, IsNonDecreasingBy}
-use Rattle.verdicts.proofs.Common.{IsOrderViolation, IsSearchInRange, IsTrue, IsViolationOf, later_by, length, Life}
-use Rattle.verdicts.proofs.Common.{lines_of, List, map, MatchBool, MatchOption, MatchResult, max, MAX_TICKET, nat_cmp}
-use Rattle.verdicts.proofs.Common.{nat_tests, NEVER, None, NoneDid, Not, Ok, Operation, operations_of_life}
-use Rattle.verdicts.proofs.Common.{OpKind, Option, option_to_list, order, ORIGIN, position, Precedes, refl, repeat}
-use Rattle.verdicts.proofs.Common.{Result, ShowsKind, Some, StandFor, StandForCover, StandForLife, stands_for, subst}
-use Rattle.verdicts.proofs.Common.{sym, true, VFresh, ViolationKind, VOrd, VRepeat, VWit, witness, ℕ, ⊤, ◌++◌, ◌+◌}
+use Rattle.verdicts.proofs.Common.{[], AllWithin, ap, AreLives, arith, Bool, CallsRise, cases_lt}
+use Rattle.verdicts.proofs.Common.{ClaimLine, Contains, contains_at, covers_are_lives, Deq, dequeue_call}
+use Rattle.verdicts.proofs.Common.{dequeue_of, dequeued_if_called, drop, Enq, enqueue_of}
+use Rattle.verdicts.proofs.Common.{EnqueuedBefore, Err, false, flat_map, fresh, get_or}
+use Rattle.verdicts.proofs.Common.{get_or_default, HoldsAt, inl, inr, IsBinarySearchResult}
+use Rattle.verdicts.proofs.Common.{IsNonDecreasingBy, IsSearchInRange, IsTrue}
+use Rattle.verdicts.proofs.Common.{length, Life, LineDid, lines_of, LinesCover, List}
+use Rattle.verdicts.proofs.Common.{MatchBool, MatchOption, MatchResult, max, nat_cmp, nat_tests, NEVER}
+use Rattle.verdicts.proofs.Common.{None, NoneDid, Ok, Operation, operations_of_life, OpKind, Option}
+use Rattle.verdicts.proofs.Common.{option_to_list, order, place_of, Precedes, refl, repeat, Result}
+use Rattle.verdicts.proofs.Common.{slice_get, Some, suc, sym, true}
+use Rattle.verdicts.proofs.Common.{witness, zero, ℕ, ⊤, ◌++◌, ◌+◌, ◌-◌}
 use Rattle.verdicts.proofs.Common.{◌<◌, ◌↔◌, ◌∙◌, ◌∷◌, ◌≡◌, ◌≢◌, ◌≤◌, ◌⊎◌}
-use Rattle.std.specs.Ordering.{ordering_index}
 use Rattle.std.proofs.lemmas.Cmp.{ranked}
-use Rattle.verdicts.specs.Claims.{kind_of}
-use Rattle.verdicts.specs.Inner.Claims.{ShowsViolation}
+use Rattle.std.specs.Ordering.{ordering_index}
 use Rattle.verdicts.specs.Laws.{LinesTellViolation}
-use Rattle.verdicts.specs.declared.lookup.Lookup.{Lookup}
-use Rattle.linearizer.proofs.Positions.{some_injective}
-use Rattle.verdicts.specs.declared.verifying.ClaimLine.TheVariants.{Initial, Op}
-use Rattle.value_match.proofs.ToldPlaces.{mapped_option}
-use Rattle.std.specs.Prelude.{nat_eq, nat_le, ◌&&◌}
-use Rattle.std.proofs.lemmas.Option.{cond_some}
+use Rattle.verdicts.specs.Showing.{ComesBefore}
 
 -- ---- operations looked up by their calls
 
@@ -140,171 +134,38 @@ lines_tell_violation operations others _ _ is is' kinds lines = cc
 pub through : {P Q R : Type 0} → P ↔ Q → Q ↔ R → P ↔ R
 through first second = (λ p. second.0 (first.0 p), λ r. first.1 (second.1 r))
 
--- ---- the definitions, where the value is known
+-- ---- initial values in their order
 
-same_deq : {v w : ℕ} → Deq v ≡ Deq w → v ≡ w
-same_deq e = cc
+get_drop : (values : List ℕ) (n i : ℕ) → slice_get (drop n values) i ≡ slice_get values (n + i)
+get_drop [] zero i = refl
+get_drop [] (suc n) i = refl
+get_drop (v ∷ values) zero i = let same : i ≡ 0 + i = omega arith in ap (slice_get (v ∷ values)) same
+get_drop (v ∷ values) (suc n) i = let same : suc (n + i) ≡ suc n + i = omega arith in get_drop values n i ∙ ap (slice_get (v ∷ values)) same
 
-same_enq : {v w : ℕ} → Enq v ≡ Enq w → v ≡ w
-same_enq e = cc
-
--- when a dequeue is of a value that nobody enqueued
-pub is_never_enqueued : (operations : List Operation) (deq : Operation) (v : ℕ) → deq.kind ≡ Deq v
-    → (Did operations deq (Deq v) × NoneDid operations (Enq v) × NoneDid operations (Not v)) ↔ IsNeverEnqueued operations deq
-is_never_enqueued operations deq v is = (
-  λ (did, not_accepted, not_refused). record { value = v; dequeues = did; not_accepted = not_accepted; not_refused = not_refused },
-  λ never.
-      let same : never.value ≡ v = same_deq (sym never.dequeues.1 ∙ is) in
-      ((never.dequeues.0, is), subst (λ w. NoneDid operations (Enq w)) same never.not_accepted, subst (λ w. NoneDid operations (Not w)) same never.not_refused),
+-- what stands behind the first place of a value comes after it
+pub comes_after_first : (values : List ℕ) (v w place : ℕ) → slice_get values place ≡ Some v → ((i : ℕ) → i < place → slice_get values i ≢ Some v)
+    → Contains (drop (place + 1) values) w ↔ ComesBefore values v w
+comes_after_first values v w place at none = (
+  λ among.
+      let there = place_of (drop (place + 1) values) w among in
+      (place, place + 1 + there.0, omega arith, at, sym (get_drop values (place + 1) there.0) ∙ there.1),
+  λ (i, j, less, at_i, at_j). elim (cases_lt i place) [
+    | inl early ↦ absurd (none i early at_i)
+    | inr late ↦ contains_at (drop (place + 1) values) (j - (place + 1)) w
+        (get_drop values (place + 1) (j - (place + 1)) ∙ ap (slice_get values) (omega arith) ∙ at_j)
+  ],
 )
 
--- the dequeue of a value is this one, or there is none
-abbrev pub HasDequeue : List Operation → ℕ → Option Operation → Type 0
-HasDequeue operations v dequeue = MatchOption dequeue (NoneDid operations (Deq v)) (λ d. Did operations d (Deq v))
+-- ---- the walk along the lines of a cover
 
--- when two operations are a life
-pub is_life : (operations : List Operation) (enqueue : Operation) (dequeue : Option Operation) (v : ℕ) → enqueue.kind ≡ Enq v
-    → (Did operations enqueue (Enq v) × HasDequeue operations v dequeue) ↔ IsLife operations (record { enqueue = enqueue; dequeue = dequeue })
-is_life operations enqueue dequeue v is = (
-  λ both. (v, both.0, both.1),
-  λ life. let same : life.0 ≡ v = same_enq (sym life.1.1 ∙ is) in ((life.1.0, is), subst (λ w. HasDequeue operations w dequeue) same life.2),
-)
-
-module _ (f : Lookup) where
-  -- what a line stands for
-  abbrev pub stands : ClaimLine → Option Operation
-  stands line = stands_for f.initial.now line
-
-  -- ---- lines of a cover
-
-  -- a life that begins before the frontier
-  abbrev BeginsBefore : ℕ → Operation → Option Operation → Type 0
-  BeginsBefore frontier e d = IsLife f.timeline.now (record { enqueue = e; dequeue = d }) × (e.ret < frontier)
-
-  -- a dequeue that a line stands for is called within the scale
-  stood_in_range : (line : ClaimLine) (d : Operation) (v : ℕ) → stands line ≡ Some d → d.kind ≡ Deq v → d.call < NEVER
-  stood_in_range (Op o) d v at is = let told = cond_some (nat_le o.call MAX_TICKET && nat_le o.ret MAX_TICKET) (later_by ORIGIN o) d at in
-      let call : o.call + ORIGIN ≡ d.call = ap (λ (x : Operation). x.call) told.1 in grind (arith, nat_tests, told.0)
-  stood_in_range (Initial w) d v at is =
-      let found = mapped_option (λ j. initial_enqueue (length f.initial.now) j w) (position (λ u. nat_eq u w) f.initial.now) d at in
-      let kinds : Enq w ≡ Deq v = ap (λ (x : Operation). x.kind) found.2 ∙ is in
-      cc
-
-  -- lines that stand for those of a cover, by its lives
-  last_life : (empty : Operation) (frontier : ℕ) (e : Operation) (d : Option Operation) (lines : List ClaimLine)
-      → StandFor f.initial.now lines (e ∷ (option_to_list d ++ [])) → BeginsBefore frontier e d → empty.ret < call_or_never d
-      → StandForCover f empty frontier lines
-  last_life empty frontier e None (l ∷ []) same begins past = (e, (cc), begins.0, begins.1, past)
-  last_life empty frontier e (Some d) (l ∷ m ∷ []) same begins past =
-      let at : stands m ≡ Some d = cc in
-      (e, d, ((cc), at, begins.0, begins.1, stood_in_range m d begins.0.0 at begins.0.2.1), past)
-  last_life empty frontier e None _ same begins past = cc
-  last_life empty frontier e (Some d) _ same begins past = cc
-
-  further_life : (empty : Operation) (frontier : ℕ) (e : Operation) (d : Option Operation) (next : Life) (rest : List Life) (lines : List ClaimLine)
-      → StandFor f.initial.now lines (e ∷ (option_to_list d ++ flat_map operations_of_life (next ∷ rest))) → BeginsBefore frontier e d
-      → call_or_never d < NEVER → ((later : List ClaimLine) → StandFor f.initial.now later (flat_map operations_of_life (next ∷ rest))
-      → StandForCover f empty (call_or_never d) later)
-      → StandForCover f empty frontier lines
-  further_life empty frontier e None next rest lines same begins called more = absurd (omega arith)
-  further_life empty frontier e (Some d) next rest (l ∷ m ∷ n ∷ lines) same begins called more =
-      (e, d, ((cc), (cc), begins.0, begins.1, called), more (n ∷ lines) (cc))
-  further_life empty frontier e (Some d) next rest _ same begins called more = cc
-
-  cover_lines : (empty : Operation) (frontier : ℕ) (cover : List Life) (lines : List ClaimLine) → StandFor f.initial.now lines (flat_map operations_of_life cover)
-      → CoversFrom f.timeline.now empty frontier cover → StandForCover f empty frontier lines
-  cover_lines empty frontier [] lines same covers = absurd covers
-  cover_lines empty frontier (life ∷ []) lines same covers =
-      last_life empty frontier (enqueue_of life) (dequeue_of life) lines same (covers.0, covers.1) covers.2
-  cover_lines empty frontier (life ∷ next ∷ rest) lines same covers =
-      further_life empty frontier (enqueue_of life) (dequeue_of life) next rest lines same (covers.0, covers.1) covers.2
-      (λ later same'. cover_lines empty (dequeue_call life) (next ∷ rest) later same' covers.3)
-
-  -- a cover that lines stand for
-  shown_cover : (empty : Operation) (frontier : ℕ) (lines : List ClaimLine) → StandForCover f empty frontier lines
-      → (cover : List Life) × StandFor f.initial.now lines (flat_map operations_of_life cover) × CoversFrom f.timeline.now empty frontier cover
-  shown_cover empty frontier [] covers = absurd covers
-  shown_cover empty frontier (l ∷ []) (e, at, is, begins, past) =
-      (record { enqueue = e; dequeue = None } ∷ [], λ i. at i ∷ [], (is, begins, past))
-  shown_cover empty frontier (l ∷ m ∷ []) (e, d, life, past) =
-      (record { enqueue = e; dequeue = Some d } ∷ [], λ i. life.0 i ∷ life.1 i ∷ [], (life.2, life.3, past))
-  shown_cover empty frontier (l ∷ m ∷ n ∷ lines) (e, d, life, more) =
-      let later = shown_cover empty d.call (n ∷ lines) more in
-      (record { enqueue = e; dequeue = Some d } ∷ later.0, λ i. life.0 i ∷ life.1 i ∷ later.1 i, with_first later.0 later.2)
-    where
-      with_first : (cover : List Life) → CoversFrom f.timeline.now empty d.call cover
-          → CoversFrom f.timeline.now empty frontier (record { enqueue = e; dequeue = Some d } ∷ cover)
-      with_first [] covers = absurd covers
-      with_first (next ∷ rest) covers = (life.2, life.3, life.4, covers)
-
-  -- lines that stand for those of two values
-  order_lines : (a b : Life) (lines : List ClaimLine) → StandFor f.initial.now lines (lines_of (order a b)) → IsOrderViolation f.timeline.now a b
-      → ShowsKind f VOrd lines
-  order_lines a b lines are is = by_dequeues (dequeue_of a) (dequeue_of b) lines are is is.is_dequeued
-    where
-      by_dequeues : (c d : Option Operation) (lines : List ClaimLine)
-          → StandFor f.initial.now lines (enqueue_of a ∷ enqueue_of b ∷ (option_to_list d ++ option_to_list c))
-          → IsOrderViolation f.timeline.now (record { enqueue = enqueue_of a; dequeue = c }) (record { enqueue = enqueue_of b; dequeue = d })
-          → call_or_never d < NEVER → ShowsKind f VOrd lines
-      by_dequeues c None lines are is called = absurd (omega arith)
-      by_dequeues None (Some d) (l ∷ m ∷ n ∷ []) are is called = (enqueue_of a, enqueue_of b, d, (cc), (cc), (cc), is)
-      by_dequeues (Some c) (Some d) (l ∷ m ∷ n ∷ k ∷ []) are is called = (enqueue_of a, enqueue_of b, d, c, (cc), (cc), (cc), (cc), is)
-      by_dequeues None (Some d) _ are is called = cc
-      by_dequeues (Some c) (Some d) _ are is called = cc
-
-  -- lines of a violation's kind are those of one
-  kind_lines : (full : FullViolation) (kind : ViolationKind) (lines : List ClaimLine) → kind_of full ≡ kind → StandFor f.initial.now lines (lines_of full)
-      → IsViolationOf f.timeline.now full → ShowsKind f kind lines
-  kind_lines (fresh d None) VFresh (l ∷ []) same are is = (d, (cc), is)
-  kind_lines (fresh d (Some e)) VFresh (l ∷ m ∷ []) same are is = (d, e, (cc), (cc), is)
-  kind_lines (repeat x y z) VRepeat (l ∷ m ∷ n ∷ []) same are is = (x, y, z, (cc), (cc), (cc), is)
-  kind_lines (order a b) VOrd lines same are is = order_lines a b lines are is
-  kind_lines (witness o cover) VWit (l ∷ lines) same are is = (o, (cc), is.answers_empty, cover_lines o o.call cover lines (cc) is.covers)
-  kind_lines _ _ _ same are is = cc
-
-  shown_kind : (kind : ViolationKind) (lines : List ClaimLine) → ShowsKind f kind lines
-      → (shown : List Operation) × StandFor f.initial.now lines shown × ShowsViolation f.timeline.now kind shown
-  shown_kind VFresh (l ∷ []) (d, at, is) = (d ∷ [], λ i. at i ∷ [], (fresh d None, refl, refl, is))
-  shown_kind VFresh (l ∷ m ∷ []) (d, e, at, at', is) = (d ∷ e ∷ [], λ i. at i ∷ at' i ∷ [], (fresh d (Some e), refl, refl, is))
-  shown_kind VRepeat (l ∷ m ∷ n ∷ []) (x, y, z, at, at', at'', is) =
-      (x ∷ y ∷ z ∷ [], λ i. at i ∷ at' i ∷ at'' i ∷ [], (repeat x y z, refl, refl, is))
-  shown_kind VOrd (l ∷ m ∷ n ∷ []) (a, b, d, at, at', at'', is) =
-      (a ∷ b ∷ d ∷ [], λ i. at i ∷ at' i ∷ at'' i ∷ [], (order (record { enqueue = a; dequeue = None }) (record { enqueue = b; dequeue = Some d }), refl, refl, is))
-  shown_kind VOrd (l ∷ m ∷ n ∷ k ∷ []) (a, b, d, c, at, at', at'', last, is) = (
-    a ∷ b ∷ d ∷ c ∷ [],
-    λ i. at i ∷ at' i ∷ at'' i ∷ last i ∷ [],
-    (order (record { enqueue = a; dequeue = Some c }) (record { enqueue = b; dequeue = Some d }), refl, refl, is),
-  )
-  shown_kind VWit (l ∷ lines) (e, at, did, covers) =
-      let cover = shown_cover e e.call lines covers in
-      (e ∷ flat_map operations_of_life cover.0, λ i. at i ∷ cover.1 i, (witness e cover.0, refl, refl, record { answers_empty = did; covers = cover.2 }))
-  shown_kind _ _ shows = absurd shows
-
-  -- lines that stand for those of a violation, by what they stand for
-  pub kind_is_shown : (kind : ViolationKind) (lines : List ClaimLine) → ShowsKind f kind lines
-      ↔ ((shown : List Operation) × StandFor f.initial.now lines shown × ShowsViolation f.timeline.now kind shown)
-  kind_is_shown kind lines = (
-    shown_kind kind lines,
-    λ (shown, are, (full, same, lists, is)). kind_lines full kind lines same (are ∙ ap (map (λ o. Some o)) (sym lists)) is,
-  )
-
-  -- the first line is the empty answer, the others stand for its cover
-  pub witness_lines_are : (lines : List ClaimLine) (d : ClaimLine) (x : Operation) → 1 ≤ length lines → stands (get_or lines 0 d) ≡ Some x
-      → (Did f.timeline.now x Empty × StandForCover f x x.call (drop 1 lines)) ↔ ShowsKind f VWit lines
-  witness_lines_are [] d x long at = absurd (omega arith)
-  witness_lines_are (l ∷ lines) d x long at = (
-    λ (did, covers). (x, at, did, covers),
-    λ (e, at', did, covers). subst (λ o. Did f.timeline.now o Empty × StandForCover f o o.call lines) (some_injective (sym at' ∙ at)) (did, covers),
-  )
-
-  -- more lines that begin with a life stand for a cover where the later ones do, from its dequeue on
-  pub more_lines_cover : (empty : Operation) (frontier : ℕ) (lines : List ClaimLine) (d : ClaimLine) (e x : Operation) → 3 ≤ length lines
-      → StandForLife f frontier (get_or lines 0 d) (get_or lines 1 d) e x → StandForCover f empty x.call (drop 2 lines) ↔ StandForCover f empty frontier lines
-  more_lines_cover empty frontier (l ∷ m ∷ n ∷ lines) d e x long life = (
-    λ covers. (e, x, life, covers),
-    λ (e', x', life', covers). subst (λ o. StandForCover f empty o.call (n ∷ lines)) (some_injective (sym life'.1 ∙ life.1)) covers,
-  )
-  more_lines_cover empty frontier _ d e x long life = absurd (omega arith)
+-- lines that go on after a value cover where the later ones do
+pub more_lines_cover : (initial : List ℕ) (operations : List Operation) (empty line : ClaimLine) (lines : List ClaimLine) (d : ClaimLine)
+    → 3 ≤ length lines
+    → ((v : ℕ) × EnqueuedBefore initial operations line (get_or lines 0 d) v × LineDid initial operations (get_or lines 1 d) (Deq v))
+    → LinesCover initial operations empty (get_or lines 1 d) (drop 2 lines) ↔ LinesCover initial operations empty line lines
+more_lines_cover initial operations empty line (l ∷ m ∷ n ∷ lines) d long (v, enters, leaves) =
+    (λ covers. (v, enters, leaves, covers), λ (w, enters', leaves', covers). covers)
+more_lines_cover initial operations empty line _ d long over = absurd (omega arith)
 
 -- ---- precedence
 

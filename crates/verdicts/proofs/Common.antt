@@ -90,7 +90,8 @@ pub use Rattle.linearizer.proofs.OneOrder.{chosen_order_exists, chosen_order_is_
 pub use Rattle.verdicts.specs.Claiming.{is_operation, IsPlaceWithin, line_at, lines_at, lines_of_history}
 pub use Rattle.verdicts.specs.Claiming.{operations_at, operations_named, verdict_places, violation_kind}
 pub use Rattle.verdicts.specs.Decided.{IsDecided}
-pub use Rattle.verdicts.specs.Inner.Claims.{CallsRise, ShowsKind, ShowsViolation, StandFor, StandForCover, StandForLife, stands_for}
+pub use Rattle.verdicts.specs.Inner.Claims.{CallsRise, dequeued_by, enqueued_by, value_dequeued, value_enqueued}
+pub use Rattle.verdicts.specs.Showing.{EnqueuedBefore, LeavesAfter, LineDid, LinePrecedes, LinesCover, NoLineDid, ReturnsFirst, Shows}
 pub use Rattle.verdicts.specs.Inner.Selecting.{call_in, holds_ticket, SelectsNamed, value_in}
 pub use Rattle.verdicts.specs.Selection.{AreLinearizable, ArePartOf, contents_of, IsMinimal, IsShortestCover}
 pub use Rattle.verdicts.specs.Selection.{KeepsViolation, select, selects, StaysChosen, value_of, violation_lines}

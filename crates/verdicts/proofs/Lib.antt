@@ -2,7 +2,7 @@
 -- Exactly: beside a violation no order is legal, and without one there is a linearization.
 -- Chosen, OneVerdict: the chosen violation or order of a history decides, and is the only one.
 -- ClaimedLines: when the lines of a claim are evidence.
--- Collected, NamedLines, NamedPlaces, TrueClaims: what a verdict claims, that this is true, and that its lines are few.
+-- Collected, NamedLines, NamedPlaces, ShownLines, TrueClaims: what a verdict claims, that this is true, and that its lines are few.
 -- Selections, CoverGaps: what is carried from operations to others, selected ones with their events, and gaps that a cover leaves open.
 -- Retiming: a selection stands on a timeline at other times, with the same violations; nothing can be left out of it by their lines.
 -- ShrunkHistories: so the small history is minimal, has the violation, and is the only one.
@@ -20,4 +20,5 @@ pub mod Selections
 pub mod OneVerdict
 pub mod TrueClaims
 pub mod NamedPlaces
+pub mod ShownLines
 pub mod ShrunkHistories

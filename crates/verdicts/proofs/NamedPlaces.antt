@@ -8,7 +8,7 @@ use Rattle.verdicts.proofs.Common.{covers_are_lives, CoverStep, Deq, dequeue_cal
 use Rattle.verdicts.proofs.Common.{Empty, Enq, enqueue_of, enqueue_place, Event, false, few_initial, filter, flat_map}
 use Rattle.verdicts.proofs.Common.{fresh, FullViolation, initial_enqueues, initial_time, inl, inr, is_operation, IsAt}
 use Rattle.verdicts.proofs.Common.{IsChosenCoverFrom, IsChosenFullViolation, IsChosenViolation, IsClear}
-use Rattle.verdicts.proofs.Common.{IsCompleteHistory, IsCovered, IsDecided, IsMatched, IsMaybeAt, IsMaybeOperation}
+use Rattle.verdicts.proofs.Common.{IsCompleteHistory, IsCovered, IsDecided, IsMaybeAt, IsMaybeOperation}
 use Rattle.verdicts.proofs.Common.{IsOperation, IsPlaceWithin, IsSource, IsVerdict, IsViolationOf, IsWitnessAnswer}
 use Rattle.verdicts.proofs.Common.{later_by, le-ltb, length, length-map, length_permutation, Life, line_at, LinePlace}
 use Rattle.verdicts.proofs.Common.{lines_at, lines_of, lines_of_history, List, lt-ltb, ltb-false, map, mapped_to}
@@ -29,11 +29,9 @@ use Rattle.verdicts.specs.declared.shown.LinePlace.TheVariants.{Initial, Op}
 use Rattle.value_match.proofs.ToldPlaces.{call_told, dequeue_told, dequeues, empty_told, fresh_dequeues, mapped_option}
 use Rattle.value_match.proofs.ToldPlaces.{maybe_told, source_told}
 use Rattle.value_match.specs.Timeline.{told_place, told_source}
-use Rattle.value_match.specs.declared.matching.Matched.{Matched}
 use Rattle.order_violation.specs.Pairs.{IsChosenPair}
 use Rattle.linearizer.specs.Order.{AreChosenAndLegal}
-use Rattle.verdicts.specs.Laws.{TrueClaimDecides, VerdictHasFewLines}
-use Rattle.verdicts.proofs.Exactly.{violation_excludes_order}
+use Rattle.verdicts.specs.Laws.{VerdictHasFewLines}
 use Rattle.verdicts.proofs.Chosen.{chosen_is_violation}
 use Rattle.history_merge.specs.Events.{events_of}
 use Rattle.history_merge.proofs.Formed.{all_formed, run_of_complete}
@@ -53,10 +51,8 @@ use Rattle.linearizer.proofs.OneOrder.{none_twice_in_lives}
 use Rattle.value_match.specs.declared.violation.Source.TheVariants as source
 use Rattle.value_match.specs.declared.violation.Violation.TheVariants as violation
 use Rattle.verdicts.specs.declared.verifying.ClaimLine.TheVariants as line
-use Rattle.value_match.specs.declared.matching.Matched.TheVariants as matched
 use Rattle.empty_witness.specs.declared.answer.WitnessAnswer.TheVariants as found
 use Rattle.verdicts.specs.declared.shown.LinePlace.TheVariants as place
-use Rattle.verdicts.specs.declared.verifying.Claimed.TheVariants as claimed
 
 -- the value of a successful enqueue
 abbrev pub accepted_value : OpKind → ℕ
@@ -295,21 +291,6 @@ module _ (initial : List ℕ) (operations : List Operation) (few : length initia
 
 -- ---- a chosen violation decides a history, and so does a chosen order that is legal
 
--- a chosen violation decides
-pub no_is_decided : (initial : List ℕ) (operations : List Operation) (violation : Violation) → AreComplete (timeline initial operations)
-    → IsChosenViolation initial operations violation → IsDecided initial operations (No violation)
-no_is_decided initial operations violation complete chosen =
-    let all = timeline initial operations in
-    let full = chosen_is_violation all chosen.0 complete chosen.2 in
-    let few = few_initial initial operations complete in
-    record {
-      chosen = chosen;
-      evidence = (chosen.0, chosen.1, full);
-      exact = violation_excludes_order initial operations chosen.0 complete full;
-      places = all_within initial operations few (violation_places violation) (lines_of chosen.0)
-          (each_shown initial operations few violation chosen.0 chosen.1);
-    }
-
 -- a chosen order decides
 pub yes_is_decided : (initial : List ℕ) (operations : List Operation) (places : List ℕ) → AreChosenAndLegal initial operations places
     → IsDecided initial operations (Yes places)
@@ -331,21 +312,6 @@ pub witness_is_chosen : (initial : List ℕ) (operations : List Operation) (empt
     → NoOrderViolation (timeline initial operations) → IsWitnessAnswer initial operations (found.Covered empty cover)
     → IsChosenViolation initial operations (violation.Witness empty cover)
 witness_is_chosen initial operations empty cover clear none is = (witness is.0 is.1, (is.2, is.3), (clear.no_fresh, clear.no_repeat, none, is.4))
-
--- what matching answers where it refuses is the chosen violation, so the `NO` is decided
-pub refused_is_decided : (initial : List ℕ) (operations : List Operation) (answer : Matched) (violation : Violation)
-    → AreComplete (timeline initial operations) → IsMatched initial operations answer
-    → (answer ≡ matched.Fresh violation) ⊎ (answer ≡ matched.Repeat violation) → IsDecided initial operations (No violation)
-refused_is_decided initial operations answer violation complete is refused = no_is_decided initial operations violation complete (elim refused [
-  | inl same ↦ let h = subst (IsMatched initial operations) same is in (fresh h.0 h.1, h.2, h.3)
-  | inr same ↦ let h = subst (IsMatched initial operations) same is in (repeat h.0 h.1 h.2, h.3, h.4)
-])
-
--- a true claim decides: a linearization that it lists exists, and a violation that it shows leaves none
-pub true_claim_decides : TrueClaimDecides
-true_claim_decides initial events (claimed.Yes lines) complete few legal = (lines, legal)
-true_claim_decides initial events (claimed.No kind lines) complete few claim =
-    violation_excludes_order initial (operations_of events) claim.1.0 (timeline_is_complete initial events complete few) claim.1.2
 
 -- ---- the operations of a complete history tell its events
 

@@ -71,7 +71,7 @@ module _ {low : ℕ} {h : ℕ → ℕ} (rises : Rises low h) where
   )
 
 -- no operation is called or returns at NEVER or later
-times_in_range : (operations : List Operation) (o : Operation) → AreComplete operations → Contains operations o → (o.call < NEVER) × (o.ret < NEVER)
+pub times_in_range : (operations : List Operation) (o : Operation) → AreComplete operations → Contains operations o → (o.call < NEVER) × (o.ret < NEVER)
 times_in_range operations o complete among =
     let range = return_in_range operations o complete among in
     let ordered = call_by_return operations o complete among in
@@ -161,11 +161,6 @@ module _ {values calls : ℕ → Bool} {h : ℕ → ℕ} {low : ℕ} {xs ys : Li
 
   pub no_order_back : NoOrderViolation ys → NoOrderViolation xs
   no_order_back none a b is = none (retimed_life h a) (retimed_life h b) (violation_there (order a b) is)
-
-  -- where the first two kinds are absent from the list, they are absent here
-  pub clear_back : NoFreshViolation ys → NoRepeatViolation ys → IsClear xs
-  clear_back no_fresh no_repeat =
-      record { complete = stands.part_complete; no_fresh = no_fresh_back no_fresh; no_repeat = no_repeat_back no_repeat }
 
   -- ---- the choice
 

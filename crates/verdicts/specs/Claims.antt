@@ -1,16 +1,13 @@
 -- What is claimed of a history, and when that is so.
-use Rattle.std.specs.Prelude.{◌≡◌, ℕ, List}
+use Rattle.std.specs.Prelude.{ℕ, List}
 use Rattle.history_merge.specs.declared.operation.Operation.{Operation}
 use Rattle.history_merge.specs.Legal.{IsLegalOrder}
-use Rattle.value_match.specs.declared.violation.Violation.{Violation}
 use Rattle.value_match.specs.Violations.{FullViolation, fresh, repeat, order, witness}
-use Rattle.verdicts.specs.declared.verdict.Verdict.TheVariants as verdict
 use Rattle.verdicts.specs.declared.verifying.Claimed.{Claimed}
 use Rattle.verdicts.specs.declared.verifying.Claimed.TheVariants.{Yes, No}
 use Rattle.verdicts.specs.declared.verifying.ViolationKind.{ViolationKind}
 use Rattle.verdicts.specs.declared.verifying.ViolationKind.TheVariants.{VFresh, VRepeat, VOrd, VWit}
-use Rattle.verdicts.specs.Claiming.{claim_of}
-use Rattle.verdicts.specs.Verdicts.{IsEvidence}
+use Rattle.verdicts.specs.Showing.{Shows}
 
 -- the kind of a violation
 abbrev pub kind_of : FullViolation → ViolationKind
@@ -19,8 +16,7 @@ kind_of (repeat enq first second) = VRepeat
 kind_of (order a b) = VOrd
 kind_of (witness empty cover) = VWit
 
--- the lines are a linearization for a queue that holds these values first, or the claim is that of a `NO` that is evidence
+-- the lines are a linearization for a queue that holds these values first, or show a violation of the kind
 abbrev pub IsTrueClaim : List ℕ → List Operation → Claimed → Type 0
 IsTrueClaim initial operations (Yes lines) = IsLegalOrder initial operations lines
-IsTrueClaim initial operations (No kind lines) = (violation : Violation) × IsEvidence initial operations (verdict.No violation)
-    × (claim_of initial operations (verdict.No violation) ≡ No kind lines)
+IsTrueClaim initial operations (No kind lines) = Shows initial operations kind lines

@@ -1,4 +1,5 @@
 pub mod Verdicts
+pub mod Showing
 pub mod Claims
 pub mod Laws
 pub mod Selection

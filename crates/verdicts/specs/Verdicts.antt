@@ -4,11 +4,13 @@ use Rattle.history_merge.specs.declared.operation.Operation.{Operation}
 use Rattle.history_merge.specs.Legal.{IsLegalOrder, IsLinearizable, ArePlacesOf}
 use Rattle.history_merge.specs.Initial.{HistoryView, timeline}
 use Rattle.history_merge.specs.Operations.{operations_of}
-use Rattle.value_match.specs.Violations.{FullViolation, IsViolationOf}
-use Rattle.value_match.specs.Outcome.{Names, IsChosenViolation}
+use Rattle.value_match.specs.Outcome.{IsChosenViolation}
 use Rattle.linearizer.specs.Order.{IsChosenOrder}
 use Rattle.verdicts.specs.declared.verdict.Verdict.{Verdict}
 use Rattle.verdicts.specs.declared.verdict.Verdict.TheVariants.{Yes, No}
+use Rattle.verdicts.specs.Claiming.{IsWithin, lines_at, violation_kind}
+use Rattle.verdicts.specs.Showing.{Shows}
+use Rattle.verdicts.specs.Shown.{violation_places}
 
 -- yes with the order that, behind the enqueues of the initial values, is the chosen one of the timeline; or no with the
 -- chosen violation
@@ -17,11 +19,11 @@ IsVerdict initial operations (Yes places) =
     (order : List Operation) × ArePlacesOf operations places order × IsChosenOrder (timeline initial operations) (timeline initial order)
 IsVerdict initial operations (No violation) = IsChosenViolation initial operations violation
 
--- a `YES` lists a linearization for a queue that holds these values first; a `NO` names what violates on the timeline
+-- a `YES` lists a linearization for a queue that holds these values first; the lines at the places of a `NO` show a violation
 abbrev pub IsEvidence : List ℕ → List Operation → Verdict → Type 0
 IsEvidence initial operations (Yes places) = (order : List Operation) × ArePlacesOf operations places order × IsLegalOrder initial operations order
-IsEvidence initial operations (No violation) =
-    (full : FullViolation) × Names initial operations violation full × IsViolationOf (timeline initial operations) full
+IsEvidence initial operations (No violation) = IsWithin initial operations (No violation)
+    × Shows initial operations (violation_kind violation) (lines_at initial operations (violation_places violation))
 
 -- `YES` if a linearization exists for a queue that holds these values first, `NO` if none does
 abbrev pub IsExact : List ℕ → List Operation → Verdict → Type 0

@@ -1,249 +1,195 @@
-ghost use Rattle.std.specs.Prelude.{◌≡◌, ◌<◌, ◌↔◌, IsTrue, MatchOption, [], ◌∷◌};
-ghost use Rattle.history_merge.specs.Operations.{Did, NoneDid};
-ghost use Rattle.value_match.specs.Lives.{enqueue_return, IsLife};
-ghost use Rattle.value_match.specs.Violations.{IsNeverEnqueued, IsEnqueuedTooLate, IsRepeatViolation, IsOrderViolation};
-ghost use Rattle.verdicts.specs.Inner.Claims.{IsDequeueFrom, IsLookedUp, ShowsKind, StandForCover};
+ghost use Rattle.std.specs.Prelude.{◌≡◌, ◌↔◌, ◌⊎◌, ℕ, IsTrue};
+ghost use Rattle.history_merge.specs.declared.operation.OpKind.TheVariants.{Deq, Enq, Not};
+ghost use Rattle.history_merge.specs.Operations.{operations_of};
+ghost use Rattle.verdicts.specs.Inner.Claims.{dequeued_by, enqueued_by};
+ghost use Rattle.verdicts.specs.Showing.{EnqueuedBefore, LeavesAfter, LineDid, LinePrecedes, LinesCover, NoLineDid, ReturnsFirst};
+ghost use Rattle.verdicts.specs.Showing.{Shows, ShowsFresh, ShowsOrder, ShowsRepeat, ShowsWitness};
 
-use crate::lookup::Lookup;
+use crate::lookup::{line_did, line_precedes, no_line_did, returns_first};
 use crate::verifying::{ClaimLine, ViolationKind};
-use history_merge::{OpKind, Operation};
-use value_match::{Life, NEVER};
+use history_merge::{History, OpKind};
 
-/// Whether the lines are those of a violation of this kind.
-pub(crate) fn shows_violation(operations: &Lookup, kind: ViolationKind, lines: &[ClaimLine]) -> bool
-    requires { IsLookedUp operations.now }
-    ensures { IsTrue result ↔ ShowsKind operations.now kind lines.now }
+/// Whether the lines show a violation of this kind.
+pub(crate) fn shows_violation(history: &History, kind: ViolationKind, lines: &[ClaimLine]) -> bool
+    ensures { IsTrue result ↔ Shows history.now.initial (operations_of history.now.events) kind lines.now }
 {
     match kind {
-        ViolationKind::VFresh => shows_fresh(operations, lines),
-        ViolationKind::VRepeat => shows_repeat(operations, lines),
-        ViolationKind::VOrd => shows_order(operations, lines),
-        ViolationKind::VWit => shows_witness(operations, lines),
+        ViolationKind::VFresh => shows_fresh(history, lines),
+        ViolationKind::VRepeat => shows_repeat(history, lines),
+        ViolationKind::VOrd => shows_order(history, lines),
+        ViolationKind::VWit => shows_witness(history, lines),
+    }
+}
+
+/// The value that the line dequeued.
+fn dequeued_by(line: ClaimLine) -> Option<u64>
+    ensures { result ≡ dequeued_by line }
+{
+    match line {
+        ClaimLine::Op(operation) => match operation.kind {
+            OpKind::Deq(value) => Some(value),
+            _ => None,
+        },
+        ClaimLine::Initial(_) => None,
+    }
+}
+
+/// The value that the line enqueued.
+fn enqueued_by(line: ClaimLine) -> Option<u64>
+    ensures { result ≡ enqueued_by line }
+{
+    match line {
+        ClaimLine::Op(operation) => match operation.kind {
+            OpKind::Enq(value) => Some(value),
+            _ => None,
+        },
+        ClaimLine::Initial(value) => Some(value),
     }
 }
 
 /// A dequeue alone, or with an enqueue of its value.
-fn shows_fresh(operations: &Lookup, lines: &[ClaimLine]) -> bool
-    requires { IsLookedUp operations.now }
-    ensures { IsTrue result ↔ ShowsKind operations.now ViolationKind.VFresh lines.now }
+fn shows_fresh(history: &History, lines: &[ClaimLine]) -> bool
+    ensures { IsTrue result ↔ ShowsFresh history.now.initial (operations_of history.now.events) lines.now }
 {
     match lines {
-        [deq] => shows_never_enqueued(operations, *deq),
-        [deq, enq] => shows_enqueued_too_late(operations, *deq, *enq),
-        _ => false,
-    }
-}
-
-fn shows_never_enqueued(operations: &Lookup, deq: ClaimLine) -> bool
-    requires { IsLookedUp operations.now }
-    ensures { IsTrue result ↔ ShowsKind operations.now ViolationKind.VFresh (deq ∷ []) }
-{
-    match operations.shown_by(deq) {
-        Some(deq) => is_never_enqueued(operations, deq),
-        None => false,
-    }
-}
-
-fn shows_enqueued_too_late(operations: &Lookup, deq: ClaimLine, enq: ClaimLine) -> bool
-    requires { IsLookedUp operations.now }
-    ensures { IsTrue result ↔ ShowsKind operations.now ViolationKind.VFresh (deq ∷ enq ∷ []) }
-{
-    match (operations.shown_by(deq), operations.shown_by(enq)) {
-        (Some(deq), Some(enq)) => is_enqueued_too_late(operations, deq, enq),
-        _ => false,
-    }
-}
-
-fn is_never_enqueued(operations: &Lookup, deq: Operation) -> bool
-    requires { IsLookedUp operations.now }
-    ensures { IsTrue result ↔ IsNeverEnqueued operations.now.timeline.now deq }
-{
-    let OpKind::Deq(value) = deq.kind else {
-        return false;
-    };
-    operations.did(deq, OpKind::Deq(value))
-        && operations.none_did(OpKind::Enq(value))
-        && operations.none_did(OpKind::Not(value))
-}
-
-fn is_enqueued_too_late(operations: &Lookup, deq: Operation, enq: Operation) -> bool
-    requires { IsLookedUp operations.now }
-    ensures { IsTrue result ↔ IsEnqueuedTooLate operations.now.timeline.now deq enq }
-{
-    let OpKind::Deq(value) = deq.kind else {
-        return false;
-    };
-    operations.did(deq, OpKind::Deq(value))
-        && (operations.did(enq, OpKind::Not(value))
-            || operations.did(enq, OpKind::Enq(value)) && deq.ret < enq.call)
-}
-
-/// An enqueue and two dequeues of its value.
-fn shows_repeat(operations: &Lookup, lines: &[ClaimLine]) -> bool
-    requires { IsLookedUp operations.now }
-    ensures { IsTrue result ↔ ShowsKind operations.now ViolationKind.VRepeat lines.now }
-{
-    let [enq, first, second] = lines else {
-        return false;
-    };
-    let shown = (
-        operations.shown_by(*enq),
-        operations.shown_by(*first),
-        operations.shown_by(*second),
-    );
-    let (Some(enq), Some(first), Some(second)) = shown else {
-        return false;
-    };
-    is_repeat(operations, enq, first, second)
-}
-
-fn is_repeat(operations: &Lookup, enq: Operation, first: Operation, second: Operation) -> bool
-    requires { IsLookedUp operations.now }
-    ensures { IsTrue result ↔ IsRepeatViolation operations.now.timeline.now enq first second }
-{
-    let OpKind::Enq(value) = enq.kind else {
-        return false;
-    };
-    operations.did(enq, OpKind::Enq(value))
-        && operations.did(first, OpKind::Deq(value))
-        && operations.did(second, OpKind::Deq(value))
-        && first.ret < second.ret
-}
-
-/// The enqueues of a and b, the dequeue of b, and one of a if the history has any.
-fn shows_order(operations: &Lookup, lines: &[ClaimLine]) -> bool
-    requires { IsLookedUp operations.now }
-    ensures { IsTrue result ↔ ShowsKind operations.now ViolationKind.VOrd lines.now }
-{
-    let [enq_a, enq_b, deq_b, rest @ ..] = lines else {
-        return false;
-    };
-    let (Some(enq_a), Some(enq_b), Some(deq_b)) = (
-        operations.shown_by(*enq_a),
-        operations.shown_by(*enq_b),
-        operations.shown_by(*deq_b),
-    ) else {
-        return false;
-    };
-    let b = life_of(enq_b, Some(deq_b));
-    match rest {
-        [] => is_order(operations, life_of(enq_a, None), b),
-        [deq_a] => match operations.shown_by(*deq_a) {
-            Some(deq_a) => is_order(operations, life_of(enq_a, Some(deq_a)), b),
+        [deq] => match dequeued_by(*deq) {
+            Some(value) => is_never_enqueued(history, *deq, value),
+            None => false,
+        },
+        [deq, enq] => match dequeued_by(*deq) {
+            Some(value) => is_enqueued_too_late(history, *deq, *enq, value),
             None => false,
         },
         _ => false,
     }
 }
 
-fn life_of(enqueue: Operation, dequeue: Option<Operation>) -> Life
-    ensures { result ≡ record { enqueue = enqueue; dequeue = dequeue } }
+fn is_never_enqueued(history: &History, deq: ClaimLine, value: u64) -> bool
+    ensures { IsTrue result ↔ (LineDid history.now.initial (operations_of history.now.events) deq (Deq value)
+        × NoLineDid history.now.initial (operations_of history.now.events) (Enq value)
+        × NoLineDid history.now.initial (operations_of history.now.events) (Not value)) }
 {
-    Life { enqueue, dequeue }
+    line_did(history, deq, OpKind::Deq(value))
+        && no_line_did(history, OpKind::Enq(value))
+        && no_line_did(history, OpKind::Not(value))
 }
 
-/// Whether these are two values, of which b is dequeued and overtakes a.
-fn is_order(operations: &Lookup, a: Life, b: Life) -> bool
-    requires { IsLookedUp operations.now }
-    ensures { IsTrue result ↔ IsOrderViolation operations.now.timeline.now a b }
+fn is_enqueued_too_late(history: &History, deq: ClaimLine, enq: ClaimLine, value: u64) -> bool
+    ensures { IsTrue result ↔ (LineDid history.now.initial (operations_of history.now.events) deq (Deq value)
+        × (LineDid history.now.initial (operations_of history.now.events) enq (Not value)
+        ⊎ (LineDid history.now.initial (operations_of history.now.events) enq (Enq value) × LinePrecedes history.now.initial deq enq))) }
 {
-    is_life(operations, a)
-        && is_life(operations, b)
-        && b.dequeue_call() < NEVER
-        && a.enqueue_return() < b.enqueue_call()
-        && b.dequeue_return() < a.dequeue_call()
+    line_did(history, deq, OpKind::Deq(value))
+        && (line_did(history, enq, OpKind::Not(value))
+            || line_did(history, enq, OpKind::Enq(value)) && line_precedes(history, deq, enq))
+}
+
+/// An enqueue and two dequeues of its value.
+fn shows_repeat(history: &History, lines: &[ClaimLine]) -> bool
+    ensures { IsTrue result ↔ ShowsRepeat history.now.initial (operations_of history.now.events) lines.now }
+{
+    match lines {
+        [enq, first, second] => match enqueued_by(*enq) {
+            Some(value) => is_repeat(history, *enq, *first, *second, value),
+            None => false,
+        },
+        _ => false,
+    }
+}
+
+fn is_repeat(
+    history: &History,
+    enq: ClaimLine,
+    first: ClaimLine,
+    second: ClaimLine,
+    value: u64,
+) -> bool
+    ensures { IsTrue result ↔ (LineDid history.now.initial (operations_of history.now.events) enq (Enq value)
+        × LineDid history.now.initial (operations_of history.now.events) first (Deq value)
+        × LineDid history.now.initial (operations_of history.now.events) second (Deq value) × ReturnsFirst first second) }
+{
+    line_did(history, enq, OpKind::Enq(value))
+        && line_did(history, first, OpKind::Deq(value))
+        && line_did(history, second, OpKind::Deq(value))
+        && returns_first(first, second)
+}
+
+/// The enqueues of a and b, the dequeue of b, and one of a if the history has any.
+fn shows_order(history: &History, lines: &[ClaimLine]) -> bool
+    ensures { IsTrue result ↔ ShowsOrder history.now.initial (operations_of history.now.events) lines.now }
+{
+    let [enq_a, enq_b, deq_b, deq_a @ ..] = lines else {
+        return false;
+    };
+    let (Some(a), Some(b)) = (enqueued_by(*enq_a), enqueued_by(*enq_b)) else {
+        return false;
+    };
+    line_did(history, *enq_a, OpKind::Enq(a))
+        && line_did(history, *enq_b, OpKind::Enq(b))
+        && line_did(history, *deq_b, OpKind::Deq(b))
+        && line_precedes(history, *enq_a, *enq_b)
+        && leaves_after(history, *deq_b, a, deq_a)
+}
+
+/// Whether the one line is the dequeue of the value, and another precedes it; or there is no line, and no such dequeue.
+fn leaves_after(history: &History, line: ClaimLine, value: u64, deq: &[ClaimLine]) -> bool
+    ensures { IsTrue result ↔ LeavesAfter history.now.initial (operations_of history.now.events) line value deq.now }
+{
+    match deq {
+        [] => no_line_did(history, OpKind::Deq(value)),
+        [deq] => line_did(history, *deq, OpKind::Deq(value)) && line_precedes(history, line, *deq),
+        _ => false,
+    }
 }
 
 /// An empty answer and the values of a cover.
-fn shows_witness(operations: &Lookup, lines: &[ClaimLine]) -> bool
-    requires { IsLookedUp operations.now }
-    ensures { IsTrue result ↔ ShowsKind operations.now ViolationKind.VWit lines.now }
+fn shows_witness(history: &History, lines: &[ClaimLine]) -> bool
+    ensures { IsTrue result ↔ ShowsWitness history.now.initial (operations_of history.now.events) lines.now }
 {
-    let [empty, cover @ ..] = lines else {
-        return false;
-    };
-    match operations.shown_by(*empty) {
-        Some(empty) => operations.did(empty, OpKind::Empty)
-            && shows_cover(operations, empty, cover),
-        None => false,
+    match lines {
+        [empty, cover @ ..] => line_did(history, *empty, OpKind::Empty)
+            && covers(history, *empty, cover),
+        [] => false,
     }
 }
 
 /// The enqueue and the dequeue of each value of a cover in turn; the last value may lack a dequeue.
-fn shows_cover(operations: &Lookup, empty: Operation, lines: &[ClaimLine]) -> bool
-    requires { IsLookedUp operations.now }
-    ensures { IsTrue result ↔ StandForCover operations.now empty empty.call lines.now }
+fn covers(history: &History, empty: ClaimLine, lines: &[ClaimLine]) -> bool
+    ensures { IsTrue result ↔ LinesCover history.now.initial (operations_of history.now.events) empty empty lines.now }
 {
-    let mut frontier = empty.call;
+    let mut line = empty;
     let mut rest = lines;
-    while let [enqueue, dequeue, _, ..] = rest {
-        match dequeue_from(operations, frontier, *enqueue, *dequeue) {
-            Some(dequeue) => frontier = dequeue.call,
-            None => return false,
+    while let [enq, deq, _, ..] = rest {
+        if !hands_over(history, line, *enq, *deq) {
+            return false;
         }
+        line = *deq;
         rest = &rest[2..];
     }
     match rest {
-        [enqueue] => match operations.shown_by(*enqueue) {
-            Some(enqueue) => is_life_from(operations, frontier, life_of(enqueue, None))
-                && empty.ret < NEVER,
+        [enq, deq @ ..] => match enqueued_by(*enq) {
+            Some(value) => enters_before(history, line, *enq, value)
+                && leaves_after(history, empty, value, deq),
             None => false,
         },
-        [enqueue, dequeue] => match dequeue_from(operations, frontier, *enqueue, *dequeue) {
-            Some(dequeue) => empty.ret < dequeue.call,
-            None => false,
-        },
-        _ => false,
+        [] => false,
     }
 }
 
-/// The dequeue of a value, where the lines stand for its enqueue and its dequeue, and it was enqueued before the frontier.
-fn dequeue_from(
-    operations: &Lookup,
-    frontier: u64,
-    enqueue: ClaimLine,
-    dequeue: ClaimLine,
-) -> Option<Operation>
-    requires { IsLookedUp operations.now }
-    ensures { IsDequeueFrom operations.now frontier enqueue dequeue result }
+/// Whether a value was enqueued before the line given, and then dequeued.
+fn hands_over(history: &History, line: ClaimLine, enq: ClaimLine, deq: ClaimLine) -> bool
+    ensures { IsTrue result ↔ ((v : ℕ) × EnqueuedBefore history.now.initial (operations_of history.now.events) line enq v
+        × LineDid history.now.initial (operations_of history.now.events) deq (Deq v)) }
 {
-    let enqueue = operations.shown_by(enqueue)?;
-    let dequeue = operations.shown_by(dequeue)?;
-    if dequeue.call >= NEVER
-        || !is_life_from(operations, frontier, life_of(enqueue, Some(dequeue)))
-    {
-        return None;
+    match enqueued_by(enq) {
+        Some(value) => enters_before(history, line, enq, value)
+            && line_did(history, deq, OpKind::Deq(value)),
+        None => false,
     }
-    Some(dequeue)
 }
 
-/// Whether a value was enqueued before the frontier, and this is its life.
-fn is_life_from(operations: &Lookup, frontier: u64, life: Life) -> bool
-    requires { IsLookedUp operations.now }
-    ensures { IsTrue result ↔ (IsLife operations.now.timeline.now life × (enqueue_return life < frontier)) }
+fn enters_before(history: &History, line: ClaimLine, enq: ClaimLine, value: u64) -> bool
+    ensures { IsTrue result ↔ EnqueuedBefore history.now.initial (operations_of history.now.events) line enq value }
 {
-    is_life(operations, life) && life.enqueue_return() < frontier
-}
-
-/// Whether these are the operations of a value: a successful enqueue, and a dequeue if there is one.
-fn is_life(operations: &Lookup, life: Life) -> bool
-    requires { IsLookedUp operations.now }
-    ensures { IsTrue result ↔ IsLife operations.now.timeline.now life }
-{
-    let OpKind::Enq(value) = life.enqueue.kind else {
-        return false;
-    };
-    operations.did(life.enqueue, OpKind::Enq(value)) && has_dequeue(operations, value, life.dequeue)
-}
-
-/// Whether this is a dequeue of the value, or there is none.
-fn has_dequeue(operations: &Lookup, value: u64, dequeue: Option<Operation>) -> bool
-    requires { IsLookedUp operations.now }
-    ensures { IsTrue result
-        ↔ MatchOption dequeue (NoneDid operations.now.timeline.now (OpKind.Deq value)) (λ d. Did operations.now.timeline.now d (OpKind.Deq value)) }
-{
-    match dequeue {
-        None => operations.none_did(OpKind::Deq(value)),
-        Some(dequeue) => operations.did(dequeue, OpKind::Deq(value)),
-    }
+    line_did(history, enq, OpKind::Enq(value)) && line_precedes(history, enq, line)
 }

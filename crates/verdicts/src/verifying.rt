@@ -5,7 +5,6 @@ ghost use Rattle.verdicts.specs.Claims.{IsTrueClaim};
 
 use crate::claimed_order::is_legal_order;
 use crate::claimed_violation::shows_violation;
-use crate::lookup::Lookup;
 use event_records::OwnedSlice;
 use history_merge::{History, Operation};
 use std::alloc::{AllocError, Global};
@@ -75,10 +74,6 @@ pub fn verify(alloc: Global, history: &History, claimed: &Claimed) -> Result<boo
 {
     match claimed {
         Claimed::Yes(lines) => is_legal_order(alloc, history, lines.as_slice()),
-        Claimed::No(kind, lines) => Ok(shows_violation(
-            &Lookup::of(history),
-            *kind,
-            lines.as_slice(),
-        )),
+        Claimed::No(kind, lines) => Ok(shows_violation(history, *kind, lines.as_slice())),
     }
 }

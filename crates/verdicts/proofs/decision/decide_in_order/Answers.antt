@@ -1,5 +1,6 @@
 use Rattle.verdicts.proofs.Common.{subst, IsWitnessAnswer}
-use Rattle.verdicts.proofs.NamedPlaces.{no_is_decided, witness_is_chosen, yes_is_decided}
+use Rattle.verdicts.proofs.NamedPlaces.{witness_is_chosen, yes_is_decided}
+use Rattle.verdicts.proofs.TrueClaims.{no_is_decided}
 use Rattle.verdicts.proofs.decision.decide_in_order.Goals as goal
 
 pub returns-in-Covered : goal.returns-in-Covered

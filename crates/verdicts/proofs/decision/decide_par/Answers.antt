@@ -1,4 +1,4 @@
-use Rattle.verdicts.proofs.NamedPlaces.{refused_is_decided}
+use Rattle.verdicts.proofs.TrueClaims.{refused_is_decided}
 use Rattle.verdicts.proofs.decision.decide_par.Goals as goal
 
 pub returns-in-Fresh : goal.returns-in-Fresh

@@ -1,6 +1,7 @@
 use Rattle.verdicts.proofs.Common.{subst, sym, IsDecided, No}
 use Rattle.order_violation.specs.Pairs.{IsOrderAnswer}
-use Rattle.verdicts.proofs.NamedPlaces.{no_is_decided, pair_is_chosen}
+use Rattle.verdicts.proofs.NamedPlaces.{pair_is_chosen}
+use Rattle.verdicts.proofs.TrueClaims.{no_is_decided}
 use Rattle.verdicts.proofs.decision.overtaken.Goals as goal
 
 pub returns : goal.returns

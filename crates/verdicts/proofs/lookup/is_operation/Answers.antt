@@ -1,0 +1,22 @@
+use Rattle.verdicts.proofs.Common.{arith, later_by, operation_within, ORIGIN, refl}
+use Rattle.history_merge.specs.Operations.{operations_of}
+use Rattle.value_match.proofs.ToldPlaces.{called_late, few_initial}
+use Rattle.verdicts.proofs.ClaimedLines.{through}
+use Rattle.verdicts.proofs.lookup.is_operation.Goals as goal
+
+pub returns-then-operation-gt-MAX_TICKET : goal.returns-then-operation-gt-MAX_TICKET
+returns-then-operation-gt-MAX_TICKET c = (
+  λ f. cc,
+  λ among.
+      let within = operation_within c.args.history.now.events c.args.operation c.timeline-timeline.ensures.from.complete among in
+      absurd (grind (arith, within, c.then-operation-gt-MAX_TICKET.either)),
+)
+
+pub returns : goal.returns
+returns c =
+    let history = c.args.history.now in
+    let operations = operations_of history.events in
+    let timeline = c.timeline-timeline.ensures in
+    let few = few_initial history.initial operations (rw timeline.timeline at timeline.complete) in
+    let there = called_late history.initial operations (later_by ORIGIN c.args.operation) c.args.operation few (omega arith) refl in
+    through (rw (timeline.timeline, c.later.ensures) at c.has_operation.ensures) (there.1, there.0)

@@ -1,0 +1,12 @@
+use Rattle.history_merge.specs.Operations.{operations_of}
+use Rattle.value_match.proofs.ToldPlaces.{few_initial}
+use Rattle.verdicts.proofs.ClaimedLines.{through}
+use Rattle.verdicts.proofs.ShownLines.{none_exactly}
+use Rattle.verdicts.proofs.lookup.no_line_did.Goals as goal
+
+pub returns : goal.returns
+returns c =
+    let history = c.args.history.now in
+    let operations = operations_of history.events in
+    through (rw c.timeline.ensures.timeline at c.none_did.ensures)
+    (none_exactly history.initial operations (few_initial history.initial operations (rw c.timeline.ensures.timeline at c.timeline.ensures.complete)) c.args.kind)

@@ -1,0 +1,89 @@
+-- Which lines show a violation of a history. A line is an operation, or an initial value, which counts as enqueued before all else.
+use Rattle.std.specs.Prelude.{◌≡◌, ◌<◌, ◌⊎◌, ⊤, ℕ, List, [], ◌∷◌, Contains, Some, slice_get}
+use Rattle.history_merge.specs.declared.operation.Operation.{Operation}
+use Rattle.history_merge.specs.declared.operation.OpKind.{OpKind}
+use Rattle.history_merge.specs.declared.operation.OpKind.TheVariants.{Enq, Deq, Empty, Not}
+use Rattle.history_merge.specs.Operations.{Did, Precedes}
+use Rattle.verdicts.specs.declared.verifying.ClaimLine.{ClaimLine}
+use Rattle.verdicts.specs.declared.verifying.ClaimLine.TheVariants.{Op, Initial}
+use Rattle.verdicts.specs.declared.verifying.ViolationKind.{ViolationKind}
+use Rattle.verdicts.specs.declared.verifying.ViolationKind.TheVariants.{VFresh, VOrd, VRepeat, VWit}
+
+-- the line is an operation that did this, or an initial value that this enqueues
+abbrev pub LineDid : List ℕ → List Operation → ClaimLine → OpKind → Type 0
+LineDid initial operations (Op o) kind = Did operations o kind
+LineDid initial operations (Initial v) kind = Contains initial v × (kind ≡ Enq v)
+
+-- no operation did this, and no initial value
+abbrev pub NoLineDid : List ℕ → List Operation → OpKind → Type 0
+NoLineDid initial operations kind = (line : ClaimLine) → ¬ (LineDid initial operations line kind)
+
+-- the first value stands before the second
+abbrev pub ComesBefore : List ℕ → ℕ → ℕ → Type 0
+ComesBefore values v w = (i : ℕ) × (j : ℕ) × (i < j) × (slice_get values i ≡ Some v) × (slice_get values j ≡ Some w)
+
+-- operations precede one another by their tickets; initial values precede all operations, and one another in their order
+abbrev pub LinePrecedes : List ℕ → ClaimLine → ClaimLine → Type 0
+LinePrecedes initial (Op x) (Op y) = Precedes x y
+LinePrecedes initial (Op x) (Initial w) = ⊥
+LinePrecedes initial (Initial v) (Op y) = ⊤
+LinePrecedes initial (Initial v) (Initial w) = ComesBefore initial v w
+
+-- both are operations, and the first returned first
+abbrev pub ReturnsFirst : ClaimLine → ClaimLine → Type 0
+ReturnsFirst (Op x) (Op y) = x.ret < y.ret
+ReturnsFirst _ _ = ⊥
+
+-- a dequeue of a value that was not there, with the value's enqueue, accepted or refused, if the history has one
+abbrev pub ShowsFresh : List ℕ → List Operation → List ClaimLine → Type 0
+ShowsFresh initial operations (deq ∷ []) =
+    (v : ℕ) × LineDid initial operations deq (Deq v) × NoLineDid initial operations (Enq v) × NoLineDid initial operations (Not v)
+ShowsFresh initial operations (deq ∷ enq ∷ []) = (v : ℕ) × LineDid initial operations deq (Deq v)
+    × (LineDid initial operations enq (Not v) ⊎ (LineDid initial operations enq (Enq v) × LinePrecedes initial deq enq))
+ShowsFresh initial operations _ = ⊥
+
+-- an accepted enqueue, and two dequeues of its value in the order of their returns
+abbrev pub ShowsRepeat : List ℕ → List Operation → List ClaimLine → Type 0
+ShowsRepeat initial operations (enq ∷ first ∷ second ∷ []) = (v : ℕ) × LineDid initial operations enq (Enq v)
+    × LineDid initial operations first (Deq v) × LineDid initial operations second (Deq v) × ReturnsFirst first second
+ShowsRepeat initial operations _ = ⊥
+
+-- the value's dequeue, which the line given precedes; or no line, where the value is never dequeued
+abbrev pub LeavesAfter : List ℕ → List Operation → ClaimLine → ℕ → List ClaimLine → Type 0
+LeavesAfter initial operations line v [] = NoLineDid initial operations (Deq v)
+LeavesAfter initial operations line v (deq ∷ []) = LineDid initial operations deq (Deq v) × LinePrecedes initial line deq
+LeavesAfter initial operations line v _ = ⊥
+
+-- the enqueue of a, the later one of b, the dequeue of b, and the dequeue of a, which comes after it, if there is one
+abbrev pub ShowsOrder : List ℕ → List Operation → List ClaimLine → Type 0
+ShowsOrder initial operations (enq_a ∷ enq_b ∷ deq_b ∷ deq_a) = (a : ℕ) × (b : ℕ) × LineDid initial operations enq_a (Enq a)
+    × LineDid initial operations enq_b (Enq b) × LineDid initial operations deq_b (Deq b) × LinePrecedes initial enq_a enq_b
+    × LeavesAfter initial operations deq_b a deq_a
+ShowsOrder initial operations _ = ⊥
+
+-- the line enqueues the value, and precedes another
+abbrev pub EnqueuedBefore : List ℕ → List Operation → ClaimLine → ClaimLine → ℕ → Type 0
+EnqueuedBefore initial operations line enq v = LineDid initial operations enq (Enq v) × LinePrecedes initial enq line
+
+-- the first value is enqueued before the line given; while there is a next value, this one is dequeued, and the next is enqueued
+-- before that; and the last value is dequeued after the empty answer, or never
+abbrev pub LinesCover : List ℕ → List Operation → ClaimLine → ClaimLine → List ClaimLine → Type 0
+LinesCover initial operations empty line [] = ⊥
+LinesCover initial operations empty line (enq ∷ []) =
+    (v : ℕ) × EnqueuedBefore initial operations line enq v × LeavesAfter initial operations empty v []
+LinesCover initial operations empty line (enq ∷ deq ∷ []) =
+    (v : ℕ) × EnqueuedBefore initial operations line enq v × LeavesAfter initial operations empty v (deq ∷ [])
+LinesCover initial operations empty line (enq ∷ deq ∷ next ∷ rest) =
+    (v : ℕ) × EnqueuedBefore initial operations line enq v × LineDid initial operations deq (Deq v) × LinesCover initial operations empty deq (next ∷ rest)
+
+-- an empty answer, and values of which one or another was in the queue all the time
+abbrev pub ShowsWitness : List ℕ → List Operation → List ClaimLine → Type 0
+ShowsWitness initial operations [] = ⊥
+ShowsWitness initial operations (empty ∷ cover) = LineDid initial operations empty Empty × LinesCover initial operations empty empty cover
+
+-- the lines show a violation of this kind
+abbrev pub Shows : List ℕ → List Operation → ViolationKind → List ClaimLine → Type 0
+Shows initial operations VFresh lines = ShowsFresh initial operations lines
+Shows initial operations VRepeat lines = ShowsRepeat initial operations lines
+Shows initial operations VOrd lines = ShowsOrder initial operations lines
+Shows initial operations VWit lines = ShowsWitness initial operations lines
