@@ -34,7 +34,7 @@ abbrev pub ReturnsFirst : ClaimLine → ClaimLine → Type 0
 ReturnsFirst (Op x) (Op y) = x.ret < y.ret
 ReturnsFirst _ _ = ⊥
 
--- a dequeue of a value that was not there, with the value's enqueue, accepted or refused, if the history has one
+-- a dequeue of a value that was not there, with the value's enqueue, successful or failed, if the history has one
 abbrev pub ShowsFresh : List ℕ → List Operation → List ClaimLine → Type 0
 ShowsFresh initial operations (deq ∷ []) =
     (v : ℕ) × LineDid initial operations deq (Deq v) × NoLineDid initial operations (Enq v) × NoLineDid initial operations (Not v)
@@ -42,7 +42,7 @@ ShowsFresh initial operations (deq ∷ enq ∷ []) = (v : ℕ) × LineDid initia
     × (LineDid initial operations enq (Not v) ⊎ (LineDid initial operations enq (Enq v) × LinePrecedes initial deq enq))
 ShowsFresh initial operations _ = ⊥
 
--- an accepted enqueue, and two dequeues of its value in the order of their returns
+-- a successful enqueue, and two dequeues of its value in the order of their returns
 abbrev pub ShowsRepeat : List ℕ → List Operation → List ClaimLine → Type 0
 ShowsRepeat initial operations (enq ∷ first ∷ second ∷ []) = (v : ℕ) × LineDid initial operations enq (Enq v)
     × LineDid initial operations first (Deq v) × LineDid initial operations second (Deq v) × ReturnsFirst first second
