@@ -1,4 +1,6 @@
-ghost use Rattle.std.specs.Prelude.{◌≡◌, ◌<◌, ◌≤◌, ◌^◌, IfOk, IfSome, length};
+ghost use Rattle.std.specs.Prelude.{◌≡◌, ◌≢◌, ◌<◌, ◌≤◌, ◌+◌, ◌++◌, ◌∷◌, [], ℕ, IfOk, IfSome, length, vec_len};
+ghost use Rattle.std.specs.Vec.{vec_capacity};
+ghost use Rattle.history_merge.specs.declared.operation.OpKind.TheVariants.{Enq};
 ghost use Rattle.history_merge.specs.Complete.{AreComplete};
 ghost use Rattle.history_merge.specs.Initial.{timeline};
 ghost use Rattle.history_merge.specs.Operations.{operations_of};
@@ -84,10 +86,16 @@ fn sorted_out(
     let mut empties = Vec::new(alloc);
     let mut refused = Vec::new(alloc);
     for (place, operation) in operations.iter().enumerate() {
-        match operation.unpack().kind {
-            OpKind::Enq(_) => values.push(pair_of(place, dequeues[place]))?,
+        let kind = operation.unpack().kind;
+        let pair = Pair {
+            enqueue: place as u32,
+            dequeue: dequeues[place],
+        };
+        push_accepted(&mut values, pair, kind);
+        match kind {
             OpKind::Empty => empties.push(OpId::new(place as u32))?,
             OpKind::Not(_) => refused.push(OpId::new(place as u32))?,
+            OpKind::Enq(_) => {}
             OpKind::Deq(_) => {}
         }
     }
@@ -98,13 +106,17 @@ fn sorted_out(
     })
 }
 
-/// The places of a successful enqueue and of the dequeue of its value, if there is one.
-fn pair_of(place: usize, dequeue: MaybePlace) -> Pair
-    requires { place < 2 ^ 32 }
-    ensures { (result.enqueue ≡ place) × (result.dequeue ≡ dequeue) }
+/// Adds a pair, for which there is room, if its operation is a successful enqueue. It is put there in any case, without a branch.
+#[inline(always)]
+fn push_accepted(pairs: &mut Vec<Pair>, pair: Pair, kind: OpKind)
+    requires { vec_len pairs.old < vec_capacity pairs.old }
+    ensures accepted { (v : ℕ) → kind ≡ Enq v → pairs.new.items ≡ pairs.old.items ++ pair ∷ [] }
+    ensures other { ((v : ℕ) → kind ≢ Enq v) → pairs.new.items ≡ pairs.old.items }
+    ensures len { vec_len pairs.new ≤ vec_len pairs.old + 1 }
+    ensures capacity { vec_capacity pairs.new ≡ vec_capacity pairs.old }
 {
-    Pair {
-        enqueue: place as u32,
-        dequeue,
+    pairs.push_reserved(pair);
+    if !matches!(kind, OpKind::Enq(_)) {
+        pairs.pop();
     }
 }
