@@ -11,9 +11,9 @@ use Rattle.order_violation.specs.Pairs.{IsChosenPair, IsFirstFound, IsFirstOvert
 use Rattle.history_merge.specs.declared.operation.Operation.{Operation}
 use Rattle.history_merge.specs.declared.operation.OpKind.TheVariants.{Deq}
 use Rattle.history_merge.specs.Operations.{Did, NoneDid}
-use Rattle.history_merge.specs.Complete.{AreComplete}
+use Rattle.history_merge.specs.Complete.{AreApart, AreComplete}
 use Rattle.history_merge.specs.Initial.{timeline}
-use Rattle.history_merge.proofs.Distinct.{call_by_return, return_in_range}
+use Rattle.history_merge.proofs.Distinct.{call_by_return, contains_at, pairs_at, return_in_range}
 use Rattle.value_match.specs.declared.life.TheConstants.{NEVER}
 use Rattle.value_match.specs.Timeline.{told_place, told_source}
 use Rattle.value_match.specs.Outcome.{IsMaybeOperation}
@@ -37,6 +37,16 @@ called_by operations v (Some d) complete did =
     let range = return_in_range operations d complete did.0 in
     let order = call_by_return operations d complete did.0 in
     (omega arith, λ before. omega arith)
+
+-- of two dequeues the first by place is called before the other returns
+pub called_first : (operations : List Operation) (p q : ℕ) (a b : Option Operation) → AreComplete operations → p < q
+    → IsMaybeAt operations (Some p) a → IsMaybeAt operations (Some q) b → call_or_never a < return_or_never b
+called_first operations p q (Some x) (Some y) complete below at_x at_y =
+    let before = pairs_at AreApart operations p q x y complete.apart below at_x at_y in
+    let order = call_by_return operations y complete (contains_at operations q y at_y) in
+    omega (arith, before.called_first)
+called_first operations p q None b complete below at_x at_y = elim at_x [ ]
+called_first operations p q (Some x) None complete below at_x at_y = elim at_y [ ]
 
 -- where there is no order violation, no value overtakes another
 pub none_overtakes : (operations : List Operation) (a b : Life) → IsClear operations → NoOrderViolation operations → IsLife operations a

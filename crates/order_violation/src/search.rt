@@ -1,4 +1,7 @@
-ghost use Rattle.std.specs.Prelude.{◌≡◌, IfOk};
+ghost use Rattle.std.specs.Prelude.{◌≡◌, All, IfOk, List};
+ghost use Rattle.history_merge.specs.Complete.{AreComplete};
+ghost use Rattle.history_merge.specs.declared.operation.Operation.{Operation};
+ghost use Rattle.value_match.specs.Lives.{HasPlaces, IsMaybeAt, dequeue_of};
 ghost use Rattle.value_match.specs.Fronts.{FindsLongest};
 ghost use Rattle.order_violation.specs.Pairs.{IsFirstFound, IsOrderAnswer, told_pair};
 ghost use Rattle.value_match.specs.Violations.{Overtakes};
@@ -6,6 +9,7 @@ ghost use Rattle.value_match.specs.Timeline.{timeline_of};
 
 use crate::overtaking::{first_overtaking, overtakes};
 use crate::pair::OrderPair;
+use history_merge::OpId;
 use std::alloc::{AllocError, Global};
 use value_match::{
     Life, LongestTable, MatchedValue, Matching, Values, told_maybe, told_place, told_source,
@@ -34,7 +38,7 @@ pub fn chosen_pair(matching: &Matching, first: Option<MatchedValue>) -> Option<O
 {
     let initial_count = matching.initial().len();
     let b = first?;
-    let a = longest_among(&matching.values(), &b.life)?;
+    let a = longest_among(&matching.values(), &b.life, &b.dequeue)?;
     pair_of(initial_count, a, b)
 }
 
@@ -50,12 +54,20 @@ fn pair_of(initial_count: usize, a: MatchedValue, b: MatchedValue) -> Option<Ord
     })
 }
 
-/// Returns of the values that b overtakes the one that stays longest.
-fn longest_among(values: &Values, b: &Life) -> Option<MatchedValue>
+/// Returns of the values that b overtakes, whose dequeue stands at this place, the one that stays longest.
+fn longest_among(values: &Values, b: &Life, dequeue: &Option<OpId>) -> Option<MatchedValue>
+    requires { (operations : List Operation) × AreComplete operations × All (HasPlaces operations) values.now × IsMaybeAt operations dequeue.now (dequeue_of b.now) }
     ensures { FindsLongest (Overtakes b.now) values.now result }
 {
     let mut longest: Option<MatchedValue> = None;
     for place in 0..values.len() {
+        // Most are dequeued before b, as the places say without a look at the operations.
+        if let Some(first) = values.get(place).dequeue
+            && let Some(second) = dequeue
+            && first.number() < second.number()
+        {
+            continue;
+        }
         let a = values.get(place);
         if overtakes(b, &a.life) {
             longest = Some(longest.map_or(a, |longest| longest.longer_of(a)));
