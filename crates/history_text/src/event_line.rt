@@ -138,12 +138,13 @@ impl Item for Event {
     }
 
     #[inline(always)]
-    fn at_front(bytes: &[u8]) -> Option<(Event, usize)> {
+    fn at_front(bytes: &[u8], digits: &mut usize) -> Option<(Event, usize)> {
         let (ticket, at) = number_at(bytes, 0)?;
-        if ticket > MAX_TICKET {
+        if ticket > MAX_TICKET || at != *digits {
+            *digits = at;
             return None;
         }
-        let at = after_word_at(bytes, at, b" ")?;
+        let at = after_word_at(bytes, *digits, b" ")?;
         let (thread, at) = thread_at(bytes, at)?;
         let (what, at) = what_at(bytes, at)?;
         let event = Event {

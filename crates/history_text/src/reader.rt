@@ -194,7 +194,7 @@ impl<R: TextSource> TextReader<R> {
 
     /// Returns the next item after this many, if there is room for it and its line stands whole in the buffer.
     #[inline(always)]
-    fn item_in_buffer<T: Item>(&mut self, count: usize) -> Option<T>
+    fn item_in_buffer<T: Item>(&mut self, count: usize, digits: &mut usize) -> Option<T>
         requires { self.old.lines + 1 < 2 ^ 64 }
         ensures item { IfSome result (λ item. TakesItem T.format self.old.left self.new.left count (Some item)) }
         ensures lines { IfSome result (λ _. self.new.lines ≡ self.old.lines + 1) }
@@ -204,7 +204,7 @@ impl<R: TextSource> TextReader<R> {
         if count >= most {
             return None;
         }
-        let (item, len) = T::at_front(&self.buffer[self.at..])?;
+        let (item, len) = T::at_front(&self.buffer[self.at..], digits)?;
         if len > self.filled - self.at {
             return None;
         }
@@ -260,7 +260,7 @@ impl<R: TextSource> TextReader<R> {
         ensures of_input { IfErr result IsOfInput }
         ensures lines { self.new.lines ≡ self.old.lines + 1 }
     {
-        if let Some(item) = self.item_in_buffer(0) {
+        if let Some(item) = self.item_in_buffer(0, &mut 0) {
             return Ok(item);
         }
         let line = self.whole_line(TextFault::Line(self.lines + 1))?;
@@ -296,8 +296,9 @@ impl<R: TextSource> TextReader<R> {
         let mut count = 0;
         // Whether what is left of the buffer was read on after, since the last item.
         let mut is_complete = false;
+        let mut digits = 0;
         loop {
-            let item = match self.item_in_buffer(count) {
+            let item = match self.item_in_buffer(count, &mut digits) {
                 Some(item) => item,
                 None if !is_complete => {
                     self.complete_line();

@@ -75,7 +75,7 @@ impl Item for u64 {
     }
 
     #[inline(always)]
-    fn at_front(bytes: &[u8]) -> Option<(u64, usize)> {
+    fn at_front(bytes: &[u8], _digits: &mut usize) -> Option<(u64, usize)> {
         let (value, at) = number_at(bytes, 0)?;
         let at = after_word_at(bytes, at, b"\n")?;
         Some((value, at))
