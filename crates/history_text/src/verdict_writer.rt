@@ -5,7 +5,7 @@ ghost use Rattle.history_merge.specs.Operations.{operations_of};
 ghost use Rattle.text_lines.specs.Lines.{line, spaced};
 ghost use Rattle.history_text.specs.Verdicts.{kind_fields, kind_name, operation_line, claim_line, verdict_text, IsWithin};
 ghost use Rattle.history_text.specs.Verdicts.{maybe_place, violation_places, places_of_step, violation_kind, claim_of};
-ghost use Rattle.history_text.specs.Inner.Verdicts.{line_text, lines_text};
+ghost use Rattle.history_text.specs.Inner.Verdicts.{line_text, lines_text, word_of};
 ghost use Rattle.verdicts.specs.declared.shown.LinePlace.TheVariants as place;
 ghost use Rattle.text_lines.specs.Writing.{Puts, Writes, PutsText};
 
@@ -15,26 +15,32 @@ use text_lines::{TextSink, WriteBuffer, WriteFault, write_piece};
 use value_match::{CoverStep, Violation};
 use verdicts::{ClaimLine, LinePlace, Verdict};
 
+/// Adds what was done, whose word is given.
 #[inline(always)]
-fn push_kind(kept: &mut WriteBuffer, kind: OpKind)
-    requires { length kept.old + 29 ≤ 4096 }
+fn push_kind(kept: &mut WriteBuffer, kind: OpKind, word: &'static [u8; 4])
+    requires room { length kept.old + 29 ≤ 4096 }
+    requires word { word.now ≡ word_of kind }
     ensures words { kept.new ≡ kept.old ++ spaced (kind_fields kind) }
     ensures short { length kept.new ≤ length kept.old + 29 }
 {
     match kind {
-        OpKind::Enq(value) => {
-            kept.push(b"enq ");
-            kept.push_number(value);
-        }
-        OpKind::Deq(value) => {
-            kept.push(b"deq ");
+        OpKind::Enq(value) | OpKind::Deq(value) | OpKind::Not(value) => {
+            kept.push(word);
             kept.push_number(value);
         }
         OpKind::Empty => kept.push(b"empty"),
-        OpKind::Not(value) => {
-            kept.push(b"not ");
-            kept.push_number(value);
-        }
+    }
+}
+
+/// The word of an operation that has a value, with the space after it.
+#[inline(always)]
+fn word_of(kind: OpKind) -> &'static [u8; 4]
+    ensures { result.now ≡ word_of kind }
+{
+    match kind {
+        OpKind::Enq(_) => b"enq ",
+        OpKind::Deq(_) => b"deq ",
+        OpKind::Not(_) | OpKind::Empty => b"not ",
     }
 }
 
@@ -43,10 +49,12 @@ fn push_operation(kept: &mut WriteBuffer, operation: &Operation)
     requires { length kept.old + 96 ≤ 4096 }
     ensures { kept.new ≡ kept.old ++ operation_line operation.now }
 {
+    // Before all else, so that the word is chosen without a branch.
+    let word = word_of(operation.kind);
     kept.push_field(operation.call);
     kept.push_field(operation.ret);
     kept.push_field(u64::from(operation.thread));
-    push_kind(kept, operation.kind);
+    push_kind(kept, operation.kind, word);
     kept.push(b"\n");
 }
 

@@ -1,8 +1,10 @@
 -- The lines at the places of a verdict.
-use Rattle.std.specs.Prelude.{ℕ, List}
+use Rattle.std.specs.Prelude.{ℕ, List, codes}
 use Rattle.std.specs.List.{flat_map}
 use Rattle.std.specs.Option.{option_to_list}
 use Rattle.history_merge.specs.declared.operation.Operation.{Operation}
+use Rattle.history_merge.specs.declared.operation.OpKind.{OpKind}
+use Rattle.history_merge.specs.declared.operation.OpKind.TheVariants.{Enq, Deq}
 use Rattle.verdicts.specs.declared.shown.LinePlace.{LinePlace}
 use Rattle.verdicts.specs.Claiming.{line_at}
 use Rattle.history_text.specs.Verdicts.{claim_line}
@@ -14,3 +16,9 @@ line_text initial operations place = flat_map claim_line (option_to_list (line_a
 -- the lines at these places
 abbrev pub lines_text : List ℕ → List Operation → List LinePlace → List ℕ
 lines_text initial operations places = flat_map (line_text initial operations) places
+
+-- the word of an operation with a value, and a space
+abbrev pub word_of : OpKind → List ℕ
+word_of (Enq v) = codes "enq "
+word_of (Deq v) = codes "deq "
+word_of _ = codes "not "
