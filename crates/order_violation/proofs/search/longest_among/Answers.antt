@@ -24,13 +24,12 @@ loop-place-preserved c =
 pub loop-place-preserved-in-loop-place : goal.loop-place-preserved-in-loop-place
 loop-place-preserved-in-loop-place c =
     let values = c.args.values.now in
-    let x = c.get.result in
     let within : c.loop-place.place < length values = omega (arith, c.loop-place-test.true, c.len-place-end.ensures) in
     let (operations, complete, placed, at) = c.requires in
-    let x_at = subst (HasPlaces operations) (sym c.get.ensures) (placed c.loop-place.place x within) in
-    let first = called_first operations _ _ (dequeue_of x.life) (dequeue_of c.args.b.now) complete
+    let x_at = subst (HasPlaces operations) (sym c.get.ensures) (placed c.loop-place.place c.get.result within) in
+    let first = called_first operations _ _ (dequeue_of c.get.result.life) (dequeue_of c.args.b.now) complete
     (omega (arith, c.number.ensures, c.number-in-loop-place.ensures, c.if-number.true))
-    (subst (λ p. IsMaybeAt operations p (dequeue_of x.life)) c.in-Some.is x_at.1)
+    (subst (λ p. IsMaybeAt operations p (dequeue_of c.get.result.life)) c.in-Some.is x_at.1)
     (subst (λ p. IsMaybeAt operations p (dequeue_of c.args.b.now)) c.in-Some-dequeue.is at) in
-    longest_stays (Overtakes c.args.b.now) values _ x c.loop-place.longest within c.get.ensures c.loop-place.invariant
+    longest_stays (Overtakes c.args.b.now) values _ c.get.result c.loop-place.longest within c.get.ensures c.loop-place.invariant
     (λ over. absurd (omega (arith, first, over.1)))
