@@ -80,11 +80,11 @@ fn digits_at(bytes: &[u8], at: usize) -> Option<(usize, u64)>
     ensures most { IfSome result (λ p. p.0 ≤ 24) }
 {
     let (count, value) = eight_digits_at(bytes, at);
-    if count < 8 {
+    if count != 8 {
         return Some((count, value));
     }
     let (count, value) = more_digits_at(bytes, at, count, value)?;
-    if count < 16 {
+    if count != 16 {
         return Some((count, value));
     }
     more_digits_at(bytes, at, count, value)
