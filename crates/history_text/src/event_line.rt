@@ -91,24 +91,24 @@ fn thread_at(bytes: &[u8], at: usize) -> Option<(u8, usize)>
 /// Returns what a thread called or the queue answered, if its words and a line feed stand at this place, and the place
 /// after them.
 ///
-/// Eight bytes are compared at once.
+/// Eight bytes are compared at once. Calls are tested apart from returns, one word after another, since the words come in no order.
 #[inline(always)]
 fn what_at(bytes: &[u8], at: usize) -> Option<(What, usize)>
     requires { at + 34 ≤ length bytes.now }
     ensures { IfSome result (λ p. (drop at bytes.now ≡ line (spaced (what_fields p.0)) ++ drop p.1 bytes.now) × HasValueInRange p.0) }
 {
-    if let Some(at) = after_word_at(bytes, at, b"call-enq") {
-        let at = after_word_at(bytes, at, b" ")?;
-        let (value, at) = number_at(bytes, at)?;
+    if let Some(next) = after_word_at(bytes, at + 1, b"all-enq ") {
+        after_word_at(bytes, at, b"c")?;
+        let (value, at) = number_at(bytes, next)?;
         let at = after_word_at(bytes, at, b"\n")?;
         return Some((What::CallEnq(value), at));
     }
+    if let Some(next) = after_word_at(bytes, at + 1, b"all-deq\n") {
+        after_word_at(bytes, at, b"c")?;
+        return Some((What::CallDeq, next));
+    }
     if let Some(at) = after_word_at(bytes, at, b"ret-enq\n") {
         return Some((What::RetEnq, at));
-    }
-    if let Some(at) = after_word_at(bytes, at, b"call-deq") {
-        let at = after_word_at(bytes, at, b"\n")?;
-        return Some((What::CallDeq, at));
     }
     if let Some(at) = after_word_at(bytes, at, b"ret-deq ") {
         let (value, at) = number_at(bytes, at)?;

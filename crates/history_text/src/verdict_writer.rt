@@ -15,7 +15,6 @@ use text_lines::{TextSink, WriteBuffer, WriteFault, write_piece};
 use value_match::{CoverStep, Violation};
 use verdicts::{ClaimLine, LinePlace, Verdict};
 
-/// Adds what was done, whose word is given.
 #[inline(always)]
 fn push_kind(kept: &mut WriteBuffer, kind: OpKind, word: &'static [u8; 4])
     requires room { length kept.old + 29 ≤ 4096 }
