@@ -91,7 +91,7 @@ fn thread_at(bytes: &[u8], at: usize) -> Option<(u8, usize)>
 /// Returns what a thread called or the queue answered, if its words and a line feed stand at this place, and the place
 /// after them.
 ///
-/// Eight bytes are compared at once. Calls are tested apart from returns, one word after another, since the words come in no order.
+/// Eight bytes are compared at once; calls apart from returns, so that fewer of the tests are in doubt.
 #[inline(always)]
 fn what_at(bytes: &[u8], at: usize) -> Option<(What, usize)>
     requires { at + 34 ≤ length bytes.now }

@@ -29,8 +29,8 @@ pub(crate) trait Item: Drop {
 
     /// Returns the item whose line stands whole at the front, and the place after it.
     ///
-    /// It may read some right lines, and reads no wrong one. `from_line` judges what it doesn't read. Of lines that begin with a
-    /// number it may read those with as many digits as the last one had, so that it needn't wait for their length.
+    /// It may read some right lines, and reads no wrong one. `from_line` judges what it doesn't read. It may read only
+    /// lines whose first number has as many digits as that of the last one, so that it needn't wait for their length.
     fn at_front(bytes: &[u8], digits: &mut usize) -> Option<(Self, usize)>
         requires { ROOM ≤ length bytes.now }
         ensures { IfSome result (λ p. (bytes.now ≡ line_of format p.0 ++ drop p.1 bytes.now) × format.HasLine p.0) }

@@ -106,7 +106,7 @@ fn sorted_out(
     })
 }
 
-/// Adds a pair, for which there is room, if its operation is a successful enqueue. It is put there in any case, without a branch.
+/// Adds a pair if its operation is a successful enqueue. There is room for it, so that this needs no branch.
 #[inline(always)]
 fn push_accepted(pairs: &mut Vec<Pair>, pair: Pair, kind: OpKind)
     requires { vec_len pairs.old < vec_capacity pairs.old }
