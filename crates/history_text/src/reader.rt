@@ -294,15 +294,15 @@ impl<R: TextSource> TextReader<R> {
         ensures fault { IfErr result (HasItemsFault T.format (self.old.lines + 1) self.old.left) }
     {
         let mut count = 0;
-        // Whether what is left of the buffer was read on after, since the last item.
-        let mut is_complete = false;
+        // How often what is left of the buffer was read on after, since the last item.
+        let mut tries = 0u8;
         let mut digits = 0;
         loop {
             let item = match self.item_in_buffer(count, &mut digits) {
                 Some(item) => item,
-                None if !is_complete => {
+                None if tries < 2 => {
                     self.complete_line();
-                    is_complete = true;
+                    tries += 1;
                     continue;
                 }
                 None => match self.item_by_line(count)? {
@@ -310,7 +310,7 @@ impl<R: TextSource> TextReader<R> {
                     None => return Ok(()),
                 },
             };
-            is_complete = false;
+            tries = 0;
             if into.add(item).is_err() {
                 return Err(TextFault::Memory);
             }

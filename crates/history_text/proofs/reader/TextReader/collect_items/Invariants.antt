@@ -1,4 +1,4 @@
-use Rattle.history_text.proofs.Common.{◌+◌, ◌-◌, ◌*◌, ◌≡◌, cond, length, List, HaveLines, lines_of, Takes}
+use Rattle.history_text.proofs.Common.{◌+◌, ◌-◌, ◌*◌, ◌≡◌, length, List, HaveLines, lines_of, Takes}
 use Rattle.history_text.proofs.reader.TextReader.collect_items.Given as goal
 
 abbrev pub invariant-loop-item : goal.invariant-loop-item
@@ -12,4 +12,4 @@ invariant-loop-item g l = record {
 }
 
 abbrev pub decreases-loop-item : goal.decreases-loop-item
-decreases-loop-item g l = 2 * (g.T.Item.format.most + 1 - l.count) + cond l.is_complete 0 1
+decreases-loop-item g l = 3 * (g.T.Item.format.most + 1 - l.count) + (2 - l.tries)
