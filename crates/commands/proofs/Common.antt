@@ -1,4 +1,6 @@
--- The names that most proofs of this crate cite, passed on from one place. Declares nothing.
+-- The names that most proofs of this crate cite, passed on from one place, and what a `?` carries on.
+use Rattle.std.proofs.Common.{Err, IsErrAnd, Ok}
+use Rattle.std.specs.declared.result.Result.{Result}
 pub use Rattle.command_words.specs.Commands.{stress}
 pub use Rattle.command_words.specs.Options.{settings_of}
 pub use Rattle.commands.specs.Answers.{answer_of_text_fault, converted, judged, memory_fault, played, Reply, shown}
@@ -32,7 +34,6 @@ pub use Rattle.std.proofs.Common.{filter, flat_map, IfSome, inl, inr, length, Li
 pub use Rattle.std.proofs.Common.{sym, take, true, ℕ}
 pub use Rattle.std.proofs.Math.Logic.{⊎_map}
 pub use Rattle.std.proofs.lemmas.Option.{IfSome_then}
-pub use Rattle.std.proofs.lemmas.Result.{err_from_is_err_and}
 pub use Rattle.text_lines.proofs.Putting.{asked_if_err, asked_if_ok, bytes_if_err, bytes_if_ok, longer_front}
 pub use Rattle.text_lines.proofs.Putting.{refused_if_err, refused_text, writes_then}
 pub use Rattle.text_lines.specs.Input.{Ahead}
@@ -43,3 +44,8 @@ pub use Rattle.verdicts.specs.Verdicts.{IsExact}
 pub use Rattle.verdicts.specs.declared.verdict.Verdict.{Verdict}
 pub use Rattle.verdicts.specs.declared.verdict.Verdict.TheVariants.{No, Yes}
 pub use Rattle.verdicts.specs.declared.verifying.Claimed.{Claimed}
+
+-- a `?` that carries a fault on answers that fault
+pub carries : {T E : Type 0} (r : Result T E) (fault : E) → IsErrAnd r (λ y. y ≡ fault) → r ≡ Err fault
+carries (Ok x) fault is = absurd is
+carries (Err y) fault is = cc

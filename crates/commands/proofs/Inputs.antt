@@ -12,24 +12,20 @@ use Rattle.commands.specs.Inputs.{IsFaultOfTexts, IsScheduleOf, IsWhole}
 use Rattle.history_text.specs.Claims.{IsVerdictTextFault, NoRoomForVerdict}
 use Rattle.history_text.specs.Reading.{HasEndFault, HasFirstFault, HasMore, HasTextFault, HasVerdictTextFault}
 use Rattle.history_text.specs.Versions.{line_count}
-use Rattle.std.proofs.Common.{append-nil, Err, IfErr, IsErrAnd, Ok}
-use Rattle.std.specs.declared.result.Result.{Result}
+use Rattle.std.proofs.Common.{append-nil}
 use Rattle.text_lines.proofs.Consuming.{Takes-append}
 use Rattle.text_lines.proofs.MemoryOrNot.{follows, is_memory, known_fault}
 use Rattle.text_lines.specs.Input.{Ending, EndOfInput, Failure, IsOver, Takes}
 use Rattle.text_lines.specs.declared.fault.TextFault.TheVariants.{Read}
 use Rattle.verdicts.specs.declared.verifying.Claimed.TheVariants.{No, Yes}
+use Rattle.history_text.proofs.FirstFaults.{Anything, IsJudged, one_first_fault, text_has_no_fault, texts_agree}
+use Rattle.std.specs.declared.result.Result.{Result}
 use Rattle.history_text.proofs.OneHistory as histories
 use Rattle.history_text.proofs.OneSchedule as schedules
 use Rattle.text_lines.specs.declared.fault.TextFault.TheVariants as text
 use Rattle.history_text.proofs.OneVerdict as verdict_texts
 
 -- ---- what was taken of the input
-
--- a `?` that carries a fault on answers that fault, of which P holds
-pub carried : {T E : Type 0} (r : Result T E) (fault : E) (P : E → Type 0) → IsErrAnd r (λ y. y ≡ fault) → P fault → IfErr r P
-carried (Ok x) fault P is holds = absurd is
-carried (Err y) fault P is holds = subst P (sym is) holds
 
 -- what takes nothing more takes the same
 pub taken_through : (input mid left : Option Ahead) (text : List ℕ) → Takes input mid text → Takes mid left [] → Takes input left text
@@ -65,7 +61,7 @@ pub record SaysOneThing {A : Type 0} (IsInputOf : Ahead → A → Type 0) (IsFau
 
 -- ---- a text, and what comes after it
 
-module _ {A : Type 0} (Has : A → Type 0) (said : A → List ℕ) (IsFirst : Ending → List ℕ → TextFault → Type 0) (LacksRoom : List ℕ → Type 0)
+module _ {A : Type 0} (Has : A → Type 0) (said : A → List ℕ) (IsFirst : ℕ → Ending → List ℕ → TextFault → Type 0) (LacksRoom : List ℕ → Type 0)
     (IsNext : A → Ending → List ℕ → TextFault → Type 0) (LacksNext : A → List ℕ → Type 0) where
   -- there was no room for what the input says
   abbrev Lacks : Ahead → Type 0
@@ -73,18 +69,18 @@ module _ {A : Type 0} (Has : A → Type 0) (said : A → List ℕ) (IsFirst : En
 
   -- a fault of the text, or of what comes after it
   abbrev IsFault : Ahead → TextFault → Type 0
-  IsFault a f = IsFirst a.ending a.bytes f ⊎ AfterText Has said (λ value rest. IsNext value a.ending rest f) a.bytes
+  IsFault a f = IsFirst 0 a.ending a.bytes f ⊎ AfterText Has said (λ value rest. IsNext value a.ending rest f) a.bytes
 
   -- a fault of the text
-  pub first_fault : (input : Option Ahead) (fault : TextFault) → HasFirstFault IsFirst LacksRoom input fault
-      → IfSome input (λ a. IsFaultOfTexts Has said IsFirst LacksRoom IsNext LacksNext a fault)
+  pub first_fault : (input : Option Ahead) (fault : TextFault) → HasFirstFault (IsFirst 0) LacksRoom input fault
+      → IfSome input (λ a. IsFaultOfTexts Has said (IsFirst 0) LacksRoom IsNext LacksNext a fault)
   first_fault input fault h = IfSome_then input h
-      (λ a is. follows (LacksRoom a.bytes) (Lacks a) (IsFirst a.ending a.bytes) (IsFault a) fault (λ room. inl room) (λ f first. inl first) is)
+      (λ a is. follows (LacksRoom a.bytes) (Lacks a) (IsFirst 0 a.ending a.bytes) (IsFault a) fault (λ room. inl room) (λ f first. inl first) is)
 
   -- a fault of what comes after the text
   pub next_fault : (input left : Option Ahead) (value : A) (fault : TextFault) → Has value → Takes input left (said value)
       → HasFirstFault (IsNext value) (LacksNext value) left fault
-      → IfSome input (λ a. IsFaultOfTexts Has said IsFirst LacksRoom IsNext LacksNext a fault)
+      → IfSome input (λ a. IsFaultOfTexts Has said (IsFirst 0) LacksRoom IsNext LacksNext a fault)
   next_fault None left value fault has taken h = tt
   next_fault (Some a) None value fault has taken h = absurd taken
   next_fault (Some a) (Some b) value fault has taken h =
@@ -99,37 +95,35 @@ module _ {A : Type 0} (Has : A → Type 0) (said : A → List ℕ) (IsFirst : En
       }))
       h
 
-  module _ (agree : (x y : A) (r s : List ℕ) → Has x → Has y → said x ++ r ≡ said y ++ s → (x ≡ y) × (r ≡ s))
-      (no_fault : (ending : Ending) (x : A) (r : List ℕ) (fault : TextFault) → Has x → IsFirst ending (said x ++ r) fault → ⊥)
-      (one_fault : (ending : Ending) (bytes : List ℕ) (f g : TextFault) → IsFirst ending bytes f → IsFirst ending bytes g → f ≡ g)
+  module _ {judge : ℕ → Ending → List ℕ → Result (A × List ℕ) TextFault} (judged : IsJudged Has said Anything IsFirst judge)
       (one_next : (x : A) (ending : Ending) (rest : List ℕ) (f g : TextFault) → IsNext x ending rest f → IsNext x ending rest g → f ≡ g) where
     -- a text that stands at the front has no fault
     no_first : (input : Ahead) (x : A) (rest : List ℕ) (fault : TextFault) → Has x → input.bytes ≡ said x ++ rest
-        → IsFirst input.ending input.bytes fault → ⊥
+        → IsFirst 0 input.ending input.bytes fault → ⊥
     no_first input x rest fault has front first =
-        no_fault input.ending x rest fault has (subst (λ bytes. IsFirst input.ending bytes fault) front first)
+        text_has_no_fault judged 0 input.ending x rest fault has tt (subst (λ bytes. IsFirst 0 input.ending bytes fault) front first)
 
     -- nor has the input, where what comes after the text has none
     no_fault_of : (input : Ahead) (x : A) (rest : List ℕ) (fault : TextFault) → Has x → input.bytes ≡ said x ++ rest
         → (IsNext x input.ending rest fault → ⊥) → IsFault input fault → ⊥
     no_fault_of input x rest fault has front no_next (inl first) = no_first input x rest fault has front first
     no_fault_of input x rest fault has front no_next (inr y) =
-        let parts = agree x y.value rest y.rest has y.has (sym front ∙ y.front) in
+        let parts = texts_agree judged EndOfInput x y.value rest y.rest has y.has tt tt (sym front ∙ y.front) in
         no_next (rw (← parts.0, ← parts.1) at y.after)
 
     one_fault_of : (input : Ahead) (f g : TextFault) → IsFault input f → IsFault input g → f ≡ g
-    one_fault_of input f g (inl x) (inl y) = one_fault input.ending input.bytes f g x y
+    one_fault_of input f g (inl x) (inl y) = one_first_fault judged 0 input.ending input.bytes f g x y
     one_fault_of input f g (inl x) (inr y) = absurd (no_first input y.value y.rest f y.has y.front x)
     one_fault_of input f g (inr x) (inl y) = absurd (no_first input x.value x.rest g x.has x.front y)
     one_fault_of input f g (inr x) (inr y) =
-        let parts = agree x.value y.value x.rest y.rest x.has y.has (sym x.front ∙ y.front) in
+        let parts = texts_agree judged EndOfInput x.value y.value x.rest y.rest x.has y.has tt tt (sym x.front ∙ y.front) in
         one_next y.value input.ending y.rest f g (rw (parts.0, parts.1) at x.after) y.after
 
     -- so an input says one thing, where it says one value, by a text and what comes after it without fault
     says_one_thing : {B : Type 0} (IsInputOf : Ahead → B → Type 0) → ((input : Ahead) (x y : B) → IsInputOf input x → IsInputOf input y → x ≡ y)
         → ((input : Ahead) (x : B) → IsInputOf input x → (value : A) × (rest : List ℕ) × Has value × (input.bytes ≡ said value ++ rest)
         × ((fault : TextFault) → IsNext value input.ending rest fault → ⊥))
-        → SaysOneThing IsInputOf (IsFaultOfTexts Has said IsFirst LacksRoom IsNext LacksNext)
+        → SaysOneThing IsInputOf (IsFaultOfTexts Has said (IsFirst 0) LacksRoom IsNext LacksNext)
     says_one_thing IsInputOf one_value parts = record {
       one_value = one_value;
       only_memory = λ input x fault is known faulty. let p = parts input x is in
@@ -162,46 +156,42 @@ one_at_end ending rest text.Trailing g x y = absurd y
 one_at_end ending rest text.Read g x y = absurd y
 one_at_end ending rest f g x y = absurd x
 
-module _ {A : Type 0} (Has : A → Type 0) (said : A → List ℕ) (IsFirst : Ending → List ℕ → TextFault → Type 0) (LacksRoom : List ℕ → Type 0) where
+module _ {A : Type 0} (Has : A → Type 0) (said : A → List ℕ) (IsFirst : ℕ → Ending → List ℕ → TextFault → Type 0) (LacksRoom : List ℕ → Type 0) where
   -- a fault of the text
-  pub text_fault : (input : Option Ahead) (fault : TextFault) → HasFirstFault IsFirst LacksRoom input fault
-      → IfSome input (λ a. IsFaultOfOneText Has said IsFirst LacksRoom a fault)
+  pub text_fault : (input : Option Ahead) (fault : TextFault) → HasFirstFault (IsFirst 0) LacksRoom input fault
+      → IfSome input (λ a. IsFaultOfOneText Has said (IsFirst 0) LacksRoom a fault)
   text_fault = first_fault Has said IsFirst LacksRoom (λ _. IsFaultOfEnd) (λ _ _. ⊥)
 
   -- a fault of what comes after it
   pub end_fault : (input left : Option Ahead) (value : A) (fault : TextFault) → Has value → Takes input left (said value)
-      → HasEndFault left fault → IfSome input (λ a. IsFaultOfOneText Has said IsFirst LacksRoom a fault)
+      → HasEndFault left fault → IfSome input (λ a. IsFaultOfOneText Has said (IsFirst 0) LacksRoom a fault)
   end_fault input left value fault has taken h =
       next_fault Has said IsFirst LacksRoom (λ _. IsFaultOfEnd) (λ _ _. ⊥) input left value fault has taken (not_over left fault h)
 
-module _ {A : Type 0} (Has : A → Type 0) (said : A → List ℕ) (IsFirst : Ending → List ℕ → TextFault → Type 0) (LacksRoom : List ℕ → Type 0)
-    (agree : (x y : A) (r s : List ℕ) → Has x → Has y → said x ++ r ≡ said y ++ s → (x ≡ y) × (r ≡ s))
-    (no_fault : (ending : Ending) (x : A) (r : List ℕ) (fault : TextFault) → Has x → IsFirst ending (said x ++ r) fault → ⊥)
-    (one_fault : (ending : Ending) (bytes : List ℕ) (f g : TextFault) → IsFirst ending bytes f → IsFirst ending bytes g → f ≡ g) where
+module _ {A : Type 0} {Has : A → Type 0} {said : A → List ℕ} {IsFirst : ℕ → Ending → List ℕ → TextFault → Type 0}
+    {judge : ℕ → Ending → List ℕ → Result (A × List ℕ) TextFault} (judged : IsJudged Has said Anything IsFirst judge) (LacksRoom : List ℕ → Type 0) where
   -- an input is the text of one value, or has one fault
-  one_text : SaysOneThing (λ input x. Has x × IsWhole (said x) input) (IsFaultOfOneText Has said IsFirst LacksRoom)
-  one_text = says_one_thing Has said IsFirst LacksRoom (λ _. IsFaultOfEnd) (λ _ _. ⊥) agree no_fault one_fault (λ _. one_at_end)
+  one_text : SaysOneThing (λ input x. Has x × IsWhole (said x) input) (IsFaultOfOneText Has said (IsFirst 0) LacksRoom)
+  one_text = says_one_thing Has said IsFirst LacksRoom (λ _. IsFaultOfEnd) (λ _ _. ⊥) judged (λ _. one_at_end)
       (λ input x. Has x × IsWhole (said x) input)
-      (λ input x y is_x is_y. (agree x y [] [] is_x.0 is_y.0 (ap (λ bytes. bytes ++ []) (sym is_x.1.bytes ∙ is_y.1.bytes))).0)
+      (λ input x y is_x is_y. (texts_agree judged EndOfInput x y [] [] is_x.0 is_y.0 tt tt (ap (λ bytes. bytes ++ []) (sym is_x.1.bytes ∙ is_y.1.bytes))).0)
       (λ input x is. (x, [], is.0, is.1.bytes ∙ sym (append-nil (said x)), λ fault next. none_at_end fault (rw is.1.ending at next)))
 
 -- an input is one history, or has one fault
 pub one_history : SaysOneThing IsHistoryOf IsFaultOfHistoryInput
-one_history = one_text HasText text_of (IsTextFault 0) NoRoomForText histories.texts_agree (histories.text_has_no_fault 0)
-    (histories.one_first_fault 0)
+one_history = one_text histories.judged NoRoomForText
 
 -- an input is one schedule, or has one fault
 pub one_schedule : SaysOneThing IsScheduleOf IsFaultOfScheduleInput
-one_schedule = one_text HasScheduleText schedule_text (IsScheduleTextFault 0) NoRoomForSchedule schedules.texts_agree
-    (schedules.text_has_no_fault 0) (schedules.one_first_fault 0)
+one_schedule = one_text schedules.judged NoRoomForSchedule
 
 -- ---- a history, and a verdict on it
 
 -- an input has one claim
 one_claim_of : (input : Ahead) (x y : ClaimOnText) → IsClaimOf input x → IsClaimOf input y → x ≡ y
 one_claim_of input x y is_x is_y =
-    let parts = histories.texts_agree x.text y.text (verdict_text x.claimed) (verdict_text y.claimed) is_x.history is_y.history
-    (sym is_x.whole.bytes ∙ is_y.whole.bytes) in
+    let parts = texts_agree histories.judged EndOfInput x.text y.text (verdict_text x.claimed) (verdict_text y.claimed) is_x.history is_y.history
+    tt tt (sym is_x.whole.bytes ∙ is_y.whole.bytes) in
     let texts = parts.0 in
     let claims = verdict_texts.texts_agree x.claimed y.claimed is_x.verdict is_y.verdict parts.1 in
     λ i. record { text = texts i; claimed = claims i }
@@ -218,22 +208,20 @@ claim_parts input x is = (
 
 -- an input is one claim, or has one fault
 pub one_claim : SaysOneThing IsClaimOf IsFaultOfClaimInput
-one_claim = says_one_thing HasText text_of (IsTextFault 0) NoRoomForText (λ t. IsVerdictTextFault (line_count t)) (λ _. NoRoomForVerdict)
-    histories.texts_agree (histories.text_has_no_fault 0) (histories.one_first_fault 0)
-    (λ t ending. verdict_texts.one_first_fault (line_count t) ending) IsClaimOf one_claim_of
-    claim_parts
+one_claim = says_one_thing HasText text_of IsTextFault NoRoomForText (λ t. IsVerdictTextFault (line_count t)) (λ _. NoRoomForVerdict)
+    histories.judged (λ t ending. verdict_texts.one_first_fault (line_count t) ending) IsClaimOf one_claim_of claim_parts
 
 -- a fault of the history's text
 pub claim_history_fault : (input : Option Ahead) (fault : TextFault) → HasTextFault 0 input fault → IfSome input (λ a. IsFaultOfClaimInput a fault)
 claim_history_fault =
-    first_fault HasText text_of (IsTextFault 0) NoRoomForText (λ t. IsVerdictTextFault (line_count t)) (λ _. NoRoomForVerdict)
+    first_fault HasText text_of IsTextFault NoRoomForText (λ t. IsVerdictTextFault (line_count t)) (λ _. NoRoomForVerdict)
 
 -- a fault of the verdict's text, after the history's
 pub verdict_fault : (input left : Option Ahead) (text : HistoryText) (lines : ℕ) (fault : TextFault) → HasText text
     → Takes input left (text_of text) → lines ≡ line_count text → HasVerdictTextFault lines left fault
     → IfSome input (λ a. IsFaultOfClaimInput a fault)
 verdict_fault input left text lines fault has taken is h =
-    next_fault HasText text_of (IsTextFault 0) NoRoomForText (λ t. IsVerdictTextFault (line_count t)) (λ _. NoRoomForVerdict)
+    next_fault HasText text_of IsTextFault NoRoomForText (λ t. IsVerdictTextFault (line_count t)) (λ _. NoRoomForVerdict)
     input left text fault has taken (rw is at h)
 
 -- ---- a history, and a verdict on it where anything follows
@@ -246,7 +234,7 @@ no_empty_verdict (No kind lines) same = cc
 -- no verdict follows a history on its own
 alone_without_claim : (input : Ahead) (text : HistoryText) (claim : ClaimOnText) → IsHistoryOf input text → IsClaimOf input claim → ⊥
 alone_without_claim input text claim is_text is_claim =
-    let parts = histories.texts_agree text claim.text [] (verdict_text claim.claimed) is_text.0 is_claim.history
+    let parts = texts_agree histories.judged EndOfInput text claim.text [] (verdict_text claim.claimed) is_text.0 is_claim.history tt tt
     (append-nil (text_of text) ∙ sym is_text.1.bytes ∙ is_claim.whole.bytes) in
     no_empty_verdict claim.claimed parts.1
 
@@ -258,8 +246,7 @@ one_drawable_of input (with_claim x) (with_claim y) is_x is_y = ap (λ c. with_c
 
 -- an input is one history with a claim, or one alone, or has one fault
 pub one_drawable : SaysOneThing IsDrawableOf IsFaultOfDrawableInput
-one_drawable = says_one_thing HasText text_of (IsTextFault 0) NoRoomForText IsFaultBehind (λ _. NoRoomForVerdict)
-    histories.texts_agree (histories.text_has_no_fault 0) (histories.one_first_fault 0)
+one_drawable = says_one_thing HasText text_of IsTextFault NoRoomForText IsFaultBehind (λ _. NoRoomForVerdict) histories.judged
     (λ t ending rest f g x y. verdict_texts.one_first_fault (line_count t) ending rest f g x.0 y.0) IsDrawableOf one_drawable_of parts
   where
     parts : (input : Ahead) (x : Drawable) → IsDrawableOf input x → (text : HistoryText) × (rest : List ℕ) × HasText text
@@ -269,12 +256,12 @@ one_drawable = says_one_thing HasText text_of (IsTextFault 0) NoRoomForText IsFa
 
 -- a fault of the history's text
 pub drawable_history_fault : (input : Option Ahead) (fault : TextFault) → HasTextFault 0 input fault → IfSome input (λ a. IsFaultOfDrawableInput a fault)
-drawable_history_fault = first_fault HasText text_of (IsTextFault 0) NoRoomForText IsFaultBehind (λ _. NoRoomForVerdict)
+drawable_history_fault = first_fault HasText text_of IsTextFault NoRoomForText IsFaultBehind (λ _. NoRoomForVerdict)
 
 -- a fault of what comes after it
 behind_history : (input left : Option Ahead) (text : HistoryText) (fault : TextFault) → HasText text → Takes input left (text_of text)
     → HasFirstFault (IsFaultBehind text) NoRoomForVerdict left fault → IfSome input (λ a. IsFaultOfDrawableInput a fault)
-behind_history = next_fault HasText text_of (IsTextFault 0) NoRoomForText IsFaultBehind (λ _. NoRoomForVerdict)
+behind_history = next_fault HasText text_of IsTextFault NoRoomForText IsFaultBehind (λ _. NoRoomForVerdict)
 
 -- a fault of what follows the history, as the text of a verdict
 pub drawable_verdict_fault : (input mid left : Option Ahead) (text : HistoryText) (lines : ℕ) (fault : TextFault) → HasText text

@@ -13,7 +13,8 @@ use Rattle.commands.proofs.Common.{SameOrNoMemory, Setting, shown, ShrinksSound,
 use Rattle.commands.proofs.Common.{text_of, TextFault, true, Two, Verdict, verdict_text, Verifies, Version, with_claim}
 use Rattle.commands.proofs.Common.{Yes, ℕ, ⊎_map, ◌++◌, ◌+◌, ◌<◌, ◌∙◌, ◌∷◌, ◌≡◌, ◌≢◌, ◌≤◌, ◌⊎◌}
 use Rattle.std.proofs.Common.{AllPairs, cond, Contains, drop, get_or, if◌then◌else◌, IsTrue, leb-true, nat_eq, nat_le}
-use Rattle.std.proofs.Common.{suc, ◌&&◌, ◌==◌, ◌↔◌}
+use Rattle.std.proofs.Common.{suc, zero, ◌==◌, ◌↔◌, rules}
+use Rattle.std.proofs.lemmas.Bool.Decides.{nat_tests}
 use Rattle.clap.specs.Kinds.{HasKind, IsAmong, Kinds}
 use Rattle.clap.specs.Values.{kind_of}
 use Rattle.clap.specs.declared.error.Error.{Error}
@@ -46,9 +47,9 @@ use Rattle.simulation.specs.declared.playing.Rejection.{Rejection}
 use Rattle.std.proofs.Math.Seq.{drop-cons}
 use Rattle.std.proofs.lemmas.Cmp.{nat_list_eq_equiv}
 use Rattle.std.proofs.lemmas.List.{take-append-drop, take_more}
-use Rattle.std.proofs.lemmas.List.Elements.{All-cons, All-nil, All-push}
+use Rattle.std.proofs.lemmas.List.Elements.{All-filter, All-from_recursion, All-push, recursion_from_All}
 use Rattle.std.proofs.lemmas.List.FromFn.{get_or-range_with_len, length-range_with_len}
-use Rattle.std.specs.Cmp.Lexicographic.{pointwise, same_text}
+use Rattle.std.specs.Cmp.Lexicographic.{pointwise}
 use Rattle.std.specs.List.{AllByRecursion, list_all, range_with_len}
 use Rattle.stress_run.specs.Crew.{SizesView}
 use Rattle.stress_run.specs.Failed.{IsFaultOfRun}
@@ -150,33 +151,18 @@ honest_gets_a_yes setting schedule answer few honest done (inl ended) =
 
 -- ---- the values that a queue is given before a run
 
--- numbers from a on are at least as great as what a is
-at_least : (b a n : ℕ) → b ≤ a → All (λ v. b ≤ v) (range_with_len a n)
-at_least b a n least k d below = grind (arith, get_or-range_with_len, length-range_with_len)
-
--- they are distinct
-are_distinct : (a n : ℕ) → AllPairs (λ v w. v ≢ w) (range_with_len a n)
-are_distinct a n j k d before below = grind (arith, get_or-range_with_len, length-range_with_len)
-
 -- a queue may be given them
 pub first_values_are_names : (count : ℕ) → count ≤ MAX_STRESS_INITIAL → AreInitialNames (first_values count)
-first_values_are_names count few =
-    let many : length (first_values count) ≡ count = length-range_with_len LEAST_INITIAL_NAME count in
-    record {
-      not_too_many = omega (arith, many, few);
-      are_distinct = are_distinct LEAST_INITIAL_NAME count;
-      above_names = at_least LEAST_INITIAL_NAME LEAST_INITIAL_NAME count (omega arith);
-    }
+first_values_are_names count few = record {
+  not_too_many = omega (arith, length-range_with_len LEAST_INITIAL_NAME count, few);
+  are_distinct = λ j k d before below. grind (arith, get_or-range_with_len, length-range_with_len);
+  above_names = λ k d below. grind (arith, get_or-range_with_len, length-range_with_len);
+}
 
 -- version 1 is that of a queue that was given none
 pub none_in_version_1 : (count : ℕ) → run_version count ≡ One → first_values count ≡ []
-none_in_version_1 count is = by_test (count == 0) refl is
-  where
-    by_test : (b : Bool) → (count == 0) ≡ b → (if b then One else Two) ≡ One → first_values count ≡ []
-    by_test true none one =
-        let many = length-range_with_len LEAST_INITIAL_NAME count in
-        no_elements (first_values count) (sym none ∙ ap (λ n. n == 0) (sym many))
-    by_test false some one = cc
+none_in_version_1 zero is = refl
+none_in_version_1 (suc n) is = grind (arith, nat_tests)
 
 -- ---- what a run gives
 
@@ -221,37 +207,27 @@ pub failed_run : (may : Question → Answer → Type 0) (may_preload : ℕ → B
     → IsWithinRanges settings → IsSeeded settings.seed settings.threads settings.operations settings.percent plan
     → (given : List ℕ) → given ≡ first_values settings.initial → IsFaultOfRun may given plan (record { ring = settings.ring; tries = TRIES }) fault
     → ((place : ℕ) → fault ≡ Preload place → IsFirstRefused may_preload given place) → RunsOrFails may may_preload settings (run_fault fault)
-failed_run may may_preload settings plan fault ranges seeded given first is_fault is_refused = inr (inl (record {
-  plan = plan;
-  seeded = seeded;
-  fault = fault;
-  of_run = of_run;
-  within = λ limit. subst (IsFaultOfRun may (first_values settings.initial) plan sizes) limit of_run
-      (within_limits, first_values_are_names settings.initial ranges.initial);
-  refused = λ place is. subst (λ values. IsFirstRefused may_preload values place) first (is_refused place is);
-  is = refl;
-}))
-  where
-    sizes : SizesView
-    sizes = record { ring = settings.ring; tries = TRIES }
-
-    of_run : IsFaultOfRun may (first_values settings.initial) plan sizes fault
-    of_run = subst (λ initial. IsFaultOfRun may initial plan sizes fault) first is_fault
-
-    within_limits : IsWithinLimits settings.ring TRIES
-    within_limits = (ranges.ring.0, ranges.ring.1, (omega arith, omega arith))
+failed_run may may_preload settings plan fault ranges seeded given first is_fault is_refused =
+    let sizes : SizesView = record { ring = settings.ring; tries = TRIES } in
+    let of_run = subst (λ initial. IsFaultOfRun may initial plan sizes fault) first is_fault in
+    inr (inl (record {
+      plan = plan;
+      seeded = seeded;
+      fault = fault;
+      of_run = of_run;
+      within = λ limit. subst (IsFaultOfRun may (first_values settings.initial) plan sizes) limit of_run
+          ((ranges.ring.0, ranges.ring.1, (omega arith, omega arith)), first_values_are_names settings.initial ranges.initial);
+      refused = λ place is. subst (λ values. IsFirstRefused may_preload values place) first (is_refused place is);
+      is = refl;
+    }))
 
 -- ---- the first of a name, after a search that passed all before it
 
--- a text that is found equal to a name is that name
-pub same_name : (text bytes name : List ℕ) → text ≡ bytes → true ≡ pointwise nat_eq text name → bytes ≡ name
-same_name text bytes name e t = sym e ∙ same_text text name t
-
 -- a text that is found different is another name
-pub other_name : (text bytes name : List ℕ) → text ≡ bytes → false ≡ pointwise nat_eq text name → bytes ≢ name
-other_name text bytes name e f same =
+pub other_name : (text name : List ℕ) → false ≡ pointwise nat_eq text name → text ≢ name
+other_name text name f same =
     let equal = nat_list_eq_equiv.refl name in
-    let told = f ∙ ap (λ l. pointwise nat_eq l name) (e ∙ same) ∙ equal in
+    let told = f ∙ ap (λ l. pointwise nat_eq l name) same ∙ equal in
     cc
 
 module _ {X : Type 0} (name_of : X → List ℕ) (name : List ℕ) (xs : List X) (i : ℕ) (x : X) (inside : i < length xs) (is : x ≡ get_or xs i x)
@@ -297,32 +273,11 @@ pub memory_has_3 : (old new : Option (List ℕ)) (refused : Bool) (result : ℕ)
 memory_has_3 old new false result printed = printed.1
 memory_has_3 old new true result printed = printed.1
 
--- requests of `stress` that are the same have the same settings
-pub same_settings : (s t : Settings) → stress s ≡ stress t → s ≡ t
-same_settings s t e = cc
-
 -- ---- the message that memory ran out
-
--- whether a character is printable
-abbrev is_printable : ℕ → Bool
-is_printable byte = nat_le 32 byte && nat_le byte 126
-
--- two tests that both hold
-both : (x y : Bool) → (x && y) ≡ true → (x ≡ true) × (y ≡ true)
-both true y is = (refl, is)
-both false y is = cc
-
--- characters that all are
-all_printable : (bytes : List ℕ) → list_all is_printable bytes ≡ true → All IsPrintable bytes
-all_printable [] is = All-nil IsPrintable
-all_printable (b ∷ bytes) is =
-    let first = both (is_printable b) (list_all is_printable bytes) is in
-    let range = both (nat_le 32 b) (nat_le b 126) first.0 in
-    All-cons IsPrintable b bytes (leb-true 32 b range.0, leb-true b 126 range.1) (all_printable bytes first.1)
 
 -- it is a message
 pub memory_is_message : IsMessage (codes "fifobench: memory ran out\n")
-memory_is_message = inl (record { said = codes "memory ran out"; printable = all_printable (codes "memory ran out") refl; is = refl })
+memory_is_message = inl (record { said = codes "memory ran out"; printable = All-from_recursion IsPrintable (codes "memory ran out") (search rules); is = refl })
 
 -- ---- histories
 
@@ -376,11 +331,6 @@ pub few_values : (text : HistoryText) → HasText text → length text.initial �
 few_values text has = few_of_version text.version text.initial has.initial
 
 -- ---- verdicts
-
--- what is decided of a history is its verdict
-pub of_decided : {A : Type 0} (history : HistoryView) (made_of : Claimed → A) (verdict : Verdict) → IsDecided history.initial (operations_of history.events) verdict
-    → IsOfVerdict history made_of (made_of (claim_of history.initial (operations_of history.events) verdict))
-of_decided history made_of verdict decided = record { verdict = verdict; decided = decided; is = refl }
 
 -- one thing is made of the verdict on a complete history
 one_of_verdict : {A : Type 0} (history : HistoryView) (made_of : Claimed → A) (x y : A) → length history.initial ≤ MAX_INITIAL → IsSound history
@@ -576,12 +526,8 @@ judged_is_written input claimed checked =
 -- ---- some of the events of a text have a text
 
 lines_kept : {X : Type 0} (HasLine : X → Type 0) (keeps : X → Bool) (xs : List X) → AllByRecursion HasLine xs → AllByRecursion HasLine (filter keeps xs)
-lines_kept HasLine keeps [] each = tt
-lines_kept HasLine keeps (x ∷ xs) each = pick (keeps x) (lines_kept HasLine keeps xs each.1)
-  where
-    pick : (b : Bool) → AllByRecursion HasLine (filter keeps xs) → AllByRecursion HasLine (cond b (x ∷ filter keeps xs) (filter keeps xs))
-    pick true later = (each.0, later)
-    pick false later = later
+lines_kept HasLine keeps xs each =
+    recursion_from_All HasLine (filter keeps xs) (All-filter keeps HasLine xs (All-from_recursion HasLine xs each))
 
 part_has_text : (keeps : Event → Bool) (events : List Event) → HasHistoryText events → HasHistoryText (filter keeps events)
 part_has_text keeps events is =
@@ -597,14 +543,12 @@ values_have_lines Two keeps initial have = record {
 -- what is shown of a history is a part of it, with its verdict
 shown_is_written : (input : Ahead) (small : HistoryText) (claimed : Claimed)
     → AnswersFor IsHistoryOf IsFaultOfHistoryInput Shrinks input (shown small claimed) → IsWritten small claimed
-shown_is_written input small claimed shrinks = by_answer found.answered.1
-  where
-    found : IsOfValue IsHistoryOf (λ text a. IsSound (said_by text) × ShrinksSound text a) input (shown small claimed)
-    found = found_of_history ShrinksSound input (shown small claimed) (verdict_is_no_failure claimed) shrinks
-
-    by_answer : ShrinksSound found.value (shown small claimed) → IsWritten small claimed
-    by_answer (inl linear) = let other = linear.1.is in absurd (cc)
-    by_answer (inr (broken, is)) =
+shown_is_written input small claimed shrinks =
+    let found = found_of_history ShrinksSound input (shown small claimed) (verdict_is_no_failure claimed) shrinks in
+    elim found.answered.1 [
+      | inl linear ↦ let other = linear.1.is in absurd (cc)
+      | inr part ↦
+        let is = part.1 in
         let said = said_in found.value.version is.small in
         let e : shown small claimed ≡ shown said (claim_of is.small.initial (operations_of is.small.events) is.answered.verdict) = is.answered.is in
         let smalls : said ≡ small = cc in
@@ -616,6 +560,7 @@ shown_is_written input small claimed shrinks = by_answer found.answered.1
           };
           right = record { verdict = is.answered.verdict; decided = is.answered.decided; is = cc };
         })
+    ]
 
 -- ---- the two texts, read
 

@@ -1,11 +1,10 @@
-use Rattle.commands.proofs.Common.{ap, arith, claim_on, err_from_is_err_and, inl, inr, length, refl, said_in}
+use Rattle.commands.proofs.Common.{ap, arith, claim_on, carries, inl, inr, length, refl, said_in}
 use Rattle.commands.specs.Judging.{IsSmall}
 use Rattle.commands.proofs.draw.draw_claim.Goals as goal
 
 pub returns-in_err-drawn-clause-found : goal.returns-in_err-drawn-clause-found
 returns-in_err-drawn-clause-found c = λ version.
-    let p = err_from_is_err_and c.from_residual.result c.from_residual.ensures.1 in
-    rw (p.1, p.2) (c.in_err-drawn.ensures.large version)
+    rw (carries c.from_residual.result _ c.from_residual.ensures.1) (c.in_err-drawn.ensures.large version)
 
 pub returns-then-not-branch-clause-found : goal.returns-then-not-branch-clause-found
 returns-then-not-branch-clause-found c = λ version.

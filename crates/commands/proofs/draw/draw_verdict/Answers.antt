@@ -1,4 +1,4 @@
-use Rattle.commands.proofs.Common.{⊎_map, arith, err_from_is_err_and}
+use Rattle.commands.proofs.Common.{⊎_map, arith, carries}
 use Rattle.commands.proofs.OneAnswer.{decided_is_true}
 use Rattle.commands.proofs.draw.draw_verdict.Goals as goal
 
@@ -8,8 +8,7 @@ draw_evidence-requires-clause-evidence c =
 
 pub returns-in_err-drawn-clause-found : goal.returns-in_err-drawn-clause-found
 returns-in_err-drawn-clause-found c = λ version.
-    let p = err_from_is_err_and c.from_residual-in_err-drawn.result c.from_residual-in_err-drawn.ensures.1 in
-    rw (p.1, p.2) (⊎_map (λ sound. record {
+    rw (carries c.from_residual-in_err-drawn.result _ c.from_residual-in_err-drawn.ensures.1) (⊎_map (λ sound. record {
       claimed = c.in_ok-claimed.claimed;
       right = c.in_ok-claimed.ensures;
       evident = decided_is_true c.args.history.now c.in_ok-claimed.claimed c.requires.complete (omega (arith, c.requires.few_values)) c.in_ok-claimed.ensures;

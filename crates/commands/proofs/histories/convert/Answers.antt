@@ -1,12 +1,11 @@
-use Rattle.commands.proofs.Common.{◌≡◌, converted, Converts, err_from_is_err_and, in_version_2, inl, inr}
+use Rattle.commands.proofs.Common.{◌≡◌, converted, Converts, carries, in_version_2, inl, inr}
 use Rattle.commands.proofs.Common.{IsFaultOfHistoryInput, IsHistoryOf, refl}
 use Rattle.commands.proofs.OneAnswer.{faults_answered, of_value}
 use Rattle.commands.proofs.histories.convert.Goals as goal
 
 pub returns-in_err-_version-clause-found : goal.returns-in_err-_version-clause-found
-returns-in_err-_version-clause-found g c =
-    let p = err_from_is_err_and c.from_residual.result c.from_residual.ensures.1 in
-    rw (p.1, p.2) (faults_answered (λ text a. a ≡ converted (in_version_2 text)) (g.S.TextSource.ahead c.args.reader) _
+returns-in_err-_version-clause-found g c = rw (carries c.from_residual.result _ c.from_residual.ensures.1)
+    (faults_answered (λ text a. a ≡ converted (in_version_2 text)) (g.S.TextSource.ahead c.args.reader) _
     c.in_err-_version.ensures.fault)
 
 pub returns-clause-found : goal.returns-clause-found

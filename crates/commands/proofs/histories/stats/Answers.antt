@@ -1,12 +1,11 @@
-use Rattle.commands.proofs.Common.{answer_of, Counts, err_from_is_err_and, IsFaultOfHistoryInput, IsHistoryOf, said_by}
+use Rattle.commands.proofs.Common.{answer_of, Counts, carries, IsFaultOfHistoryInput, IsHistoryOf, said_by}
 use Rattle.commands.specs.Judging.{IsCounted}
 use Rattle.commands.proofs.OneAnswer.{faults_answered, of_value}
 use Rattle.commands.proofs.histories.stats.Goals as goal
 
 pub returns-in_err-_version-clause-found : goal.returns-in_err-_version-clause-found
-returns-in_err-_version-clause-found g c =
-    let p = err_from_is_err_and c.from_residual.result c.from_residual.ensures.1 in
-    rw (p.1, p.2) (faults_answered (λ text. IsCounted (said_by text)) (g.S.TextSource.ahead c.args.reader) _ c.in_err-_version.ensures.fault)
+returns-in_err-_version-clause-found g c = rw (carries c.from_residual.result _ c.from_residual.ensures.1)
+    (faults_answered (λ text. IsCounted (said_by text)) (g.S.TextSource.ahead c.args.reader) _ c.in_err-_version.ensures.fault)
 
 pub returns-clause-found : goal.returns-clause-found
 returns-clause-found g c = of_value IsHistoryOf IsFaultOfHistoryInput Counts (g.S.TextSource.ahead c.args.reader) _ (answer_of c.count.result)

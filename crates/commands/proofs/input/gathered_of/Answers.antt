@@ -1,14 +1,14 @@
-use Rattle.commands.proofs.Common.{HasText, IsTextFault, NoRoomForText, text_of}
-use Rattle.commands.proofs.Inputs.{carried, end_fault, text_fault}
+use Rattle.commands.proofs.Common.{carries, HasText, IsTextFault, NoRoomForText, text_of}
+use Rattle.commands.proofs.Inputs.{end_fault, text_fault}
 use Rattle.commands.proofs.input.gathered_of.Goals as goal
 
 pub returns-in_err-gathered-clause-fault : goal.returns-in_err-gathered-clause-fault
-returns-in_err-gathered-clause-fault g c = carried c.from_residual.result _ _ c.from_residual.ensures.1
-    (text_fault HasText text_of (IsTextFault 0) NoRoomForText (g.S.TextSource.ahead c.args.reader) _
+returns-in_err-gathered-clause-fault g c = rw (carries c.from_residual.result _ c.from_residual.ensures.1)
+    (text_fault HasText text_of IsTextFault NoRoomForText (g.S.TextSource.ahead c.args.reader) _
     (rw c.new-texts.ensures at c.in_err-gathered.ensures.fault))
 
 pub returns-in_err-at_end-clause-fault : goal.returns-in_err-at_end-clause-fault
 returns-in_err-at_end-clause-fault g c =
     let read = rw c.new-texts.ensures at c.in_ok-gathered.ensures.text in
-    carried c.from_residual-in_err-at_end.result _ _ c.from_residual-in_err-at_end.ensures.1
-    (end_fault HasText text_of (IsTextFault 0) NoRoomForText (g.S.TextSource.ahead c.args.reader) _ read.0 _ read.1 read.2 c.in_err-at_end.ensures.fault)
+    rw (carries c.from_residual-in_err-at_end.result _ c.from_residual-in_err-at_end.ensures.1)
+    (end_fault HasText text_of IsTextFault NoRoomForText (g.S.TextSource.ahead c.args.reader) _ read.0 _ read.1 read.2 c.in_err-at_end.ensures.fault)

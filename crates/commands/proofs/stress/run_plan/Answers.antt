@@ -1,4 +1,4 @@
-use Rattle.commands.proofs.Common.{◌∙◌, err_from_is_err_and, settings_of}
+use Rattle.commands.proofs.Common.{◌∙◌, carries, settings_of}
 use Rattle.commands.proofs.OneAnswer.{failed_run, recorded_run}
 use Rattle.commands.proofs.stress.run_plan.Goals as goal
 
@@ -9,8 +9,7 @@ returns-clause-found g c = recorded_run _ _ (settings_of c.args.options.now) c.i
     c.judge_run.ensures.found
 
 pub returns-in_err-recorded-clause-found : goal.returns-in_err-recorded-clause-found
-returns-in_err-recorded-clause-found g c =
-    let p = err_from_is_err_and c.from_residual-in_err-recorded.result c.from_residual-in_err-recorded.ensures.1 in
-    rw (p.1, p.2) (failed_run _ _ (settings_of c.args.options.now) c.in_ok-plan.plan _ c.requires.ranges
+returns-in_err-recorded-clause-found g c = rw (carries c.from_residual-in_err-recorded.result _ c.from_residual-in_err-recorded.ensures.1)
+    (failed_run _ _ (settings_of c.args.options.now) c.in_ok-plan.plan _ c.requires.ranges
     c.in_ok-plan.ensures.seeded c.deref.result.now (c.deref.ensures.value ∙ c.in_ok-plan.ensures.first) c.in_err-recorded.ensures.fault
     (λ place is. c.in_err-recorded.ensures.refused place (cc)))

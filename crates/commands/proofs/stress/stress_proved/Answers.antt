@@ -1,4 +1,4 @@
-use Rattle.commands.proofs.Common.{◌∙◌, arith, err_from_is_err_and, inl, IsLinearizable, List, operations_of}
+use Rattle.commands.proofs.Common.{◌∙◌, arith, carries, inl, IsLinearizable, List, operations_of}
 use Rattle.commands.proofs.Common.{settings_of, subst, ℕ}
 use Rattle.commands.proofs.OneAnswer.{failed_run, recorded_run}
 use Rattle.commands.proofs.stress.stress_proved.Goals as goal
@@ -14,8 +14,7 @@ returns-clause-found g c = inl (
 
 pub returns-in_err-recorded-clause-found : goal.returns-in_err-recorded-clause-found
 returns-in_err-recorded-clause-found g c =
-    let p = err_from_is_err_and c.from_residual-in_err-recorded.result c.from_residual-in_err-recorded.ensures.1 in
-    rw (p.1, p.2) (inl (
+    rw (carries c.from_residual-in_err-recorded.result _ c.from_residual-in_err-recorded.ensures.1) (inl (
       omega arith,
       failed_run _ _ (settings_of c.args.options.now) c.in_ok-plan.plan _ c.requires
           c.in_ok-plan.ensures.seeded c.deref.result.now (c.deref.ensures.value ∙ c.in_ok-plan.ensures.first) c.in_err-recorded.ensures.fault

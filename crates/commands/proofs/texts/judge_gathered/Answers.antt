@@ -1,12 +1,11 @@
-use Rattle.commands.proofs.Common.{◌≡◌, claim_of, err_from_is_err_and, inl, inr, IsOfVerdict, IsSound, judged}
-use Rattle.commands.proofs.Common.{operations_of, subst}
-use Rattle.commands.proofs.OneAnswer.{fault_found, faulty_or, of_decided}
+use Rattle.commands.proofs.Common.{◌≡◌, claim_of, carries, inl, inr, IsOfVerdict, IsSound, judged}
+use Rattle.commands.proofs.Common.{operations_of, refl, subst}
+use Rattle.commands.proofs.OneAnswer.{fault_found, faulty_or}
 use Rattle.commands.proofs.texts.judge_gathered.Goals as goal
 
 pub returns-in_err-history-clause-found : goal.returns-in_err-history-clause-found
-returns-in_err-history-clause-found c = λ history is.
-    let p = err_from_is_err_and c.from_residual.result c.from_residual.ensures.1 in
-    rw (p.1, p.2) (faulty_or history _ (fault_found history _ (c.in_err-history.ensures.outcome history.initial history.events is)))
+returns-in_err-history-clause-found c = λ history is. rw (carries c.from_residual.result _ c.from_residual.ensures.1)
+    (faulty_or history _ (fault_found history _ (c.in_err-history.ensures.outcome history.initial history.events is)))
 
 pub returns-clause-found : goal.returns-clause-found
 returns-clause-found c = λ history is.
@@ -16,5 +15,5 @@ returns-clause-found c = λ history is.
     inl (inr (
       subst IsSound one c.in_ok-history.ensures.complete,
       subst (λ h. IsOfVerdict h judged (judged (claim_of found.initial (operations_of found.events) c.in_ok-verdict.verdict))) one
-          (of_decided found judged c.in_ok-verdict.verdict c.in_ok-verdict.ensures),
+          (record { verdict = c.in_ok-verdict.verdict; decided = c.in_ok-verdict.ensures; is = refl }),
     ))
