@@ -1,20 +1,20 @@
 -- From a fault of one line to the first fault of the whole input, and what is read of a text that stands at its front.
-use Rattle.history_text.proofs.Common.{[], Ahead, AllByRecursion, ap, append-nil, append_assoc, arith, before}
-use Rattle.history_text.proofs.Common.{before_end, BeginsWith, Bool, bytes_eq, count_before_events, Cut, end_line}
-use Rattle.history_text.proofs.Common.{Ending, EndOfInput, Err, event_format, Failure, false, false_from_ne_true}
-use Rattle.history_text.proofs.Common.{FaultAmong, fields_of, FirstLineFault, flat_map, flat_map-append, Format, Front}
-use Rattle.history_text.proofs.Common.{front_of, front_too_long, front_unfinished, HasFirstFault, HasItemsFault}
-use Rattle.history_text.proofs.Common.{HasTextFault, HaveLines, HaveValueLines, Header, header_fault, header_of, IfErr}
-use Rattle.history_text.proofs.Common.{IfOk, IfSome, inl, inr, is_err, is_line_feed, IsItemLine, IsNoFirstLine}
-use Rattle.history_text.proofs.Common.{IsOfInput, IsOver, IsPartOfLine, IsSpelled, IsTextFault, item_at_front}
-use Rattle.history_text.proofs.Common.{item_at_nothing, item_in, ItemFault, join_with_byte-slice_split, length}
-use Rattle.history_text.proofs.Common.{length-append, Line, line, line_at_front, line_of, lines_before_events}
-use Rattle.history_text.proofs.Common.{lines_of, lines_of_initial, List, longest_line, MatchResult, Memory, nat_lt}
-use Rattle.history_text.proofs.Common.{nat_tests, None, NoRoom, NoRoomAmong, NoRoomForText, Nothing, Ok, One, OnOk}
-use Rattle.history_text.proofs.Common.{Option, refl, Result, Some, spaced, subst, sym, Takes, Takes-append, TakesEnd}
-use Rattle.history_text.proofs.Common.{TakesItem, text_is, TextFault, true, Two, Unfinished, Version, Whole, whole, ℕ}
-use Rattle.history_text.proofs.Common.{◌++◌, ◌+◌, ◌<◌, ◌>>=◌, ◌∙◌, ◌∷◌, ◌≡◌, ◌≤◌}
-use Rattle.std.proofs.Common.{if◌then◌else◌, suc, zero, ◌^◌}
+use Rattle.history_text.proofs.Common.{[], ap, Ok, sym, Two, ℕ, ◌+◌, ◌<◌, ◌∙◌, ◌∷◌, ◌≡◌, ◌≤◌}
+use Rattle.history_text.proofs.Common.{Ahead, bytes_eq, end_line, flat_map, ItemFault, nat_tests, TakesItem, TextFault}
+use Rattle.history_text.proofs.Common.{AllByRecursion, FirstLineFault, front_too_long, HaveValueLines, item_at_nothing}
+use Rattle.history_text.proofs.Common.{append-nil, before_end, BeginsWith, IfOk, IsTextFault, MatchResult, NoRoomAmong}
+use Rattle.history_text.proofs.Common.{append_assoc, event_format, Failure, HasTextFault, line_at_front, NoRoomForText}
+use Rattle.history_text.proofs.Common.{arith, false, Front, IfErr, Option, Result, spaced, subst, Takes, Whole, whole}
+use Rattle.history_text.proofs.Common.{before, false_from_ne_true, flat_map-append, front_unfinished, lines_of_initial}
+use Rattle.history_text.proofs.Common.{Bool, HasFirstFault, HasItemsFault, IsNoFirstLine, item_at_front, length-append}
+use Rattle.history_text.proofs.Common.{count_before_events, fields_of, join_with_byte-slice_split, lines_before_events}
+use Rattle.history_text.proofs.Common.{Cut, Err, inl, inr, line, List, None, One, OnOk, refl, Some, true, ◌++◌, ◌>>=◌}
+use Rattle.history_text.proofs.Common.{Ending, Format, Header, IfSome, is_err, IsOver, length, Memory, nat_lt, NoRoom}
+use Rattle.history_text.proofs.Common.{EndOfInput, FaultAmong, header_of, IsItemLine, IsOfInput, IsSpelled, Unfinished}
+use Rattle.history_text.proofs.Common.{front_of, item_in, Line, line_of, lines_of, Nothing, TakesEnd, text_is, Version}
+use Rattle.history_text.proofs.Common.{HaveLines, header_fault, is_line_feed, IsPartOfLine, longest_line, Takes-append}
+use Rattle.std.proofs.Common.{if◌then◌else◌, IsErrAnd, suc, zero, ◌^◌}
+use Rattle.std.proofs.lemmas.List.Elements.{All-from_recursion, All-push, recursion_from_All}
 use Rattle.text_lines.specs.Inner.Lines.{has_no_line_feed}
 use Rattle.text_lines.specs.Lines.{fault_at, TooLong}
 use Rattle.text_lines.proofs.MemoryOrNot.{follows, is_memory, known_fault}
@@ -277,15 +277,11 @@ pub at_line : (P : Ending → Front → Type 0) (old new : Option Ahead) (bytes 
 at_line P old new bytes taken part holds =
     before old new (line bytes) (λ e r. P e (front_of r)) taken (λ e more. subst (P e) (sym (whole bytes more part)) (holds e more))
 
-not_whole : (long : TextFault) (ending : Ending) (fault : TextFault) (front : Front) → BrokenLineFault long ending fault front
-    → NoLineFault long ending fault front
-not_whole long ending fault front h = grind (arith, h)
-
 -- where no line is whole there is none
 pub no_line : (long : TextFault) (old : Option Ahead) (fault : TextFault) → FaultAtFront (BrokenLineFault long) old fault
     → FaultAtFront (NoLineFault long) old fault
 no_line long None fault h = tt
-no_line long (Some a) fault h = not_whole long a.ending fault (front_of a.bytes) h
+no_line long (Some a) fault h = grind (arith, h)
 
 -- ---- items
 
@@ -325,40 +321,26 @@ items_faulty format n k old new bytes (Err fault) taken part e =
 
 -- ---- whole lines
 
--- a line whose fields have a fault has it
-pub line_faulty : {A : Type 0} (read : ℕ → List (List ℕ) → Result A TextFault) (n : ℕ) (old new : Option Ahead) (bytes : List ℕ) (r : Result A TextFault)
-    → Takes old new (line bytes) → IsPartOfLine bytes → r ≡ read n (fields_of bytes)
-    → IfErr r (FaultAtFront (λ end fault front. line_at_front read n end front ≡ Err fault) old)
-line_faulty read n old new bytes (Ok said) taken part e = tt
-line_faulty read n old new bytes (Err fault) taken part e =
-    at_line (λ end front. line_at_front read n end front ≡ Err fault) old new bytes taken part (λ end rest. rw (← e) refl)
-
 -- a faulty next line has been counted
 pub next_line_faulty : {A : Type 0} (read : ℕ → List (List ℕ) → Result A TextFault) (n m : ℕ) (old new : Option Ahead) (bytes : List ℕ)
     (r : Result A TextFault) → m ≡ n → Takes old new (line bytes) × IsPartOfLine bytes → r ≡ read m (fields_of bytes) → IfErr r (FaultAtFront (λ end fault front. line_at_front read n end front ≡ Err fault) old)
-next_line_faulty read n m old new bytes r same taken e = line_faulty read n old new bytes r taken.0 taken.1 (rw same at e)
-
--- the line of some fields is taken
-pub fields_taken : (old new : Option Ahead) (bytes : List ℕ) (fields : List (List ℕ)) → Takes old new (line bytes) → fields_of bytes ≡ fields
-    → Takes old new (line (spaced fields))
-fields_taken old new bytes fields taken is =
-    subst (λ (b : List ℕ). Takes old new (line b)) (sym (join_with_byte-slice_split 32 bytes) ∙ ap spaced is) taken
+next_line_faulty read n m old new bytes (Ok said) same taken e = tt
+next_line_faulty read n m old new bytes (Err fault) same taken e =
+    at_line (λ end front. line_at_front read n end front ≡ Err fault) old new bytes taken.0 taken.1 (λ end rest. rw (← same, ← e) refl)
 
 -- the line of an item is taken
 pub required_taken : {A : Type 0} (format : Format A) (old new : Option Ahead) (bytes : List ℕ) (r : Result A TextFault) → Takes old new (line bytes)
     → IfOk r (IsSpelled format (fields_of bytes)) → IfOk r (λ item. Takes old new (line_of format item) × format.HasLine item)
-required_taken format old new bytes (Ok item) taken spelled = (fields_taken old new bytes (format.fields item) taken spelled.text, spelled.line)
+required_taken format old new bytes (Ok item) taken spelled =
+    (subst (λ b. Takes old new (line b)) (sym (join_with_byte-slice_split 32 bytes) ∙ ap spaced spelled.text) taken, spelled.line)
 required_taken format old new bytes (Err fault) taken spelled = tt
-
-other_fault : (Lacking : Type 0) (IsFault : TextFault → Type 0) (fault : TextFault) → IsOfInput fault → IsFault fault → MemoryOr Lacking IsFault fault
-other_fault L F Memory other h = absurd other
-other_fault L F fault other h = h
 
 -- a fault of the input isn't out of memory
 pub first_is : (IsFault : Ending → List ℕ → TextFault → Type 0) (LacksRoom : List ℕ → Type 0) (old : Option Ahead) (fault : TextFault)
     → IsOfInput fault → IfSome old (λ a. IsFault a.ending a.bytes fault) → HasFirstFault IsFault LacksRoom old fault
 first_is F L None fault other h = tt
-first_is F L (Some a) fault other h = other_fault (L a.bytes) (F a.ending a.bytes) fault other h
+first_is F L (Some a) Memory other h = absurd other
+first_is F L (Some a) fault other h = h
 
 -- what holds of the input after a front holds of the whole
 moved : (P Q : Ending → List ℕ → Type 0) (old mid : Option Ahead) (front : List ℕ) → Takes old mid front
@@ -397,26 +379,19 @@ item_is_first format n m items k old mid fault of_input right taken k_is m_is h 
 
 -- ---- one more item
 
-all_and_last : {A : Type 0} (P : A → Type 0) (items : List A) (x : A) → AllByRecursion P items → P x → AllByRecursion P (items ++ x ∷ [])
-all_and_last P [] x all last = (last, tt)
-all_and_last P (y ∷ ys) x all last = (all.0, all_and_last P ys x all.1 last)
-
 -- one item more, if there is room for it
 pub HaveLines-push : {A : Type 0} (format : Format A) (items : List A) (x : A) → HaveLines format items → format.HasLine x → length items < format.most
     → HaveLines format (items ++ x ∷ [])
 HaveLines-push format items x right last few = record {
-  each = all_and_last format.HasLine items x right.each last;
+  each = recursion_from_All format.HasLine _ (All-push format.HasLine items x (All-from_recursion format.HasLine items right.each) last);
   few = omega (arith, length-append items (x ∷ []));
 }
-
-lines-push : {A : Type 0} (format : Format A) (items : List A) (x : A) → lines_of format items ++ line_of format x ≡ lines_of format (items ++ x ∷ [])
-lines-push format items x = sym (flat_map-append (line_of format) items (x ∷ [])
-    ∙ ap (λ (r : List ℕ). flat_map (line_of format) items ++ r) (append-nil (line_of format x)))
 
 -- the lines of the items so far and of one more are taken
 pub takes_item : {A : Type 0} (format : Format A) (items : List A) (x : A) (old mid new : Option Ahead) → Takes old mid (lines_of format items)
     → Takes mid new (line_of format x) → Takes old new (lines_of format (items ++ x ∷ []))
-takes_item format items x old mid new h k = subst (Takes old new) (lines-push format items x) (Takes-append old mid new _ _ h k)
+takes_item format items x old mid new h k =
+    rw (flat_map-append (line_of format) items (x ∷ []), append-nil (line_of format x)) (Takes-append old mid new _ _ h k)
 
 -- one item more than there is room for, of as many as were told
 pub no_room_among : {A : Type 0} (format : Format A) (k : ℕ) (items : List A) (x : A) (old mid new : Option Ahead) → HaveLines format items
@@ -446,6 +421,11 @@ no_room format items x (Some a) mid new right taken few range now =
 
 -- ---- answers
 
+-- a `?` that carries a fault on answers that fault
+pub carries : {T E : Type 0} (r : Result T E) (fault : E) → IsErrAnd r (λ y. y ≡ fault) → r ≡ Err fault
+carries (Ok x) fault is = absurd is
+carries (Err y) fault is = cc
+
 -- what holds on success holds if there was no error
 pub on_ok : {V E : Type 0} (r : Result V E) (P : Type 0) → false ≡ is_err r → OnOk r P → P
 on_ok (Ok v) P ok h = h
@@ -461,17 +441,13 @@ other_line n m old new bytes same taken part other =
 
 -- ---- histories of either version: the first line
 
-no_version : (old : Option Ahead) (fault : TextFault) → ((version : Version) → IfSome old (λ a. header_fault (header_of version) a.ending (front_of a.bytes) ≡ Some fault))
-    → FaultAtFront NoVersionFault old fault
-no_version None fault h = tt
-no_version (Some a) fault h = h
-
 -- another line is that of none
 pub other_version : (old new : Option Ahead) (bytes : List ℕ) → Takes old new (line bytes) → IsPartOfLine bytes
     → ((version : Version) → bytes ≡ header_of version → ⊥) → FaultAtFront NoVersionFault old Header
-other_version old new bytes taken part other = no_version old Header (λ version.
+other_version None new bytes taken part other = tt
+other_version (Some a) new bytes taken part other = λ version.
     let differ : bytes_eq bytes (header_of version) ≡ false = false_from_ne_true _ (λ same. other version (text_is bytes (header_of version) same)) in
-    at_line (λ end front. header_fault (header_of version) end front ≡ Some Header) old new bytes taken part (λ end rest. rw differ refl))
+    at_line (λ end front. header_fault (header_of version) end front ≡ Some Header) (Some a) new bytes taken part (λ end rest. rw differ refl)
 
 -- ---- histories of either version: the events
 

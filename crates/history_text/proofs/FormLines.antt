@@ -1,27 +1,32 @@
 -- Lines that are read by a table: what is written is read back, and what is read is spelled so.
-use Rattle.history_text.proofs.Common.{[], a_value, all_digits, AllByRecursion, and_right, ap, AreOfForm, arith}
-use Rattle.history_text.proofs.Common.{begins_as_end, bytes_eq, claim_line_fields, claim_line_format, claim_line_in}
-use Rattle.history_text.proofs.Common.{ClaimLine, codes, count_fields, count_format, count_forms, count_in, decimal}
-use Rattle.history_text.proofs.Common.{decimal_nonempty, Deq, drop, empty_operation, end_in, end_line, end_ok}
-use Rattle.history_text.proofs.Common.{end_read, Ending, Enq, Err, event_format, event_forms, event_in, event_of}
-use Rattle.history_text.proofs.Common.{false, field_is_clean, FieldForm, fields_of, Format, front_of, greatest_value}
-use Rattle.history_text.proofs.Common.{has_bits, HasClaimLine, HasOperationLine, HasValueInRange, Initial}
-use Rattle.history_text.proofs.Common.{initial_form, initial_forms, initial_of, is_blank, is_initial, is_line_form}
-use Rattle.history_text.proofs.Common.{IsItemLine, IsKindInRange, IsLineOf, IsPartOfLine, IsSpelled, item_at_front}
-use Rattle.history_text.proofs.Common.{item_in, join_with_byte-slice_split, kind_fields, length, length-decimal-le}
-use Rattle.history_text.proofs.Common.{line, line_at_front, line_of, List, list_all, MAX_INITIAL, MAX_THREAD}
-use Rattle.history_text.proofs.Common.{MAX_TICKET, nat_lt, nat_tests, None, Number, number_is_field, number_of}
-use Rattle.history_text.proofs.Common.{numbers_back, numbers_in, Ok, Op, Operation, operation_fields, operation_format}
-use Rattle.history_text.proofs.Common.{operation_forms, operation_of, OpKind, parse_line, parse_line_says, plain_event}
-use Rattle.history_text.proofs.Common.{read_by, refl, Result, Some, spaced, spelled, spelled_is_line, sym, Table}
-use Rattle.history_text.proofs.Common.{take-append-drop, TextFault, true, value_fields, value_format, value_forms}
-use Rattle.history_text.proofs.Common.{value_in, valued_event, valued_operation, what_fields, whole, Word, ℕ, ◌&&◌}
-use Rattle.history_text.proofs.Common.{◌++◌, ◌<◌, ◌==◌, ◌>>=◌, ◌^◌, ◌∙◌, ◌∷◌, ◌≡◌, ◌≤◌}
+use Rattle.history_text.proofs.Common.{[], ClaimLine, FieldForm, fields_of, IsSetting, IsSpelled, nat_tests, number_of}
+use Rattle.history_text.proofs.Common.{a_value, all_digits, initial_of, is_initial, IsItemLine, MAX_THREAD, MAX_TICKET}
+use Rattle.history_text.proofs.Common.{AllByRecursion, claim_line_in, field_is_clean, parse_line_says, spelled_is_line}
+use Rattle.history_text.proofs.Common.{and_right, count_format, event_format, HasClaimLine, initial_form, is_line_form}
+use Rattle.history_text.proofs.Common.{ap, Enq, Err, Ok, Op, sym, ◌<◌, ◌==◌, ◌^◌, ◌∙◌, ◌∷◌, ◌≡◌, ◌≤◌}
+use Rattle.history_text.proofs.Common.{AreOfForm, IsPartOfLine, numbers_back, operation_of, plain_saying, setting_form}
+use Rattle.history_text.proofs.Common.{arith, count_fields, item_at_front, line_at_front, setting_forms, valued_saying}
+use Rattle.history_text.proofs.Common.{begins_as_end, claim_line_fields, claim_line_format, join_with_byte-slice_split}
+use Rattle.history_text.proofs.Common.{bytes_eq, empty_operation, operation_format, take-append-drop, valued_operation}
+use Rattle.history_text.proofs.Common.{codes, Deq, false, length, nat_lt, Number, OpKind, Result, rules, spaced, Table}
+use Rattle.history_text.proofs.Common.{count_forms, HasValueInRange, IsAnswerInRange, number_is_field, operation_forms}
+use Rattle.history_text.proofs.Common.{count_in, draining, end_line, end_ok, end_read, Operation, step_with, TextFault}
+use Rattle.history_text.proofs.Common.{decimal, numbers_in, parse_line, plain_step, setting_in, setting_of, step_forms}
+use Rattle.history_text.proofs.Common.{decimal_nonempty, end_in, HasOperationLine, length-decimal-le, operation_fields}
+use Rattle.history_text.proofs.Common.{drop, line, List, None, refl, Some, Step, true, whole, Word, ◌&&◌, ◌++◌, ◌>>=◌}
+use Rattle.history_text.proofs.Common.{Ending, Format, Initial, item_in, line_of, read_by, spelled, step_in, step_of}
+use Rattle.history_text.proofs.Common.{event_forms, HasStepLine, kind_fields, value_fields, value_format, valued_event}
+use Rattle.history_text.proofs.Common.{event_in, event_of, front_of, has_bits, is_blank, IsLineOf, list_all, value_in}
+use Rattle.history_text.proofs.Common.{greatest_value, initial_forms, IsKindInRange, setting_fields, setting_format, ℕ}
+use Rattle.history_text.proofs.Common.{MAX_INITIAL, plain_event, step_fields, step_format, value_forms, what_fields}
 use Rattle.text_lines.proofs.Fields.{has_field}
 use Rattle.event_records.specs.declared.event.What.{What}
 use Rattle.event_records.specs.declared.event.What.TheVariants.{CallDeq, CallEnq, RetDeq, RetEmpty, RetEnq, RetNot}
 use Rattle.std.specs.Char.{is_ascii_digit}
 use Rattle.history_merge.specs.declared.operation.OpKind.TheVariants.{Empty, Not}
+use Rattle.recorder_core.specs.declared.step.Step.TheVariants.{AskEnq, AskDeq, Push, Effect, Say, Ret, Drain, Close}
+use Rattle.event_records.specs.declared.kind.Answer.{Answer}
+use Rattle.event_records.specs.declared.kind.Answer.TheVariants as reply
 
 -- ---- the first line, an item's and the last one, read from what is written of them, whatever comes after
 
@@ -189,18 +194,14 @@ event_spells = grind (arith, event_row)
 module _ (t th : ℕ) (a : t ≤ MAX_TICKET) (b : th ≤ MAX_THREAD) where
   event_back : (what : What) → HasValueInRange what
       → IsReadAs event_in (decimal t ∷ decimal th ∷ what_fields what) (record { ticket = t; thread = th; what = what })
-  event_back (CallEnq v) r = row_back event_forms event_of (CallEnq 0) (valued_event (codes "call-enq")) (t ∷ th ∷ v ∷ []) refl refl (λ n. refl)
-      (omega arith, a, (omega arith, b, (omega arith, r, tt)))
-  event_back RetEnq r = row_back event_forms event_of RetEnq (plain_event (codes "ret-enq")) (t ∷ th ∷ []) refl refl (λ n. refl)
-      (omega arith, a, (omega arith, b, tt))
-  event_back RetNot r = row_back event_forms event_of RetNot (plain_event (codes "ret-not")) (t ∷ th ∷ []) refl refl (λ n. refl)
-      (omega arith, a, (omega arith, b, tt))
-  event_back CallDeq r = row_back event_forms event_of CallDeq (plain_event (codes "call-deq")) (t ∷ th ∷ []) refl refl (λ n. refl)
-      (omega arith, a, (omega arith, b, tt))
-  event_back (RetDeq v) r = row_back event_forms event_of (RetDeq 0) (valued_event (codes "ret-deq")) (t ∷ th ∷ v ∷ []) refl refl (λ n. refl)
-      (omega arith, a, (omega arith, b, (omega arith, r, tt)))
-  event_back RetEmpty r = row_back event_forms event_of RetEmpty (plain_event (codes "ret-empty")) (t ∷ th ∷ []) refl refl (λ n. refl)
-      (omega arith, a, (omega arith, b, tt))
+  event_back (CallEnq v) r =
+      row_back event_forms event_of (CallEnq 0) (valued_event (codes "call-enq")) (t ∷ th ∷ v ∷ []) refl refl (λ n. refl) (search rules)
+  event_back RetEnq r = row_back event_forms event_of RetEnq (plain_event (codes "ret-enq")) (t ∷ th ∷ []) refl refl (λ n. refl) (search rules)
+  event_back RetNot r = row_back event_forms event_of RetNot (plain_event (codes "ret-not")) (t ∷ th ∷ []) refl refl (λ n. refl) (search rules)
+  event_back CallDeq r = row_back event_forms event_of CallDeq (plain_event (codes "call-deq")) (t ∷ th ∷ []) refl refl (λ n. refl) (search rules)
+  event_back (RetDeq v) r =
+      row_back event_forms event_of (RetDeq 0) (valued_event (codes "ret-deq")) (t ∷ th ∷ v ∷ []) refl refl (λ n. refl) (search rules)
+  event_back RetEmpty r = row_back event_forms event_of RetEmpty (plain_event (codes "ret-empty")) (t ∷ th ∷ []) refl refl (λ n. refl) (search rules)
 
 -- the line of an event is read as that event
 pub event_front : IsReadBack event_format
@@ -234,15 +235,13 @@ module _ (c r t : ℕ) (a : c ≤ MAX_TICKET) (b : r ≤ MAX_TICKET) (few : t �
       ≡ (numbers_in n (valued_operation word) (decimal c ∷ decimal r ∷ decimal t ∷ word ∷ decimal v ∷ []) >>= λ found. Ok (kind, found)))
       → IsReadAs read_operation (decimal c ∷ decimal r ∷ decimal t ∷ word ∷ decimal v ∷ []) (operation_of kind (c ∷ r ∷ t ∷ v ∷ []))
   valued_back v word kind range is_line finds =
-      row_back operation_forms operation_of kind (valued_operation word) (c ∷ r ∷ t ∷ v ∷ []) refl is_line finds
-      (omega arith, a, (omega arith, b, (omega arith, few, (omega arith, range, tt))))
+      row_back operation_forms operation_of kind (valued_operation word) (c ∷ r ∷ t ∷ v ∷ []) refl is_line finds (search rules)
 
   kind_back : (kind : OpKind) → IsKindInRange kind
       → IsReadAs read_operation (decimal c ∷ decimal r ∷ decimal t ∷ kind_fields kind) (record { call = c; ret = r; thread = t; kind = kind })
   kind_back (Enq v) range = valued_back v (codes "enq") (Enq 0) range refl (λ n. refl)
   kind_back (Deq v) range = valued_back v (codes "deq") (Deq 0) range refl (λ n. refl)
-  kind_back Empty range = row_back operation_forms operation_of Empty empty_operation (c ∷ r ∷ t ∷ []) refl refl (λ n. refl)
-      (omega arith, a, (omega arith, b, (omega arith, few, tt)))
+  kind_back Empty range = row_back operation_forms operation_of Empty empty_operation (c ∷ r ∷ t ∷ []) refl refl (λ n. refl) (search rules)
   kind_back (Not v) range = valued_back v (codes "not") (Not 0) range refl (λ n. refl)
 
 digits_are_other : (ds : List ℕ) → 0 < length ds → list_all is_ascii_digit ds ≡ true → bytes_eq ds (codes "init") ≡ false
@@ -269,3 +268,56 @@ pub operation_front : IsReadBack operation_format
 operation_front = item_read operation_format (λ o range.
     let is = kind_back o.call o.ret o.thread range.call range.ret range.thread o.kind range.value in
     record { one = is.one; read_back = λ n. rw (no_initial o range) (is.read_back n) })
+
+-- ---- the lines of a schedule
+
+step_row : (step : Step) → HasStepLine step → IsSpelled step_format (step_fields step) step
+step_row step range = record { text = refl; line = range }
+
+-- the fields of a step are spelled as it is written
+pub step_spells : Spells step_format step_forms step_of
+step_spells = grind (arith, step_row)
+
+-- the thread of a step that has a line
+pub thread_is_few : (step : Step) (t v : ℕ) → HasStepLine (step_with step t v) → t ≤ MAX_THREAD
+thread_is_few step t v h = grind arith
+
+-- the fields of a setting are spelled as it is written
+pub setting_spells : Spells setting_format setting_forms setting_of
+setting_spells = grind arith
+
+module _ (t : ℕ) (few : t ≤ MAX_THREAD) where
+  plain_back : (word : List ℕ) (step : Step) → is_line_form (plain_step word) ≡ true
+      → ((n : ℕ) → parse_line n step_forms (word ∷ decimal t ∷ [])
+      ≡ (numbers_in n (plain_step word) (word ∷ decimal t ∷ []) >>= λ found. Ok (step, found)))
+      → IsReadAs step_in (word ∷ decimal t ∷ []) (step_of step (t ∷ []))
+  plain_back word step is_line finds = row_back step_forms step_of step (plain_step word) (t ∷ []) refl is_line finds (omega arith, few, tt)
+
+  saying_back : (answer : Answer) → IsAnswerInRange answer → IsReadAs step_in (step_fields (Say t answer)) (Say t answer)
+  saying_back reply.Taken range =
+      row_back step_forms step_of (Say 0 reply.Taken) (plain_saying (codes "taken")) (t ∷ []) refl refl (λ n. refl) (search rules)
+  saying_back reply.Not range =
+      row_back step_forms step_of (Say 0 reply.Not) (plain_saying (codes "not")) (t ∷ []) refl refl (λ n. refl) (search rules)
+  saying_back (reply.Got v) range = row_back step_forms step_of (Say 0 (reply.Got 0)) valued_saying (t ∷ v ∷ []) refl refl (λ n. refl) (search rules)
+  saying_back reply.Empty range =
+      row_back step_forms step_of (Say 0 reply.Empty) (plain_saying (codes "empty")) (t ∷ []) refl refl (λ n. refl) (search rules)
+
+step_back : (step : Step) → HasStepLine step → IsReadAs step_in (step_fields step) step
+step_back (AskEnq t) few = plain_back t few (codes "ask-enq") (AskEnq 0) refl (λ n. refl)
+step_back (AskDeq t) few = plain_back t few (codes "ask-deq") (AskDeq 0) refl (λ n. refl)
+step_back (Push t) few = plain_back t few (codes "push") (Push 0) refl (λ n. refl)
+step_back (Effect t) few = plain_back t few (codes "effect") (Effect 0) refl (λ n. refl)
+step_back (Say t answer) range = saying_back t range.0 answer range.1
+step_back (Ret t) few = plain_back t few (codes "ret") (Ret 0) refl (λ n. refl)
+step_back (Drain t k) range = row_back step_forms step_of (Drain 0 0) draining (t ∷ k ∷ []) refl refl (λ n. refl) (search rules)
+step_back (Close t) few = plain_back t few (codes "close") (Close 0) refl (λ n. refl)
+
+-- the line of a step is read as that step
+pub step_front : IsReadBack step_format
+step_front = item_read step_format step_back
+
+-- the line of a setting says that setting
+pub setting_says : (threads ring : ℕ) → IsSetting threads ring → Says setting_in (line (spaced (setting_fields threads ring))) (threads, ring)
+setting_says threads ring within = line_read setting_in (setting_fields threads ring) (threads, ring)
+    (row_back setting_forms setting_of tt setting_form (threads ∷ ring ∷ []) refl refl (λ n. refl)
+    (within.some_threads, within.few_threads, (within.some_room, within.little_room, tt)))

@@ -5,7 +5,7 @@ use Rattle.history_text.proofs.Common.{Front, front_of, HasScheduleText, Header,
 use Rattle.history_text.proofs.Common.{line, line_at_front, lines_before_steps, schedule_header, nat_tests}
 use Rattle.history_text.proofs.Common.{schedule_text, setting_in, step_format, TextFault}
 use Rattle.history_text.specs.declared.schedule.Schedule.{Schedule}
-use Rattle.history_text.proofs.StepLines.{step_front, setting_says}
+use Rattle.history_text.proofs.FormLines.{step_front, setting_says}
 use Rattle.history_text.proofs.FirstFaults as judging
 use Rattle.history_text.proofs.FirstFaults.{then_ok, then_err, first_at, first_read, items_in, counted_read, fault_found, IsJudged, Anything}
 

@@ -1,6 +1,5 @@
 use Rattle.history_text.proofs.Common.{fields_of, sym}
-use Rattle.history_text.proofs.FormLines.{said_spelled}
-use Rattle.history_text.proofs.StepLines.{step_spells, thread_is_few}
+use Rattle.history_text.proofs.FormLines.{said_spelled, step_spells, thread_is_few}
 use Rattle.history_text.proofs.step_line.StepItem.from_line.Goals as goal
 
 pub step_of-requires : goal.step_of-requires

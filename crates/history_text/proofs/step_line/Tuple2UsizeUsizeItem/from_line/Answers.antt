@@ -1,6 +1,5 @@
 use Rattle.history_text.proofs.Common.{sym}
-use Rattle.history_text.proofs.FormLines.{said_spelled}
-use Rattle.history_text.proofs.StepLines.{setting_spells}
+use Rattle.history_text.proofs.FormLines.{said_spelled, setting_spells}
 use Rattle.history_text.proofs.step_line.Tuple2UsizeUsizeItem.from_line.Goals as goal
 
 pub returns-clause-spelled : goal.returns-clause-spelled
