@@ -1,6 +1,6 @@
 -- From a fault of one line to the first fault of the whole input, and what is read of a text that stands at its front.
 use Rattle.history_text.proofs.Common.{[], ap, Ok, sym, Two, ℕ, ◌+◌, ◌<◌, ◌∙◌, ◌∷◌, ◌≡◌, ◌≤◌}
-use Rattle.history_text.proofs.Common.{Ahead, bytes_eq, end_line, flat_map, ItemFault, nat_tests, TakesItem, TextFault}
+use Rattle.history_text.proofs.Common.{Ahead, bytes_eq, end_line, ItemFault, nat_tests, TakesItem, TextFault}
 use Rattle.history_text.proofs.Common.{AllByRecursion, FirstLineFault, front_too_long, HaveValueLines, item_at_nothing}
 use Rattle.history_text.proofs.Common.{append-nil, before_end, BeginsWith, IfOk, IsTextFault, MatchResult, NoRoomAmong}
 use Rattle.history_text.proofs.Common.{append_assoc, event_format, Failure, HasTextFault, line_at_front, NoRoomForText}

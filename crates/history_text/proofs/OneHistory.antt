@@ -1,13 +1,12 @@
 -- Two texts of histories, of either version, at the front of one input are one, and an input has one first fault.
 use Rattle.history_text.proofs.Common.{sym, ◌∙◌, lines_of_initial, MAX_INITIAL, ap, ItemFault, HaveLines, ◌≤◌, []}
 use Rattle.history_text.proofs.Common.{◌++◌, ◌+◌, ◌∷◌, ◌≡◌, append_assoc, arith, Err, inl, inr, length, List, Ok, refl}
-use Rattle.history_text.proofs.Common.{Result, ℕ, ◌>>=◌, count_fields, count_in, Ending, EndOfInput, Event}
+use Rattle.history_text.proofs.Common.{Result, ℕ, ◌>>=◌, count_fields, count_in, Ending, Event}
 use Rattle.history_text.proofs.Common.{event_format, FaultAfterHeader, Front, front_of, HasHistoryText, HasText}
 use Rattle.history_text.proofs.Common.{HaveValueLines, Header, header_of, HistoryText, IsTextFault, line}
 use Rattle.history_text.proofs.Common.{line_at_front, lines_of, lines_to_end, NoVersionFault, One, spaced, text_by}
 use Rattle.history_text.proofs.Common.{text_of, TextFault, Two, value_format, Version}
 use Rattle.history_text.proofs.FormLines.{event_front, value_says, count_says}
-use Rattle.history_text.proofs.FirstFaults as judging
 use Rattle.history_text.proofs.FirstFaults.{then_ok, then_err, first_at, first_read, items_in, counted_read, fault_found, among_in, among_read, among_found, IsJudged, Anything}
 
 -- ---- the input, judged line by line
@@ -114,17 +113,3 @@ judged = record {
   read = λ lines ending t rest has _. text_read lines ending t.version t.initial t.events rest has.initial has.events;
   found = found;
 }
-
--- two texts at the front of one input are one text
-pub texts_agree : (t u : HistoryText) (q r : List ℕ) → HasText t → HasText u → text_of t ++ q ≡ text_of u ++ r → (t ≡ u) × (q ≡ r)
-texts_agree t u q r text_t text_u same = judging.texts_agree judged EndOfInput t u q r text_t text_u tt tt same
-
--- a text that stands at the front has no fault
-pub text_has_no_fault : (lines : ℕ) (ending : Ending) (t : HistoryText) (r : List ℕ) (fault : TextFault) → HasText t
-    → IsTextFault lines ending (text_of t ++ r) fault → ⊥
-text_has_no_fault lines ending t r fault text h = judging.text_has_no_fault judged lines ending t r fault text tt h
-
--- an input has one first fault
-pub one_first_fault : (lines : ℕ) (ending : Ending) (bytes : List ℕ) (f g : TextFault) → IsTextFault lines ending bytes f
-    → IsTextFault lines ending bytes g → f ≡ g
-one_first_fault lines ending bytes f g h k = judging.one_first_fault judged lines ending bytes f g h k

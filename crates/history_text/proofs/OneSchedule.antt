@@ -1,12 +1,11 @@
 -- Two texts of schedules at the front of one input are one, and an input has one first fault.
 use Rattle.history_text.proofs.Common.{◌∙◌, ap, IsSetting, [], ◌++◌, ◌+◌, ◌∷◌, ◌≡◌, append_assoc, arith, Err, inl, inr}
-use Rattle.history_text.proofs.Common.{List, Ok, refl, Result, Some, ℕ, ◌>>=◌, Ending, EndOfInput}
+use Rattle.history_text.proofs.Common.{List, Ok, refl, Result, Some, ℕ, ◌>>=◌, Ending}
 use Rattle.history_text.proofs.Common.{Front, front_of, HasScheduleText, Header, header_fault, IsScheduleTextFault}
 use Rattle.history_text.proofs.Common.{line, line_at_front, lines_before_steps, schedule_header, nat_tests}
 use Rattle.history_text.proofs.Common.{schedule_text, setting_in, step_format, TextFault}
 use Rattle.history_text.specs.declared.schedule.Schedule.{Schedule}
 use Rattle.history_text.proofs.FormLines.{step_front, setting_says}
-use Rattle.history_text.proofs.FirstFaults as judging
 use Rattle.history_text.proofs.FirstFaults.{then_ok, then_err, first_at, first_read, items_in, counted_read, fault_found, IsJudged, Anything}
 
 abbrev headers : List (Unit {0} × List ℕ)
@@ -59,17 +58,3 @@ found lines ending bytes fault (inr (inr (threads, ring, within, (rest, is, h)))
 -- so an input is judged
 pub judged : IsJudged HasScheduleText schedule_text Anything IsScheduleTextFault schedule_in
 judged = record { read = read; found = found }
-
--- two texts at the front of one input are one text
-pub texts_agree : (s t : Schedule) (q r : List ℕ) → HasScheduleText s → HasScheduleText t → schedule_text s ++ q ≡ schedule_text t ++ r → (s ≡ t) × (q ≡ r)
-texts_agree s t q r text_s text_t same = judging.texts_agree judged EndOfInput s t q r text_s text_t tt tt same
-
--- a text that stands at the front has no fault
-pub text_has_no_fault : (lines : ℕ) (ending : Ending) (s : Schedule) (r : List ℕ) (fault : TextFault) → HasScheduleText s
-    → IsScheduleTextFault lines ending (schedule_text s ++ r) fault → ⊥
-text_has_no_fault lines ending s r fault text h = judging.text_has_no_fault judged lines ending s r fault text tt h
-
--- an input has one first fault
-pub one_first_fault : (lines : ℕ) (ending : Ending) (bytes : List ℕ) (f g : TextFault) → IsScheduleTextFault lines ending bytes f
-    → IsScheduleTextFault lines ending bytes g → f ≡ g
-one_first_fault lines ending bytes f g h k = judging.one_first_fault judged lines ending bytes f g h k

@@ -105,8 +105,3 @@ texts_agree c d text_c text_d same =
 pub text_has_no_fault : (lines : ℕ) (c : Claimed) (fault : TextFault) → HasVerdictText c → IsVerdictTextFault lines EndOfInput (verdict_text c) fault → ⊥
 text_has_no_fault lines c fault text h = judging.text_has_no_fault judged lines EndOfInput c [] fault text (refl, refl)
     (subst (λ (t : List ℕ). IsVerdictTextFault lines EndOfInput t fault) (sym (append-nil (verdict_text c))) h)
-
--- an input has one first fault
-pub one_first_fault : (lines : ℕ) (ending : Ending) (bytes : List ℕ) (f g : TextFault) → IsVerdictTextFault lines ending bytes f
-    → IsVerdictTextFault lines ending bytes g → f ≡ g
-one_first_fault lines ending bytes f g h k = judging.one_first_fault judged lines ending bytes f g h k

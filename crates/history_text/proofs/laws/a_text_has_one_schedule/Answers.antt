@@ -1,6 +1,7 @@
-use Rattle.history_text.proofs.Common.{[], ◌++◌, ap, List, ℕ}
-use Rattle.history_text.proofs.OneSchedule.{texts_agree}
+use Rattle.history_text.proofs.Common.{[], ◌++◌, ap, EndOfInput, List, ℕ}
+use Rattle.history_text.proofs.FirstFaults.{texts_agree}
+use Rattle.history_text.proofs.OneSchedule.{judged}
 use Rattle.history_text.proofs.laws.a_text_has_one_schedule.Goals as goal
 
 pub returns : goal.returns
-returns c = λ first second text_1 text_2 same. (texts_agree first second [] [] text_1 text_2 (ap (λ (t : List ℕ). t ++ []) same)).0
+returns c = λ first second text_1 text_2 same. (texts_agree judged EndOfInput first second [] [] text_1 text_2 tt tt (ap (λ (t : List ℕ). t ++ []) same)).0

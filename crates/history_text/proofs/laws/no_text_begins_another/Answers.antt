@@ -1,6 +1,8 @@
-use Rattle.history_text.proofs.Common.{[], ◌∙◌, append-nil, sym, text_of}
-use Rattle.history_text.proofs.OneHistory.{texts_agree}
+use Rattle.history_text.proofs.Common.{[], ◌∙◌, append-nil, EndOfInput, sym, text_of}
+use Rattle.history_text.proofs.FirstFaults.{texts_agree}
+use Rattle.history_text.proofs.OneHistory.{judged}
 use Rattle.history_text.proofs.laws.no_text_begins_another.Goals as goal
 
 pub returns : goal.returns
-returns c = λ first second more text_1 text_2 same. (texts_agree first second more [] text_1 text_2 (same ∙ sym (append-nil (text_of second)))).1
+returns c = λ first second more text_1 text_2 same.
+    (texts_agree judged EndOfInput first second more [] text_1 text_2 tt tt (same ∙ sym (append-nil (text_of second)))).1
