@@ -5,9 +5,8 @@ pub use Rattle.command_words.specs.Commands.{stress}
 pub use Rattle.command_words.specs.Options.{settings_of}
 pub use Rattle.commands.specs.Answers.{answer_of_text_fault, converted, judged, memory_fault, played, Reply, shown}
 pub use Rattle.commands.specs.Evidence.{input_of, SameOrNoMemory}
-pub use Rattle.commands.specs.Inputs.{alone, claim_on, ClaimOnText, Drawable, IsClaimOf, IsDrawableOf}
-pub use Rattle.commands.specs.Inputs.{IsFaultOfClaimInput, IsFaultOfDrawableInput, IsFaultOfHistoryInput, IsHistoryOf}
-pub use Rattle.commands.specs.Inputs.{with_claim}
+pub use Rattle.commands.specs.Inputs.{alone, claim_on, ClaimOnText, Drawable, IsClaimOf, IsHistoryOf, with_claim}
+pub use Rattle.commands.specs.Inputs.{IsDrawableOf, IsFaultOfClaimInput, IsFaultOfDrawableInput, IsFaultOfHistoryInput}
 pub use Rattle.commands.specs.Judging.{AnswersFor, AnswersOrNoMemory, Converts, Counts, Draws, in_version_2}
 pub use Rattle.commands.specs.Judging.{IsOfVerdict, IsSound, Judges, said_by, ShrinksSound, Verifies}
 pub use Rattle.commands.specs.Outcomes.{answer_of}

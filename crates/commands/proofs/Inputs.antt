@@ -1,12 +1,11 @@
 -- From what calls on the reader gave to what the input is, or to its fault. An input says one thing, or has one fault.
-use Rattle.commands.proofs.Common.{[], ◌++◌, ◌∙◌, ◌≡◌, ◌≢◌, ◌⊎◌, Ahead, alone, answer_of_text_fault, AnswersFor}
-use Rattle.commands.proofs.Common.{AnswersOrNoMemory, ap, claim_on, Claimed, ClaimOnText, Drawable, HasScheduleText}
-use Rattle.commands.proofs.Common.{HasText, HasVerdictText, HistoryText, IfSome, IfSome_then, inl, input_of, inr}
-use Rattle.commands.proofs.Common.{IsClaimOf, IsDrawableOf, IsFaultOfClaimInput, IsFaultOfDrawableInput}
-use Rattle.commands.proofs.Common.{IsFaultOfHistoryInput, IsHistoryOf, IsScheduleTextFault, IsTextFault, List}
-use Rattle.commands.proofs.Common.{memory_fault, None, NoRoomForSchedule, NoRoomForText, Option, refl, Reply}
-use Rattle.commands.proofs.Common.{SameOrNoMemory, schedule_text, Some, subst, sym, text_of, TextFault, verdict_text}
-use Rattle.commands.proofs.Common.{with_claim, ℕ}
+use Rattle.commands.proofs.Common.{[], Ahead, alone, answer_of_text_fault, AnswersFor, AnswersOrNoMemory, ap, claim_on}
+use Rattle.commands.proofs.Common.{Claimed, ClaimOnText, Drawable, HasText, HasVerdictText}
+use Rattle.commands.proofs.Common.{HistoryText, IfSome, IfSome_then, inl, input_of, inr, IsClaimOf, IsDrawableOf}
+use Rattle.commands.proofs.Common.{IsFaultOfClaimInput, IsFaultOfDrawableInput, IsFaultOfHistoryInput, IsHistoryOf}
+use Rattle.commands.proofs.Common.{IsTextFault, List, memory_fault, None, NoRoomForSchedule}
+use Rattle.commands.proofs.Common.{NoRoomForText, Option, refl, Reply, SameOrNoMemory, Some, subst, sym}
+use Rattle.commands.proofs.Common.{text_of, TextFault, verdict_text, with_claim, ℕ, ◌++◌, ◌∙◌, ◌≡◌, ◌≢◌, ◌⊎◌}
 use Rattle.commands.specs.Inputs.{AfterText, IsFaultBehind, IsFaultOfEnd, IsFaultOfOneText, IsFaultOfScheduleInput}
 use Rattle.commands.specs.Inputs.{IsFaultOfTexts, IsScheduleOf, IsWhole}
 use Rattle.history_text.specs.Claims.{IsVerdictTextFault, NoRoomForVerdict}
@@ -209,7 +208,7 @@ claim_parts input x is = (
 -- an input is one claim, or has one fault
 pub one_claim : SaysOneThing IsClaimOf IsFaultOfClaimInput
 one_claim = says_one_thing HasText text_of IsTextFault NoRoomForText (λ t. IsVerdictTextFault (line_count t)) (λ _. NoRoomForVerdict)
-    histories.judged (λ t ending. verdict_texts.one_first_fault (line_count t) ending) IsClaimOf one_claim_of claim_parts
+    histories.judged (λ t ending. one_first_fault verdict_texts.judged (line_count t) ending) IsClaimOf one_claim_of claim_parts
 
 -- a fault of the history's text
 pub claim_history_fault : (input : Option Ahead) (fault : TextFault) → HasTextFault 0 input fault → IfSome input (λ a. IsFaultOfClaimInput a fault)
@@ -247,7 +246,7 @@ one_drawable_of input (with_claim x) (with_claim y) is_x is_y = ap (λ c. with_c
 -- an input is one history with a claim, or one alone, or has one fault
 pub one_drawable : SaysOneThing IsDrawableOf IsFaultOfDrawableInput
 one_drawable = says_one_thing HasText text_of IsTextFault NoRoomForText IsFaultBehind (λ _. NoRoomForVerdict) histories.judged
-    (λ t ending rest f g x y. verdict_texts.one_first_fault (line_count t) ending rest f g x.0 y.0) IsDrawableOf one_drawable_of parts
+    (λ t ending rest f g x y. one_first_fault verdict_texts.judged (line_count t) ending rest f g x.0 y.0) IsDrawableOf one_drawable_of parts
   where
     parts : (input : Ahead) (x : Drawable) → IsDrawableOf input x → (text : HistoryText) × (rest : List ℕ) × HasText text
         × (input.bytes ≡ text_of text ++ rest) × ((fault : TextFault) → IsFaultBehind text input.ending rest fault → ⊥)

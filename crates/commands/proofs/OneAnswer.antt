@@ -1,19 +1,18 @@
 -- What is answered of a history that was read, what of that is written, and what is answered of what is written. Out
 -- of memory aside an input has one answer.
-use Rattle.commands.proofs.Common.{[], Ahead, All, alone, answer_of_text_fault, AnswersFor, AnswersOf}
-use Rattle.commands.proofs.Common.{AnswersOrNoMemory, ap, arith, Attempt, Bool, claim_of, claim_on, Claimed}
-use Rattle.commands.proofs.Common.{ClaimOnText, codes, collected_lists, converted, Converts, Counts, Drawable, Draws}
-use Rattle.commands.proofs.Common.{Event, false, filter, flat_map, HasText, HasVerdictText, HistoryText, HistoryView}
-use Rattle.commands.proofs.Common.{IfSome, IfSome_then, in_version_2, inl, input_of, inr, IsClaimOf, IsCompleteFrom}
-use Rattle.commands.proofs.Common.{IsCompleteHistory, IsDecided, IsDrawableOf, IsExact, IsFaultOfClaimInput}
-use Rattle.commands.proofs.Common.{IsFaultOfHistoryInput, IsHistoryOf, IsLinearizable, IsMerged, IsOfVerdict, IsSound}
-use Rattle.commands.proofs.Common.{judged, Judges, LEAST_INITIAL_NAME, length, List, memory_fault, No, None, One}
-use Rattle.commands.proofs.Common.{operations_of, Option, played, refl, rejections, Reply, said_by, said_in}
-use Rattle.commands.proofs.Common.{SameOrNoMemory, Setting, shown, ShrinksSound, Some, stress, subst, sym, take}
-use Rattle.commands.proofs.Common.{text_of, TextFault, true, Two, Verdict, verdict_text, Verifies, Version, with_claim}
-use Rattle.commands.proofs.Common.{Yes, ℕ, ⊎_map, ◌++◌, ◌+◌, ◌<◌, ◌∙◌, ◌∷◌, ◌≡◌, ◌≢◌, ◌≤◌, ◌⊎◌}
-use Rattle.std.proofs.Common.{AllPairs, cond, Contains, drop, get_or, if◌then◌else◌, IsTrue, leb-true, nat_eq, nat_le}
-use Rattle.std.proofs.Common.{suc, zero, ◌==◌, ◌↔◌, rules}
+use Rattle.commands.proofs.Common.{[], All, Bool, List, None, refl, Reply, shown, Some, subst, take, true, ⊎_map, ◌++◌}
+use Rattle.commands.proofs.Common.{Ahead, filter, IfSome, judged, said_by, said_in, Setting, text_of, Verdict, Version}
+use Rattle.commands.proofs.Common.{alone, arith, codes, Draws, Event, false, Judges, length, Option, played}
+use Rattle.commands.proofs.Common.{answer_of_text_fault, AnswersOrNoMemory, IsFaultOfClaimInput, IsFaultOfHistoryInput}
+use Rattle.commands.proofs.Common.{AnswersFor, claim_of, IfSome_then, IsHistoryOf, IsOfVerdict, rejections, with_claim}
+use Rattle.commands.proofs.Common.{AnswersOf, claim_on, converted, Converts, Drawable, IsClaimOf, IsDecided, TextFault}
+use Rattle.commands.proofs.Common.{ap, inl, inr, No, One, sym, Two, Yes, ◌+◌, ◌<◌, ◌∙◌, ◌∷◌, ◌≡◌, ◌≢◌, ◌≤◌, ◌⊎◌}
+use Rattle.commands.proofs.Common.{Attempt, Claimed, flat_map, HasText, input_of, IsExact, IsMerged, IsSound, Verifies}
+use Rattle.commands.proofs.Common.{ClaimOnText, collected_lists, HasVerdictText, IsCompleteHistory, LEAST_INITIAL_NAME}
+use Rattle.commands.proofs.Common.{Counts, in_version_2, IsCompleteFrom, IsLinearizable, operations_of, SameOrNoMemory}
+use Rattle.commands.proofs.Common.{HistoryText, HistoryView, IsDrawableOf, memory_fault, ShrinksSound, verdict_text, ℕ}
+use Rattle.std.proofs.Common.{Contains, drop, get_or, IsTrue, nat_eq}
+use Rattle.std.proofs.Common.{suc, zero, ◌↔◌, rules}
 use Rattle.std.proofs.lemmas.Bool.Decides.{nat_tests}
 use Rattle.clap.specs.Kinds.{HasKind, IsAmong, Kinds}
 use Rattle.clap.specs.Values.{kind_of}
@@ -32,7 +31,6 @@ use Rattle.event_records.specs.Question.{Question}
 use Rattle.event_records.specs.declared.kind.Answer.{Answer}
 use Rattle.event_records.specs.declared.kind.Kind.{Kind}
 use Rattle.event_records.specs.declared.limits.TheConstants.{MAX_EVENTS, MAX_INITIAL, MAX_STRESS_INITIAL, MAX_THREADS}
-use Rattle.history_merge.proofs.Timelines.{no_elements}
 use Rattle.history_merge.specs.declared.operation.Operation.{Operation}
 use Rattle.messages.specs.Messages.{IsMessage}
 use Rattle.messages.specs.Quoting.{IsPrintable}
@@ -50,10 +48,9 @@ use Rattle.std.proofs.lemmas.List.{take-append-drop, take_more}
 use Rattle.std.proofs.lemmas.List.Elements.{All-filter, All-from_recursion, All-push, recursion_from_All}
 use Rattle.std.proofs.lemmas.List.FromFn.{get_or-range_with_len, length-range_with_len}
 use Rattle.std.specs.Cmp.Lexicographic.{pointwise}
-use Rattle.std.specs.List.{AllByRecursion, list_all, range_with_len}
+use Rattle.std.specs.List.{AllByRecursion}
 use Rattle.stress_run.specs.Crew.{SizesView}
 use Rattle.stress_run.specs.Failed.{IsFaultOfRun}
-use Rattle.stress_run.specs.Faults.{IsWithinLimits}
 use Rattle.stress_run.specs.Operations.{IsRun}
 use Rattle.stress_run.specs.Preloaded.{AreTaken, IsFirstRefused}
 use Rattle.stress_run.specs.Recorded.{RecordedView}
@@ -322,13 +319,13 @@ by_validity false is = inr ((λ p. let no = is.1 p in cc), refl)
 same : {A : Type 0} {x y z : A} → x ≡ z → y ≡ z → x ≡ y
 same p q = p ∙ sym q
 
-few_of_version : (version : Version) (initial : List ℕ) → HaveValueLines version initial → length initial ≤ MAX_INITIAL
-few_of_version One initial none = rw none (omega arith)
-few_of_version Two initial have = have.few
+have_lines : (version : Version) (initial : List ℕ) → HaveValueLines version initial → HaveLines value_format initial
+have_lines One initial none = rw none (record { each = tt; few = omega arith })
+have_lines Two initial have = have
 
 -- a text has no more initial values than a history may have
 pub few_values : (text : HistoryText) → HasText text → length text.initial ≤ MAX_INITIAL
-few_values text has = few_of_version text.version text.initial has.initial
+few_values text has = (have_lines text.version text.initial has.initial).few
 
 -- ---- verdicts
 
@@ -633,10 +630,6 @@ conversion bytes to answers =
     let e : converted to ≡ converted (in_version_2 read.value) = read.answered.1 in
     (read.value, read.input_of, cc)
 
-have_lines : (version : Version) (initial : List ℕ) → HaveValueLines version initial → HaveLines value_format initial
-have_lines One initial none = rw none (record { each = tt; few = omega arith })
-have_lines Two initial have = have
-
 -- the conversion has a text, which says the same
 says_same : (bytes : List ℕ) (to text : HistoryText) → IsHistoryOf (input_of bytes) text → to ≡ in_version_2 text
     → IsHistoryOf (input_of (text_of to)) (in_version_2 text)
@@ -652,15 +645,13 @@ converted_is_same_history bytes text to read answers =
     let same : to ≡ in_version_2 text = is.2 ∙ ap in_version_2 (one_history.one_value (input_of bytes) is.0 text is.1 read) in
     (ap said_by same, ap (λ t. t.version) same, subst (IsHistoryOf (input_of (text_of to))) (sym is.2) (says_same bytes to is.0 is.1 is.2))
 
-in_its_version : (text : HistoryText) → text.version ≡ Two → in_version_2 text ≡ text
-in_its_version text two = λ i. record { version = sym two i; initial = text.initial; events = text.events }
-
 -- a text of version 2 comes out as it is
 pub converted_is_kept : ConvertedIsKept
 converted_is_kept bytes text to read two answers =
     let is = conversion bytes to answers in
     let one = one_history.one_value (input_of bytes) is.0 text is.1 read in
-    ap text_of (is.2 ∙ ap in_version_2 one ∙ in_its_version text two) ∙ sym read.1.bytes
+    let kept : in_version_2 text ≡ text = λ i. record { version = sym two i; initial = text.initial; events = text.events } in
+    ap text_of (is.2 ∙ ap in_version_2 one ∙ kept) ∙ sym read.1.bytes
 
 converted_alike : (P : HistoryText → Reply → Type 0)
     → ((text : HistoryText) (a b : Reply) → HasText text → P text a → P (in_version_2 text) b → a ≡ b) → (bytes : List ℕ) (to : HistoryText) (a b : Reply)

@@ -4,20 +4,16 @@ use Rattle.commands.proofs.OneAnswer.{few_events, from_nothing, merges_to_comple
 use Rattle.commands.proofs.sim.play.Goals as goal
 
 pub returns-in-Open-clause-found : goal.returns-in-Open-clause-found
-returns-in-Open-clause-found c =
-    let rejected = rw c.as_slice.ensures at c.in_ok-rejections.ensures.rejections in
-    let ended = rw (c.as_slice.ensures, c.in-Open.is) at c.in_ok-rejections.ensures.ending in
-    inl (inr (ended, ap left_open rejected))
+returns-in-Open-clause-found c = inl (inr (rw (c.as_slice.ensures, c.in-Open.is) at c.in_ok-rejections.ensures.ending,
+    ap left_open (rw c.as_slice.ensures at c.in_ok-rejections.ensures.rejections)))
 
 pub merged_from-requires-clause-complete : goal.merged_from-requires-clause-complete
-merged_from-requires-clause-complete c =
-    let ended = rw (c.as_slice.ensures, c.in-Done.is) at c.in_ok-rejections.ensures.ending in
-    λ merged is. from_nothing merged (merges_to_complete _ _ c.requires.few_threads _ ended merged is)
+merged_from-requires-clause-complete c = λ merged is. from_nothing merged (merges_to_complete _ _ c.requires.few_threads _
+    (rw (c.as_slice.ensures, c.in-Done.is) at c.in_ok-rejections.ensures.ending) merged is)
 
 pub merged_from-requires-clause-few : goal.merged_from-requires-clause-few
 merged_from-requires-clause-few c =
-    let ended = rw (c.as_slice.ensures, c.in-Done.is) at c.in_ok-rejections.ensures.ending in
-    few_events _ _ c.requires.few_threads _ ended
+    few_events _ _ c.requires.few_threads _ (rw (c.as_slice.ensures, c.in-Done.is) at c.in_ok-rejections.ensures.ending)
 
 pub returns-clause-found : goal.returns-clause-found
 returns-clause-found c =
