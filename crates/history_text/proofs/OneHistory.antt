@@ -56,10 +56,7 @@ module _ (n : ℕ) (ending : Ending) where
 
   values_then : (initial rest : List ℕ) → HaveLines value_format initial
       → after_header Two n ending (lines_of_initial initial ++ rest) ≡ events_in Two initial (n + 1 + length initial) ending rest
-  values_then initial rest right =
-      ap (after_header Two n ending) (append_assoc (line (spaced (count_fields (length initial)))) (lines_of value_format initial) rest)
-      ∙ count_then (length initial) (lines_of value_format initial ++ rest) right.few
-      ∙ then_ok _ _ _ (among_read value_format value_says (n + 1) ending initial rest right.each)
+  values_then initial rest right = grind (arith, append_assoc, count_then, then_ok, among_read, value_says)
 
   module _ (version : Version) (initial : List ℕ) where
     events_read : (events : List Event) (rest : List ℕ) → HasHistoryText events
@@ -77,16 +74,8 @@ module _ (n : ℕ) (ending : Ending) where
 text_read : (lines : ℕ) (ending : Ending) (version : Version) (initial : List ℕ) (events : List Event) (rest : List ℕ)
     → HaveValueLines version initial → HasHistoryText events
     → history_in lines ending (text_by version initial events ++ rest) ≡ said version initial events rest
-text_read lines ending One initial events rest none text =
-    ap (history_in lines ending) (append_assoc (line (header_of One)) (lines_to_end events) rest)
-    ∙ version_then One lines ending (lines_to_end events ++ rest) ∙ events_read (lines + 2) ending One [] events rest text
-    ∙ ap (λ (i : List ℕ). said One i events rest) (sym none)
-text_read lines ending Two initial events rest right text =
-    ap (history_in lines ending) (append_assoc (line (header_of Two) ++ lines_of_initial initial) (lines_to_end events) rest
-    ∙ append_assoc (line (header_of Two)) (lines_of_initial initial) (lines_to_end events ++ rest))
-    ∙ version_then Two lines ending (lines_of_initial initial ++ (lines_to_end events ++ rest))
-    ∙ values_then (lines + 2) ending initial (lines_to_end events ++ rest) right
-    ∙ events_read (lines + 2 + 1 + length initial) ending Two initial events rest text
+text_read lines ending One initial events rest none text = grind (arith, append_assoc, version_then, events_read)
+text_read lines ending Two initial events rest right text = grind (arith, append_assoc, version_then, values_then, events_read)
 
 -- ---- a first fault is found
 
@@ -94,12 +83,10 @@ later_found : (version : Version) (n : ℕ) (ending : Ending) (fault : TextFault
     → after_header version n ending bytes ≡ Err fault
 later_found One n ending fault bytes h = events_found n ending One [] fault bytes h
 later_found Two n ending fault bytes (inl (inl h)) = then_err _ _ _ h
-later_found Two n ending fault bytes (inl (inr (k, few, (rest, is, h)))) =
-    ap (after_header Two n ending) is ∙ count_then n ending k rest few
+later_found Two n ending fault bytes (inl (inr (k, few, (rest, is, h)))) = ap (after_header Two n ending) is ∙ count_then n ending k rest few
     ∙ then_err _ _ _ (among_found value_format value_says (n + 1) ending k fault rest h)
-later_found Two n ending fault bytes (inr (initial, right, (rest, is, h))) =
-    ap (after_header Two n ending) is ∙ values_then n ending initial rest right
-    ∙ events_found (n + 1 + length initial) ending Two initial fault rest h
+later_found Two n ending fault bytes (inr (initial, right, (rest, is, h))) = ap (after_header Two n ending) is
+    ∙ values_then n ending initial rest right ∙ events_found (n + 1 + length initial) ending Two initial fault rest h
 
 found : (lines : ℕ) (ending : Ending) (bytes : List ℕ) (fault : TextFault) → IsTextFault lines ending bytes fault
     → history_in lines ending bytes ≡ Err fault

@@ -48,12 +48,9 @@ read lines ending s rest text _ =
 found : (lines : ℕ) (ending : Ending) (bytes : List ℕ) (fault : TextFault) → IsScheduleTextFault lines ending bytes fault
     → schedule_in lines ending bytes ≡ Err fault
 found lines ending bytes fault (inl h) = grind (arith, then_err, no_header)
-found lines ending bytes fault (inr (inl (rest, is, h))) =
-    ap (schedule_in lines ending) is ∙ header_then lines ending rest
-    ∙ then_err _ _ _ h
-found lines ending bytes fault (inr (inr (threads, ring, within, (rest, is, h)))) =
-    ap (schedule_in lines ending) is ∙ setting_then lines threads ring ending rest within
-    ∙ then_err _ _ _ (fault_found step_format step_front (lines + 3) ending fault rest h)
+found lines ending bytes fault (inr (inl (rest, is, h))) = ap (schedule_in lines ending) is ∙ header_then lines ending rest ∙ then_err _ _ _ h
+found lines ending bytes fault (inr (inr (threads, ring, within, (rest, is, h)))) = ap (schedule_in lines ending) is
+    ∙ setting_then lines threads ring ending rest within ∙ then_err _ _ _ (fault_found step_format step_front (lines + 3) ending fault rest h)
 
 -- so an input is judged
 pub judged : IsJudged HasScheduleText schedule_text Anything IsScheduleTextFault schedule_in

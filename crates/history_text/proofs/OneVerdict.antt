@@ -63,13 +63,10 @@ lines_read : {A : Type 0} (format : Format A) → IsReadBack format → format.i
 lines_read format back uncounted make n xs text = grind (arith, then_ok, all_read)
 
 text_read : (lines : ℕ) (c : Claimed) → HasVerdictText c → verdict_in lines EndOfInput (verdict_text c ++ []) ≡ Ok (c, [])
-text_read lines (Yes xs) text =
-    ap (verdict_in lines EndOfInput) (append_assoc (line (first_line None)) (lines_of operation_format xs) [])
-    ∙ answer_then None lines EndOfInput (lines_of operation_format xs ++ []) ∙ lines_read operation_format operation_front refl Yes (lines + 2) xs text
-text_read lines (No kind xs) text =
-    ap (verdict_in lines EndOfInput) (append_assoc (line (first_line (Some kind))) (lines_of claim_line_format xs) [])
-    ∙ answer_then (Some kind) lines EndOfInput (lines_of claim_line_format xs ++ [])
-    ∙ lines_read claim_line_format claim_line_front refl (No kind) (lines + 2) xs text
+text_read lines (Yes xs) text = ap (verdict_in lines EndOfInput) (append_assoc (line (first_line None)) (lines_of operation_format xs) [])
+    ∙ answer_then None lines EndOfInput _ ∙ lines_read operation_format operation_front refl Yes (lines + 2) xs text
+text_read lines (No kind xs) text = ap (verdict_in lines EndOfInput) (append_assoc (line (first_line (Some kind))) (lines_of claim_line_format xs) [])
+    ∙ answer_then (Some kind) lines EndOfInput _ ∙ lines_read claim_line_format claim_line_front refl (No kind) (lines + 2) xs text
 
 read : (lines : ℕ) (ending : Ending) (c : Claimed) (rest : List ℕ) → HasVerdictText c → IsLast ending rest
     → verdict_in lines ending (verdict_text c ++ rest) ≡ Ok (c, rest)

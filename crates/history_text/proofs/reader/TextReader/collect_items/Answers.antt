@@ -1,8 +1,8 @@
-use Rattle.history_text.proofs.Common.{[], ◌++◌, ◌+◌, ◌∷◌, ◌≡◌, ℕ, arith, err_from_is_err_and, length, length-append}
+use Rattle.history_text.proofs.Common.{[], ◌++◌, ◌+◌, ◌∷◌, ◌≡◌, ℕ, arith, length, length-append}
 use Rattle.history_text.proofs.Common.{Option, Some, TakesItem, nat_tests}
 use Rattle.history_text.specs.Items.{Format}
 use Rattle.history_text.specs.Reading.{Input}
-use Rattle.history_text.proofs.FirstFaults.{item_is_first, HaveLines-push, no_room, on_ok, takes_item}
+use Rattle.history_text.proofs.FirstFaults.{carries, item_is_first, HaveLines-push, no_room, on_ok, takes_item}
 use Rattle.history_text.proofs.reader.TextReader.collect_items.Given.{Over}
 use Rattle.history_text.proofs.reader.TextReader.collect_items.Goals as goal
 use Rattle.history_text.proofs.reader.TextReader.collect_items.Goals.{After-add, in-Some, in-None-2+in_ok-item-in-None-2+in-Some-2}
@@ -24,10 +24,9 @@ next_is g c = grind (arith, in-Some, in-None-2+in_ok-item-in-None-2+in-Some-2, b
 
 pub returns-in_err-item-in-None-2-clause-fault : goal.returns-in_err-item-in-None-2-clause-fault
 returns-in_err-item-in-None-2-clause-fault g c =
-    let p = err_from_is_err_and c.from_residual.result c.from_residual.ensures.1 in
     let known = c.loop-item.invariant in
     let place : c.loop-item.self.lines + 1 ≡ c.args.self.now.lines + 1 + length known.items = omega (arith, known.lines, known.count) in
-    grind (arith, nat_tests, item_is_first)
+    grind (arith, nat_tests, carries, item_is_first)
 
 pub returns-then-is_err-clause-fault : goal.returns-then-is_err-clause-fault
 returns-then-is_err-clause-fault g c =

@@ -1,25 +1,20 @@
-use Rattle.history_text.proofs.Common.{◌+◌, arith, err_from_is_err_and, inl, inr, refl, Takes-append, ItemFault}
+use Rattle.history_text.proofs.Common.{◌+◌, arith, inl, inr, refl, Takes-append, ItemFault}
 use Rattle.history_text.proofs.Common.{IsScheduleTextFault, line, LineFault, lines_before_steps, NoRoom}
 use Rattle.history_text.proofs.Common.{NoRoomForSchedule, schedule_header, setting_in, step_format}
-use Rattle.history_text.proofs.FirstFaults.{later_fault, line_fault}
+use Rattle.history_text.proofs.FirstFaults.{carries, later_fault, line_fault}
 use Rattle.history_text.proofs.reader.TextReader.schedule.Goals as goal
 
 pub returns-in_err-threads-clause-fault : goal.returns-in_err-threads-clause-fault
-returns-in_err-threads-clause-fault g c =
-    let p = err_from_is_err_and c.from_residual-in_err-threads.result c.from_residual-in_err-threads.ensures.1 in
-    let lines = c.args.self.now.lines in
-    let failed = c.in_err-threads in
-    rw (p.1, p.2) (line_fault (λ n e r f. LineFault setting_in n e f r) (IsScheduleTextFault lines) NoRoomForSchedule (lines + 2) _ _ _
-    (line schedule_header) failed.field-0.0 (omega (arith, c.in_ok-header_line.ensures.lines)) failed.ensures.of_input c.in_ok-header_line.ensures.ok
-    (λ e r k. inr (inl (r, refl, k))) failed.ensures.fault)
+returns-in_err-threads-clause-fault g c = rw (carries c.from_residual-in_err-threads.result _ c.from_residual-in_err-threads.ensures.1)
+    (line_fault (λ n e r f. LineFault setting_in n e f r) (IsScheduleTextFault c.args.self.now.lines) NoRoomForSchedule (c.args.self.now.lines + 2)
+    _ _ _ (line schedule_header) _ (omega (arith, c.in_ok-header_line.ensures.lines)) c.in_err-threads.ensures.of_input c.in_ok-header_line.ensures.ok
+    (λ e r k. inr (inl (r, refl, k))) c.in_err-threads.ensures.fault)
 
 pub returns-in_err-items-clause-fault : goal.returns-in_err-items-clause-fault
-returns-in_err-items-clause-fault g c =
-    let p = err_from_is_err_and c.from_residual-in_err-items.result c.from_residual-in_err-items.ensures.1 in
-    let lines = c.args.self.now.lines in
-    let set = c.in_ok-threads in
-    rw (p.1, p.2) (later_fault (λ n e r f. ItemFault step_format n e f r) (IsScheduleTextFault lines) (NoRoom step_format) NoRoomForSchedule (lines + 3)
-    _ _ _ (lines_before_steps set.threads set.ring) c.in_err-items.field-0.0 (omega (arith, c.in_ok-header_line.ensures.lines, set.ensures.lines))
-    (Takes-append _ _ _ _ _ c.in_ok-header_line.ensures.ok set.ensures.ok.0)
+returns-in_err-items-clause-fault g c = rw (carries c.from_residual-in_err-items.result _ c.from_residual-in_err-items.ensures.1)
+    (let set = c.in_ok-threads in
+    later_fault (λ n e r f. ItemFault step_format n e f r) (IsScheduleTextFault c.args.self.now.lines) (NoRoom step_format) NoRoomForSchedule
+    (c.args.self.now.lines + 3) _ _ _ (lines_before_steps set.threads set.ring) _
+    (omega (arith, c.in_ok-header_line.ensures.lines, set.ensures.lines)) (Takes-append _ _ _ _ _ c.in_ok-header_line.ensures.ok set.ensures.ok.0)
     (λ e r f k. inr (inr (set.threads, set.ring, set.ensures.ok.1, (r, refl, k))))
     (λ r k. (set.threads, set.ring, set.ensures.ok.1, (r, refl, k))) c.in_err-items.ensures.fault)
