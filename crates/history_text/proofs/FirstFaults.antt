@@ -285,30 +285,17 @@ no_line long (Some a) fault h = grind (arith, h)
 
 -- ---- items
 
--- the end of the input is one where a last line is wanted
-pub nothing_is_cut : {A : Type 0} (is_counted : Bool) → is_counted ≡ true
-    → (let found : Result (Option A × List ℕ) TextFault = item_at_nothing is_counted EndOfInput in found ≡ Err Cut)
-nothing_is_cut is_counted is = grind arith
-
 -- items that aren't counted end where the input does
 pub items_end : (is_counted : Bool) (old new : Option Ahead) (k : ℕ) → is_counted ≡ false → Takes old new [] → IsOver EndOfInput new
     → TakesEnd is_counted old new k
 items_end true old new k is taken over = absurd (cc)
 items_end false old new k is taken over = (taken, over)
 
-end_is_taken : (is_counted : Bool) (old new : Option Ahead) (k : ℕ) → is_counted ≡ true → Takes old new (end_line k) → TakesEnd is_counted old new k
-end_is_taken true old new k is taken = taken
-end_is_taken false old new k is taken = absurd (cc)
-
-item_is_taken : {A : Type 0} (format : Format A) (k : ℕ) (old new : Option Ahead) (bytes : List ℕ) (item : Option A) → Takes old new (line bytes)
-    → IsItemLine format k bytes item → TakesItem format old new k item
-item_is_taken format k old new bytes (Some x) taken spelled = (subst (Takes old new) spelled.0 taken, spelled.1, spelled.2)
-item_is_taken format k old new bytes None taken spelled = end_is_taken format.is_counted old new k spelled.1 (subst (Takes old new) spelled.0 taken)
-
 -- what an item's line was judged to be is what was taken
 pub items_taken : {A : Type 0} (format : Format A) (k : ℕ) (old new : Option Ahead) (bytes : List ℕ) (r : Result (Option A) TextFault)
     → Takes old new (line bytes) → IfOk r (IsItemLine format k bytes) → IfOk r (TakesItem format old new k)
-items_taken format k old new bytes (Ok item) taken spelled = item_is_taken format k old new bytes item taken spelled
+items_taken format k old new bytes (Ok (Some x)) taken spelled = (subst (Takes old new) spelled.0 taken, spelled.1, spelled.2)
+items_taken format k old new bytes (Ok None) taken spelled = rw spelled.1 (subst (Takes old new) spelled.0 taken)
 items_taken format k old new bytes (Err fault) taken spelled = tt
 
 -- a line with a fault is that of the next item
@@ -425,19 +412,6 @@ no_room format items x (Some a) mid new right taken few range now =
 pub carries : {T E : Type 0} (r : Result T E) (fault : E) → IsErrAnd r (λ y. y ≡ fault) → r ≡ Err fault
 carries (Ok x) fault is = absurd is
 carries (Err y) fault is = cc
-
--- what holds on success holds if there was no error
-pub on_ok : {V E : Type 0} (r : Result V E) (P : Type 0) → false ≡ is_err r → OnOk r P → P
-on_ok (Ok v) P ok h = h
-on_ok (Err e) P ok h = cc
-
--- ---- verdicts: the first line, and what comes after it
-
--- a line that answers nothing is none
-pub other_line : (n m : ℕ) (old new : Option Ahead) (bytes : List ℕ) → m ≡ n → Takes old new (line bytes) → IsPartOfLine bytes → IsNoFirstLine bytes
-    → FaultAtFront (FirstLineFault n) old (Line m)
-other_line n m old new bytes same taken part other =
-    at_line (λ end front. FirstLineFault n end (Line m) front) old new bytes taken part (λ end rest. (other, ap Line same))
 
 -- ---- histories of either version: the first line
 

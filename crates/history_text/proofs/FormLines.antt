@@ -1,24 +1,25 @@
 -- Lines that are read by a table: what is written is read back, and what is read is spelled so.
-use Rattle.history_text.proofs.Common.{[], ClaimLine, FieldForm, fields_of, IsSetting, IsSpelled, nat_tests, number_of}
-use Rattle.history_text.proofs.Common.{a_value, all_digits, initial_of, is_initial, IsItemLine, MAX_THREAD, MAX_TICKET}
+use Rattle.history_text.proofs.Common.{[], ap, Ok, Op, ◌/◌, ◌<◌, ◌^◌, ◌∙◌, ◌∷◌, ◌≡◌, ◌≤◌}
+use Rattle.history_text.proofs.Common.{a_value, IsItemLine, MAX_THREAD, MAX_TICKET, numbers_in, parse_line, plain_step}
+use Rattle.history_text.proofs.Common.{all_digits, initial_of, is_initial, line, step_format, value_forms, what_fields}
 use Rattle.history_text.proofs.Common.{AllByRecursion, claim_line_in, field_is_clean, parse_line_says, spelled_is_line}
-use Rattle.history_text.proofs.Common.{and_right, count_format, event_format, HasClaimLine, initial_form, is_line_form}
-use Rattle.history_text.proofs.Common.{ap, Enq, Err, Ok, Op, sym, ◌<◌, ◌==◌, ◌^◌, ◌∙◌, ◌∷◌, ◌≡◌, ◌≤◌}
-use Rattle.history_text.proofs.Common.{AreOfForm, IsPartOfLine, numbers_back, operation_of, plain_saying, setting_form}
-use Rattle.history_text.proofs.Common.{arith, count_fields, item_at_front, line_at_front, setting_forms, valued_saying}
+use Rattle.history_text.proofs.Common.{and_right, count_fields, count_format, decimal_step, event_format, HasClaimLine}
+use Rattle.history_text.proofs.Common.{AreOfForm, initial_form, is_line_form, IsPartOfLine, numbers_back, operation_of}
+use Rattle.history_text.proofs.Common.{arith, codes, false, Number, OpKind, Result, rules, spaced, Table, whole, ◌>>=◌}
 use Rattle.history_text.proofs.Common.{begins_as_end, claim_line_fields, claim_line_format, join_with_byte-slice_split}
 use Rattle.history_text.proofs.Common.{bytes_eq, empty_operation, operation_format, take-append-drop, valued_operation}
-use Rattle.history_text.proofs.Common.{codes, Deq, false, length, nat_lt, Number, OpKind, Result, rules, spaced, Table}
+use Rattle.history_text.proofs.Common.{ClaimLine, plain_saying, setting_form, value_fields, value_format, valued_event}
 use Rattle.history_text.proofs.Common.{count_forms, HasValueInRange, IsAnswerInRange, number_is_field, operation_forms}
-use Rattle.history_text.proofs.Common.{count_in, draining, end_line, end_ok, end_read, Operation, step_with, TextFault}
-use Rattle.history_text.proofs.Common.{decimal, numbers_in, parse_line, plain_step, setting_in, setting_of, step_forms}
+use Rattle.history_text.proofs.Common.{count_in, Deq, IsSpelled, nat_tests, number_of, Operation, step_with, TextFault}
+use Rattle.history_text.proofs.Common.{decimal, Initial, IsLineOf, item_in, line_of, List, list_all, read_by, value_in}
+use Rattle.history_text.proofs.Common.{decimal_digit, greatest_value, initial_forms, setting_fields, setting_format, ℕ}
 use Rattle.history_text.proofs.Common.{decimal_nonempty, end_in, HasOperationLine, length-decimal-le, operation_fields}
-use Rattle.history_text.proofs.Common.{drop, line, List, None, refl, Some, Step, true, whole, Word, ◌&&◌, ◌++◌, ◌>>=◌}
-use Rattle.history_text.proofs.Common.{Ending, Format, Initial, item_in, line_of, read_by, spelled, step_in, step_of}
-use Rattle.history_text.proofs.Common.{event_forms, HasStepLine, kind_fields, value_fields, value_format, valued_event}
-use Rattle.history_text.proofs.Common.{event_in, event_of, front_of, has_bits, is_blank, IsLineOf, list_all, value_in}
-use Rattle.history_text.proofs.Common.{greatest_value, initial_forms, IsKindInRange, setting_fields, setting_format, ℕ}
-use Rattle.history_text.proofs.Common.{MAX_INITIAL, plain_event, step_fields, step_format, value_forms, what_fields}
+use Rattle.history_text.proofs.Common.{draining, end_line, end_read, event_in, event_of, front_of, has_bits, is_blank}
+use Rattle.history_text.proofs.Common.{drop, IsKindInRange, item_at_front, line_at_front, setting_forms, valued_saying}
+use Rattle.history_text.proofs.Common.{drop_more, FieldForm, fields_of, IsSetting, setting_in, setting_of, step_forms}
+use Rattle.history_text.proofs.Common.{end_ok, Ending, Format, get_or, length, nat_lt, None, spelled, step_in, step_of}
+use Rattle.history_text.proofs.Common.{Enq, Err, refl, Some, Step, sym, true, Word, ◌%◌, ◌&&◌, ◌*◌, ◌++◌, ◌+◌, ◌==◌}
+use Rattle.history_text.proofs.Common.{event_forms, HasStepLine, kind_fields, MAX_INITIAL, plain_event, step_fields}
 use Rattle.text_lines.proofs.Fields.{has_field}
 use Rattle.event_records.specs.declared.event.What.{What}
 use Rattle.event_records.specs.declared.event.What.TheVariants.{CallDeq, CallEnq, RetDeq, RetEmpty, RetEnq, RetNot}
@@ -149,13 +150,10 @@ read_faulty table make n fields fault said = rw (← said) refl
 
 -- ---- the lines of initial values and of their count
 
-no_blank : (b : ℕ) (bytes : List ℕ) → is_blank (fields_of (b ∷ bytes)) ≡ false
-no_blank b bytes = grind (arith, nat_tests, has_field bytes)
-
 -- a line is blank if it has no byte
 pub blank_line : (bytes : List ℕ) → is_blank (fields_of bytes) ≡ (length bytes == 0)
 blank_line [] = refl
-blank_line (b ∷ bytes) = let some : (length (b ∷ bytes) == 0) ≡ false = grind (arith, nat_tests) in rw (no_blank b bytes, some) refl
+blank_line (b ∷ bytes) = grind (arith, nat_tests, has_field bytes)
 
 -- the field of a value is spelled as it is written
 pub value_spells : Spells value_format value_forms number_of
@@ -321,3 +319,41 @@ pub setting_says : (threads ring : ℕ) → IsSetting threads ring → Says sett
 setting_says threads ring within = line_read setting_in (setting_fields threads ring) (threads, ring)
     (row_back setting_forms setting_of tt setting_form (threads ∷ ring ∷ []) refl refl (λ n. refl)
     (within.some_threads, within.few_threads, (within.some_room, within.little_room, tt)))
+
+-- ---- the thread in the line of an event, which has one or two digits
+
+-- what a byte is above the digit 0, if it isn't below
+abbrev pub above_zero : ℕ → ℕ
+above_zero byte = (byte + 208) % 256
+
+-- the byte at a place, and what comes after it
+byte_then : (bytes : List ℕ) (at byte next : ℕ) → at < length bytes → get_or bytes at 0 ≡ byte → next ≡ at + 1
+    → drop at bytes ≡ byte ∷ drop next bytes
+byte_then bytes at byte next within is next_is = rw (drop_more bytes at 0 within, is, next_is) refl
+
+module _ (bytes : List ℕ) (at : ℕ) (fits : (place : ℕ) → get_or bytes place 0 < 256) where
+  abbrev digit_at : ℕ → ℕ
+  digit_at place = above_zero (get_or bytes place 0)
+
+  -- the byte of a digit
+  back : (place : ℕ) → digit_at place < 10 → get_or bytes place 0 ≡ 48 + digit_at place
+  back place digit = omega (arith, fits place, digit)
+
+  pub one_digit : at + 2 ≤ length bytes → get_or bytes (at + 1) 0 ≡ 32 → digit_at at < 10
+      → drop at bytes ≡ decimal (digit_at at) ++ 32 ∷ drop (at + 2) bytes
+  one_digit long space digit =
+      let first = byte_then bytes at _ (at + 1) (omega arith) (back at digit) refl in
+      let last = byte_then bytes (at + 1) 32 (at + 2) (omega arith) space (omega arith) in
+      rw (first, last, decimal_digit (digit_at at) digit) refl
+
+  pub two_digits : at + 3 ≤ length bytes → get_or bytes (at + 2) 0 ≡ 32 → 1 ≤ digit_at at → digit_at at < 10
+      → digit_at (at + 1) < 10 → drop at bytes ≡ decimal (digit_at at * 10 + digit_at (at + 1)) ++ 32 ∷ drop (at + 3) bytes
+  two_digits long space some ten one =
+      let number = digit_at at * 10 + digit_at (at + 1) in
+      let tens : number / 10 ≡ digit_at at = omega (arith, one) in
+      let ones : number % 10 ≡ digit_at (at + 1) = omega (arith, one) in
+      let first = byte_then bytes at _ (at + 1) (omega arith) (back at ten) refl in
+      let second = byte_then bytes (at + 1) _ (at + 2) (omega arith) (back (at + 1) one) (omega arith) in
+      let last = byte_then bytes (at + 2) 32 (at + 3) (omega arith) space (omega arith) in
+      let step = decimal_step number (omega (arith, some)) (omega (arith, ten, one)) in
+      rw (first, second, last, step, tens, ones, decimal_digit (digit_at at) ten) refl

@@ -9,8 +9,7 @@ use Rattle.text_lines.specs.Lines.{TooLong}
 use Rattle.verdicts.specs.declared.verifying.ViolationKind.TheVariants.{VFresh, VRepeat, VOrd, VWit}
 use Rattle.verdicts.specs.declared.verifying.Claimed.{Claimed}
 use Rattle.verdicts.specs.declared.verifying.Claimed.TheVariants.{Yes, No}
-use Rattle.history_text.proofs.FormLines.{IsReadBack}
-use Rattle.history_text.proofs.FormLines.{operation_front, claim_line_front}
+use Rattle.history_text.proofs.FormLines.{claim_line_front, IsReadBack, operation_front}
 use Rattle.history_text.proofs.FirstFaults as judging
 use Rattle.history_text.proofs.FirstFaults.{then_ok, then_err, first_at, first_read, none_with, items_in, all_read, fault_found, IsJudged, Stands}
 

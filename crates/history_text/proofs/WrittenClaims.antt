@@ -1,11 +1,14 @@
--- A complete history has a text, and the claim of a verdict on a history that has a text has one.
-use Rattle.history_text.proofs.Common.{[], ◌≡◌, ◌≤◌, All, length, List, refl, ℕ, Event, greatest_value, HasEventLine}
-use Rattle.history_text.proofs.Common.{HasHistoryText, HasText, HasValueInRange, MAX_EVENTS, MAX_INITIAL, One, Two}
-use Rattle.history_text.proofs.Common.{Version, ◌∷◌, AllByRecursion, arith, Contains, filter_map}
-use Rattle.history_text.proofs.Common.{length-map, map, None, Option, option_map, slice_get, Some, subst, claim_of}
-use Rattle.history_text.proofs.Common.{ClaimLine, Deq, HasClaimLine, HasOperationLine, HasVerdictText, HaveValueLines}
-use Rattle.history_text.proofs.Common.{HistoryText, Initial, IsKindInRange, line_at, MAX_CLAIM_LINES, Op, Operation}
-use Rattle.history_text.proofs.Common.{OpKind, verdict_places, violation_places, sym}
+-- A complete history has a text, and the claim of a verdict on a history that has a text has one. The lines at some places.
+use Rattle.history_text.proofs.Common.{[], All, AllByRecursion, ap, append-nil, ap₂, arith, Asked, Bool, claim_line}
+use Rattle.history_text.proofs.Common.{claim_of, ClaimLine, cons_option, Contains, Deq, Event, filter_map, flat_map}
+use Rattle.history_text.proofs.Common.{flat_map-append, greatest_value, HasClaimLine, HasEventLine, HasHistoryText}
+use Rattle.history_text.proofs.Common.{HasOperationLine, HasText, HasValueInRange, HasVerdictText, HaveValueLines}
+use Rattle.history_text.proofs.Common.{HistoryText, Initial, IsErrAnd, IsKindInRange, length, length-map, line_at}
+use Rattle.history_text.proofs.Common.{line_text, List, map, MAX_CLAIM_LINES, MAX_EVENTS, MAX_INITIAL, maybe_place}
+use Rattle.history_text.proofs.Common.{None, One, Op, Operation, operation_line, OpKind, Option, option_map}
+use Rattle.history_text.proofs.Common.{option_to_list, puts_then, PutsText, refl, Result, slice_get, Some}
+use Rattle.history_text.proofs.Common.{stops_before, subst, sym, TakesFront, TakesSome, Two, verdict_places, Version}
+use Rattle.history_text.proofs.Common.{violation_places, ℕ, ◌++◌, ◌∙◌, ◌∷◌, ◌≡◌, ◌≤◌}
 use Rattle.std.proofs.lemmas.List.Elements.{recursion_from_All, All-contains, All-from_recursion}
 use Rattle.history_merge.specs.Complete.{IsCompleteHistory}
 use Rattle.history_merge.specs.declared.operation.OpKind.TheVariants.{Empty}
@@ -17,6 +20,7 @@ use Rattle.verdicts.specs.declared.verdict.Verdict.{Verdict}
 use Rattle.verdicts.specs.declared.verdict.Verdict.TheVariants as found
 use Rattle.verdicts.specs.declared.shown.LinePlace.{LinePlace}
 use Rattle.verdicts.specs.declared.shown.LinePlace.TheVariants as place
+use Rattle.std.proofs.Common.{MatchOption}
 
 -- a complete history has a text
 pub complete_has_text : (events : List Event) → IsCompleteHistory events → All (λ e. HasValueInRange e.what) events → length events ≤ MAX_EVENTS
@@ -97,3 +101,54 @@ values_of Two initial right = right.each
 pub claim_has_text : (text : HistoryText) (verdict : Verdict) → HasText text → length (verdict_places verdict) ≤ MAX_CLAIM_LINES
     → HasVerdictText (claim_of text.initial (operations_of text.events) verdict)
 claim_has_text text verdict has few = claim_by_parts text.initial text.events (values_of text.version text.initial has.initial) has.events verdict few
+
+-- ---- the lines at some places, as they are written
+
+module _ {S : Type 0} (contents : S → Option (List ℕ)) (has_refused : S → Bool) (transition : S → Asked → S → Type 0) where
+  -- the lines of the first places went out in part
+  pub first_stops : {P T E : Type 0} (f : P → List ℕ) (Q : E → Type 0) (r : Result T E) (xs ys : List P) (kept rest : List ℕ) (a b : S) → IsErrAnd r Q
+      → TakesFront contents has_refused transition (kept ++ flat_map f xs) a b
+      → PutsText contents has_refused transition kept rest (flat_map f (xs ++ ys)) a b r
+  first_stops f Q r xs ys kept rest a b is h =
+      subst (λ (t : List ℕ). PutsText contents has_refused transition kept rest t a b r) (sym (flat_map-append f xs ys))
+      (stops_before contents has_refused transition Q r kept rest (flat_map f xs) (flat_map f ys) a b is h)
+
+  -- the lines of the first places are put, and then those of the others
+  pub others_then : {P T E : Type 0} (f : P → List ℕ) (r : Result T E) (xs ys : List P) (kept mid rest : List ℕ) (a b c : S)
+      → TakesSome contents has_refused transition kept mid (flat_map f xs) a b → PutsText contents has_refused transition mid rest (flat_map f ys) b c r
+      → PutsText contents has_refused transition kept rest (flat_map f (xs ++ ys)) a c r
+  others_then f r xs ys kept mid rest a b c h k =
+      subst (λ (t : List ℕ). PutsText contents has_refused transition kept rest t a c r) (sym (flat_map-append f xs ys))
+      (puts_then contents has_refused transition r kept mid rest (flat_map f xs) (flat_map f ys) a b c h k)
+
+-- the lines for each of a list are those of all its places
+pub lines_for_each : {X P : Type 0} (f : P → List ℕ) (g : X → List P) (xs : List X) → flat_map (λ x. flat_map f (g x)) xs ≡ flat_map f (flat_map g xs)
+lines_for_each f g [] = refl
+lines_for_each f g (x ∷ xs) = ap (λ (r : List ℕ). flat_map f (g x) ++ r) (lines_for_each f g xs) ∙ sym (flat_map-append f (g x) (flat_map g xs))
+
+-- the line of an operation that may be missing
+pub last_text : (f : LinePlace → List ℕ) (last : Option ℕ) (places : List ℕ) → MatchOption last (places ≡ []) (λ p. places ≡ p ∷ [])
+    → flat_map (λ p. f (place.Op p)) places ≡ flat_map f (maybe_place last)
+last_text f None places is = rw is refl
+last_text f (Some p) places is = rw is refl
+
+one_more : {X : Type 0} (text : X → List ℕ) (here : Option X) (rest : List X) → flat_map text (cons_option here rest)
+    ≡ flat_map text (option_to_list here) ++ flat_map text rest
+one_more text None rest = refl
+one_more text (Some x) rest = ap (λ (r : List ℕ). r ++ flat_map text rest) (sym (append-nil (text x)))
+
+-- the lines of what stands at some places are those at the places, one after another
+pub text_at_places : {X P : Type 0} (text : X → List ℕ) (at : P → Option X) (places : List P)
+    → flat_map text (filter_map at places) ≡ flat_map (λ p. flat_map text (option_to_list (at p))) places
+text_at_places text at [] = refl
+text_at_places text at (p ∷ places) = grind (arith, one_more, text_at_places text at places)
+
+operation_or_none : (here : Option Operation) → flat_map operation_line (option_to_list here) ≡ flat_map claim_line (option_to_list (option_map Op here))
+operation_or_none here = grind arith
+
+-- the lines of the operations of a `YES`
+pub order_is : (initial : List ℕ) (operations : List Operation) (places : List ℕ) → flat_map operation_line (filter_map (slice_get operations) places)
+    ≡ flat_map (λ p. line_text initial operations (place.Op p)) places
+order_is initial operations [] = refl
+order_is initial operations (p ∷ places) = one_more operation_line (slice_get operations p) _
+    ∙ ap₂ (λ (x y : List ℕ). x ++ y) (operation_or_none (slice_get operations p)) (order_is initial operations places)

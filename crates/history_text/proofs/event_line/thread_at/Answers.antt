@@ -1,5 +1,5 @@
 use Rattle.history_text.proofs.Common.{arith}
-use Rattle.history_text.proofs.Threads.{one_digit, two_digits}
+use Rattle.history_text.proofs.FormLines.{one_digit, two_digits}
 use Rattle.history_text.proofs.event_line.thread_at.Goals as goal
 
 pub returns-then-first-lt10-clause-thread : goal.returns-then-first-lt10-clause-thread

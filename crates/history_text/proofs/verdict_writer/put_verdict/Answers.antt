@@ -1,5 +1,5 @@
 use Rattle.history_text.proofs.Common.{◌≡◌, codes, refl, line, puts_after, arith}
-use Rattle.history_text.proofs.Named.{order_is, text_at_places}
+use Rattle.history_text.proofs.WrittenClaims.{order_is, text_at_places}
 use Rattle.history_text.proofs.verdict_writer.put_verdict.Goals as goal
 
 pub returns-in-Yes : goal.returns-in-Yes

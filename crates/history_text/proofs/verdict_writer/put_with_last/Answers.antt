@@ -1,5 +1,5 @@
 use Rattle.history_text.proofs.Common.{line_text, maybe_place, PutsText, subst}
-use Rattle.history_text.proofs.Named.{first_stops, last_text, others_then}
+use Rattle.history_text.proofs.WrittenClaims.{first_stops, last_text, others_then}
 use Rattle.history_text.proofs.verdict_writer.put_with_last.Goals as goal
 
 pub returns-in_err-put_each : goal.returns-in_err-put_each

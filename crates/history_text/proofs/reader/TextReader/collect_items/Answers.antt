@@ -2,7 +2,7 @@ use Rattle.history_text.proofs.Common.{[], ◌++◌, ◌+◌, ◌∷◌, ◌≡�
 use Rattle.history_text.proofs.Common.{Option, Some, TakesItem, nat_tests}
 use Rattle.history_text.specs.Items.{Format}
 use Rattle.history_text.specs.Reading.{Input}
-use Rattle.history_text.proofs.FirstFaults.{carries, item_is_first, HaveLines-push, no_room, on_ok, takes_item}
+use Rattle.history_text.proofs.FirstFaults.{carries, item_is_first, HaveLines-push, no_room, takes_item}
 use Rattle.history_text.proofs.reader.TextReader.collect_items.Given.{Over}
 use Rattle.history_text.proofs.reader.TextReader.collect_items.Goals as goal
 use Rattle.history_text.proofs.reader.TextReader.collect_items.Goals.{After-add, in-Some, in-None-2+in_ok-item-in-None-2+in-Some-2}
@@ -43,7 +43,7 @@ loop-item-preserved g c =
       items = known.items ++ c.match-item_in_buffer.item ∷ [];
       right = HaveLines-push g.T.Item.format known.items c.match-item_in_buffer.item known.right next.taken.1 (omega (arith, known.count, next.taken.2));
       taken = takes_item g.T.Item.format known.items c.match-item_in_buffer.item _ _ _ known.taken next.taken.0;
-      held = grind (arith, on_ok);
+      held = grind arith;
       count = simp length-append (omega (arith, known.count));
       lines = omega (arith, next.lines, known.lines);
     }

@@ -1,5 +1,5 @@
 use Rattle.history_text.proofs.Common.{◌+◌, ◌∙◌, ◌≡◌, ap, Input, arith}
-use Rattle.history_text.proofs.FirstFaults.{at_nothing, items_end, items_taken, items_faulty, nothing_is_cut}
+use Rattle.history_text.proofs.FirstFaults.{at_nothing, items_end, items_taken, items_faulty}
 use Rattle.history_text.proofs.reader.TextReader.item_by_line.Goals as goal
 
 pub returns-in-Some-clause-ok : goal.returns-in-Some-clause-ok
@@ -13,7 +13,7 @@ returns-in-Some-clause-fault g c =
     (rw c.as_slice.ensures at c.item_in.ensures.value))
 
 pub returns-then-is_counted-clause-fault : goal.returns-then-is_counted-clause-fault
-returns-then-is_counted-clause-fault g c = grind (arith, at_nothing, nothing_is_cut)
+returns-then-is_counted-clause-fault g c = grind (arith, at_nothing)
 
 pub returns-clause-ok : goal.returns-clause-ok
 returns-clause-ok g c = grind (arith, items_end)
