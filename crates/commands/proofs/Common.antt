@@ -5,8 +5,9 @@ pub use Rattle.command_words.specs.Commands.{stress}
 pub use Rattle.command_words.specs.Options.{settings_of}
 pub use Rattle.commands.specs.Answers.{answer_of_text_fault, converted, judged, memory_fault, played, Reply, shown}
 pub use Rattle.commands.specs.Evidence.{input_of, SameOrNoMemory}
-pub use Rattle.commands.specs.Inputs.{alone, claim_on, ClaimOnText, Drawable, IsClaimOf, IsHistoryOf, with_claim}
-pub use Rattle.commands.specs.Inputs.{IsDrawableOf, IsFaultOfClaimInput, IsFaultOfDrawableInput, IsFaultOfHistoryInput}
+pub use Rattle.commands.specs.Inputs.{alone, claim_on, ClaimOnText, Drawable, IsClaimOf, IsDrawableOf}
+pub use Rattle.commands.specs.Inputs.{IsFaultOfClaimInput, IsFaultOfDrawableInput, IsFaultOfHistoryInput, IsHistoryOf}
+pub use Rattle.commands.specs.Inputs.{with_claim}
 pub use Rattle.commands.specs.Judging.{AnswersFor, AnswersOrNoMemory, Converts, Counts, Draws, in_version_2}
 pub use Rattle.commands.specs.Judging.{IsOfVerdict, IsSound, Judges, said_by, ShrinksSound, Verifies}
 pub use Rattle.commands.specs.Outcomes.{answer_of}
@@ -28,9 +29,9 @@ pub use Rattle.recorder_core.specs.Laws.{collected_lists}
 pub use Rattle.recorder_core.specs.Schedule.{Attempt}
 pub use Rattle.recorder_core.specs.Setting.{Setting}
 pub use Rattle.simulation.specs.Simulations.{rejections}
-pub use Rattle.std.proofs.Common.{[], ◌++◌, ◌+◌, ◌<◌, ◌∙◌, ◌∷◌, ◌≡◌, ◌≢◌, ◌≤◌, ◌⊎◌, All, ap, arith, Bool, codes, false}
-pub use Rattle.std.proofs.Common.{filter, flat_map, IfSome, inl, inr, length, List, None, Option, refl, Some, subst}
-pub use Rattle.std.proofs.Common.{sym, take, true, ℕ}
+pub use Rattle.std.proofs.Common.{[], All, ap, arith, Bool, codes, false, filter, flat_map, IfSome, inl, inr, length}
+pub use Rattle.std.proofs.Common.{List, None, Option, refl, Some, subst, sym, take, true, ℕ, ◌++◌, ◌+◌, ◌<◌, ◌∙◌, ◌∷◌}
+pub use Rattle.std.proofs.Common.{◌≡◌, ◌≢◌, ◌≤◌, ◌⊎◌}
 pub use Rattle.std.proofs.Math.Logic.{⊎_map}
 pub use Rattle.std.proofs.lemmas.Option.{IfSome_then}
 pub use Rattle.text_lines.proofs.Putting.{asked_if_err, asked_if_ok, bytes_if_err, bytes_if_ok, longer_front}

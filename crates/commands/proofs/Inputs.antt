@@ -1,11 +1,11 @@
 -- From what calls on the reader gave to what the input is, or to its fault. An input says one thing, or has one fault.
 use Rattle.commands.proofs.Common.{[], Ahead, alone, answer_of_text_fault, AnswersFor, AnswersOrNoMemory, ap, claim_on}
-use Rattle.commands.proofs.Common.{Claimed, ClaimOnText, Drawable, HasText, HasVerdictText}
-use Rattle.commands.proofs.Common.{HistoryText, IfSome, IfSome_then, inl, input_of, inr, IsClaimOf, IsDrawableOf}
-use Rattle.commands.proofs.Common.{IsFaultOfClaimInput, IsFaultOfDrawableInput, IsFaultOfHistoryInput, IsHistoryOf}
-use Rattle.commands.proofs.Common.{IsTextFault, List, memory_fault, None, NoRoomForSchedule}
-use Rattle.commands.proofs.Common.{NoRoomForText, Option, refl, Reply, SameOrNoMemory, Some, subst, sym}
-use Rattle.commands.proofs.Common.{text_of, TextFault, verdict_text, with_claim, ℕ, ◌++◌, ◌∙◌, ◌≡◌, ◌≢◌, ◌⊎◌}
+use Rattle.commands.proofs.Common.{Claimed, ClaimOnText, Drawable, HasText, HasVerdictText, HistoryText, IfSome}
+use Rattle.commands.proofs.Common.{IfSome_then, inl, input_of, inr, IsClaimOf, IsDrawableOf, IsFaultOfClaimInput}
+use Rattle.commands.proofs.Common.{IsFaultOfDrawableInput, IsFaultOfHistoryInput, IsHistoryOf, IsTextFault, List}
+use Rattle.commands.proofs.Common.{memory_fault, None, NoRoomForSchedule, NoRoomForText, Option, refl, Reply}
+use Rattle.commands.proofs.Common.{SameOrNoMemory, Some, subst, sym, text_of, TextFault, verdict_text, with_claim, ℕ}
+use Rattle.commands.proofs.Common.{◌++◌, ◌∙◌, ◌≡◌, ◌≢◌, ◌⊎◌}
 use Rattle.commands.specs.Inputs.{AfterText, IsFaultBehind, IsFaultOfEnd, IsFaultOfOneText, IsFaultOfScheduleInput}
 use Rattle.commands.specs.Inputs.{IsFaultOfTexts, IsScheduleOf, IsWhole}
 use Rattle.history_text.specs.Claims.{IsVerdictTextFault, NoRoomForVerdict}

@@ -1,18 +1,18 @@
 -- What is answered of a history that was read, what of that is written, and what is answered of what is written. Out
 -- of memory aside an input has one answer.
-use Rattle.commands.proofs.Common.{[], All, Bool, List, None, refl, Reply, shown, Some, subst, take, true, ⊎_map, ◌++◌}
-use Rattle.commands.proofs.Common.{Ahead, filter, IfSome, judged, said_by, said_in, Setting, text_of, Verdict, Version}
-use Rattle.commands.proofs.Common.{alone, arith, codes, Draws, Event, false, Judges, length, Option, played}
-use Rattle.commands.proofs.Common.{answer_of_text_fault, AnswersOrNoMemory, IsFaultOfClaimInput, IsFaultOfHistoryInput}
-use Rattle.commands.proofs.Common.{AnswersFor, claim_of, IfSome_then, IsHistoryOf, IsOfVerdict, rejections, with_claim}
-use Rattle.commands.proofs.Common.{AnswersOf, claim_on, converted, Converts, Drawable, IsClaimOf, IsDecided, TextFault}
-use Rattle.commands.proofs.Common.{ap, inl, inr, No, One, sym, Two, Yes, ◌+◌, ◌<◌, ◌∙◌, ◌∷◌, ◌≡◌, ◌≢◌, ◌≤◌, ◌⊎◌}
-use Rattle.commands.proofs.Common.{Attempt, Claimed, flat_map, HasText, input_of, IsExact, IsMerged, IsSound, Verifies}
-use Rattle.commands.proofs.Common.{ClaimOnText, collected_lists, HasVerdictText, IsCompleteHistory, LEAST_INITIAL_NAME}
-use Rattle.commands.proofs.Common.{Counts, in_version_2, IsCompleteFrom, IsLinearizable, operations_of, SameOrNoMemory}
-use Rattle.commands.proofs.Common.{HistoryText, HistoryView, IsDrawableOf, memory_fault, ShrinksSound, verdict_text, ℕ}
-use Rattle.std.proofs.Common.{Contains, drop, get_or, IsTrue, nat_eq}
-use Rattle.std.proofs.Common.{suc, zero, ◌↔◌, rules}
+use Rattle.commands.proofs.Common.{[], Ahead, All, alone, answer_of_text_fault, AnswersFor, AnswersOf}
+use Rattle.commands.proofs.Common.{AnswersOrNoMemory, ap, arith, Attempt, Bool, claim_of, claim_on, Claimed}
+use Rattle.commands.proofs.Common.{ClaimOnText, codes, collected_lists, converted, Converts, Counts, Drawable, Draws}
+use Rattle.commands.proofs.Common.{Event, false, filter, flat_map, HasText, HasVerdictText, HistoryText, HistoryView}
+use Rattle.commands.proofs.Common.{IfSome, IfSome_then, in_version_2, inl, input_of, inr, IsClaimOf, IsCompleteFrom}
+use Rattle.commands.proofs.Common.{IsCompleteHistory, IsDecided, IsDrawableOf, IsExact, IsFaultOfClaimInput}
+use Rattle.commands.proofs.Common.{IsFaultOfHistoryInput, IsHistoryOf, IsLinearizable, IsMerged, IsOfVerdict, IsSound}
+use Rattle.commands.proofs.Common.{judged, Judges, LEAST_INITIAL_NAME, length, List, memory_fault, No, None, One}
+use Rattle.commands.proofs.Common.{operations_of, Option, played, refl, rejections, Reply, said_by, said_in}
+use Rattle.commands.proofs.Common.{SameOrNoMemory, Setting, shown, ShrinksSound, Some, subst, sym, take, text_of}
+use Rattle.commands.proofs.Common.{TextFault, true, Two, Verdict, verdict_text, Verifies, Version, with_claim, Yes, ℕ}
+use Rattle.commands.proofs.Common.{⊎_map, ◌++◌, ◌+◌, ◌<◌, ◌∙◌, ◌∷◌, ◌≡◌, ◌≢◌, ◌≤◌, ◌⊎◌}
+use Rattle.std.proofs.Common.{Contains, drop, get_or, IsTrue, nat_eq, rules, suc, zero, ◌↔◌}
 use Rattle.std.proofs.lemmas.Bool.Decides.{nat_tests}
 use Rattle.clap.specs.Kinds.{HasKind, IsAmong, Kinds}
 use Rattle.clap.specs.Values.{kind_of}
@@ -545,18 +545,18 @@ shown_is_written input small claimed shrinks =
     elim found.answered.1 [
       | inl linear ↦ let other = linear.1.is in absurd (cc)
       | inr part ↦
-        let is = part.1 in
-        let said = said_in found.value.version is.small in
-        let e : shown small claimed ≡ shown said (claim_of is.small.initial (operations_of is.small.events) is.answered.verdict) = is.answered.is in
-        let smalls : said ≡ small = cc in
-        subst (λ t. IsWritten t claimed) smalls (record {
-          complete = is.small_is_complete;
-          history = record {
-            initial = rw is.initial.1 (values_have_lines found.value.version is.initial.0 found.value.initial found.input_of.0.initial);
-            events = rw is.events.1 (part_has_text is.events.0 found.value.events found.input_of.0.events);
-          };
-          right = record { verdict = is.answered.verdict; decided = is.answered.decided; is = cc };
-        })
+          let is = part.1 in
+          let said = said_in found.value.version is.small in
+          let e : shown small claimed ≡ shown said (claim_of is.small.initial (operations_of is.small.events) is.answered.verdict) = is.answered.is in
+          let smalls : said ≡ small = cc in
+          subst (λ t. IsWritten t claimed) smalls (record {
+            complete = is.small_is_complete;
+            history = record {
+              initial = rw is.initial.1 (values_have_lines found.value.version is.initial.0 found.value.initial found.input_of.0.initial);
+              events = rw is.events.1 (part_has_text is.events.0 found.value.events found.input_of.0.events);
+            };
+            right = record { verdict = is.answered.verdict; decided = is.answered.decided; is = cc };
+          })
     ]
 
 -- ---- the two texts, read

@@ -1,8 +1,8 @@
 -- What is taken from the buffer of a reader.
-use Rattle.history_text.proofs.Common.{[], ◌++◌, ◌+◌, ◌-◌, ◌<◌, ◌∙◌, ◌∷◌, ◌≡◌, ◌≤◌, ap, append_assoc, arith, drop}
-use Rattle.history_text.proofs.Common.{drop-drop, IfSome, length, length-append, length-drop, length-take-le}
-use Rattle.history_text.proofs.Common.{List, nat_lt, nat_tests, None, Option, refl, Some, take, take_all}
-use Rattle.history_text.proofs.Common.{ℕ, Ahead, EndOfInput, HasMore, IsOver, Takes, with_front, common_steps}
+use Rattle.history_text.proofs.Common.{[], Ahead, ap, append_assoc, arith, common_steps, drop, drop-drop, EndOfInput}
+use Rattle.history_text.proofs.Common.{HasMore, IfSome, IsOver, length, length-append, length-drop, length-take-le}
+use Rattle.history_text.proofs.Common.{List, nat_lt, nat_tests, None, Option, refl, Some, take, take_all, Takes}
+use Rattle.history_text.proofs.Common.{with_front, ℕ, ◌++◌, ◌+◌, ◌-◌, ◌<◌, ◌∙◌, ◌∷◌, ◌≡◌, ◌≤◌}
 use Rattle.std.proofs.Common.{not, suc, take-add, zero}
 use Rattle.std.proofs.Math.Seq.{take-append-add}
 use Rattle.std.proofs.lemmas.List.Edits.{take-paste}

@@ -1,10 +1,11 @@
 -- The names that most proofs of this crate cite, passed on from one place. Declares nothing.
-pub use Rattle.std.proofs.Common.{[], ◌%◌, ◌&&◌, ◌*◌, ◌++◌, ◌+◌, ◌-◌, ◌/◌, ◌<◌, ◌==◌, ◌^◌, ◌∙◌, ◌∷◌, ◌≡◌, ◌≤◌, All, ap}
-pub use Rattle.std.proofs.Common.{append-nil, append_assoc, ap₂, arith, Bool, bytes_eq, codes, cond, Contains, decimal}
-pub use Rattle.std.proofs.Common.{drop, drop-drop, Err, false, filter_map, flat_map, get_or, IfErr, IfOk, IfSome, inl}
-pub use Rattle.std.proofs.Common.{inr, is_err, IsErrAnd, length, length-append, length-drop, length-take-le, List, map}
-pub use Rattle.std.proofs.Common.{MatchResult, nat_eq, nat_lt, None, Ok, OnOk, Option, option_map, option_to_list}
-pub use Rattle.std.proofs.Common.{refl, rules, slice_get, Some, subst, sym, take, take-append-drop, take_all, true, ℕ}
+pub use Rattle.std.proofs.Common.{[], All, ap, append-nil, append_assoc, ap₂, arith, Bool, bytes_eq, codes, cond}
+pub use Rattle.std.proofs.Common.{Contains, decimal, drop, drop-drop, Err, false, filter_map, flat_map, get_or, IfErr}
+pub use Rattle.std.proofs.Common.{IfOk, IfSome, inl, inr, is_err, IsErrAnd, length, length-append, length-drop}
+pub use Rattle.std.proofs.Common.{length-take-le, List, map, MatchResult, nat_eq, nat_lt, None, Ok, OnOk, Option}
+pub use Rattle.std.proofs.Common.{option_map, option_to_list, refl, rules, slice_get, Some, subst, sym, take}
+pub use Rattle.std.proofs.Common.{take-append-drop, take_all, true, ℕ, ◌%◌, ◌&&◌, ◌*◌, ◌++◌, ◌+◌, ◌-◌, ◌/◌, ◌<◌, ◌==◌}
+pub use Rattle.std.proofs.Common.{◌^◌, ◌∙◌, ◌∷◌, ◌≡◌, ◌≤◌}
 pub use Rattle.std.proofs.lemmas.Bool.Decides.{nat_tests}
 pub use Rattle.std.proofs.lemmas.Fmt.{decimal_digit, decimal_nonempty, decimal_step, length-decimal-le}
 pub use Rattle.std.proofs.lemmas.Grind.{common_steps, flat_map-append}
@@ -20,9 +21,9 @@ pub use Rattle.event_records.specs.declared.limits.TheConstants.{MAX_TICKET}
 pub use Rattle.text_lines.specs.Forms.{AreOfForm, FieldForm, Number, numbers_in, parse_line, spelled, Table, Word}
 pub use Rattle.text_lines.specs.Inner.Lines.{IsPartOfLine}
 pub use Rattle.text_lines.specs.Input.{Ahead, Ending, EndOfInput, Failure, IsOver, Takes}
-pub use Rattle.text_lines.specs.Lines.{◌>>=◌, begins_as_end, end_in, end_line, end_word, fields_of, Front, front_of}
+pub use Rattle.text_lines.specs.Lines.{begins_as_end, end_in, end_line, end_word, fields_of, Front, front_of}
 pub use Rattle.text_lines.specs.Lines.{greatest_value, header_fault, is_line_feed, line, longest_line, Nothing, spaced}
-pub use Rattle.text_lines.specs.Lines.{Unfinished, Whole}
+pub use Rattle.text_lines.specs.Lines.{Unfinished, Whole, ◌>>=◌}
 pub use Rattle.text_lines.specs.Writing.{Asked, PutsText, TakesFront, TakesSome}
 pub use Rattle.text_lines.specs.declared.fault.TextFault.{TextFault}
 pub use Rattle.text_lines.specs.declared.fault.TextFault.TheVariants.{Cut, Header, Line, Memory, Read}
@@ -49,8 +50,8 @@ pub use Rattle.history_text.specs.Claims.{operation_of, valued_operation}
 pub use Rattle.history_text.specs.Histories.{event_format, event_forms, event_in, event_line, event_of, HasEventLine}
 pub use Rattle.history_text.specs.Histories.{HasHistoryText, HasValueInRange, lines_to_end, plain_event, valued_event}
 pub use Rattle.history_text.specs.Histories.{what_fields}
-pub use Rattle.history_text.specs.Inner.Taking.{HasItemsFault, IsItemLine, IsOfInput, IsSpelled, TakesEnd, TakesItem}
-pub use Rattle.history_text.specs.Inner.Taking.{count_format, setting_format}
+pub use Rattle.history_text.specs.Inner.Taking.{count_format, HasItemsFault, IsItemLine, IsOfInput, IsSpelled}
+pub use Rattle.history_text.specs.Inner.Taking.{setting_format, TakesEnd, TakesItem}
 pub use Rattle.history_text.specs.Inner.Verdicts.{line_text, lines_text}
 pub use Rattle.history_text.specs.Items.{a_value, FaultAmong, Format, HaveLines, item_at_front, item_at_nothing}
 pub use Rattle.history_text.specs.Items.{item_in, ItemFault, line_at_front, line_of, LineFault, lines_of, NoRoom}
@@ -67,7 +68,7 @@ pub use Rattle.history_text.specs.Verdicts.{verdict_places, verdict_text, violat
 pub use Rattle.history_text.specs.Versions.{count_before_events, count_fields, count_forms, count_in, FaultAfterHeader}
 pub use Rattle.history_text.specs.Versions.{HasText, HaveValueLines, header_of, HistoryText, is_blank, IsReadAs}
 pub use Rattle.history_text.specs.Versions.{IsTextFault, lines_before_events, lines_of_initial, NoRoomForText}
-pub use Rattle.history_text.specs.Versions.{NoVersionFault, number_of, text_of, value_fields, value_format}
-pub use Rattle.history_text.specs.Versions.{value_forms, value_in, text_by}
+pub use Rattle.history_text.specs.Versions.{NoVersionFault, number_of, text_by, text_of, value_fields, value_format}
+pub use Rattle.history_text.specs.Versions.{value_forms, value_in}
 pub use Rattle.history_text.specs.declared.version.Version.{Version}
 pub use Rattle.history_text.specs.declared.version.Version.TheVariants.{One, Two}

@@ -1,18 +1,19 @@
 -- From a fault of one line to the first fault of the whole input, and what is read of a text that stands at its front.
-use Rattle.history_text.proofs.Common.{[], ap, Ok, sym, Two, ℕ, ◌+◌, ◌<◌, ◌∙◌, ◌∷◌, ◌≡◌, ◌≤◌}
-use Rattle.history_text.proofs.Common.{Ahead, bytes_eq, end_line, ItemFault, nat_tests, TakesItem, TextFault}
-use Rattle.history_text.proofs.Common.{AllByRecursion, FirstLineFault, front_too_long, HaveValueLines, item_at_nothing}
-use Rattle.history_text.proofs.Common.{append-nil, before_end, BeginsWith, IfOk, IsTextFault, MatchResult, NoRoomAmong}
-use Rattle.history_text.proofs.Common.{append_assoc, event_format, Failure, HasTextFault, line_at_front, NoRoomForText}
-use Rattle.history_text.proofs.Common.{arith, false, Front, IfErr, Option, Result, spaced, subst, Takes, Whole, whole}
-use Rattle.history_text.proofs.Common.{before, false_from_ne_true, flat_map-append, front_unfinished, lines_of_initial}
-use Rattle.history_text.proofs.Common.{Bool, HasFirstFault, HasItemsFault, IsNoFirstLine, item_at_front, length-append}
-use Rattle.history_text.proofs.Common.{count_before_events, fields_of, join_with_byte-slice_split, lines_before_events}
-use Rattle.history_text.proofs.Common.{Cut, Err, inl, inr, line, List, None, One, OnOk, refl, Some, true, ◌++◌, ◌>>=◌}
-use Rattle.history_text.proofs.Common.{Ending, Format, Header, IfSome, is_err, IsOver, length, Memory, nat_lt, NoRoom}
-use Rattle.history_text.proofs.Common.{EndOfInput, FaultAmong, header_of, IsItemLine, IsOfInput, IsSpelled, Unfinished}
-use Rattle.history_text.proofs.Common.{front_of, item_in, Line, line_of, lines_of, Nothing, TakesEnd, text_is, Version}
-use Rattle.history_text.proofs.Common.{HaveLines, header_fault, is_line_feed, IsPartOfLine, longest_line, Takes-append}
+use Rattle.history_text.proofs.Common.{[], Ahead, AllByRecursion, ap, append-nil, append_assoc, arith, before}
+use Rattle.history_text.proofs.Common.{before_end, BeginsWith, Bool, bytes_eq, count_before_events, Cut, end_line}
+use Rattle.history_text.proofs.Common.{Ending, EndOfInput, Err, event_format, Failure, false, false_from_ne_true}
+use Rattle.history_text.proofs.Common.{FaultAmong, fields_of, FirstLineFault, flat_map-append, Format, Front, front_of}
+use Rattle.history_text.proofs.Common.{front_too_long, front_unfinished, HasFirstFault, HasItemsFault, HasTextFault}
+use Rattle.history_text.proofs.Common.{HaveLines, HaveValueLines, Header, header_fault, header_of, IfErr, IfOk, IfSome}
+use Rattle.history_text.proofs.Common.{inl, inr, is_err, is_line_feed, IsItemLine, IsNoFirstLine, IsOfInput, IsOver}
+use Rattle.history_text.proofs.Common.{IsPartOfLine, IsSpelled, IsTextFault, item_at_front, item_at_nothing, item_in}
+use Rattle.history_text.proofs.Common.{ItemFault, join_with_byte-slice_split, length, length-append, Line, line}
+use Rattle.history_text.proofs.Common.{line_at_front, line_of, lines_before_events, lines_of, lines_of_initial, List}
+use Rattle.history_text.proofs.Common.{longest_line, MatchResult, Memory, nat_lt, nat_tests, None, NoRoom, NoRoomAmong}
+use Rattle.history_text.proofs.Common.{NoRoomForText, Nothing, Ok, One, OnOk, Option, refl, Result, Some, spaced}
+use Rattle.history_text.proofs.Common.{subst, sym, Takes, Takes-append, TakesEnd, TakesItem, text_is, TextFault, true}
+use Rattle.history_text.proofs.Common.{Two, Unfinished, Version, Whole, whole, ℕ, ◌++◌, ◌+◌, ◌<◌, ◌>>=◌, ◌∙◌, ◌∷◌, ◌≡◌}
+use Rattle.history_text.proofs.Common.{◌≤◌}
 use Rattle.std.proofs.Common.{if◌then◌else◌, IsErrAnd, suc, zero, ◌^◌}
 use Rattle.std.proofs.lemmas.List.Elements.{All-from_recursion, All-push, recursion_from_All}
 use Rattle.text_lines.specs.Inner.Lines.{has_no_line_feed}

@@ -1,25 +1,27 @@
 -- Lines that are read by a table: what is written is read back, and what is read is spelled so.
-use Rattle.history_text.proofs.Common.{[], ap, Ok, Op, ◌/◌, ◌<◌, ◌^◌, ◌∙◌, ◌∷◌, ◌≡◌, ◌≤◌}
-use Rattle.history_text.proofs.Common.{a_value, IsItemLine, MAX_THREAD, MAX_TICKET, numbers_in, parse_line, plain_step}
-use Rattle.history_text.proofs.Common.{all_digits, initial_of, is_initial, line, step_format, value_forms, what_fields}
-use Rattle.history_text.proofs.Common.{AllByRecursion, claim_line_in, field_is_clean, parse_line_says, spelled_is_line}
-use Rattle.history_text.proofs.Common.{and_right, count_fields, count_format, decimal_step, event_format, HasClaimLine}
-use Rattle.history_text.proofs.Common.{AreOfForm, initial_form, is_line_form, IsPartOfLine, numbers_back, operation_of}
-use Rattle.history_text.proofs.Common.{arith, codes, false, Number, OpKind, Result, rules, spaced, Table, whole, ◌>>=◌}
-use Rattle.history_text.proofs.Common.{begins_as_end, claim_line_fields, claim_line_format, join_with_byte-slice_split}
-use Rattle.history_text.proofs.Common.{bytes_eq, empty_operation, operation_format, take-append-drop, valued_operation}
-use Rattle.history_text.proofs.Common.{ClaimLine, plain_saying, setting_form, value_fields, value_format, valued_event}
-use Rattle.history_text.proofs.Common.{count_forms, HasValueInRange, IsAnswerInRange, number_is_field, operation_forms}
-use Rattle.history_text.proofs.Common.{count_in, Deq, IsSpelled, nat_tests, number_of, Operation, step_with, TextFault}
-use Rattle.history_text.proofs.Common.{decimal, Initial, IsLineOf, item_in, line_of, List, list_all, read_by, value_in}
-use Rattle.history_text.proofs.Common.{decimal_digit, greatest_value, initial_forms, setting_fields, setting_format, ℕ}
-use Rattle.history_text.proofs.Common.{decimal_nonempty, end_in, HasOperationLine, length-decimal-le, operation_fields}
-use Rattle.history_text.proofs.Common.{draining, end_line, end_read, event_in, event_of, front_of, has_bits, is_blank}
-use Rattle.history_text.proofs.Common.{drop, IsKindInRange, item_at_front, line_at_front, setting_forms, valued_saying}
-use Rattle.history_text.proofs.Common.{drop_more, FieldForm, fields_of, IsSetting, setting_in, setting_of, step_forms}
-use Rattle.history_text.proofs.Common.{end_ok, Ending, Format, get_or, length, nat_lt, None, spelled, step_in, step_of}
-use Rattle.history_text.proofs.Common.{Enq, Err, refl, Some, Step, sym, true, Word, ◌%◌, ◌&&◌, ◌*◌, ◌++◌, ◌+◌, ◌==◌}
-use Rattle.history_text.proofs.Common.{event_forms, HasStepLine, kind_fields, MAX_INITIAL, plain_event, step_fields}
+use Rattle.history_text.proofs.Common.{[], a_value, all_digits, AllByRecursion, and_right, ap, AreOfForm, arith}
+use Rattle.history_text.proofs.Common.{begins_as_end, bytes_eq, claim_line_fields, claim_line_format, claim_line_in}
+use Rattle.history_text.proofs.Common.{ClaimLine, codes, count_fields, count_format, count_forms, count_in, decimal}
+use Rattle.history_text.proofs.Common.{decimal_digit, decimal_nonempty, decimal_step, Deq, draining, drop, drop_more}
+use Rattle.history_text.proofs.Common.{empty_operation, end_in, end_line, end_ok, end_read, Ending, Enq, Err}
+use Rattle.history_text.proofs.Common.{event_format, event_forms, event_in, event_of, false, field_is_clean, FieldForm}
+use Rattle.history_text.proofs.Common.{fields_of, Format, front_of, get_or, greatest_value, has_bits, HasClaimLine}
+use Rattle.history_text.proofs.Common.{HasOperationLine, HasStepLine, HasValueInRange, Initial, initial_form}
+use Rattle.history_text.proofs.Common.{initial_forms, initial_of, is_blank, is_initial, is_line_form, IsAnswerInRange}
+use Rattle.history_text.proofs.Common.{IsItemLine, IsKindInRange, IsLineOf, IsPartOfLine, IsSetting, IsSpelled}
+use Rattle.history_text.proofs.Common.{item_at_front, item_in, join_with_byte-slice_split, kind_fields, length}
+use Rattle.history_text.proofs.Common.{length-decimal-le, line, line_at_front, line_of, List, list_all, MAX_INITIAL}
+use Rattle.history_text.proofs.Common.{MAX_THREAD, MAX_TICKET, nat_lt, nat_tests, None, Number, number_is_field}
+use Rattle.history_text.proofs.Common.{number_of, numbers_back, numbers_in, Ok, Op, Operation, operation_fields}
+use Rattle.history_text.proofs.Common.{operation_format, operation_forms, operation_of, OpKind, parse_line}
+use Rattle.history_text.proofs.Common.{parse_line_says, plain_event, plain_saying, plain_step, read_by, refl, Result}
+use Rattle.history_text.proofs.Common.{rules, setting_fields, setting_form, setting_format, setting_forms, setting_in}
+use Rattle.history_text.proofs.Common.{setting_of, Some, spaced, spelled, spelled_is_line, Step, step_fields}
+use Rattle.history_text.proofs.Common.{step_format, step_forms, step_in, step_of, step_with, sym, Table}
+use Rattle.history_text.proofs.Common.{take-append-drop, TextFault, true, value_fields, value_format, value_forms}
+use Rattle.history_text.proofs.Common.{value_in, valued_event, valued_operation, valued_saying, what_fields, whole}
+use Rattle.history_text.proofs.Common.{Word, ℕ, ◌%◌, ◌&&◌, ◌*◌, ◌++◌, ◌+◌, ◌/◌, ◌<◌, ◌==◌, ◌>>=◌, ◌^◌, ◌∙◌, ◌∷◌, ◌≡◌}
+use Rattle.history_text.proofs.Common.{◌≤◌}
 use Rattle.text_lines.proofs.Fields.{has_field}
 use Rattle.event_records.specs.declared.event.What.{What}
 use Rattle.event_records.specs.declared.event.What.TheVariants.{CallDeq, CallEnq, RetDeq, RetEmpty, RetEnq, RetNot}

@@ -1,9 +1,9 @@
 -- Two texts of schedules at the front of one input are one, and an input has one first fault.
-use Rattle.history_text.proofs.Common.{◌∙◌, ap, IsSetting, [], ◌++◌, ◌+◌, ◌∷◌, ◌≡◌, append_assoc, arith, Err, inl, inr}
-use Rattle.history_text.proofs.Common.{List, Ok, refl, Result, Some, ℕ, ◌>>=◌, Ending}
-use Rattle.history_text.proofs.Common.{Front, front_of, HasScheduleText, Header, header_fault, IsScheduleTextFault}
-use Rattle.history_text.proofs.Common.{line, line_at_front, lines_before_steps, schedule_header, nat_tests}
-use Rattle.history_text.proofs.Common.{schedule_text, setting_in, step_format, TextFault}
+use Rattle.history_text.proofs.Common.{[], ap, append_assoc, arith, Ending, Err, Front, front_of, HasScheduleText}
+use Rattle.history_text.proofs.Common.{Header, header_fault, inl, inr, IsScheduleTextFault, IsSetting, line}
+use Rattle.history_text.proofs.Common.{line_at_front, lines_before_steps, List, nat_tests, Ok, refl, Result}
+use Rattle.history_text.proofs.Common.{schedule_header, schedule_text, setting_in, Some, step_format, TextFault, ℕ}
+use Rattle.history_text.proofs.Common.{◌++◌, ◌+◌, ◌>>=◌, ◌∙◌, ◌∷◌, ◌≡◌}
 use Rattle.history_text.specs.declared.schedule.Schedule.{Schedule}
 use Rattle.history_text.proofs.FormLines.{step_front, setting_says}
 use Rattle.history_text.proofs.FirstFaults.{then_ok, then_err, first_at, first_read, items_in, counted_read, fault_found, IsJudged, Anything}

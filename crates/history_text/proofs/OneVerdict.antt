@@ -1,10 +1,10 @@
 -- Two claims whose texts are one input are one, and an input has one first fault.
-use Rattle.history_text.proofs.Common.{HaveLines, false, Format, ◌∙◌, IsAll, Ahead, [], ◌++◌, ◌+◌, ◌∷◌, ◌≡◌, ap}
-use Rattle.history_text.proofs.Common.{append-nil, append_assoc, arith, codes, Err, inl, inr, List, None, Ok, Option}
-use Rattle.history_text.proofs.Common.{refl, Result, Some, subst, sym, ℕ, ◌>>=◌, claim_line_format, ClaimFault, Ending}
-use Rattle.history_text.proofs.Common.{EndOfInput, first_line, FirstLineFault, Front, front_of, HasVerdictText}
-use Rattle.history_text.proofs.Common.{IsVerdictTextFault, Line, line, lines_of, Nothing, operation_format, TextFault}
-use Rattle.history_text.proofs.Common.{Unfinished, verdict_text, ViolationKind, Whole}
+use Rattle.history_text.proofs.Common.{[], Ahead, ap, append-nil, append_assoc, arith, claim_line_format, ClaimFault}
+use Rattle.history_text.proofs.Common.{codes, Ending, EndOfInput, Err, false, first_line, FirstLineFault, Format}
+use Rattle.history_text.proofs.Common.{Front, front_of, HasVerdictText, HaveLines, inl, inr, IsAll, IsVerdictTextFault}
+use Rattle.history_text.proofs.Common.{Line, line, lines_of, List, None, Nothing, Ok, operation_format, Option, refl}
+use Rattle.history_text.proofs.Common.{Result, Some, subst, sym, TextFault, Unfinished, verdict_text, ViolationKind}
+use Rattle.history_text.proofs.Common.{Whole, ℕ, ◌++◌, ◌+◌, ◌>>=◌, ◌∙◌, ◌∷◌, ◌≡◌}
 use Rattle.text_lines.specs.Lines.{TooLong}
 use Rattle.verdicts.specs.declared.verifying.ViolationKind.TheVariants.{VFresh, VRepeat, VOrd, VWit}
 use Rattle.verdicts.specs.declared.verifying.Claimed.{Claimed}

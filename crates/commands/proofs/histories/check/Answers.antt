@@ -1,5 +1,5 @@
-use Rattle.commands.proofs.Common.{carries, inl, inr, IsFaultOfHistoryInput, IsHistoryOf, IsOfVerdict}
-use Rattle.commands.proofs.Common.{judged, Judges, refl, said_by}
+use Rattle.commands.proofs.Common.{carries, inl, inr, IsFaultOfHistoryInput, IsHistoryOf, IsOfVerdict, judged, Judges}
+use Rattle.commands.proofs.Common.{refl, said_by}
 use Rattle.commands.proofs.OneAnswer.{faults_answered, of_value}
 use Rattle.commands.proofs.histories.check.Goals as goal
 

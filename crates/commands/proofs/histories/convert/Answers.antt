@@ -1,5 +1,5 @@
-use Rattle.commands.proofs.Common.{◌≡◌, converted, Converts, carries, in_version_2, inl, inr}
-use Rattle.commands.proofs.Common.{IsFaultOfHistoryInput, IsHistoryOf, refl}
+use Rattle.commands.proofs.Common.{carries, converted, Converts, in_version_2, inl, inr, IsFaultOfHistoryInput}
+use Rattle.commands.proofs.Common.{IsHistoryOf, refl, ◌≡◌}
 use Rattle.commands.proofs.OneAnswer.{faults_answered, of_value}
 use Rattle.commands.proofs.histories.convert.Goals as goal
 

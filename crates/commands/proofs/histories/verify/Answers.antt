@@ -1,5 +1,5 @@
-use Rattle.commands.proofs.Common.{answer_of, AnswersOrNoMemory, claim_on, carries, IsClaimOf}
-use Rattle.commands.proofs.Common.{IsFaultOfClaimInput, subst, Verifies}
+use Rattle.commands.proofs.Common.{answer_of, AnswersOrNoMemory, carries, claim_on, IsClaimOf, IsFaultOfClaimInput}
+use Rattle.commands.proofs.Common.{subst, Verifies}
 use Rattle.commands.proofs.OneAnswer.{faulty_or, of_value}
 use Rattle.commands.proofs.histories.verify.Goals as goal
 

@@ -4,8 +4,9 @@ use Rattle.commands.proofs.OneAnswer.{few_events, from_nothing, merges_to_comple
 use Rattle.commands.proofs.sim.play.Goals as goal
 
 pub returns-in-Open-clause-found : goal.returns-in-Open-clause-found
-returns-in-Open-clause-found c = inl (inr (rw (c.as_slice.ensures, c.in-Open.is) at c.in_ok-rejections.ensures.ending,
-    ap left_open (rw c.as_slice.ensures at c.in_ok-rejections.ensures.rejections)))
+returns-in-Open-clause-found c =
+    let ended = rw (c.as_slice.ensures, c.in-Open.is) at c.in_ok-rejections.ensures.ending in
+    inl (inr (ended, ap left_open (rw c.as_slice.ensures at c.in_ok-rejections.ensures.rejections)))
 
 pub merged_from-requires-clause-complete : goal.merged_from-requires-clause-complete
 merged_from-requires-clause-complete c = λ merged is. from_nothing merged (merges_to_complete _ _ c.requires.few_threads _

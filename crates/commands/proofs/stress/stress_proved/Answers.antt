@@ -1,5 +1,5 @@
-use Rattle.commands.proofs.Common.{◌∙◌, arith, carries, inl, IsLinearizable, List, operations_of}
-use Rattle.commands.proofs.Common.{settings_of, subst, ℕ}
+use Rattle.commands.proofs.Common.{arith, carries, inl, IsLinearizable, List, operations_of, settings_of, subst, ℕ}
+use Rattle.commands.proofs.Common.{◌∙◌}
 use Rattle.commands.proofs.OneAnswer.{failed_run, recorded_run}
 use Rattle.commands.proofs.stress.stress_proved.Goals as goal
 

@@ -1,5 +1,5 @@
-use Rattle.commands.proofs.Common.{carries, inl, input_of, inr, IsFaultOfHistoryInput, IsHistoryOf}
-use Rattle.commands.proofs.Common.{IsOfVerdict, judged, Judges, refl, said_by, Some}
+use Rattle.commands.proofs.Common.{carries, inl, input_of, inr, IsFaultOfHistoryInput, IsHistoryOf, IsOfVerdict}
+use Rattle.commands.proofs.Common.{judged, Judges, refl, said_by, Some}
 use Rattle.commands.proofs.OneAnswer.{faults_answered, of_value}
 use Rattle.commands.proofs.texts.check_text.Goals as goal
 

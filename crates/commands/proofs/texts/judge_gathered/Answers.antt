@@ -1,5 +1,5 @@
-use Rattle.commands.proofs.Common.{◌≡◌, claim_of, carries, inl, inr, IsOfVerdict, IsSound, judged}
-use Rattle.commands.proofs.Common.{operations_of, refl, subst}
+use Rattle.commands.proofs.Common.{carries, claim_of, inl, inr, IsOfVerdict, IsSound, judged, operations_of, refl}
+use Rattle.commands.proofs.Common.{subst, ◌≡◌}
 use Rattle.commands.proofs.OneAnswer.{fault_found, faulty_or}
 use Rattle.commands.proofs.texts.judge_gathered.Goals as goal
 

@@ -1,6 +1,6 @@
-use Rattle.history_text.proofs.Common.{ℕ, List, ◌++◌, ◌+◌, append_assoc, arith, inl, inr, refl}
-use Rattle.history_text.proofs.Common.{Takes-append, count_fields, count_in, FaultAmong, header_of, IsTextFault, line}
-use Rattle.history_text.proofs.Common.{LineFault, NoRoomAmong, NoRoomForText, spaced, Two, value_format}
+use Rattle.history_text.proofs.Common.{append_assoc, arith, count_fields, count_in, FaultAmong, header_of, inl, inr}
+use Rattle.history_text.proofs.Common.{IsTextFault, line, LineFault, List, NoRoomAmong, NoRoomForText, refl, spaced}
+use Rattle.history_text.proofs.Common.{Takes-append, Two, value_format, ℕ, ◌++◌, ◌+◌}
 use Rattle.history_text.proofs.FirstFaults.{carries, later_fault, line_fault}
 use Rattle.history_text.proofs.reader.TextReader.before_events.Goals as goal
 

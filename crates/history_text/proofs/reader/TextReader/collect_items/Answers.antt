@@ -1,5 +1,5 @@
-use Rattle.history_text.proofs.Common.{[], ◌++◌, ◌+◌, ◌∷◌, ◌≡◌, ℕ, arith, length, length-append}
-use Rattle.history_text.proofs.Common.{Option, Some, TakesItem, nat_tests}
+use Rattle.history_text.proofs.Common.{[], arith, length, length-append, nat_tests, Option, Some, TakesItem, ℕ, ◌++◌}
+use Rattle.history_text.proofs.Common.{◌+◌, ◌∷◌, ◌≡◌}
 use Rattle.history_text.specs.Items.{Format}
 use Rattle.history_text.specs.Reading.{Input}
 use Rattle.history_text.proofs.FirstFaults.{carries, item_is_first, HaveLines-push, no_room, takes_item}

@@ -1,6 +1,5 @@
-use Rattle.history_text.proofs.Common.{◌+◌, arith, inr, None, refl, Some, claim_line_format}
-use Rattle.history_text.proofs.Common.{first_line, IsVerdictTextFault, ItemFault, line, NoRoom, NoRoomForVerdict}
-use Rattle.history_text.proofs.Common.{operation_format}
+use Rattle.history_text.proofs.Common.{arith, claim_line_format, first_line, inr, IsVerdictTextFault, ItemFault, line}
+use Rattle.history_text.proofs.Common.{None, NoRoom, NoRoomForVerdict, operation_format, refl, Some, ◌+◌}
 use Rattle.history_text.proofs.FirstFaults.{carries, later_fault}
 use Rattle.history_text.proofs.reader.TextReader.lines_of_claim.Goals as goal
 

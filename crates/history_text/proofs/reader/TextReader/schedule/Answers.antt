@@ -1,6 +1,6 @@
-use Rattle.history_text.proofs.Common.{◌+◌, arith, inl, inr, refl, Takes-append, ItemFault}
-use Rattle.history_text.proofs.Common.{IsScheduleTextFault, line, LineFault, lines_before_steps, NoRoom}
-use Rattle.history_text.proofs.Common.{NoRoomForSchedule, schedule_header, setting_in, step_format}
+use Rattle.history_text.proofs.Common.{arith, inl, inr, IsScheduleTextFault, ItemFault, line, LineFault}
+use Rattle.history_text.proofs.Common.{lines_before_steps, NoRoom, NoRoomForSchedule, refl, schedule_header}
+use Rattle.history_text.proofs.Common.{setting_in, step_format, Takes-append, ◌+◌}
 use Rattle.history_text.proofs.FirstFaults.{carries, later_fault, line_fault}
 use Rattle.history_text.proofs.reader.TextReader.schedule.Goals as goal
 
