@@ -1,13 +1,12 @@
 -- What is taken from the buffer of a reader.
 use Rattle.history_text.proofs.Common.{[], Ahead, ap, append_assoc, arith, common_steps, drop, drop-drop, EndOfInput}
-use Rattle.history_text.proofs.Common.{HasMore, IfSome, IsOver, length, length-append, length-drop, length-take-le}
-use Rattle.history_text.proofs.Common.{List, nat_lt, nat_tests, None, Option, refl, Some, take, take_all, Takes}
-use Rattle.history_text.proofs.Common.{with_front, ℕ, ◌++◌, ◌+◌, ◌-◌, ◌<◌, ◌∙◌, ◌∷◌, ◌≡◌, ◌≤◌}
-use Rattle.std.proofs.Common.{not, suc, take-add, zero}
+use Rattle.history_text.proofs.Common.{HasMore, IfSome, IsOver, IsOverIf, length, length-append, length-drop}
+use Rattle.history_text.proofs.Common.{length-take-le, List, nat_lt, nat_tests, None, not, Option, refl, Some, suc}
+use Rattle.history_text.proofs.Common.{take, take-add, take_all, Takes, with_front, zero, ℕ, ◌++◌, ◌+◌, ◌-◌, ◌<◌, ◌∙◌}
+use Rattle.history_text.proofs.Common.{◌∷◌, ◌≡◌, ◌≤◌}
 use Rattle.std.proofs.Math.Seq.{take-append-add}
 use Rattle.std.proofs.lemmas.List.Edits.{take-paste}
 use lib.Seq.{paste}
-use Rattle.history_text.specs.Reading.{IsOverIf}
 
 -- the bytes of a buffer from one place to another
 abbrev pub part : List ℕ → ℕ → ℕ → List ℕ

@@ -1,11 +1,11 @@
 -- The names that most proofs of this crate cite, passed on from one place. Declares nothing.
 pub use Rattle.std.proofs.Common.{[], All, ap, append-nil, append_assoc, ap₂, arith, Bool, bytes_eq, codes, cond}
 pub use Rattle.std.proofs.Common.{Contains, decimal, drop, drop-drop, Err, false, filter_map, flat_map, get_or, IfErr}
-pub use Rattle.std.proofs.Common.{IfOk, IfSome, inl, inr, is_err, IsErrAnd, length, length-append, length-drop}
-pub use Rattle.std.proofs.Common.{length-take-le, List, map, MatchResult, nat_eq, nat_lt, None, Ok, OnOk, Option}
-pub use Rattle.std.proofs.Common.{option_map, option_to_list, refl, rules, slice_get, Some, subst, sym, take}
-pub use Rattle.std.proofs.Common.{take-append-drop, take_all, true, ℕ, ◌%◌, ◌&&◌, ◌*◌, ◌++◌, ◌+◌, ◌-◌, ◌/◌, ◌<◌, ◌==◌}
-pub use Rattle.std.proofs.Common.{◌^◌, ◌∙◌, ◌∷◌, ◌≡◌, ◌≤◌}
+pub use Rattle.std.proofs.Common.{IfOk, IfSome, if◌then◌else◌, inl, inr, is_err, IsErrAnd, length, length-append}
+pub use Rattle.std.proofs.Common.{length-drop, length-take-le, List, map, MatchOption, MatchResult, nat_lt, None, not}
+pub use Rattle.std.proofs.Common.{Ok, OnOk, Option, option_map, option_to_list, refl, rules, slice_get, Some, subst}
+pub use Rattle.std.proofs.Common.{suc, sym, take, take-add, take-append-drop, take_all, true, zero, ℕ, ◌%◌, ◌&&◌, ◌*◌}
+pub use Rattle.std.proofs.Common.{◌++◌, ◌+◌, ◌-◌, ◌/◌, ◌<◌, ◌==◌, ◌^◌, ◌∙◌, ◌∷◌, ◌≡◌, ◌≤◌}
 pub use Rattle.std.proofs.lemmas.Bool.Decides.{nat_tests}
 pub use Rattle.std.proofs.lemmas.Fmt.{decimal_digit, decimal_nonempty, decimal_step, length-decimal-le}
 pub use Rattle.std.proofs.lemmas.Grind.{common_steps, flat_map-append}
@@ -19,23 +19,23 @@ pub use Rattle.event_records.specs.declared.event.Event.{Event}
 pub use Rattle.event_records.specs.declared.limits.TheConstants.{MAX_CLAIM_LINES, MAX_EVENTS, MAX_INITIAL, MAX_THREAD}
 pub use Rattle.event_records.specs.declared.limits.TheConstants.{MAX_TICKET}
 pub use Rattle.text_lines.specs.Forms.{AreOfForm, FieldForm, Number, numbers_in, parse_line, spelled, Table, Word}
-pub use Rattle.text_lines.specs.Inner.Lines.{IsPartOfLine}
+pub use Rattle.text_lines.specs.Inner.Lines.{has_no_line_feed, IsPartOfLine}
 pub use Rattle.text_lines.specs.Input.{Ahead, Ending, EndOfInput, Failure, IsOver, Takes}
-pub use Rattle.text_lines.specs.Lines.{begins_as_end, end_in, end_line, end_word, fields_of, Front, front_of}
+pub use Rattle.text_lines.specs.Lines.{begins_as_end, end_in, end_line, fault_at, fields_of, Front, front_of}
 pub use Rattle.text_lines.specs.Lines.{greatest_value, header_fault, is_line_feed, line, longest_line, Nothing, spaced}
-pub use Rattle.text_lines.specs.Lines.{Unfinished, Whole, ◌>>=◌}
+pub use Rattle.text_lines.specs.Lines.{TooLong, Unfinished, Whole, ◌>>=◌}
 pub use Rattle.text_lines.specs.Writing.{Asked, PutsText, TakesFront, TakesSome}
 pub use Rattle.text_lines.specs.declared.fault.TextFault.{TextFault}
 pub use Rattle.text_lines.specs.declared.fault.TextFault.TheVariants.{Cut, Header, Line, Memory, Read}
 pub use Rattle.text_lines.proofs.Consuming.{before, before_end, Takes-append}
 pub use Rattle.text_lines.proofs.Fronts.{front_too_long, front_unfinished, whole}
-pub use Rattle.text_lines.proofs.Numbers.{both, end_ok, text_is}
+pub use Rattle.text_lines.proofs.Numbers.{end_ok, text_is}
 pub use Rattle.text_lines.proofs.Putting.{goes_out, one_more_put, puts_after, puts_then, refused_text, some_kept}
 pub use Rattle.text_lines.proofs.Putting.{some_then, stops_at_next, stops_before, stops_inside}
 pub use Rattle.text_lines.proofs.Tables.{has_bits, is_line_form, numbers_back, parse_line_says, spelled_is_line}
 pub use Rattle.text_lines.proofs.WrittenLines.{all_digits, end_read, field_is_clean, IsLineOf, number_is_field}
 pub use Rattle.history_merge.specs.declared.operation.OpKind.{OpKind}
-pub use Rattle.history_merge.specs.declared.operation.OpKind.TheVariants.{Deq, Enq}
+pub use Rattle.history_merge.specs.declared.operation.OpKind.TheVariants.{Deq, Empty, Enq, Not}
 pub use Rattle.history_merge.specs.declared.operation.Operation.{Operation}
 pub use Rattle.recorder_core.specs.declared.step.Step.{Step}
 pub use Rattle.verdicts.specs.Claiming.{line_at}
@@ -50,21 +50,22 @@ pub use Rattle.history_text.specs.Claims.{operation_of, valued_operation}
 pub use Rattle.history_text.specs.Histories.{event_format, event_forms, event_in, event_line, event_of, HasEventLine}
 pub use Rattle.history_text.specs.Histories.{HasHistoryText, HasValueInRange, lines_to_end, plain_event, valued_event}
 pub use Rattle.history_text.specs.Histories.{what_fields}
-pub use Rattle.history_text.specs.Inner.Taking.{count_format, HasItemsFault, IsItemLine, IsOfInput, IsSpelled}
-pub use Rattle.history_text.specs.Inner.Taking.{setting_format, TakesEnd, TakesItem}
+pub use Rattle.history_text.specs.Inner.Taking.{BrokenLineFault, count_format, FaultAtFront, HasItemsFault, IsItemLine}
+pub use Rattle.history_text.specs.Inner.Taking.{IsOfInput, IsSpelled, NoLineFault, setting_format, TakesEnd, TakesItem}
 pub use Rattle.history_text.specs.Inner.Verdicts.{line_text, lines_text}
 pub use Rattle.history_text.specs.Items.{a_value, FaultAmong, Format, HaveLines, item_at_front, item_at_nothing}
 pub use Rattle.history_text.specs.Items.{item_in, ItemFault, line_at_front, line_of, LineFault, lines_of, NoRoom}
 pub use Rattle.history_text.specs.Items.{NoRoomAmong, read_by}
-pub use Rattle.history_text.specs.Reading.{BeginsWith, HasFirstFault, HasMore, HasTextFault, Input, IsAll, with_front}
+pub use Rattle.history_text.specs.Reading.{BeginsWith, HasFirstFault, HasMore, HasTextFault, Input, IsAll, IsOverIf}
+pub use Rattle.history_text.specs.Reading.{with_front}
 pub use Rattle.history_text.specs.Schedules.{draining, HasScheduleText, HasStepLine, IsAnswerInRange}
 pub use Rattle.history_text.specs.Schedules.{IsScheduleTextFault, IsSetting, lines_before_steps, NoRoomForSchedule}
 pub use Rattle.history_text.specs.Schedules.{plain_saying, plain_step, schedule_header, schedule_text, setting_fields}
 pub use Rattle.history_text.specs.Schedules.{setting_form, setting_forms, setting_in, setting_of, step_fields}
 pub use Rattle.history_text.specs.Schedules.{step_format, step_forms, step_in, step_of, step_with, valued_saying}
-pub use Rattle.history_text.specs.Verdicts.{claim_line, claim_line_fields, claim_of, kind_fields, kind_name}
-pub use Rattle.history_text.specs.Verdicts.{maybe_place, operation_fields, operation_line, places_of_step}
-pub use Rattle.history_text.specs.Verdicts.{verdict_places, verdict_text, violation_kind, violation_places}
+pub use Rattle.history_text.specs.Verdicts.{claim_line, claim_line_fields, claim_of, kind_fields, maybe_place}
+pub use Rattle.history_text.specs.Verdicts.{operation_fields, operation_line, places_of_step, verdict_places}
+pub use Rattle.history_text.specs.Verdicts.{verdict_text, violation_places}
 pub use Rattle.history_text.specs.Versions.{count_before_events, count_fields, count_forms, count_in, FaultAfterHeader}
 pub use Rattle.history_text.specs.Versions.{HasText, HaveValueLines, header_of, HistoryText, is_blank, IsReadAs}
 pub use Rattle.history_text.specs.Versions.{IsTextFault, lines_before_events, lines_of_initial, NoRoomForText}

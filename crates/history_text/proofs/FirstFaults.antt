@@ -1,26 +1,23 @@
 -- From a fault of one line to the first fault of the whole input, and what is read of a text that stands at its front.
 use Rattle.history_text.proofs.Common.{[], Ahead, AllByRecursion, ap, append-nil, append_assoc, arith, before}
-use Rattle.history_text.proofs.Common.{before_end, BeginsWith, Bool, bytes_eq, count_before_events, Cut, end_line}
-use Rattle.history_text.proofs.Common.{Ending, EndOfInput, Err, event_format, Failure, false, false_from_ne_true}
-use Rattle.history_text.proofs.Common.{FaultAmong, fields_of, FirstLineFault, flat_map-append, Format, Front, front_of}
-use Rattle.history_text.proofs.Common.{front_too_long, front_unfinished, HasFirstFault, HasItemsFault, HasTextFault}
-use Rattle.history_text.proofs.Common.{HaveLines, HaveValueLines, Header, header_fault, header_of, IfErr, IfOk, IfSome}
-use Rattle.history_text.proofs.Common.{inl, inr, is_err, is_line_feed, IsItemLine, IsNoFirstLine, IsOfInput, IsOver}
-use Rattle.history_text.proofs.Common.{IsPartOfLine, IsSpelled, IsTextFault, item_at_front, item_at_nothing, item_in}
-use Rattle.history_text.proofs.Common.{ItemFault, join_with_byte-slice_split, length, length-append, Line, line}
-use Rattle.history_text.proofs.Common.{line_at_front, line_of, lines_before_events, lines_of, lines_of_initial, List}
-use Rattle.history_text.proofs.Common.{longest_line, MatchResult, Memory, nat_lt, nat_tests, None, NoRoom, NoRoomAmong}
-use Rattle.history_text.proofs.Common.{NoRoomForText, Nothing, Ok, One, OnOk, Option, refl, Result, Some, spaced}
-use Rattle.history_text.proofs.Common.{subst, sym, Takes, Takes-append, TakesEnd, TakesItem, text_is, TextFault, true}
-use Rattle.history_text.proofs.Common.{Two, Unfinished, Version, Whole, whole, ℕ, ◌++◌, ◌+◌, ◌<◌, ◌>>=◌, ◌∙◌, ◌∷◌, ◌≡◌}
-use Rattle.history_text.proofs.Common.{◌≤◌}
-use Rattle.std.proofs.Common.{if◌then◌else◌, IsErrAnd, suc, zero, ◌^◌}
+use Rattle.history_text.proofs.Common.{before_end, BeginsWith, Bool, BrokenLineFault, bytes_eq, count_before_events}
+use Rattle.history_text.proofs.Common.{end_line, Ending, EndOfInput, Err, event_format, Failure, false}
+use Rattle.history_text.proofs.Common.{false_from_ne_true, fault_at, FaultAmong, FaultAtFront, fields_of}
+use Rattle.history_text.proofs.Common.{flat_map-append, Format, Front, front_of, front_too_long, front_unfinished}
+use Rattle.history_text.proofs.Common.{has_no_line_feed, HasFirstFault, HasItemsFault, HasTextFault, HaveLines}
+use Rattle.history_text.proofs.Common.{HaveValueLines, Header, header_fault, header_of, IfErr, IfOk, IfSome}
+use Rattle.history_text.proofs.Common.{if◌then◌else◌, inl, inr, is_line_feed, IsErrAnd, IsItemLine, IsOfInput, IsOver}
+use Rattle.history_text.proofs.Common.{IsPartOfLine, IsSpelled, IsTextFault, item_at_front, item_in, ItemFault}
+use Rattle.history_text.proofs.Common.{join_with_byte-slice_split, length, length-append, line, line_at_front, line_of}
+use Rattle.history_text.proofs.Common.{lines_before_events, lines_of, lines_of_initial, List, longest_line}
+use Rattle.history_text.proofs.Common.{MatchResult, Memory, nat_lt, nat_tests, NoLineFault, None, NoRoom, NoRoomAmong}
+use Rattle.history_text.proofs.Common.{NoRoomForText, Nothing, Ok, One, Option, refl, Result, Some, spaced, subst, suc}
+use Rattle.history_text.proofs.Common.{sym, Takes, Takes-append, TakesEnd, TakesItem, text_is, TextFault, TooLong}
+use Rattle.history_text.proofs.Common.{true, Two, Unfinished, Version, Whole, whole, zero, ℕ, ◌++◌, ◌+◌, ◌<◌, ◌>>=◌}
+use Rattle.history_text.proofs.Common.{◌^◌, ◌∙◌, ◌∷◌, ◌≡◌, ◌≤◌}
 use Rattle.std.proofs.lemmas.List.Elements.{All-from_recursion, All-push, recursion_from_All}
-use Rattle.text_lines.specs.Inner.Lines.{has_no_line_feed}
-use Rattle.text_lines.specs.Lines.{fault_at, TooLong}
 use Rattle.text_lines.proofs.MemoryOrNot.{follows, is_memory, known_fault}
 use Rattle.history_text.proofs.FormLines.{end_front, IsReadBack, Says}
-use Rattle.history_text.specs.Inner.Taking.{BrokenLineFault, FaultAtFront, NoLineFault}
 use Rattle.history_text.specs.Versions.{NoVersionFault}
 use Rattle.text_lines.specs.Faults.{MemoryOr}
 

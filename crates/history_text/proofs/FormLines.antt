@@ -1,9 +1,9 @@
--- Lines that are read by a table: what is written is read back, and what is read is spelled so.
+-- Lines that are read by a table: what is written is read back, and what is read is spelled so. The thread in the line of an event.
 use Rattle.history_text.proofs.Common.{[], a_value, all_digits, AllByRecursion, and_right, ap, AreOfForm, arith}
 use Rattle.history_text.proofs.Common.{begins_as_end, bytes_eq, claim_line_fields, claim_line_format, claim_line_in}
 use Rattle.history_text.proofs.Common.{ClaimLine, codes, count_fields, count_format, count_forms, count_in, decimal}
 use Rattle.history_text.proofs.Common.{decimal_digit, decimal_nonempty, decimal_step, Deq, draining, drop, drop_more}
-use Rattle.history_text.proofs.Common.{empty_operation, end_in, end_line, end_ok, end_read, Ending, Enq, Err}
+use Rattle.history_text.proofs.Common.{Empty, empty_operation, end_in, end_line, end_ok, end_read, Ending, Enq, Err}
 use Rattle.history_text.proofs.Common.{event_format, event_forms, event_in, event_of, false, field_is_clean, FieldForm}
 use Rattle.history_text.proofs.Common.{fields_of, Format, front_of, get_or, greatest_value, has_bits, HasClaimLine}
 use Rattle.history_text.proofs.Common.{HasOperationLine, HasStepLine, HasValueInRange, Initial, initial_form}
@@ -11,7 +11,7 @@ use Rattle.history_text.proofs.Common.{initial_forms, initial_of, is_blank, is_i
 use Rattle.history_text.proofs.Common.{IsItemLine, IsKindInRange, IsLineOf, IsPartOfLine, IsSetting, IsSpelled}
 use Rattle.history_text.proofs.Common.{item_at_front, item_in, join_with_byte-slice_split, kind_fields, length}
 use Rattle.history_text.proofs.Common.{length-decimal-le, line, line_at_front, line_of, List, list_all, MAX_INITIAL}
-use Rattle.history_text.proofs.Common.{MAX_THREAD, MAX_TICKET, nat_lt, nat_tests, None, Number, number_is_field}
+use Rattle.history_text.proofs.Common.{MAX_THREAD, MAX_TICKET, nat_lt, nat_tests, None, Not, Number, number_is_field}
 use Rattle.history_text.proofs.Common.{number_of, numbers_back, numbers_in, Ok, Op, Operation, operation_fields}
 use Rattle.history_text.proofs.Common.{operation_format, operation_forms, operation_of, OpKind, parse_line}
 use Rattle.history_text.proofs.Common.{parse_line_says, plain_event, plain_saying, plain_step, read_by, refl, Result}
@@ -26,7 +26,6 @@ use Rattle.text_lines.proofs.Fields.{has_field}
 use Rattle.event_records.specs.declared.event.What.{What}
 use Rattle.event_records.specs.declared.event.What.TheVariants.{CallDeq, CallEnq, RetDeq, RetEmpty, RetEnq, RetNot}
 use Rattle.std.specs.Char.{is_ascii_digit}
-use Rattle.history_merge.specs.declared.operation.OpKind.TheVariants.{Empty, Not}
 use Rattle.recorder_core.specs.declared.step.Step.TheVariants.{AskEnq, AskDeq, Push, Effect, Say, Ret, Drain, Close}
 use Rattle.event_records.specs.declared.kind.Answer.{Answer}
 use Rattle.event_records.specs.declared.kind.Answer.TheVariants as reply

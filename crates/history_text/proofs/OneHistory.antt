@@ -2,10 +2,10 @@
 use Rattle.history_text.proofs.Common.{[], ap, append_assoc, arith, count_fields, count_in, Ending, Err, Event}
 use Rattle.history_text.proofs.Common.{event_format, FaultAfterHeader, Front, front_of, HasHistoryText, HasText}
 use Rattle.history_text.proofs.Common.{HaveLines, HaveValueLines, Header, header_of, HistoryText, inl, inr}
-use Rattle.history_text.proofs.Common.{IsTextFault, ItemFault, length, line, line_at_front, lines_of, lines_of_initial}
+use Rattle.history_text.proofs.Common.{IsTextFault, ItemFault, length, line, line_at_front, lines_of_initial}
 use Rattle.history_text.proofs.Common.{lines_to_end, List, MAX_INITIAL, NoVersionFault, Ok, One, refl, Result, spaced}
-use Rattle.history_text.proofs.Common.{sym, text_by, text_of, TextFault, Two, value_format, Version, ℕ, ◌++◌, ◌+◌}
-use Rattle.history_text.proofs.Common.{◌>>=◌, ◌∙◌, ◌∷◌, ◌≡◌, ◌≤◌}
+use Rattle.history_text.proofs.Common.{text_by, text_of, TextFault, Two, value_format, Version, ℕ, ◌++◌, ◌+◌, ◌>>=◌}
+use Rattle.history_text.proofs.Common.{◌∙◌, ◌∷◌, ◌≡◌, ◌≤◌}
 use Rattle.history_text.proofs.FormLines.{event_front, value_says, count_says}
 use Rattle.history_text.proofs.FirstFaults.{then_ok, then_err, first_at, first_read, items_in, counted_read, fault_found, among_in, among_read, among_found, IsJudged, Anything}
 

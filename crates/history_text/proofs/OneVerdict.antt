@@ -3,9 +3,8 @@ use Rattle.history_text.proofs.Common.{[], Ahead, ap, append-nil, append_assoc, 
 use Rattle.history_text.proofs.Common.{codes, Ending, EndOfInput, Err, false, first_line, FirstLineFault, Format}
 use Rattle.history_text.proofs.Common.{Front, front_of, HasVerdictText, HaveLines, inl, inr, IsAll, IsVerdictTextFault}
 use Rattle.history_text.proofs.Common.{Line, line, lines_of, List, None, Nothing, Ok, operation_format, Option, refl}
-use Rattle.history_text.proofs.Common.{Result, Some, subst, sym, TextFault, Unfinished, verdict_text, ViolationKind}
-use Rattle.history_text.proofs.Common.{Whole, ℕ, ◌++◌, ◌+◌, ◌>>=◌, ◌∙◌, ◌∷◌, ◌≡◌}
-use Rattle.text_lines.specs.Lines.{TooLong}
+use Rattle.history_text.proofs.Common.{Result, Some, subst, sym, TextFault, TooLong, Unfinished, verdict_text}
+use Rattle.history_text.proofs.Common.{ViolationKind, Whole, ℕ, ◌++◌, ◌+◌, ◌>>=◌, ◌∙◌, ◌∷◌, ◌≡◌}
 use Rattle.verdicts.specs.declared.verifying.ViolationKind.TheVariants.{VFresh, VRepeat, VOrd, VWit}
 use Rattle.verdicts.specs.declared.verifying.Claimed.{Claimed}
 use Rattle.verdicts.specs.declared.verifying.Claimed.TheVariants.{Yes, No}

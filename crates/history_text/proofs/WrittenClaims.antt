@@ -1,17 +1,16 @@
 -- A complete history has a text, and the claim of a verdict on a history that has a text has one. The lines at some places.
 use Rattle.history_text.proofs.Common.{[], All, AllByRecursion, ap, append-nil, ap₂, arith, Asked, Bool, claim_line}
-use Rattle.history_text.proofs.Common.{claim_of, ClaimLine, cons_option, Contains, Deq, Event, filter_map, flat_map}
-use Rattle.history_text.proofs.Common.{flat_map-append, greatest_value, HasClaimLine, HasEventLine, HasHistoryText}
-use Rattle.history_text.proofs.Common.{HasOperationLine, HasText, HasValueInRange, HasVerdictText, HaveValueLines}
-use Rattle.history_text.proofs.Common.{HistoryText, Initial, IsErrAnd, IsKindInRange, length, length-map, line_at}
-use Rattle.history_text.proofs.Common.{line_text, List, map, MAX_CLAIM_LINES, MAX_EVENTS, MAX_INITIAL, maybe_place}
-use Rattle.history_text.proofs.Common.{None, One, Op, Operation, operation_line, OpKind, Option, option_map}
-use Rattle.history_text.proofs.Common.{option_to_list, puts_then, PutsText, refl, Result, slice_get, Some}
-use Rattle.history_text.proofs.Common.{stops_before, subst, sym, TakesFront, TakesSome, Two, verdict_places, Version}
-use Rattle.history_text.proofs.Common.{violation_places, ℕ, ◌++◌, ◌∙◌, ◌∷◌, ◌≡◌, ◌≤◌}
+use Rattle.history_text.proofs.Common.{claim_of, ClaimLine, cons_option, Contains, Deq, Empty, Event, filter_map}
+use Rattle.history_text.proofs.Common.{flat_map, flat_map-append, greatest_value, HasClaimLine, HasEventLine}
+use Rattle.history_text.proofs.Common.{HasHistoryText, HasOperationLine, HasText, HasValueInRange, HasVerdictText}
+use Rattle.history_text.proofs.Common.{HaveValueLines, HistoryText, Initial, IsErrAnd, IsKindInRange, length}
+use Rattle.history_text.proofs.Common.{length-map, line_at, line_text, List, map, MatchOption, MAX_CLAIM_LINES}
+use Rattle.history_text.proofs.Common.{MAX_EVENTS, MAX_INITIAL, maybe_place, None, One, Op, Operation, operation_line}
+use Rattle.history_text.proofs.Common.{OpKind, Option, option_map, option_to_list, puts_then, PutsText, refl, Result}
+use Rattle.history_text.proofs.Common.{slice_get, Some, stops_before, subst, sym, TakesFront, TakesSome, Two}
+use Rattle.history_text.proofs.Common.{verdict_places, Version, violation_places, ℕ, ◌++◌, ◌∙◌, ◌∷◌, ◌≡◌, ◌≤◌}
 use Rattle.std.proofs.lemmas.List.Elements.{recursion_from_All, All-contains, All-from_recursion}
 use Rattle.history_merge.specs.Complete.{IsCompleteHistory}
-use Rattle.history_merge.specs.declared.operation.OpKind.TheVariants.{Empty}
 use Rattle.history_merge.specs.Operations.{operations_of}
 use Rattle.history_merge.proofs.Distinct.{contains_at}
 use Rattle.recorder_core.specs.Laws.{operation_call, operation_return, call_of_kind, return_of_kind}
@@ -20,7 +19,6 @@ use Rattle.verdicts.specs.declared.verdict.Verdict.{Verdict}
 use Rattle.verdicts.specs.declared.verdict.Verdict.TheVariants as found
 use Rattle.verdicts.specs.declared.shown.LinePlace.{LinePlace}
 use Rattle.verdicts.specs.declared.shown.LinePlace.TheVariants as place
-use Rattle.std.proofs.Common.{MatchOption}
 
 -- a complete history has a text
 pub complete_has_text : (events : List Event) → IsCompleteHistory events → All (λ e. HasValueInRange e.what) events → length events ≤ MAX_EVENTS

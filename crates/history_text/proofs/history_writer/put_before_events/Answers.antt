@@ -1,5 +1,5 @@
-use Rattle.history_text.proofs.Common.{[], ◌++◌, ◌∷◌, ◌≡◌, append_assoc, codes, decimal, length, List, ℕ, count_fields}
-use Rattle.history_text.proofs.Common.{line, puts_after, spaced}
+use Rattle.history_text.proofs.Common.{[], append_assoc, codes, count_fields, decimal, length, line, List, puts_after}
+use Rattle.history_text.proofs.Common.{spaced, ℕ, ◌++◌, ◌∷◌, ◌≡◌}
 use Rattle.history_text.proofs.history_writer.put_before_events.Goals as goal
 
 -- a line of a header, a word, a number and a line feed are the header and the count line

@@ -1,6 +1,6 @@
-use Rattle.history_text.proofs.Common.{[], ◌++◌, ◌∙◌, ◌∷◌, ◌≡◌, ap, append-nil, append_assoc, flat_map}
-use Rattle.history_text.proofs.Common.{flat_map-append, List, rules, sym, ℕ, Event, event_line, HasValueInRange}
-use Rattle.history_text.proofs.Common.{some_then, stops_inside, arith, nat_tests, common_steps}
+use Rattle.history_text.proofs.Common.{[], ap, append-nil, append_assoc, arith, common_steps, Event, event_line}
+use Rattle.history_text.proofs.Common.{flat_map, flat_map-append, HasValueInRange, List, nat_tests, rules, some_then}
+use Rattle.history_text.proofs.Common.{stops_inside, sym, ℕ, ◌++◌, ◌∙◌, ◌∷◌, ◌≡◌}
 use Rattle.std.proofs.lemmas.List.Elements.{All-push}
 use Rattle.history_text.proofs.history_writer.put_events.Goals as goal
 

@@ -1,7 +1,7 @@
-use Rattle.history_text.proofs.Common.{[], ◌++◌, ap, EndOfInput, List, ℕ}
+use Rattle.history_text.proofs.Common.{[], ◌++◌, ap, EndOfInput}
 use Rattle.history_text.proofs.FirstFaults.{texts_agree}
 use Rattle.history_text.proofs.OneSchedule.{judged}
 use Rattle.history_text.proofs.laws.a_text_has_one_schedule.Goals as goal
 
 pub returns : goal.returns
-returns c = λ first second text_1 text_2 same. (texts_agree judged EndOfInput first second [] [] text_1 text_2 tt tt (ap (λ (t : List ℕ). t ++ []) same)).0
+returns c = λ first second text_1 text_2 same. (texts_agree judged EndOfInput first second [] [] text_1 text_2 tt tt (ap (λ t. t ++ []) same)).0

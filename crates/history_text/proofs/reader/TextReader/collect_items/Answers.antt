@@ -1,7 +1,5 @@
-use Rattle.history_text.proofs.Common.{[], arith, length, length-append, nat_tests, Option, Some, TakesItem, ℕ, ◌++◌}
-use Rattle.history_text.proofs.Common.{◌+◌, ◌∷◌, ◌≡◌}
-use Rattle.history_text.specs.Items.{Format}
-use Rattle.history_text.specs.Reading.{Input}
+use Rattle.history_text.proofs.Common.{[], arith, Format, Input, length, length-append, nat_tests, Option, Some}
+use Rattle.history_text.proofs.Common.{TakesItem, ℕ, ◌++◌, ◌+◌, ◌∷◌, ◌≡◌}
 use Rattle.history_text.proofs.FirstFaults.{carries, item_is_first, HaveLines-push, no_room, takes_item}
 use Rattle.history_text.proofs.reader.TextReader.collect_items.Given.{Over}
 use Rattle.history_text.proofs.reader.TextReader.collect_items.Goals as goal

@@ -1,5 +1,5 @@
-use Rattle.history_text.proofs.Common.{[], ◌+◌, ◌-◌, ◌∙◌, ◌≤◌, ap, length, Option, rules, subst, take, Ahead, Input}
-use Rattle.history_text.proofs.Common.{Takes, with_front}
+use Rattle.history_text.proofs.Common.{[], Ahead, ap, Input, length, Option, rules, subst, take, Takes, with_front}
+use Rattle.history_text.proofs.Common.{◌+◌, ◌-◌, ◌∙◌, ◌≤◌}
 use Rattle.history_text.proofs.Buffers.{moved_and_read, part}
 use Rattle.history_text.proofs.reader.TextReader.complete_line.Goals as goal
 

@@ -1,5 +1,5 @@
-use Rattle.history_text.proofs.Common.{◌≡◌, ◌≤◌, ap, arith, IfSome, length, Option, rules, subst, Ahead, HasMore}
-use Rattle.history_text.proofs.Common.{Input}
+use Rattle.history_text.proofs.Common.{Ahead, ap, arith, HasMore, IfSome, Input, length, Option, rules, subst, ◌≡◌}
+use Rattle.history_text.proofs.Common.{◌≤◌}
 use Rattle.history_text.proofs.Buffers.{has_more_in_buffer, over_if_nothing}
 use Rattle.history_text.proofs.reader.TextReader.has_byte.Goals as goal
 

@@ -1,5 +1,5 @@
-use Rattle.history_text.proofs.Common.{◌+◌, ◌-◌, ◌≤◌, ap, arith, length, Option, rules, subst, Ahead, Input, line_of}
-use Rattle.history_text.proofs.Common.{Takes, with_front}
+use Rattle.history_text.proofs.Common.{Ahead, ap, arith, Input, length, line_of, Option, rules, subst, Takes}
+use Rattle.history_text.proofs.Common.{with_front, ◌+◌, ◌-◌, ◌≤◌}
 use Rattle.history_text.proofs.Buffers.{takes_from_buffer, part}
 use Rattle.history_text.proofs.reader.TextReader.item_in_buffer.Goals as goal
 

@@ -1,5 +1,5 @@
-use Rattle.history_text.proofs.Common.{append-nil, arith, refl, rules, sym, ◌∙◌, Cut, Read, Takes-append}
-use Rattle.history_text.specs.Inner.Taking.{BrokenLineFault}
+use Rattle.history_text.proofs.Common.{append-nil, arith, BrokenLineFault, Cut, Read, refl, rules, sym, Takes-append}
+use Rattle.history_text.proofs.Common.{◌∙◌}
 use Rattle.history_text.proofs.FirstFaults.{at_failure, at_cut, at_long}
 use Rattle.history_text.proofs.reader.TextReader.next_line.Goals as goal
 
