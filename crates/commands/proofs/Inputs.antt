@@ -167,22 +167,22 @@ module _ {A : Type 0} (Has : A → Type 0) (said : A → List ℕ) (IsFirst : �
   end_fault input left value fault has taken h =
       next_fault Has said IsFirst LacksRoom (λ _. IsFaultOfEnd) (λ _ _. ⊥) input left value fault has taken (not_over left fault h)
 
-module _ {A : Type 0} {Has : A → Type 0} {said : A → List ℕ} {IsFirst : ℕ → Ending → List ℕ → TextFault → Type 0}
-    {judge : ℕ → Ending → List ℕ → Result (A × List ℕ) TextFault} (judged : IsJudged Has said Anything IsFirst judge) (LacksRoom : List ℕ → Type 0) where
+module _ {A : Type 0} {Has : A → Type 0} {said : A → List ℕ} {IsFirst : ℕ → Ending → List ℕ → TextFault → Type 0} (LacksRoom : List ℕ → Type 0)
+    {judge : ℕ → Ending → List ℕ → Result (A × List ℕ) TextFault} (judged : IsJudged Has said Anything IsFirst judge) where
   -- an input is the text of one value, or has one fault
   one_text : SaysOneThing (λ input x. Has x × IsWhole (said x) input) (IsFaultOfOneText Has said (IsFirst 0) LacksRoom)
   one_text = says_one_thing Has said IsFirst LacksRoom (λ _. IsFaultOfEnd) (λ _ _. ⊥) judged (λ _. one_at_end)
       (λ input x. Has x × IsWhole (said x) input)
-      (λ input x y is_x is_y. (texts_agree judged EndOfInput x y [] [] is_x.0 is_y.0 tt tt (ap (λ bytes. bytes ++ []) (sym is_x.1.bytes ∙ is_y.1.bytes))).0)
+      (λ input x y is_x is_y. (texts_agree judged EndOfInput x y [] [] is_x.0 is_y.0 tt tt (ap (λ b. b ++ []) (sym is_x.1.bytes ∙ is_y.1.bytes))).0)
       (λ input x is. (x, [], is.0, is.1.bytes ∙ sym (append-nil (said x)), λ fault next. none_at_end fault (rw is.1.ending at next)))
 
 -- an input is one history, or has one fault
 pub one_history : SaysOneThing IsHistoryOf IsFaultOfHistoryInput
-one_history = one_text histories.judged NoRoomForText
+one_history = one_text NoRoomForText histories.judged
 
 -- an input is one schedule, or has one fault
 pub one_schedule : SaysOneThing IsScheduleOf IsFaultOfScheduleInput
-one_schedule = one_text schedules.judged NoRoomForSchedule
+one_schedule = one_text NoRoomForSchedule schedules.judged
 
 -- ---- a history, and a verdict on it
 

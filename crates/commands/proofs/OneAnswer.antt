@@ -274,7 +274,8 @@ memory_has_3 old new true result printed = printed.1
 
 -- it is a message
 pub memory_is_message : IsMessage (codes "fifobench: memory ran out\n")
-memory_is_message = inl (record { said = codes "memory ran out"; printable = All-from_recursion IsPrintable (codes "memory ran out") (search rules); is = refl })
+memory_is_message = let said = codes "memory ran out" in
+    inl (record { said = said; printable = All-from_recursion IsPrintable said (search rules); is = refl })
 
 -- ---- histories
 
