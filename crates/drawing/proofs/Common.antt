@@ -1,15 +1,14 @@
 -- The names that most proofs of this crate cite, passed on from one place. Declares nothing.
-pub use Rattle.std.proofs.Common.{[], ◌%◌, ◌&&◌, ◌*◌, ◌++◌, ◌+◌, ◌-◌, ◌/◌, ◌<◌}
-pub use Rattle.std.proofs.Common.{◌==◌, ◌^◌, ◌||◌, ◌∙◌, ◌∷◌, ◌≡◌, ◌≤◌}
-pub use Rattle.std.proofs.Common.{◌⊎◌, add-one, ap, append_assoc, arith, Bool, codes, cond, Contains}
+pub use Rattle.std.proofs.Common.{[], add-one, ap, append-nil, append_assoc, ap₂, arith, Bool, codes, cond, Contains}
 pub use Rattle.std.proofs.Common.{count_by, decimal, drop, eq-eqb, eqb-true, false, filter, find, flat_map, fold}
-pub use Rattle.std.proofs.Common.{get_or, inl, inr, length, length-take-le, List, lt-ltb, map, map-id, MatchOption, max}
-pub use Rattle.std.proofs.Common.{mul-le-mul_left, nat_eq, nat_le, nat_lt, None, Option, option_map}
-pub use Rattle.std.proofs.Common.{option_to_list, position, refl, rules, slice_get, Some, subst, suc, sum_by, sym, take}
-pub use Rattle.std.proofs.Common.{take_all, true, zero, zero-add, ℕ}
+pub use Rattle.std.proofs.Common.{get_or, inl, inr, length, length-take-le, List, lt-ltb, map, map-id, MatchOption}
+pub use Rattle.std.proofs.Common.{max, mul-le-mul_left, nat_eq, nat_le, nat_lt, None, Option, option_map}
+pub use Rattle.std.proofs.Common.{option_to_list, position, refl, rules, slice_get, Some, subst, suc, sum_by, sym}
+pub use Rattle.std.proofs.Common.{take, take_all, true, zero, zero-add, ℕ, ◌%◌, ◌&&◌, ◌*◌, ◌++◌, ◌+◌, ◌-◌, ◌/◌, ◌<◌}
+pub use Rattle.std.proofs.Common.{◌==◌, ◌^◌, ◌||◌, ◌∙◌, ◌∷◌, ◌≡◌, ◌≤◌, ◌⊎◌}
 pub use Rattle.std.proofs.lemmas.Bool.{cases_lt, cond_both}
 pub use Rattle.std.proofs.lemmas.Bool.Decides.{nat_tests}
-pub use Rattle.std.proofs.lemmas.List.Elements.{Contains-append_left, Contains-append_right}
+pub use Rattle.std.proofs.lemmas.List.Elements.{All-weaker, Contains-append_left, Contains-append_right}
 pub use Rattle.std.proofs.lemmas.List.Sorted.{Contains-permutation, IsPartitionedBy-ltb, IsPartitionPoint-from_clause}
 pub use Rattle.std.proofs.lemmas.List.Sorted.{IsPermutation-sym}
 pub use Rattle.std.proofs.lemmas.List.Sums.{fold-append, fold_more, sum_by-append, sum_by-cons}
@@ -31,11 +30,11 @@ pub use Rattle.verdicts.specs.declared.verifying.Claimed.TheVariants.{No, Yes}
 pub use Rattle.drawing.specs.Drawn.{drawn_operations, events_before, is_near_any, operation_in, operations_in}
 pub use Rattle.drawing.specs.Drawn.{stand_near, standing_of}
 pub use Rattle.drawing.specs.Layout.{greatest_call, has_operations, is_under_way, point, stands_in, under_way}
-pub use Rattle.drawing.specs.Scene.{effect_if, event_rows, has_row, initial_row, initial_rows}
-pub use Rattle.drawing.specs.Scene.{lanes_before, left_out_rows, rows_after, stands_above}
+pub use Rattle.drawing.specs.Scene.{effect_if, event_rows, has_row, initial_row, initial_rows, lanes_before}
+pub use Rattle.drawing.specs.Scene.{left_out_rows, rows_after, scene_on, stands_above}
 unfoldable pub use Rattle.drawing.specs.Scene.{effect_rows, row_number, rows_of, scene_of}
 pub use Rattle.drawing.specs.Terminal.{band_column, band_word, band_words, head_line, lane_column, lane_names}
 pub use Rattle.drawing.specs.Terminal.{lane_place, lane_sign, numbered_row, sign_line, strokes, thread_digits}
 pub use Rattle.drawing.specs.Words.{placed, with_words, Word}
 pub use Rattle.drawing.specs.declared.scene.Row.{Row}
-pub use Rattle.drawing.specs.Scene.{scene_on}
+pub use Rattle.std.proofs.lemmas.List.FromFn.{get_or-enumerate_from, length-enumerate_from, map-range_with_len_more}

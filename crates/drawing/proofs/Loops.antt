@@ -1,13 +1,11 @@
 -- What a loop adds with one more element.
-use Rattle.drawing.proofs.Common.{[], ap, append_assoc, arith, ClaimLine, drop, enumerate_from, fold-append, fold_more}
-use Rattle.drawing.proofs.Common.{get_or, greatest_call, length, length-take-le, List, map-id, max, Operation, point}
-use Rattle.drawing.proofs.Common.{range_with_len, sym, take, take_all, zero-add, ℕ, ◌++◌, ◌+◌, ◌-◌, ◌<◌, ◌∙◌, ◌∷◌, ◌≡◌}
-use Rattle.drawing.proofs.Common.{◌≤◌}
-use Rattle.std.proofs.Common.{append-nil, refl}
+use Rattle.drawing.proofs.Common.{[], ap, append-nil, append_assoc, arith, ClaimLine, drop, enumerate_from}
+use Rattle.drawing.proofs.Common.{fold-append, fold_more, get_or, greatest_call, length, length-take-le, List, map-id}
+use Rattle.drawing.proofs.Common.{map-range_with_len_more, max, Operation, point, range_with_len, refl, sym, take}
+use Rattle.drawing.proofs.Common.{take_all, zero-add, ℕ, ◌++◌, ◌+◌, ◌-◌, ◌<◌, ◌∙◌, ◌∷◌, ◌≡◌, ◌≤◌}
 use Rattle.drawing.specs.Captions.{cover_caption, one_of_cover}
 use Rattle.std.proofs.lemmas.List.{map-append, take_more}
 use Rattle.std.proofs.lemmas.Grind.{flat_map-append, take_at_read}
-use Rattle.std.proofs.lemmas.List.FromFn.{map-range_with_len_more}
 
 -- ---- texts to which pieces are added in turn
 

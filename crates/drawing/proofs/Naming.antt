@@ -1,11 +1,10 @@
 -- Different values have different names: a value is read back from its name.
-use Rattle.drawing.proofs.Common.{[], ◌%◌, ◌*◌, ◌+◌, ◌/◌, ◌<◌, ◌==◌, ◌^◌, ◌∙◌, ◌∷◌, ◌≡◌, ap, arith, Bool, cond, decimal, drop}
-use Rattle.drawing.proofs.Common.{false, get_or, List, nat_lt, nat_tests, refl, sym, true, ℕ}
+use Rattle.drawing.proofs.Common.{[], All-weaker, ap, arith, Bool, cond, decimal, drop, false, get_or, List, nat_lt}
+use Rattle.drawing.proofs.Common.{nat_tests, refl, sym, true, ℕ, ◌%◌, ◌*◌, ◌+◌, ◌/◌, ◌<◌, ◌==◌, ◌^◌, ◌∙◌, ◌∷◌, ◌≡◌}
 use Rattle.std.specs.Char.{is_ascii_digit}
 use Rattle.std.specs.List.{All, list_all, slice_split}
 use Rattle.std.specs.Str.Parse.{digits_value}
 use Rattle.std.proofs.lemmas.Fmt.{digits_value-decimal}
-use Rattle.std.proofs.lemmas.List.Elements.{All-weaker}
 use Rattle.std.proofs.lemmas.List.Splits.{slice_split_at, slice_split_none}
 use Rattle.std.proofs.lemmas.List.Sums.{AllPass-from_list_all}
 use Rattle.std.proofs.lemmas.Str.Parse.{numerals_by_value}

@@ -1,20 +1,18 @@
 -- Rows stand in the order of time.
-use Rattle.drawing.proofs.Common.{[], add-one, ap, arith, cases_lt, Claimed, cond, cond_both, Contains}
+use Rattle.drawing.proofs.Common.{[], add-one, ap, ap₂, arith, cases_lt, Claimed, cond, cond_both, Contains}
 use Rattle.drawing.proofs.Common.{Contains-append_left, Contains-append_right, Contains-permutation, contains_at}
 use Rattle.drawing.proofs.Common.{contains_cons, effect_if, effect_rows, enumerate_from, eq-eqb, eqb-true, Event}
-use Rattle.drawing.proofs.Common.{event_rows, false, flat_map, fold, has_row, HistoryView, initial_row, initial_rows}
-use Rattle.drawing.proofs.Common.{inl, inr, IsPermutation-sym, left_out_rows, length, List, max, nat_eq, nat_tests}
-use Rattle.drawing.proofs.Common.{not_in_none, one_at, Operation, operation_within, operations_of, pairs_at, point}
-use Rattle.drawing.proofs.Common.{Precedes, refl, returns_at_no_call, Row, row_number, rows_after, rows_of, slice_get}
-use Rattle.drawing.proofs.Common.{slice_get_within, Some, stands_above, subst, suc, sum_by, sum_by-append, sum_by-cons}
-use Rattle.drawing.proofs.Common.{sym, take, traced, true, Yes, zero, zero-add, ℕ, ◌++◌, ◌+◌, ◌<◌, ◌==◌, ◌||◌, ◌∙◌}
-use Rattle.drawing.proofs.Common.{◌∷◌, ◌≡◌, ◌≤◌, ◌⊎◌}
-use Rattle.std.proofs.Common.{ap₂}
+use Rattle.drawing.proofs.Common.{event_rows, false, flat_map, fold, get_or-enumerate_from, has_row, HistoryView}
+use Rattle.drawing.proofs.Common.{initial_row, initial_rows, inl, inr, IsPermutation-sym, left_out_rows, length}
+use Rattle.drawing.proofs.Common.{length-enumerate_from, List, max, nat_eq, nat_tests, not_in_none, one_at, Operation}
+use Rattle.drawing.proofs.Common.{operation_within, operations_of, pairs_at, point, Precedes, refl, returns_at_no_call}
+use Rattle.drawing.proofs.Common.{Row, row_number, rows_after, rows_of, slice_get, slice_get_within, Some}
+use Rattle.drawing.proofs.Common.{stands_above, subst, suc, sum_by, sum_by-append, sum_by-cons, sym, take, traced}
+use Rattle.drawing.proofs.Common.{true, Yes, zero, zero-add, ℕ, ◌++◌, ◌+◌, ◌<◌, ◌==◌, ◌||◌, ◌∙◌, ◌∷◌, ◌≡◌, ◌≤◌, ◌⊎◌}
 use Rattle.history_merge.specs.Legal.{IsLegalOrder}
 use Rattle.drawing.specs.Laws.{EffectRowsAreInBars, EffectRowsRise, EffectsAreInBars, EffectsHaveRows, EffectsRise}
 use Rattle.drawing.specs.Laws.{events_in, EventsAreCounted, InitialRowsAreFirst, InitialValuesHaveRows}
 use Rattle.drawing.specs.Laws.{OperationsHaveRows, RowsRise, RowsTellPrecedence}
-use Rattle.std.proofs.lemmas.List.FromFn.{get_or-enumerate_from, length-enumerate_from}
 use Rattle.std.proofs.lemmas.Option.{get_or_from_slice_get}
 use Rattle.drawing.specs.Claim.{order_of}
 use Rattle.drawing.specs.declared.scene.Row.TheVariants.{Effect, Head, Initial, LeftOut, Ticket}
