@@ -308,7 +308,8 @@ items_faulty format n k old new bytes (Err fault) taken part e =
 
 -- a faulty next line has been counted
 pub next_line_faulty : {A : Type 0} (read : ℕ → List (List ℕ) → Result A TextFault) (n m : ℕ) (old new : Option Ahead) (bytes : List ℕ)
-    (r : Result A TextFault) → m ≡ n → Takes old new (line bytes) × IsPartOfLine bytes → r ≡ read m (fields_of bytes) → IfErr r (FaultAtFront (λ end fault front. line_at_front read n end front ≡ Err fault) old)
+    (r : Result A TextFault) → m ≡ n → Takes old new (line bytes) × IsPartOfLine bytes → r ≡ read m (fields_of bytes)
+    → IfErr r (FaultAtFront (λ end fault front. line_at_front read n end front ≡ Err fault) old)
 next_line_faulty read n m old new bytes (Ok said) same taken e = tt
 next_line_faulty read n m old new bytes (Err fault) same taken e =
     at_line (λ end front. line_at_front read n end front ≡ Err fault) old new bytes taken.0 taken.1 (λ end rest. rw (← same, ← e) refl)
@@ -360,7 +361,13 @@ pub item_is_first : {A : Type 0} (format : Format A) (n m : ℕ) (items : List A
 item_is_first format n m items k old mid fault of_input right taken k_is m_is h =
     line_fault (λ i e r f. item_at_front format i k e (front_of r) ≡ Err f) (λ e b f. ItemFault format n e f b) (NoRoom format) (n + length items) m
     old mid (lines_of format items) fault m_is of_input taken
-    (λ e r next. record { items = items; rest = r; right = right; front = refl; next = subst (λ j. item_at_front format (n + length items) j e (front_of r) ≡ Err fault) k_is next }) h
+    (λ e r next. record {
+      items = items;
+      rest = r;
+      right = right;
+      front = refl;
+      next = subst (λ j. item_at_front format (n + length items) j e (front_of r) ≡ Err fault) k_is next;
+    }) h
 
 -- ---- one more item
 

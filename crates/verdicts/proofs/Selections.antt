@@ -181,7 +181,8 @@ module _ {from to : List Operation} {g : Operation → Operation} {IsTaken : Ope
   violation_carried (witness empty cover) taken is =
       let first = taken empty (zero, omega arith, refl) in record {
         answers_empty = c.did empty Empty first is.answers_empty;
-        covers = cover_carried empty (Some empty) cover first (λ o at. elim (contains_cons empty [] o at) [ inl same ↦ subst IsTaken same first | inr none ↦ absurd (not_in_none o none) ])
+        covers = cover_carried empty (Some empty) cover first
+            (λ o at. elim (contains_cons empty [] o at) [ inl same ↦ subst IsTaken same first | inr none ↦ absurd (not_in_none o none) ])
             (λ o at. taken o (one_deeper empty (flat_map operations_of_life cover) o at)) is.covers;
       }
 
