@@ -1,5 +1,6 @@
 -- Bands beside the lanes of a `NO`: when a value definitely was in the queue, or was not, and the time that contradicts it.
-use Rattle.std.specs.Prelude.{ℕ, ◌+◌, ◌&&◌, ◌||◌, not, is_some, if◌then◌else◌, Bool, nat_lt, nat_le, Option, Some, None, option_and_then, slice_get, List, [], ◌∷◌, ◌++◌, codes}
+use Rattle.std.specs.Prelude.{ℕ, ◌+◌, ◌&&◌, ◌||◌, not, is_some, if◌then◌else◌, Bool, nat_lt, nat_le}
+use Rattle.std.specs.Prelude.{Option, Some, None, option_and_then, slice_get, List, [], ◌∷◌, ◌++◌, codes}
 use Rattle.std.specs.List.{concat}
 use Rattle.history_merge.specs.declared.operation.OpKind.{OpKind}
 use Rattle.history_merge.specs.declared.operation.OpKind.TheVariants as kind

@@ -1,5 +1,6 @@
 -- What stands in a picture: labels, threads, tickets, the operations in rows, numbers and points of effect.
-use Rattle.std.specs.Prelude.{ℕ, ◌+◌, ◌-◌, ◌++◌, codes, max, ◌&&◌, if◌then◌else◌, nat_le, nat_eq, Bool, false, Option, Some, None, List, [], filter, find, map}
+use Rattle.std.specs.Prelude.{ℕ, ◌+◌, ◌-◌, ◌++◌, codes, max, ◌&&◌, if◌then◌else◌, nat_le, nat_eq, Bool, false}
+use Rattle.std.specs.Prelude.{Option, Some, None, List, [], filter, find, map}
 use Rattle.std.specs.Prelude.{length, take, decimal, replicate, fold}
 use Rattle.std.specs.List.{list_any, range_with_len, position}
 use Rattle.event_records.specs.declared.limits.TheConstants.{MAX_THREAD}

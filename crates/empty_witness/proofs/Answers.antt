@@ -109,7 +109,8 @@ covered_if_none operations o (Some c) is none = cc
 
 -- a gap that is found is the least free one of the window
 pub gap_if_some : (operations : List Operation) (o : Operation) (found : Option ℕ)
-    → MatchOption found (IsCovered operations o) (λ c. IsLeastFreeGap operations o (time_of c)) → is_none found ≡ false → (c : ℕ) × IsLeastFreeGap operations o (time_of c)
+    → MatchOption found (IsCovered operations o) (λ c. IsLeastFreeGap operations o (time_of c)) → is_none found ≡ false
+    → (c : ℕ) × IsLeastFreeGap operations o (time_of c)
 gap_if_some operations o None covered some = cc
 gap_if_some operations o (Some c) is some = (c, is)
 

@@ -28,7 +28,8 @@ returns-in_ok-cover_of-in-Covered c =
     rw (c.told_place.ensures, count) (
       c.in-Covered.first.operation,
       cover.0,
-      empty_told matching.initial matching.operations (few_initial _ _ c.initial.ensures.clear.complete) c.in-Covered.first.place c.in-Covered.first.operation all.2.at all.2.is_empty.1,
+      empty_told matching.initial matching.operations (few_initial _ _ c.initial.ensures.clear.complete)
+          c.in-Covered.first.place c.in-Covered.first.operation all.2.at all.2.is_empty.1,
       cover.1,
       first_is_chosen (timeline_of matching) all.0 c.in-Covered.first cover.0 all.1 all.2 cover.2,
       cover.3,
