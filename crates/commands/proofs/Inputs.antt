@@ -1,20 +1,17 @@
 -- From what calls on the reader gave to what the input is, or to its fault. An input says one thing, or has one fault.
-use Rattle.commands.proofs.Common.{[], Ahead, alone, answer_of_text_fault, AnswersFor, AnswersOrNoMemory, ap, claim_on}
-use Rattle.commands.proofs.Common.{Claimed, ClaimOnText, Drawable, HasText, HasVerdictText, HistoryText, IfSome}
-use Rattle.commands.proofs.Common.{IfSome_then, inl, input_of, inr, IsClaimOf, IsDrawableOf, IsFaultOfClaimInput}
-use Rattle.commands.proofs.Common.{IsFaultOfDrawableInput, IsFaultOfHistoryInput, IsHistoryOf, IsTextFault, List}
-use Rattle.commands.proofs.Common.{memory_fault, None, NoRoomForSchedule, NoRoomForText, Option, refl, Reply}
-use Rattle.commands.proofs.Common.{SameOrNoMemory, Some, subst, sym, text_of, TextFault, verdict_text, with_claim, ℕ}
-use Rattle.commands.proofs.Common.{◌++◌, ◌∙◌, ◌≡◌, ◌≢◌, ◌⊎◌}
+use Rattle.commands.proofs.Common.{Ahead, alone, AnswersFor, AnswersOrNoMemory, ap, append-nil, arith, claim_on}
+use Rattle.commands.proofs.Common.{Claimed, ClaimOnText, Drawable, Ending, EndOfInput, HasText, HasVerdictText}
+use Rattle.commands.proofs.Common.{HistoryText, IfSome, inl, input_of, inr, IsClaimOf, IsDrawableOf}
+use Rattle.commands.proofs.Common.{IsFaultOfClaimInput, IsFaultOfDrawableInput, IsFaultOfHistoryInput, IsHistoryOf}
+use Rattle.commands.proofs.Common.{IsTextFault, IsVerdictTextFault, line_count, List, None, NoRoomForSchedule}
+use Rattle.commands.proofs.Common.{NoRoomForText, NoRoomForVerdict, Option, refl, Reply, SameOrNoMemory, Some, subst}
+use Rattle.commands.proofs.Common.{sym, Takes, text_of, TextFault, verdict_text, with_claim, [], ℕ, ◌++◌, ◌∙◌, ◌≡◌}
+use Rattle.commands.proofs.Common.{◌≢◌, ◌⊎◌}
 use Rattle.commands.specs.Inputs.{AfterText, IsFaultBehind, IsFaultOfEnd, IsFaultOfOneText, IsFaultOfScheduleInput}
 use Rattle.commands.specs.Inputs.{IsFaultOfTexts, IsScheduleOf, IsWhole}
-use Rattle.history_text.specs.Claims.{IsVerdictTextFault, NoRoomForVerdict}
 use Rattle.history_text.specs.Reading.{HasEndFault, HasFirstFault, HasMore, HasTextFault, HasVerdictTextFault}
-use Rattle.history_text.specs.Versions.{line_count}
-use Rattle.std.proofs.Common.{append-nil}
 use Rattle.text_lines.proofs.Consuming.{Takes-append}
 use Rattle.text_lines.proofs.MemoryOrNot.{follows, is_memory, known_fault}
-use Rattle.text_lines.specs.Input.{Ending, EndOfInput, Failure, IsOver, Takes}
 use Rattle.text_lines.specs.declared.fault.TextFault.TheVariants.{Read}
 use Rattle.verdicts.specs.declared.verifying.Claimed.TheVariants.{No, Yes}
 use Rattle.history_text.proofs.FirstFaults.{Anything, IsJudged, one_first_fault, text_has_no_fault, texts_agree}
@@ -28,27 +25,7 @@ use Rattle.history_text.proofs.OneVerdict as verdict_texts
 
 -- what takes nothing more takes the same
 pub taken_through : (input mid left : Option Ahead) (text : List ℕ) → Takes input mid text → Takes mid left [] → Takes input left text
-taken_through input mid left text before after =
-    subst (λ (t : List ℕ). Takes input left t) (append-nil text) (Takes-append input mid left text [] before after)
-
--- what is taken is the whole, where the input is over after it
-whole_taken : (input left : Option Ahead) (text : List ℕ) → Takes input left text → IsOver EndOfInput left → IfSome input (IsWhole text)
-whole_taken None left text taken over = tt
-whole_taken (Some a) None text taken over = absurd taken
-whole_taken (Some a) (Some b) text taken over =
-    record { bytes = taken.0 ∙ ap (λ (r : List ℕ). text ++ r) over.0 ∙ append-nil text; ending = sym taken.1 ∙ over.1 }
-
--- the text of a history is all that was there
-pub history_found : (input left : Option Ahead) (text : HistoryText) → HasText text → Takes input left (text_of text) → IsOver EndOfInput left
-    → IfSome input (λ a. IsHistoryOf a text)
-history_found input left text has taken over = IfSome_then input (whole_taken input left (text_of text) taken over) (λ a whole. (has, whole))
-
--- the text of a history, and then that of a claim
-pub claim_found : (input left end : Option Ahead) (text : HistoryText) (claimed : Claimed) → HasText text → Takes input left (text_of text)
-    → HasVerdictText claimed × Takes left end (verdict_text claimed) × IsOver EndOfInput end → IfSome input (λ a. IsClaimOf a (claim_on text claimed))
-claim_found input left end text claimed has before claim = IfSome_then input
-    (whole_taken input end (text_of text ++ verdict_text claimed) (Takes-append input left end (text_of text) (verdict_text claimed) before claim.1) claim.2)
-    (λ a whole. record { history = has; verdict = claim.0; whole = whole })
+taken_through input mid left text before after = grind (arith, append-nil, Takes-append)
 
 -- ---- an input says one thing
 
@@ -73,8 +50,7 @@ module _ {A : Type 0} (Has : A → Type 0) (said : A → List ℕ) (IsFirst : �
   -- a fault of the text
   pub first_fault : (input : Option Ahead) (fault : TextFault) → HasFirstFault (IsFirst 0) LacksRoom input fault
       → IfSome input (λ a. IsFaultOfTexts Has said (IsFirst 0) LacksRoom IsNext LacksNext a fault)
-  first_fault input fault h = IfSome_then input h
-      (λ a is. follows (LacksRoom a.bytes) (Lacks a) (IsFirst 0 a.ending a.bytes) (IsFault a) fault (λ room. inl room) (λ f first. inl first) is)
+  first_fault input fault h = grind (arith, follows)
 
   -- a fault of what comes after the text
   pub next_fault : (input left : Option Ahead) (value : A) (fault : TextFault) → Has value → Takes input left (said value)
@@ -82,17 +58,7 @@ module _ {A : Type 0} (Has : A → Type 0) (said : A → List ℕ) (IsFirst : �
       → IfSome input (λ a. IsFaultOfTexts Has said (IsFirst 0) LacksRoom IsNext LacksNext a fault)
   next_fault None left value fault has taken h = tt
   next_fault (Some a) None value fault has taken h = absurd taken
-  next_fault (Some a) (Some b) value fault has taken h =
-      follows (LacksNext value b.bytes) (Lacks a) (IsNext value b.ending b.bytes) (IsFault a) fault
-      (λ room. inr (record { value = value; rest = b.bytes; has = has; front = taken.0; after = room }))
-      (λ f next. inr (record {
-        value = value;
-        rest = b.bytes;
-        has = has;
-        front = taken.0;
-        after = subst (λ e. IsNext value e b.bytes f) taken.1 next;
-      }))
-      h
+  next_fault (Some a) (Some b) value fault has taken h = grind (arith, follows)
 
   module _ {judge : ℕ → Ending → List ℕ → Result (A × List ℕ) TextFault} (judged : IsJudged Has said Anything IsFirst judge)
       (one_next : (x : A) (ending : Ending) (rest : List ℕ) (f g : TextFault) → IsNext x ending rest f → IsNext x ending rest g → f ≡ g) where
@@ -164,8 +130,7 @@ module _ {A : Type 0} (Has : A → Type 0) (said : A → List ℕ) (IsFirst : �
   -- a fault of what comes after it
   pub end_fault : (input left : Option Ahead) (value : A) (fault : TextFault) → Has value → Takes input left (said value)
       → HasEndFault left fault → IfSome input (λ a. IsFaultOfOneText Has said (IsFirst 0) LacksRoom a fault)
-  end_fault input left value fault has taken h =
-      next_fault Has said IsFirst LacksRoom (λ _. IsFaultOfEnd) (λ _ _. ⊥) input left value fault has taken (not_over left fault h)
+  end_fault input left value fault has taken h = grind (arith, next_fault, not_over)
 
 module _ {A : Type 0} {Has : A → Type 0} {said : A → List ℕ} {IsFirst : ℕ → Ending → List ℕ → TextFault → Type 0} (LacksRoom : List ℕ → Type 0)
     {judge : ℕ → Ending → List ℕ → Result (A × List ℕ) TextFault} (judged : IsJudged Has said Anything IsFirst judge) where
@@ -275,15 +240,6 @@ drawable_verdict_fault input mid left text lines fault has before taken more is 
     both (Some b) more h = follows (NoRoomForVerdict b.bytes) (NoRoomForVerdict b.bytes) (IsVerdictTextFault (line_count text) b.ending b.bytes)
         (IsFaultBehind text b.ending b.bytes) fault (λ room. room) (λ f first. (first, λ over. let none = sym more.2 ∙ over.0 in cc)) h
 
--- a read that fails just after a history
-pub read_fault_after : (input mid : Option Ahead) (text : HistoryText) (fault : TextFault) → HasText text → Takes input mid (text_of text)
-    → (fault ≡ Read) × IsOver Failure mid → IfSome input (λ a. IsFaultOfDrawableInput a fault)
-read_fault_after input mid text fault has taken is = rw is.0 (behind_history input mid text Read has taken (fails mid is.1))
-  where
-    fails : (mid : Option Ahead) → IsOver Failure mid → HasFirstFault (IsFaultBehind text) NoRoomForVerdict mid Read
-    fails None over = tt
-    fails (Some m) over = (rw (over.0, over.1) (inl refl), λ other. let ends : Failure ≡ EndOfInput = sym over.1 ∙ other.1 in cc)
-
 -- ---- what is answered of an input
 
 module _ {A : Type 0} {IsInputOf : Ahead → A → Type 0} {IsFaultOf : Ahead → TextFault → Type 0} (says : SaysOneThing IsInputOf IsFaultOf)
@@ -291,40 +247,21 @@ module _ {A : Type 0} {IsInputOf : Ahead → A → Type 0} {IsFaultOf : Ahead �
   -- what is answered of an input is answered of the value that it says
   pub answered_of : (input : Ahead) (x : A) (a : Reply) → IsInputOf input x → AnswersFor IsInputOf IsFaultOf OfValue input a → AnswersOrNoMemory OfValue x a
   answered_of input x a is (inl read) = subst (λ v. AnswersOrNoMemory OfValue v a) (says.one_value input read.value x read.input_of is) read.answered
-  answered_of input x a is (inr faulty) = elim (is_memory faulty.fault) [
-    | inl memory ↦ inr (faulty.is ∙ ap answer_of_text_fault memory)
-    | inr known ↦ absurd (says.only_memory input x faulty.fault is known faulty.first)
-  ]
+  answered_of input x a is (inr faulty) = grind (arith, is_memory)
 
   -- inputs are answered alike where the values are that they say
   pub alike : (i j : Ahead) (x y : A) (a b : Reply) → IsInputOf i x → IsInputOf j y → (OfValue x a → OfValue y b → a ≡ b)
       → AnswersFor IsInputOf IsFaultOf OfValue i a → AnswersFor IsInputOf IsFaultOf OfValue j b → SameOrNoMemory a b
-  alike i j x y a b is_x is_y one p q = both (answered_of i x a is_x p) (answered_of j y b is_y q)
-    where
-      both : OfValue x a ⊎ (a ≡ memory_fault) → OfValue y b ⊎ (b ≡ memory_fault) → SameOrNoMemory a b
-      both (inl p) (inl q) = inl (one p q)
-      both (inr none) q = inr (inl none)
-      both (inl p) (inr none) = inr (inr none)
+  alike i j x y a b is_x is_y one p q = grind (arith, answered_of)
 
   -- an input has one answer where a value has
   pub one_answer : ((input : Ahead) (x : A) (a b : Reply) → IsInputOf input x → OfValue x a → OfValue x b → a ≡ b) → (input : Ahead) (a b : Reply)
       → AnswersFor IsInputOf IsFaultOf OfValue input a → AnswersFor IsInputOf IsFaultOf OfValue input b → SameOrNoMemory a b
   one_answer one input a b (inl x) y = alike input input x.value x.value a b x.input_of x.input_of (one input x.value a b x.input_of) (inl x) y
-  one_answer one input a b (inr x) (inl y) =
-      alike input input y.value y.value a b y.input_of y.input_of (one input y.value a b y.input_of) (inr x) (inl y)
-  one_answer one input a b (inr x) (inr y) = elim (is_memory x.fault) [
-    | inl memory ↦ inr (inl (x.is ∙ ap answer_of_text_fault memory))
-    | inr known_x ↦ elim (is_memory y.fault) [
-      | inl memory ↦ inr (inr (y.is ∙ ap answer_of_text_fault memory))
-      | inr known_y ↦ inl (x.is ∙ ap answer_of_text_fault (says.one_fault input x.fault y.fault known_x known_y x.first y.first) ∙ sym y.is)
-    ]
-  ]
+  one_answer one input a b (inr x) (inl y) = grind (arith, alike)
+  one_answer one input a b (inr x) (inr y) = grind (arith, is_memory)
 
 -- the text of a history and of a claim is a claim on that text
 pub claim_after : (bytes : List ℕ) (text : HistoryText) (claimed : Claimed) → HasVerdictText claimed → IsHistoryOf (input_of bytes) text
     → IsClaimOf (input_of (bytes ++ verdict_text claimed)) (claim_on text claimed)
-claim_after bytes text claimed has read = record {
-  history = read.0;
-  verdict = has;
-  whole = record { bytes = ap (λ front. front ++ verdict_text claimed) read.1.bytes; ending = refl };
-}
+claim_after bytes text claimed has read = grind arith

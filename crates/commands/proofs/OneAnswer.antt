@@ -1,36 +1,36 @@
 -- What is answered of a history that was read, what of that is written, and what is answered of what is written. Out
 -- of memory aside an input has one answer.
-use Rattle.commands.proofs.Common.{[], Ahead, All, alone, answer_of_text_fault, AnswersFor, AnswersOf}
-use Rattle.commands.proofs.Common.{AnswersOrNoMemory, ap, arith, Attempt, Bool, claim_of, claim_on, Claimed}
-use Rattle.commands.proofs.Common.{ClaimOnText, codes, collected_lists, converted, Converts, Counts, Drawable, Draws}
-use Rattle.commands.proofs.Common.{Event, false, filter, flat_map, HasText, HasVerdictText, HistoryText, HistoryView}
-use Rattle.commands.proofs.Common.{IfSome, IfSome_then, in_version_2, inl, input_of, inr, IsClaimOf, IsCompleteFrom}
-use Rattle.commands.proofs.Common.{IsCompleteHistory, IsDecided, IsDrawableOf, IsExact, IsFaultOfClaimInput}
-use Rattle.commands.proofs.Common.{IsFaultOfHistoryInput, IsHistoryOf, IsLinearizable, IsMerged, IsOfVerdict, IsSound}
-use Rattle.commands.proofs.Common.{judged, Judges, LEAST_INITIAL_NAME, length, List, memory_fault, No, None, One}
-use Rattle.commands.proofs.Common.{operations_of, Option, played, refl, rejections, Reply, said_by, said_in}
-use Rattle.commands.proofs.Common.{SameOrNoMemory, Setting, shown, ShrinksSound, Some, subst, sym, take, text_of}
-use Rattle.commands.proofs.Common.{TextFault, true, Two, Verdict, verdict_text, Verifies, Version, with_claim, Yes, ℕ}
-use Rattle.commands.proofs.Common.{⊎_map, ◌++◌, ◌+◌, ◌<◌, ◌∙◌, ◌∷◌, ◌≡◌, ◌≢◌, ◌≤◌, ◌⊎◌}
-use Rattle.std.proofs.Common.{Contains, drop, get_or, IsTrue, nat_eq, rules, suc, zero, ◌↔◌}
-use Rattle.std.proofs.lemmas.Bool.Decides.{nat_tests}
+use Rattle.commands.proofs.Common.{accepted, Ahead, All, alone, answer_of_text_fault, AnswersFor, AnswersOf}
+use Rattle.commands.proofs.Common.{AnswersOrNoMemory, ap, arith, Attempt, Bool, CheckedIsValid, claim_of, claim_on}
+use Rattle.commands.proofs.Common.{Claimed, ClaimOnText, codes, collected_lists, Contents, converted}
+use Rattle.commands.proofs.Common.{ConvertedIsChecked, ConvertedIsCounted, ConvertedIsKept, ConvertedIsSameHistory}
+use Rattle.commands.proofs.Common.{ConvertedIsVerified, Converts, Counts, Drawable, DrawnAsChecked, Draws, Event}
+use Rattle.commands.proofs.Common.{false, filter, flat_map, HasOneAnswer, HasText, HasVerdictText, HaveValueLines}
+use Rattle.commands.proofs.Common.{HistoryText, HistoryView, IfSome, IfSome_then, in_version_2, inl, input_of, inr}
+use Rattle.commands.proofs.Common.{IsClaimOf, IsCompleteFrom, IsCompleteHistory, IsDecided, IsDone, IsDrawableOf}
+use Rattle.commands.proofs.Common.{IsExact, IsFaultOfClaimInput, IsFaultOfHistoryInput, IsHistoryOf, IsLinearizable}
+use Rattle.commands.proofs.Common.{IsMerged, IsOfVerdict, IsSound, IsValidOrNoMemory, IsWithinRanges, judged, Judges}
+use Rattle.commands.proofs.Common.{length, List, MAX_EVENTS, MAX_INITIAL, MAX_STRESS_INITIAL, MAX_THREADS}
+use Rattle.commands.proofs.Common.{memory_fault, No, None, One, operations_at, operations_of, Option, played}
+use Rattle.commands.proofs.Common.{pointwise, PrintsAnswer, PrintsOneOf, refl, rejections, Reply, said_by, said_in}
+use Rattle.commands.proofs.Common.{SameOrNoMemory, Setting, Settings, shown, ShrinksSound, ShrunkIsChecked}
+use Rattle.commands.proofs.Common.{ShrunkIsValid, Some, subst, sym, take, text_of, TextFault, true, Two, value_format}
+use Rattle.commands.proofs.Common.{Verdict, verdict_text, verified, Verifies, Version, with_claim, Yes, [], ℕ, ⊎_map}
+use Rattle.commands.proofs.Common.{◌++◌, ◌+◌, ◌<◌, ◌∙◌, ◌∷◌, ◌≡◌, ◌≢◌, ◌≤◌, ◌⊎◌}
+use Rattle.std.proofs.Common.{Contains, drop, get_or, IsTrue, nat_eq, rules, suc, ◌↔◌}
 use Rattle.clap.specs.Kinds.{HasKind, IsAmong, Kinds}
 use Rattle.clap.specs.Values.{kind_of}
 use Rattle.clap.specs.declared.error.Error.{Error}
 use Rattle.command_words.specs.Commands.{check, convert, draw, Request, shrink, sim, stats, verify}
-use Rattle.command_words.specs.Options.{IsWithinRanges, Settings}
 use Rattle.commands.specs.Answers.{answer_of_history_fault, answer_status, counted, run_fault, ShowsNoViolation}
-use Rattle.commands.specs.Answers.{verified}
 use Rattle.commands.specs.Inner.Running.{Explains}
 use Rattle.commands.specs.Judging.{DrawsAlone, DrawsClaim, DrawsSound, FaultOr, IsDrawnDecided, IsEvident, IsFaulty}
 use Rattle.commands.specs.Judging.{IsOfValue, IsPlayed, IsShrunk, IsVerdictClaim, Shrinks, Simulates, SimulatesIn}
-use Rattle.commands.specs.Running.{PrintsAnswer, PrintsOneOf}
-use Rattle.commands.specs.Stressing.{first_values, IsFirstNamed, IsShownRun, run_version, RunsOrFails}
+use Rattle.commands.specs.Stressing.{first_values, IsFirstNamed, IsShownRun, RunsOrFails}
 use Rattle.commands.specs.declared.stress.TheConstants.{TRIES}
 use Rattle.event_records.specs.Question.{Question}
 use Rattle.event_records.specs.declared.kind.Answer.{Answer}
 use Rattle.event_records.specs.declared.kind.Kind.{Kind}
-use Rattle.event_records.specs.declared.limits.TheConstants.{MAX_EVENTS, MAX_INITIAL, MAX_STRESS_INITIAL, MAX_THREADS}
 use Rattle.history_merge.specs.declared.operation.Operation.{Operation}
 use Rattle.messages.specs.Messages.{IsMessage}
 use Rattle.messages.specs.Quoting.{IsPrintable}
@@ -38,16 +38,13 @@ use Rattle.recorder_core.proofs.Collecting.{collected_is_fit}
 use Rattle.recorder_core.proofs.Fitting.{merged_is_complete}
 use Rattle.recorder_core.proofs.Legal.{effects_order_is_legal}
 use Rattle.recorder_core.specs.Initial.{AreInitialNames}
-use Rattle.recorder_core.specs.Laws.{IsDone}
 use Rattle.recorder_core.specs.Replay.{AreRecorded, effects_order, IsHonest, Replays}
-use Rattle.recorder_core.specs.Schedule.{accepted}
 use Rattle.simulation.specs.declared.playing.Rejection.{Rejection}
 use Rattle.std.proofs.Math.Seq.{drop-cons}
 use Rattle.std.proofs.lemmas.Cmp.{nat_list_eq_equiv}
 use Rattle.std.proofs.lemmas.List.{take-append-drop, take_more}
 use Rattle.std.proofs.lemmas.List.Elements.{All-filter, All-from_recursion, All-push, recursion_from_All}
 use Rattle.std.proofs.lemmas.List.FromFn.{get_or-range_with_len, length-range_with_len}
-use Rattle.std.specs.Cmp.Lexicographic.{pointwise}
 use Rattle.std.specs.List.{AllByRecursion}
 use Rattle.stress_run.specs.Crew.{SizesView}
 use Rattle.stress_run.specs.Failed.{IsFaultOfRun}
@@ -56,25 +53,17 @@ use Rattle.stress_run.specs.Preloaded.{AreTaken, IsFirstRefused}
 use Rattle.stress_run.specs.Recorded.{RecordedView}
 use Rattle.stress_run.specs.declared.faults.RunFault.{RunFault}
 use Rattle.stress_run.specs.declared.faults.RunFault.TheVariants.{Preload}
-use Rattle.verdicts.specs.Claiming.{operations_at}
 use Rattle.workloads.specs.Seeds.{IsSeeded}
 use Rattle.command_words.specs.declared.options.DrawOptions.{DrawOptions}
-use Rattle.commands.specs.Evidence.{CheckedIsValid, ConvertedIsChecked, ConvertedIsCounted, ConvertedIsKept}
-use Rattle.commands.specs.Evidence.{ConvertedIsSameHistory, ConvertedIsVerified, DrawnAsChecked, HasOneAnswer}
-use Rattle.commands.specs.Evidence.{IsValidOrNoMemory, ShrunkIsChecked, ShrunkIsValid}
-use Rattle.commands.specs.Inputs.{drawable}
 use Rattle.history_merge.proofs.Faults.{complete_has_no_fault, one_first_fault}
 use Rattle.history_merge.specs.Faults.{IsFirstFault}
-use Rattle.history_merge.specs.Initial.{Contents}
 use Rattle.history_merge.specs.declared.fault.HistoryFault.{HistoryFault}
 use Rattle.history_merge.specs.declared.fault.HistoryFault.TheVariants.{Memory}
 use Rattle.history_stats.proofs.OneStatistics.{one_statistics}
 use Rattle.history_text.proofs.WrittenClaims.{claim_has_text}
-use Rattle.history_text.specs.Histories.{HasEventLine, HasHistoryText}
+use Rattle.history_text.specs.Histories.{HasHistoryText}
 use Rattle.history_text.specs.Items.{HaveLines}
-use Rattle.history_text.specs.Versions.{HaveValueLines, value_format}
 use Rattle.std.proofs.lemmas.List.Sorted.{Contains-permutation, IsPermutation-sym}
-use Rattle.text_lines.specs.Lines.{greatest_value}
 use Rattle.verdicts.proofs.NamedPlaces.{part_is_one, verdict_has_few_lines}
 use Rattle.verdicts.proofs.ShrunkHistories.{IsWhole, selection_is_one}
 use Rattle.verdicts.proofs.OneVerdict.{chosen_violation_is_one, same_lists, verdict_is_one}
@@ -97,19 +86,7 @@ pub played_found : (setting : Setting) (schedule : List Attempt) (rejected : Lis
     → IsMerged lists history.events → IsCompleteFrom history.initial history.events → history.initial ≡ setting.initial
     → IsDecided history.initial (operations_of history.events) verdict
     → SimulatesIn setting schedule (played rejected history.events (claim_of history.initial (operations_of history.events) verdict))
-played_found setting schedule rejected is lists history verdict ended merged complete same decided = inl (
-  ended.0,
-  record {
-    events = history.events;
-    merged = subst (λ ls. IsMerged ls history.events) ended.1 merged;
-    complete = complete.complete;
-    answered = record {
-      verdict = verdict;
-      decided = subst (λ initial. IsDecided initial (operations_of history.events) verdict) same decided;
-      is = λ i. played (is i) history.events (claim_of (same i) (operations_of history.events) verdict);
-    };
-  },
-)
+played_found setting schedule rejected is lists history verdict ended merged complete same decided = grind arith
 
 module _ (setting : Setting) (schedule : List Attempt) (few : setting.threads ≤ MAX_THREADS) (lists : List (List Event))
     (ended : IsDone setting schedule × (lists ≡ collected_lists setting schedule)) where
@@ -150,35 +127,9 @@ honest_gets_a_yes setting schedule answer few honest done (inl ended) =
 
 -- a queue may be given them
 pub first_values_are_names : (count : ℕ) → count ≤ MAX_STRESS_INITIAL → AreInitialNames (first_values count)
-first_values_are_names count few = record {
-  not_too_many = omega (arith, length-range_with_len LEAST_INITIAL_NAME count, few);
-  are_distinct = λ j k d before below. grind (arith, get_or-range_with_len, length-range_with_len);
-  above_names = λ k d below. grind (arith, get_or-range_with_len, length-range_with_len);
-}
-
--- version 1 is that of a queue that was given none
-pub none_in_version_1 : (count : ℕ) → run_version count ≡ One → first_values count ≡ []
-none_in_version_1 zero is = refl
-none_in_version_1 (suc n) is = grind (arith, nat_tests)
+first_values_are_names count few = grind (arith, length-range_with_len, get_or-range_with_len)
 
 -- ---- what a run gives
-
--- what is decided of the history of a run
-pub judged_run : (count : ℕ) (lists : List (List Event)) (history : HistoryView) (verdict : Verdict) (version : Version)
-    → IsMerged lists history.events → IsCompleteFrom history.initial history.events → history.initial ≡ first_values count
-    → IsDecided history.initial (operations_of history.events) verdict → version ≡ run_version count
-    → AnswersOrNoMemory (IsShownRun count) lists (shown (said_in version history) (claim_of history.initial (operations_of history.events) verdict))
-judged_run count lists history verdict version merged complete same decided is_version = inl (record {
-  events = history.events;
-  merged = merged;
-  complete = subst (λ initial. IsCompleteFrom initial history.events) same complete;
-  answered = record {
-    verdict = verdict;
-    decided = subst (λ initial. IsDecided initial (operations_of history.events) verdict) same decided;
-    is = λ i. shown (said_in (is_version i) (record { initial = same i; events = history.events }))
-        (claim_of (same i) (operations_of history.events) verdict);
-  };
-})
 
 -- what is answered of the lists that a run recorded is what `stress` answers
 pub recorded_run : (may : Question → Answer → Type 0) (may_preload : ℕ → Bool → Type 0) (settings : Settings) (plan : List (List Kind))
@@ -265,11 +216,6 @@ module _ (old new : Option (List ℕ)) (refused : Bool) (result : ℕ) where
   reads_out_of_memory quiet request None printed = tt
   reads_out_of_memory quiet request (Some a) printed = memory_printed quiet (AnswersOf request a) printed
 
--- and the status says so
-pub memory_has_3 : (old new : Option (List ℕ)) (refused : Bool) (result : ℕ) → PrintsAnswer old new refused result memory_fault → result ≡ 3
-memory_has_3 old new false result printed = printed.1
-memory_has_3 old new true result printed = printed.1
-
 -- ---- the message that memory ran out
 
 -- it is a message
@@ -292,14 +238,12 @@ faulty_or history answer answered = ⊎_map inl (λ memory. memory) answered
 
 -- a history that has a fault isn't complete
 not_both : (history : HistoryView) (answer : Reply) → IsFaulty history answer → IsSound history → ⊥
-not_both history answer faulty complete =
-    faulty.known (complete_has_no_fault history.initial history.events faulty.fault faulty.first complete)
+not_both history answer faulty complete = grind (arith, complete_has_no_fault)
 
 -- a history is answered in one way where a complete one is
 one_of_history : (history : HistoryView) (a b : Reply) {P Q : Type 0} → (IsSound history → P → Q → a ≡ b) → IsFaulty history a ⊎ (IsSound history × P)
     → IsFaulty history b ⊎ (IsSound history × Q) → a ≡ b
-one_of_history history a b one (inl x) (inl y) = x.is ∙ ap answer_of_history_fault
-    (one_first_fault history.initial history.events x.fault y.fault x.known y.known x.first y.first) ∙ sym y.is
+one_of_history history a b one (inl x) (inl y) = grind (arith, one_first_fault)
 one_of_history history a b one (inl x) (inr y) = absurd (not_both history a x y.0)
 one_of_history history a b one (inr x) (inl y) = absurd (not_both history b y x.0)
 one_of_history history a b one (inr x) (inr y) = one x.0 x.1 y.1
@@ -333,16 +277,12 @@ few_values text has = (have_lines text.version text.initial has.initial).few
 -- one thing is made of the verdict on a complete history
 one_of_verdict : {A : Type 0} (history : HistoryView) (made_of : Claimed → A) (x y : A) → length history.initial ≤ MAX_INITIAL → IsSound history
     → IsOfVerdict history made_of x → IsOfVerdict history made_of y → x ≡ y
-one_of_verdict history made_of x y few complete p q = p.is ∙ ap (λ v. made_of (claim_of history.initial (operations_of history.events) v))
-    (verdict_is_one history.initial history.events p.verdict q.verdict complete few p.decided.chosen p.decided.exact q.decided.chosen q.decided.exact)
-    ∙ sym q.is
+one_of_verdict history made_of x y few complete p q = grind (arith, verdict_is_one)
 
 -- the claim of the verdict on a complete history is true
 pub decided_is_true : (history : HistoryView) (claimed : Claimed) → IsSound history → length history.initial ≤ MAX_INITIAL → IsVerdictClaim history claimed
     → IsTrueClaim history.initial (operations_of history.events) claimed
-decided_is_true history claimed complete few right =
-    subst (IsTrueClaim history.initial (operations_of history.events)) (sym right.is)
-    (evidence_is_true history.initial history.events right.verdict complete few right.decided.evidence)
+decided_is_true history claimed complete few right = grind (arith, evidence_is_true)
 
 -- the verdict on a linearizable history shows no violation
 pub shows_none : (version : Version) (history : HistoryView) (verdict : Verdict)
@@ -363,15 +303,7 @@ module _ {A : Type 0} (IsInputOf : Ahead → A → Type 0) (IsFaultOf : Ahead �
 pub faults_answered : (P : HistoryText → Reply → Type 0) (input : Option Ahead) (answer : Reply)
     → IfSome input (λ a. AnswersFor IsHistoryOf IsFaultOfHistoryInput (λ text. IsFaulty (said_by text)) a answer)
     → IfSome input (λ a. AnswersFor IsHistoryOf IsFaultOfHistoryInput (λ text. FaultOr (said_by text) (P text)) a answer)
-faults_answered P input answer found = IfSome_then input found (λ a answered. ⊎_map
-    (λ read. record { value = read.value; input_of = read.input_of; answered = faulty_or (said_by read.value) answer read.answered })
-    (λ faulty. faulty) answered)
-
--- whatever is claimed of it, a history has its first fault
-pub faulty_history : (options : DrawOptions) (text : HistoryText) (claimed : Option Claimed) (answer : Reply)
-    → AnswersOrNoMemory IsFaulty (said_by text) answer → AnswersOrNoMemory (Draws options) (drawable text claimed) answer
-faulty_history options text None answer faulty = faulty_or (said_by text) answer faulty
-faulty_history options text (Some claimed) answer faulty = faulty_or (said_by text) answer faulty
+faults_answered P input answer found = grind (arith, ⊎_map, faulty_or)
 
 -- ---- an input has one answer
 
@@ -495,13 +427,7 @@ found_of_history : (P : HistoryText → Reply → Type 0) (input : Ahead) (answe
     → AnswersFor IsHistoryOf IsFaultOfHistoryInput (λ text. FaultOr (said_by text) (P text)) input answer
     → IsOfValue IsHistoryOf (λ text a. IsSound (said_by text) × P text a) input answer
 found_of_history P input answer well (inr faulty) = absurd (omega (arith, well, ap answer_status faulty.is, text_fault_fails faulty.fault))
-found_of_history P input answer well (inl read) = elim read.answered [
-  | inr memory ↦ absurd (omega (arith, well, ap answer_status memory))
-  | inl found ↦ elim found [
-    | inl faulty ↦ absurd (omega (arith, well, ap answer_status faulty.is, history_fault_fails faulty.fault))
-    | inr is ↦ record { value = read.value; input_of = read.input_of; answered = is }
-  ]
-]
+found_of_history P input answer well (inl read) = grind (arith, history_fault_fails)
 
 -- the verdict on a history that has a text
 record IsWritten (t : HistoryText) (claimed : Claimed) : Type 0 where
@@ -528,15 +454,11 @@ lines_kept HasLine keeps xs each =
     recursion_from_All HasLine (filter keeps xs) (All-filter keeps HasLine xs (All-from_recursion HasLine xs each))
 
 part_has_text : (keeps : Event → Bool) (events : List Event) → HasHistoryText events → HasHistoryText (filter keeps events)
-part_has_text keeps events is =
-    record { each = lines_kept HasEventLine keeps events is.each; few = omega (arith, no_longer keeps events, is.few) }
+part_has_text keeps events is = grind (arith, lines_kept, no_longer)
 
 values_have_lines : (version : Version) (keeps : ℕ → Bool) (initial : List ℕ) → HaveValueLines version initial → HaveValueLines version (filter keeps initial)
 values_have_lines One keeps initial none = ap (filter keeps) none
-values_have_lines Two keeps initial have = record {
-  each = lines_kept (λ v. v ≤ greatest_value) keeps initial have.each;
-  few = omega (arith, no_longer keeps initial, have.few);
-}
+values_have_lines Two keeps initial have = grind (arith, lines_kept, no_longer)
 
 -- what is shown of a history is a part of it, with its verdict
 shown_is_written : (input : Ahead) (small : HistoryText) (claimed : Claimed)
@@ -564,10 +486,7 @@ shown_is_written input small claimed shrinks =
 
 -- the claim of a verdict that is written has a text
 claim_is_written : (t : HistoryText) (claimed : Claimed) → IsWritten t claimed → HasVerdictText claimed
-claim_is_written t claimed is =
-    let few_initial = few_values t is.history in
-    let few = verdict_has_few_lines t.initial t.events is.right.verdict is.complete few_initial is.history.events.few is.right.decided.chosen in
-    subst HasVerdictText (sym is.right.is) (claim_has_text t is.right.verdict is.history (omega (arith, few.1)))
+claim_is_written t claimed is = grind (arith, few_values, verdict_has_few_lines, claim_has_text)
 
 -- what is answered of a claim that is true
 true_is_valid : (claim : ClaimOnText) (answer : Reply) → IsSound (said_by claim.text) → IsEvident claim → AnswersOrNoMemory Verifies claim answer
@@ -626,18 +545,12 @@ drawn_as_checked options bytes claimed a b checked =
 -- what is converted is what the input says, in version 2
 conversion : (bytes : List ℕ) (to : HistoryText) → AnswersOf convert (input_of bytes) (converted to)
     → (text : HistoryText) × IsHistoryOf (input_of bytes) text × (to ≡ in_version_2 text)
-conversion bytes to answers =
-    let read = found_of_history (λ text a. a ≡ converted (in_version_2 text)) (input_of bytes) (converted to) (omega arith) answers in
-    let e : converted to ≡ converted (in_version_2 read.value) = read.answered.1 in
-    (read.value, read.input_of, cc)
+conversion bytes to answers = grind (arith, found_of_history)
 
 -- the conversion has a text, which says the same
 says_same : (bytes : List ℕ) (to text : HistoryText) → IsHistoryOf (input_of bytes) text → to ≡ in_version_2 text
     → IsHistoryOf (input_of (text_of to)) (in_version_2 text)
-says_same bytes to text read same = (
-  record { initial = have_lines text.version text.initial read.0.initial; events = read.0.events },
-  record { bytes = ap text_of same; ending = refl },
-)
+says_same bytes to text read same = grind (arith, have_lines)
 
 -- a text and its conversion say one history
 pub converted_is_same_history : ConvertedIsSameHistory

@@ -43,6 +43,7 @@ pub(crate) fn tell<E: TextSink>(bytes: &[u8], errors: &mut E)
 }
 
 /// Writes a message; or, if memory ran out for it, just that.
+#[tactic(auto, using(crate::proofs::OneAnswer::memory_is_message))]
 fn tell_made<E: TextSink>(message: &Result<String, AllocError>, errors: &mut E)
     ensures { IfOk message.now (λ made. IsMessage (string_bytes made)) → E.has_refused errors.old ≡ false
         → SaysMessage (E.contents errors.old) (E.contents errors.new) (E.has_refused errors.new) }

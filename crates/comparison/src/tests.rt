@@ -3,6 +3,7 @@ mod histories;
 mod plain_gaps;
 mod plain_order;
 mod plain_pairs;
+mod plain_values;
 
 use crate::tests::comparing::{Compared, compare, kind_of};
 use crate::tests::histories::{

@@ -1,8 +1,7 @@
 -- How many elements pass a test, where another test lets more of them pass; so lanes of different threads stand apart.
-use Rattle.drawing.proofs.Common.{[], ◌+◌, ◌<◌, ◌∷◌, ◌≡◌, ◌≤◌, ap, arith, Bool, cond, Contains, count_by, false, inl}
-use Rattle.drawing.proofs.Common.{inr, List, mul-le-mul_left, nat_lt, nat_tests, sum_by-cons, true, ℕ, contains_cons, not_in_none}
-use Rattle.drawing.proofs.Common.{lane_place, lanes_before}
-use Rattle.drawing.specs.Laws.{LanesAreApart}
+use Rattle.drawing.proofs.Common.{arith, Bool, cond, Contains, contains_cons, count_by, false}
+use Rattle.drawing.proofs.Common.{lane_place, lanes_before, LanesAreApart, List, mul-le-mul_left, nat_lt, nat_tests}
+use Rattle.drawing.proofs.Common.{not_in_none, sum_by-cons, true, [], ℕ, ◌+◌, ◌<◌, ◌∷◌, ◌≡◌, ◌≤◌, common_steps}
 
 module _ {X : Type 0} (p q : X → Bool) (more : (x : X) → p x ≡ true → q x ≡ true) where
   abbrev one : (X → Bool) → X → ℕ
@@ -16,10 +15,8 @@ module _ {X : Type 0} (p q : X → Bool) (more : (x : X) → p x ≡ true → q 
   -- and fewer, where one passes the second alone
   pub one_fewer : (xs : List X) (x : X) → Contains xs x → p x ≡ false → q x ≡ true → count_by p xs + 1 ≤ count_by q xs
   one_fewer [] x among fails passes = absurd (not_in_none x among)
-  one_fewer (y ∷ ys) x among fails passes = elim (contains_cons y ys x among) [
-    | inl here ↦ grind (arith, sum_by-cons (one p) y ys, sum_by-cons (one q) y ys, ap p here, ap q here, fewer ys)
-    | inr there ↦ grind (arith, sum_by-cons (one p) y ys, sum_by-cons (one q) y ys, more y, one_fewer ys x there fails passes)
-  ]
+  one_fewer (y ∷ ys) x among fails passes =
+      grind (arith, nat_tests, common_steps, contains_cons, sum_by-cons, fewer, one_fewer ys x)
 
 -- ---- lanes
 

@@ -1,8 +1,8 @@
 -- What a loop adds with one more element.
-use Rattle.drawing.proofs.Common.{[], ap, append-nil, append_assoc, arith, ClaimLine, drop, enumerate_from}
+use Rattle.drawing.proofs.Common.{[], ap, append-nil, append_assoc, arith, ClaimLine, drop, enumerate_from, nat_tests}
 use Rattle.drawing.proofs.Common.{fold-append, fold_more, get_or, greatest_call, length, length-take-le, List, map-id}
 use Rattle.drawing.proofs.Common.{map-range_with_len_more, max, Operation, point, range_with_len, refl, sym, take}
-use Rattle.drawing.proofs.Common.{take_all, zero-add, ℕ, ◌++◌, ◌+◌, ◌-◌, ◌<◌, ◌∙◌, ◌∷◌, ◌≡◌, ◌≤◌}
+use Rattle.drawing.proofs.Common.{take_all, zero-add, ℕ, ◌++◌, ◌+◌, ◌-◌, ◌<◌, ◌∙◌, ◌∷◌, ◌≡◌, ◌≤◌, common_steps}
 use Rattle.drawing.specs.Captions.{cover_caption, one_of_cover}
 use Rattle.std.proofs.lemmas.List.{map-append, take_more}
 use Rattle.std.proofs.lemmas.Grind.{flat_map-append, take_at_read}
@@ -13,9 +13,7 @@ use Rattle.std.proofs.lemmas.Grind.{flat_map-append, take_at_read}
 pub cover_more : (number : ℕ) (lines : List ClaimLine) (d e : ClaimLine) → 2 ≤ length lines
     → one_of_cover number (get_or lines 0 d) (get_or lines 1 e) ++ cover_caption (number + 2)
     (take (length lines - 2) (drop 2 lines)) ≡ cover_caption number lines
-cover_more number (x ∷ y ∷ rest) d e h =
-    let whole : take (length (x ∷ y ∷ rest) - 2) rest ≡ rest = take_all _ _ (omega arith) in
-    ap (λ (r : List ClaimLine). one_of_cover number x y ++ cover_caption (number + 2) r) whole
+cover_more number (x ∷ y ∷ rest) d e h = grind (arith, take_all)
 cover_more number lines d e h = absurd (omega arith)
 
 -- the same, and texts to which pieces are added in turn
@@ -30,22 +28,16 @@ range_more n = sym (map-id _) ∙ map-range_with_len_more (λ k. k) 0 n n (zero-
 -- the point of the next operation of an order
 pub point_more : (order : List Operation) (i : ℕ) (d : Operation) (greatest v : ℕ) → i < length order → greatest ≡ greatest_call (take i order)
     → v ≡ max greatest (get_or order i d).call → v ≡ point order i
-point_more order i d greatest v within so_far this =
-    this ∙ ap (λ (g : ℕ). max g (get_or order i d).call) so_far ∙ sym (fold_more (λ (g : ℕ) (o : Operation). max g o.call) 0 order i d within)
+point_more order i d greatest v within so_far this = grind (arith, fold_more)
 
 enumerated-append : {X : Type 0} (a : ℕ) (xs : List X) (x : X) → enumerate_from a (xs ++ x ∷ []) ≡ enumerate_from a xs ++ (a + length xs, x) ∷ []
 enumerated-append a [] x = let e : a ≡ a + 0 = omega arith in ap (λ (i : ℕ). (i, x) ∷ []) e
-enumerated-append a (y ∷ ys) x =
-    let e : a + 1 + length ys ≡ a + length (y ∷ ys) = omega arith in
-    ap (λ (r : List _). (a, y) ∷ r) (enumerated-append (a + 1) ys x ∙ ap (λ (i : ℕ). enumerate_from (a + 1) ys ++ (i, x) ∷ []) e)
+enumerated-append a (y ∷ ys) x = grind (arith, enumerated-append (a + 1) ys x)
 
 -- one element more, with its place
 pub enumerated_more : {X : Type 0} (xs : List X) (i : ℕ) (d : X) → i < length xs
     → enumerate_from 0 (take (i + 1) xs) ≡ enumerate_from 0 (take i xs) ++ (i, get_or xs i d) ∷ []
-enumerated_more xs i d within =
-    let e : 0 + length (take i xs) ≡ i = omega (arith, length-take-le i xs (omega arith)) in
-    ap (enumerate_from 0) (take_more xs i d within) ∙ enumerated-append 0 (take i xs) (get_or xs i d)
-    ∙ ap (λ (k : ℕ). enumerate_from 0 (take i xs) ++ (k, get_or xs i d) ∷ []) e
+enumerated_more xs i d within = grind (arith, nat_tests, common_steps, length-take-le, take_more, enumerated-append)
 
 -- the same as `grind` finds it: at the element that is read
 pub enumerate_at_read : {X : Type 0} (xs : List X) (i : ℕ) (d : X) → i < length xs

@@ -1,20 +1,17 @@
 -- Different values have different names: a value is read back from its name.
-use Rattle.drawing.proofs.Common.{[], All-weaker, ap, arith, Bool, cond, decimal, drop, false, get_or, List, nat_lt}
-use Rattle.drawing.proofs.Common.{nat_tests, refl, sym, true, ℕ, ◌%◌, ◌*◌, ◌+◌, ◌/◌, ◌<◌, ◌==◌, ◌^◌, ◌∙◌, ◌∷◌, ◌≡◌}
+use Rattle.drawing.proofs.Common.{All, All-weaker, AllPass-from_list_all, ap, arith, Bool, cond, decimal, drop, false}
+use Rattle.drawing.proofs.Common.{get_or, InitialValuesHaveTheirNames, List, list_all, nat_tests, refl, slice_split}
+use Rattle.drawing.proofs.Common.{sym, true, ValuesHaveTheirNames, [], ℕ, ◌*◌, ◌+◌, ◌<◌, ◌==◌, ◌^◌, ◌∙◌, ◌∷◌, ◌≡◌}
 use Rattle.std.specs.Char.{is_ascii_digit}
-use Rattle.std.specs.List.{All, list_all, slice_split}
 use Rattle.std.specs.Str.Parse.{digits_value}
 use Rattle.std.proofs.lemmas.Fmt.{digits_value-decimal}
 use Rattle.std.proofs.lemmas.List.Splits.{slice_split_at, slice_split_none}
-use Rattle.std.proofs.lemmas.List.Sums.{AllPass-from_list_all}
 use Rattle.std.proofs.lemmas.Str.Parse.{numerals_by_value}
-use Rattle.event_records.specs.declared.limits.TheConstants.{MAX_THREADS, NAMES_OF_A_THREAD}
 use Rattle.text_lines.proofs.Numbers.{digits_test}
 use Rattle.text_lines.proofs.WrittenLines.{all_digits}
 use Rattle.drawing.specs.declared.names.Name.{Name}
 use Rattle.drawing.specs.declared.names.Name.TheVariants.{OfThread, OfInitial, Plain}
-use Rattle.drawing.specs.Names.{name_by, name_of, name_text, initial_text, value_text}
-use Rattle.drawing.specs.Laws.{ValuesHaveTheirNames, InitialValuesHaveTheirNames}
+use Rattle.drawing.specs.Names.{name_of, name_text, initial_text, value_text}
 
 -- ---- reading a name
 
@@ -50,35 +47,9 @@ number n small = digits_value-decimal (numerals_by_value _ digits_test) n small
 
 -- ---- names
 
--- what holds in each case holds of a name
-by_cases : (P : Name → Type 0) (owner number v : ℕ) → P (Plain v) → P (OfThread owner number) → (owner ≡ 64 → P (OfInitial number))
-    → P (name_by owner number v)
-by_cases P owner number v plain own initial = go (owner == 0) (nat_lt owner MAX_THREADS) (owner == MAX_THREADS) refl
-  where
-    go : (none below last : Bool) → (owner == MAX_THREADS) ≡ last
-        → P (cond none (Plain v) (cond below (OfThread owner number) (cond last (OfInitial number) (Plain v))))
-    go true below last is = plain
-    go false true last is = own
-    go false false true is = initial (grind (arith, nat_tests))
-    go false false false is = plain
-
 -- a value is read back from its name
 read_back : (v : ℕ) → v < 2 ^ 64 → read (value_text v) ≡ v
-read_back v small =
-    let thread = v / NAMES_OF_A_THREAD in
-    let place = v % NAMES_OF_A_THREAD in
-    let thread_small : thread < 2 ^ 64 = omega arith in
-    let place_small : place < 2 ^ 64 = omega arith in
-    by_cases (λ name. read (name_text name) ≡ v) thread place v
-    (rw (one_part v small) (number v small))
-    (rw (
-      slice_split_at is_colon (decimal thread) 58 (decimal place) (no_colon thread thread_small) refl,
-      one_part place place_small,
-      all_digits thread thread_small,
-      number thread thread_small,
-      number place place_small,
-    ) (omega arith))
-    (λ e. rw (one_part place place_small, number place place_small) (omega arith))
+read_back v small = grind (arith, one_part, number, slice_split_at, no_colon, all_digits)
 
 -- a label of an initial value is read like its name
 read_label : (name : Name) → read_initial (initial_text name) ≡ read (name_text name)

@@ -1,23 +1,21 @@
 -- Which operations are drawn: those that overlap one of a `NO`, and with no distance no others; and the bars in the lanes are these.
-use Rattle.drawing.proofs.Common.{[], ap, AreComplete, arith, Bool, cases_lt, Claimed, ClaimLine, cond, cond_both}
-use Rattle.drawing.proofs.Common.{Contains, Contains-append_left, Contains-append_right, contains_at}
+use Rattle.drawing.proofs.Common.{ap, AreComplete, arith, BarsAreOfOperations, Bool, cases_lt, Claimed, ClaimLine}
+use Rattle.drawing.proofs.Common.{cond, cond_both, Contains, Contains-append_left, Contains-append_right, contains_at}
 use Rattle.drawing.proofs.Common.{contains_cons, count_by, drawn_operations, eq-eqb, eqb-true, Event, events_before}
-use Rattle.drawing.proofs.Common.{false, find, flat_map, found_first, get_or, HistoryView, inl, inr, is_near_any}
-use Rattle.drawing.proofs.Common.{is_under_way, IsCompleteHistory, IsPartitionedBy-ltb, IsTraced, length}
-use Rattle.drawing.proofs.Common.{List, list_any, lt-ltb, map, nat_lt, nat_tests, No}
-use Rattle.drawing.proofs.Common.{None, not_in_none, one_at, one_deeper, Op, Operation, operation_in, operation_within}
-use Rattle.drawing.proofs.Common.{operations_are_complete, operations_in, operations_of, Option}
-use Rattle.drawing.proofs.Common.{pairs_at, passed_filter, passes_filter, position, position_or_len}
-use Rattle.drawing.proofs.Common.{refl, returns_at_no_call, same_call, slice_get, slice_get-get_or, slice_get_within}
-use Rattle.drawing.proofs.Common.{Some, stand_near, standing_of, stands_in, subst, suc, sum_by-cons, sym}
-use Rattle.drawing.proofs.Common.{traced, true, Yes, zero, ℕ, ◌<◌, ◌||◌, ◌∙◌, ◌∷◌, ◌≡◌, ◌≤◌}
+use Rattle.drawing.proofs.Common.{false, find, flat_map, found_first, get_or, HistoryView, InitialLinesHaveNumbers}
+use Rattle.drawing.proofs.Common.{InitialNumbersAreOfLines, inl, inr, is_near_any, is_under_way, IsCompleteHistory}
+use Rattle.drawing.proofs.Common.{IsPartitionedBy-ltb, IsTraced, length, LinesAreDrawn, List, list_any, lt-ltb, map}
+use Rattle.drawing.proofs.Common.{nat_lt, nat_tests, No, None, not_in_none, one_at, one_deeper, Op, Operation}
+use Rattle.drawing.proofs.Common.{operation_in, operation_within, operations_are_complete, operations_in}
+use Rattle.drawing.proofs.Common.{operations_of, Option, OverlappingAreDrawn, pairs_at, passed_filter, passes_filter}
+use Rattle.drawing.proofs.Common.{position, position_or_len, refl, returns_at_no_call, same_call, slice_get}
+use Rattle.drawing.proofs.Common.{slice_get-get_or, slice_get_within, Some, stand_near, standing_of, stands_in, subst}
+use Rattle.drawing.proofs.Common.{suc, sum_by-cons, sym, traced, true, Yes, zero, [], ℕ, ◌<◌, ◌||◌, ◌∙◌, ◌∷◌, ◌≡◌, ◌≤◌}
 use Rattle.std.proofs.lemmas.List.Folds.{Any-from_list_any, find_at, list_any-from_Any}
 use Rattle.std.specs.List.Sorted.{IsPartitionedBy}
 use Rattle.event_records.specs.Turns.{TicketsRise}
 use Rattle.verdicts.specs.declared.verifying.ClaimLine.TheVariants.{Initial}
-use Rattle.drawing.specs.Laws.{BarsAreOfOperations, InitialLinesHaveNumbers, InitialNumbersAreOfLines, LinesAreDrawn}
 use Rattle.drawing.specs.Laws.{LinesAreOfHistory, LinesHaveNumbers, NoOtherBars, NoOthersAreDrawn, NumbersAreOfLines}
-use Rattle.drawing.specs.Laws.{OverlappingAreDrawn}
 use Rattle.drawing.proofs.Below.{fewer, one_fewer}
 use Rattle.std.proofs.lemmas.List.Quantifiers.{position-Some}
 use Rattle.verdicts.proofs.ShownLines.{each_there}
@@ -81,10 +79,7 @@ in_operations lines o among = in_flat_map operation_in lines (Op o) o among (con
 
 from_operations : (lines : List ClaimLine) (o : Operation) → Contains (operations_in lines) o → Contains lines (Op o)
 from_operations [] o among = absurd (not_in_none o among)
-from_operations (Op x ∷ lines) o among = elim (contains_cons x (operations_in lines) o among) [
-  | inl here ↦ contains_at (Op x ∷ lines) 0 (Op o) (ap (λ y. Some (Op y)) here)
-  | inr there ↦ one_deeper (Op x) lines (Op o) (from_operations lines o there)
-]
+from_operations (Op x ∷ lines) o among = grind (arith, contains_cons, contains_at, one_deeper, from_operations lines o)
 from_operations (Initial v ∷ lines) o among = one_deeper (Initial v) lines (Op o) (from_operations lines o among)
 
 -- ---- what is drawn

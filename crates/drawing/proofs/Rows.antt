@@ -1,21 +1,21 @@
 -- Rows stand in the order of time.
-use Rattle.drawing.proofs.Common.{[], add-one, ap, ap₂, arith, cases_lt, Claimed, cond, cond_both, Contains}
+use Rattle.drawing.proofs.Common.{add-one, ap, ap₂, arith, cases_lt, Claimed, common_steps, cond, cond_both, Contains}
 use Rattle.drawing.proofs.Common.{Contains-append_left, Contains-append_right, Contains-permutation, contains_at}
 use Rattle.drawing.proofs.Common.{contains_cons, effect_if, effect_rows, enumerate_from, eq-eqb, eqb-true, Event}
-use Rattle.drawing.proofs.Common.{event_rows, false, flat_map, fold, get_or-enumerate_from, has_row, HistoryView}
-use Rattle.drawing.proofs.Common.{initial_row, initial_rows, inl, inr, IsPermutation-sym, left_out_rows, length}
-use Rattle.drawing.proofs.Common.{length-enumerate_from, List, max, nat_eq, nat_tests, not_in_none, one_at, Operation}
-use Rattle.drawing.proofs.Common.{operation_within, operations_of, pairs_at, point, Precedes, refl, returns_at_no_call}
-use Rattle.drawing.proofs.Common.{Row, row_number, rows_after, rows_of, slice_get, slice_get_within, Some}
-use Rattle.drawing.proofs.Common.{stands_above, subst, suc, sum_by, sum_by-append, sum_by-cons, sym, take, traced}
-use Rattle.drawing.proofs.Common.{true, Yes, zero, zero-add, ℕ, ◌++◌, ◌+◌, ◌<◌, ◌==◌, ◌||◌, ◌∙◌, ◌∷◌, ◌≡◌, ◌≤◌, ◌⊎◌}
+use Rattle.drawing.proofs.Common.{event_rows, events_in, EventsAreCounted, false, flat_map, fold}
+use Rattle.drawing.proofs.Common.{get_or-enumerate_from, get_or_from_slice_get, has_row, HistoryView, initial_row}
+use Rattle.drawing.proofs.Common.{initial_rows, InitialRowsAreFirst, InitialValuesHaveRows, inl, inr}
+use Rattle.drawing.proofs.Common.{IsPermutation-sym, left_out_rows, length, length-enumerate_from, List, max, nat_eq}
+use Rattle.drawing.proofs.Common.{nat_tests, not_in_none, one_at, Operation, operation_within, operations_of}
+use Rattle.drawing.proofs.Common.{OperationsHaveRows, pairs_at, point, Precedes, refl, returns_at_no_call, Row}
+use Rattle.drawing.proofs.Common.{row_number, rows_after, rows_of, RowsRise, RowsTellPrecedence, slice_get}
+use Rattle.drawing.proofs.Common.{slice_get_within, Some, stands_above, subst, suc, sum_by, sum_by-append, sum_by-cons}
+use Rattle.drawing.proofs.Common.{sym, take, traced, true, Yes, zero, zero-add, [], ℕ, ◌++◌, ◌+◌, ◌<◌, ◌||◌, ◌∙◌, ◌∷◌}
+use Rattle.drawing.proofs.Common.{◌≡◌, ◌≤◌, ◌⊎◌}
 use Rattle.history_merge.specs.Legal.{IsLegalOrder}
 use Rattle.drawing.specs.Laws.{EffectRowsAreInBars, EffectRowsRise, EffectsAreInBars, EffectsHaveRows, EffectsRise}
-use Rattle.drawing.specs.Laws.{events_in, EventsAreCounted, InitialRowsAreFirst, InitialValuesHaveRows}
-use Rattle.drawing.specs.Laws.{OperationsHaveRows, RowsRise, RowsTellPrecedence}
-use Rattle.std.proofs.lemmas.Option.{get_or_from_slice_get}
 use Rattle.drawing.specs.Claim.{order_of}
-use Rattle.drawing.specs.declared.scene.Row.TheVariants.{Effect, Head, Initial, LeftOut, Ticket}
+use Rattle.drawing.specs.declared.scene.Row.TheVariants.{Effect, Head, Initial, Ticket}
 use Rattle.drawing.proofs.Below.{fewer, one_fewer}
 use Rattle.drawing.proofs.Nearness.{any_of, in_flat_map}
 
@@ -189,21 +189,14 @@ operations_have_rows history claimed drawn o among drawn_too =
 
 none_in_all : {X : Type 0} (f : X → List Row) → ((x : X) → sum_by events_in (f x) ≡ 0) → (xs : List X) → sum_by events_in (flat_map f xs) ≡ 0
 none_in_all f none [] = refl
-none_in_all f none (x ∷ xs) =
-    let here = none x in
-    let later = none_in_all f none xs in
-    omega (arith, sum_by-append events_in (f x) (flat_map f xs))
+none_in_all f none (x ∷ xs) = grind (arith, sum_by-append, none_in_all f none xs)
 
 counted_left_out : (count last : ℕ) → sum_by events_in (left_out_rows count last) ≡ count
-counted_left_out count last = cond_both (count == 0) [] (LeftOut count last ∷ []) (λ rows. sum_by events_in rows ≡ count)
-    (λ none. sym (eqb-true count 0 none)) (λ some. omega (arith, sum_by-cons events_in (LeftOut count last) []))
+counted_left_out count last = grind (arith, cond_both, eqb-true, sum_by-cons)
 
 counted_with_event : (order : List Operation) (e : Event) → sum_by events_in (event_rows order e) ≡ 1
 unfolding effect_rows
-counted_with_event order e =
-    let effects = none_in_all (effect_if order e.ticket) (λ (i, o). cond_both (point order i == e.ticket) (Effect o (i + 1) (point order i) ∷ []) []
-    (λ rows. sum_by events_in rows ≡ 0) (λ is. refl) (λ is. refl)) (enumerate_from 0 order) in
-    omega (arith, sum_by-append events_in (Ticket e.ticket ∷ []) (flat_map (effect_if order e.ticket) (enumerate_from 0 order)))
+counted_with_event order e = grind (arith, nat_tests, common_steps, none_in_all, cond_both, sum_by-append)
 
 counted_after : (drawn order : List Operation) (count last : ℕ) (events : List Event)
     → sum_by events_in (rows_after drawn order count last events) ≡ count + length events
@@ -222,15 +215,7 @@ counted_after drawn order count last (e ∷ later) =
 pub events_are_counted : EventsAreCounted
 unfolding rows_of
 events_are_counted history claimed drawn =
-    let first = none_first history.initial in
-    let others = counted_after drawn (order_of claimed) 0 0 history.events in
-    omega (arith, sum_by-append events_in (initial_rows history.initial) (rows_after drawn (order_of claimed) 0 0 history.events))
-  where
-    none_first : (initial : List ℕ) → sum_by events_in (initial_rows initial) ≡ 0
-    none_first [] = refl
-    none_first (front ∷ others) =
-        let all = none_in_all initial_row (λ (place, v). refl) (enumerate_from 0 (front ∷ others)) in
-        omega (arith, sum_by-append events_in (Head ∷ []) (flat_map initial_row (enumerate_from 0 (front ∷ others))))
+    grind (arith, nat_tests, common_steps, counted_after, sum_by-append, none_in_all)
 
 -- an operation has its row after the event at its point
 after_its_event : (order : List Operation) (i : ℕ) (o : Operation) (e : Event) → slice_get order i ≡ Some o → e.ticket ≡ point order i
@@ -252,10 +237,7 @@ effects_have_rows history order i o complete legal at =
 
 pub initial_rows_are_first : InitialRowsAreFirst
 initial_rows_are_first history claimed drawn j later v w ticket at less =
-    let among = initial_values_have_rows history claimed drawn j v at in (
-      rows_rise _ (Initial j v) (Initial later w) among (grind (arith, nat_tests)),
-      rows_rise _ (Initial j v) (Ticket ticket) among (grind (arith, nat_tests)),
-    )
+    grind (arith, nat_tests, initial_values_have_rows, rows_rise)
 
 pub rows_tell_precedence : RowsTellPrecedence
 rows_tell_precedence history claimed drawn x y in_x drawn_too = (
@@ -281,5 +263,4 @@ effect_rows_are_in_bars history order i o complete legal at =
 
 pub effect_rows_rise : EffectRowsRise
 effect_rows_rise history order i j o p complete legal at less =
-    rows_rise _ (Effect o (i + 1) (point order i)) (Effect p (j + 1) (point order j)) (effects_have_rows history order i o complete legal at)
-    (let rises = effects_rise order i j (omega arith) in grind (arith, nat_tests))
+    grind (arith, nat_tests, rows_rise, effects_have_rows, effects_rise)

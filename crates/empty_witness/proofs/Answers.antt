@@ -1,46 +1,45 @@
 -- The empty dequeues by their places, and one more of them in a scan.
 use Rattle.empty_witness.proofs.Common.{[], All, All-append, All-contains, All-get_or, All-nil, All-push, AllZip}
-use Rattle.empty_witness.proofs.Common.{AllZip-get_or, ap, AreGapsAt, AreLeastFreeGaps, arith, behind, Contains}
-use Rattle.empty_witness.proofs.Common.{Contains-get_or, Did, drop, Empty, Enq, false, filter, get_or, get_or_default}
-use Rattle.empty_witness.proofs.Common.{HoldsPlaces, inl, inr, is_empty_answer, is_empty_kind, is_none, IsAt}
-use Rattle.empty_witness.proofs.Common.{IsChosenCover, IsChosenWitness, IsCovered, IsEmptyAnswerAt, IsFirstCovered}
-use Rattle.empty_witness.proofs.Common.{IsLeastFreeGap, IsSoonerOf, later_by, length, Life, List, map, MatchOption}
-use Rattle.empty_witness.proofs.Common.{None, one_at, one_deeper, one_more, one_more_zipped, Operation, Option}
-use Rattle.empty_witness.proofs.Common.{option_map, ORIGIN, passed_filter, passes_filter, refl, slice_get, Some, subst}
-use Rattle.empty_witness.proofs.Common.{suc, sym, take, take-append-drop, time_of, timeline, true, zero, ℕ, ◌++◌, ◌+◌}
-use Rattle.empty_witness.proofs.Common.{◌<◌, ◌∙◌, ◌∷◌, ◌≡◌, ◌≤◌}
-use Rattle.value_match.proofs.ToldPlaces.{at_timeline, timeline_at}
+use Rattle.empty_witness.proofs.Common.{AllZip-get_or, ap, AreGapsAt, AreLeastFreeGaps, arith, clear_on, Contains}
+use Rattle.empty_witness.proofs.Common.{Contains-append_right, Contains-get_or, Contents, Course, course_of, Did, drop}
+use Rattle.empty_witness.proofs.Common.{Empty, false, filter, get_or, get_or_default, HoldsPlaces}
+use Rattle.empty_witness.proofs.Common.{initial_enqueues, inl, inr, is_empty_answer, is_empty_kind, is_none, IsAt}
+use Rattle.empty_witness.proofs.Common.{IsChosenCover, IsChosenWitness, IsClear, IsCovered, IsEmptyAnswerAt}
+use Rattle.empty_witness.proofs.Common.{IsFirstCovered, IsLeastFreeGap, IsSoonerOf, later_by, length, Life, List, map}
+use Rattle.empty_witness.proofs.Common.{MatchOption, NEVER, None, one_at, one_deeper, one_more, one_more_zipped}
+use Rattle.empty_witness.proofs.Common.{Operation, Option, option_map, ORIGIN, passed_filter, passes_filter, refl}
+use Rattle.empty_witness.proofs.Common.{return_in_range, slice_get, slice_get-map, Some, subst, suc, sym, take}
+use Rattle.empty_witness.proofs.Common.{take-append-drop, time_of, timed, timeline, true, zero, ℕ, ◌++◌, ◌+◌, ◌<◌, ◌∙◌}
+use Rattle.empty_witness.proofs.Common.{◌∷◌, ◌≡◌, ◌≤◌}
+use Rattle.history_merge.proofs.Distinct.{call_by_return, contains_at}
+use Rattle.value_match.proofs.ToldPlaces.{filter_timed, places_timed}
 use Rattle.std.proofs.lemmas.List.{append_assoc}
 use Rattle.history_merge.specs.declared.operation.OpKind.{OpKind}
 use Rattle.history_merge.specs.Legal.{ArePlacesOf}
 use Rattle.empty_witness.specs.declared.search.EmptyAnswer.{EmptyAnswer}
 
--- ---- empty dequeues come behind the initial values on the timeline, and after them
+-- ---- empty dequeues at their times
 
-module _ (initial : List ℕ) (operations : List Operation) where
-  abbrev k : ℕ
-  k = length initial
+-- it was answered so, and returns within the scale
+pub answer_timed : (history : Contents) (place : ℕ) (o : Operation) → IsClear (course_of history) → IsEmptyAnswerAt history.operations place
+    → slice_get history.operations place ≡ Some o → IsAt (timed history.operations) place (later_by ORIGIN o)
+    × Did (timed history.operations) (later_by ORIGIN o) Empty × (o.call ≤ o.ret) × (o.ret + ORIGIN < NEVER)
+answer_timed history place o clear (x, at_x, is) at =
+    let all = timeline history.initial history.operations in
+    let whole = (clear_on history.initial history.operations clear).complete in
+    let timed_at : IsAt (timed history.operations) place (later_by ORIGIN o) = slice_get-map (later_by ORIGIN) history.operations place ∙ ap (option_map (later_by ORIGIN)) at in
+    let among = contains_at (timed history.operations) place (later_by ORIGIN o) timed_at in
+    let there = Contains-append_right (initial_enqueues history.initial) (timed history.operations) (later_by ORIGIN o) among in
+    let same = one_at history.operations place x o at_x at in
+    let range = return_in_range all (later_by ORIGIN o) whole there in
+    let order = call_by_return all (later_by ORIGIN o) whole there in
+    (timed_at, (among, ap (λ (y : Operation). y.kind) (sym same) ∙ is), omega (arith, order), omega (arith, range))
 
-  abbrev all : List Operation
-  all = timeline initial operations
-
-  -- an empty dequeue stands after the initial values on the timeline
-  pub empty_behind : (place : ℕ) → IsEmptyAnswerAt operations place → IsEmptyAnswerAt all (behind k place)
-  empty_behind place empty = elim (at_timeline initial operations (k + place)) [
-    | inl early ↦ absurd (omega (arith, early.0))
-    | inr late ↦ (
-      later_by ORIGIN empty.0,
-      late.1 ∙ ap (λ p. option_map (later_by ORIGIN) (slice_get operations p)) (omega arith) ∙ ap (option_map (later_by ORIGIN)) empty.1,
-      empty.2,
-    )
-  ]
-
-  -- and is called after their enqueues
-  pub called_behind : (p : ℕ) (o : Operation) → IsAt all p o → o.kind ≡ Empty → ORIGIN ≤ o.call
-  called_behind p o at is = elim (timeline_at initial operations p o at) [
-    | inl early ↦ let clash : Enq early.value ≡ Empty = ap (λ (x : Operation). x.kind) early.is ∙ is in absurd (cc)
-    | inr late ↦ let call : late.operation.call + ORIGIN ≡ o.call = ap (λ (x : Operation). x.call) late.is in omega arith
-  ]
+-- the places of the empty dequeues are those of the same at their times
+pub empties_timed : (operations : List Operation) (places : List ℕ) → HoldsPlaces operations is_empty_answer places
+    → HoldsPlaces (timed operations) is_empty_answer places
+empties_timed operations places holds = subst (ArePlacesOf (timed operations) places) (sym (filter_timed is_empty_answer (λ o. refl) operations))
+    (places_timed operations places (filter is_empty_answer operations) holds)
 
 -- ---- the empty dequeues by their places, and one more of them in a scan
 
@@ -98,48 +97,48 @@ place_listed operations (p ∷ places) (x ∷ listed) (suc i) o named within is 
     (more.0, one_deeper p places more.0 more.1, more.2)
 
 -- a window with a free gap is not covered
-pub free_is_not_covered : (operations : List Operation) (o : Operation) (c : ℕ) → IsLeastFreeGap operations o c → ¬ (IsCovered operations o)
-free_is_not_covered operations o c is covered = let life = covered c is.in_window in is.is_free life.0 life.1 life.2
+pub free_is_not_covered : (c : Course) (o : Operation) (gap : ℕ) → IsLeastFreeGap c o gap → ¬ (IsCovered c o)
+free_is_not_covered c o gap is covered = let life = covered gap is.in_window in is.is_free life.0 life.1 life.2
 
 -- what the search for the least free gap says of the window
-pub covered_if_none : (operations : List Operation) (o : Operation) (found : Option ℕ)
-    → MatchOption found (IsCovered operations o) (λ c. IsLeastFreeGap operations o (time_of c)) → is_none found ≡ true → IsCovered operations o
-covered_if_none operations o None covered none = covered
-covered_if_none operations o (Some c) is none = cc
+pub covered_if_none : (c : Course) (o : Operation) (found : Option ℕ)
+    → MatchOption found (IsCovered c o) (λ gap. IsLeastFreeGap c o (time_of gap)) → is_none found ≡ true → IsCovered c o
+covered_if_none c o None covered none = covered
+covered_if_none c o (Some gap) is none = cc
 
 -- a gap that is found is the least free one of the window
-pub gap_if_some : (operations : List Operation) (o : Operation) (found : Option ℕ)
-    → MatchOption found (IsCovered operations o) (λ c. IsLeastFreeGap operations o (time_of c)) → is_none found ≡ false
-    → (c : ℕ) × IsLeastFreeGap operations o (time_of c)
-gap_if_some operations o None covered some = cc
-gap_if_some operations o (Some c) is some = (c, is)
+pub gap_if_some : (c : Course) (o : Operation) (found : Option ℕ)
+    → MatchOption found (IsCovered c o) (λ gap. IsLeastFreeGap c o (time_of gap)) → is_none found ≡ false
+    → (gap : ℕ) × IsLeastFreeGap c o (time_of gap)
+gap_if_some c o None covered some = cc
+gap_if_some c o (Some gap) is some = (gap, is)
 
-module _ (operations : List Operation) where
+module _ (h : Course) where
   -- an answer whose window is covered returned no earlier than this one
   abbrev ReturnsLater : EmptyAnswer → ℕ → Type 0
-  ReturnsLater answer place = (o : Operation) → IsAt operations place o → IsCovered operations o → answer.operation.ret ≤ o.ret
+  ReturnsLater answer place = (o : Operation) → IsAt h.operations place o → IsCovered h o → answer.operation.ret ≤ o.ret
 
   abbrev HasGap : ℕ → ℕ → Type 0
-  HasGap place c = (o : Operation) × IsAt operations place o × IsLeastFreeGap operations o (time_of c)
+  HasGap place c = (o : Operation) × IsAt h.operations place o × IsLeastFreeGap h o (time_of c)
 
   -- if each has a gap none is covered
-  gaps_come_later : (answer : EmptyAnswer) (places gaps : List ℕ) → AreGapsAt operations places gaps → All (ReturnsLater answer) places
+  gaps_come_later : (answer : EmptyAnswer) (places gaps : List ℕ) → AreGapsAt h places gaps → All (ReturnsLater answer) places
   gaps_come_later answer places gaps zip i d within o at covered =
       let has = AllZip-get_or HasGap places gaps i d 0 zip within in
-      absurd (free_is_not_covered operations o (time_of (get_or gaps i 0))
-      (subst (λ x. IsLeastFreeGap operations x (time_of (get_or gaps i 0))) (one_at operations (get_or places i d) has.0 o has.1 at) has.2) covered)
+      absurd (free_is_not_covered h o (time_of (get_or gaps i 0))
+      (subst (λ x. IsLeastFreeGap h x (time_of (get_or gaps i 0))) (one_at h.operations (get_or places i d) has.0 o has.1 at) has.2) covered)
 
   -- the first of some places is the first of others of which none that is covered returned sooner
-  first_of : (seen places : List ℕ) (answer : EmptyAnswer) → IsFirstCovered operations seen answer → All (ReturnsLater answer) places
-      → IsFirstCovered operations places answer
+  first_of : (seen places : List ℕ) (answer : EmptyAnswer) → IsFirstCovered h seen answer → All (ReturnsLater answer) places
+      → IsFirstCovered h places answer
   first_of seen places answer is first = record { at = is.at; is_empty = is.is_empty; is_covered = is.is_covered; first = first }
 
   -- of the first of some places and the first of others, the sooner is the first of both
-  pub sooner_is_first : (low high : List ℕ) (a b r : EmptyAnswer) → IsFirstCovered operations low a → IsFirstCovered operations high b
-      → IsSoonerOf a b r → IsFirstCovered operations (low ++ high) r
+  pub sooner_is_first : (low high : List ℕ) (a b r : EmptyAnswer) → IsFirstCovered h low a → IsFirstCovered h high b
+      → IsSoonerOf a b r → IsFirstCovered h (low ++ high) r
   sooner_is_first low high a b r is_a is_b sooner = elim sooner.is_one [
-    | inl same ↦ first_of low (low ++ high) r (subst (IsFirstCovered operations low) (sym same) is_a) all
-    | inr same ↦ first_of high (low ++ high) r (subst (IsFirstCovered operations high) (sym same) is_b) all
+    | inl same ↦ first_of low (low ++ high) r (subst (IsFirstCovered h low) (sym same) is_a) all
+    | inr same ↦ first_of high (low ++ high) r (subst (IsFirstCovered h high) (sym same) is_b) all
   ]
     where
       all : All (ReturnsLater r) (low ++ high)
@@ -147,101 +146,101 @@ module _ (operations : List Operation) where
           (λ i d within o at covered. omega (arith, sooner.before_second, is_b.first i d within o at covered))
 
   -- if each of the others has a gap, the first is the first of all
-  pub low_is_first : (low high gaps : List ℕ) (a : EmptyAnswer) → IsFirstCovered operations low a → AreGapsAt operations high gaps
-      → IsFirstCovered operations (low ++ high) a
+  pub low_is_first : (low high gaps : List ℕ) (a : EmptyAnswer) → IsFirstCovered h low a → AreGapsAt h high gaps
+      → IsFirstCovered h (low ++ high) a
   low_is_first low high gaps a is zip =
       first_of low (low ++ high) a is (All-append (ReturnsLater a) low high is.first (gaps_come_later a high gaps zip))
 
   -- if each of the others has a gap, the first covered one of the rest is that of all
-  pub high_is_first : (low high gaps : List ℕ) (b : EmptyAnswer) → AreGapsAt operations low gaps → IsFirstCovered operations high b
-      → IsFirstCovered operations (low ++ high) b
+  pub high_is_first : (low high gaps : List ℕ) (b : EmptyAnswer) → AreGapsAt h low gaps → IsFirstCovered h high b
+      → IsFirstCovered h (low ++ high) b
   high_is_first low high gaps b zip is =
       first_of high (low ++ high) b is (All-append (ReturnsLater b) low high (gaps_come_later b low gaps zip) is.first)
 
   -- it is the first of its own place
-  pub first_of_one : (place : ℕ) (x : EmptyAnswer) → x.place ≡ place → IsAt operations place x.operation → Did operations x.operation Empty
-      → IsCovered operations x.operation → IsFirstCovered operations (place ∷ []) x
+  pub first_of_one : (place : ℕ) (x : EmptyAnswer) → x.place ≡ place → IsAt h.operations place x.operation → Did h.operations x.operation Empty
+      → IsCovered h x.operation → IsFirstCovered h (place ∷ []) x
   first_of_one place x same at is_empty covered = record {
-    at = subst (λ p. IsAt operations p x.operation) (sym same) at;
+    at = subst (λ p. IsAt h.operations p x.operation) (sym same) at;
     is_empty = is_empty;
     is_covered = covered;
     first = All-push (ReturnsLater x) [] place (All-nil (ReturnsLater x))
-        (λ o at_o _. subst (λ y. x.operation.ret ≤ y.ret) (one_at operations place x.operation o at at_o) (omega arith));
+        (λ o at_o _. subst (λ y. x.operation.ret ≤ y.ret) (one_at h.operations place x.operation o at at_o) (omega arith));
   }
 
   -- past the gaps of the first places comes an answer whose window is covered, and then what is found of the others
   pub from_the_first : (places gaps others : List ℕ) (i place : ℕ) (x r : EmptyAnswer) → i < length places → place ≡ get_or places i place
-      → AreGapsAt operations (take i places) gaps → IsFirstCovered operations (place ∷ []) x → others ≡ drop (i + 1) places
-      → ((seen : List ℕ) → IsFirstCovered operations seen x → IsFirstCovered operations (seen ++ others) r) → IsFirstCovered operations places r
+      → AreGapsAt h (take i places) gaps → IsFirstCovered h (place ∷ []) x → others ≡ drop (i + 1) places
+      → ((seen : List ℕ) → IsFirstCovered h seen x → IsFirstCovered h (seen ++ others) r) → IsFirstCovered h places r
   from_the_first places gaps others i place x r within is zip covered rest goes_on =
-      let seen = subst (λ ps. IsFirstCovered operations ps x) (sym (one_more places i place within is))
+      let seen = subst (λ ps. IsFirstCovered h ps x) (sym (one_more places i place within is))
       (high_is_first (take i places) (place ∷ []) gaps x zip covered) in
-      subst (λ ps. IsFirstCovered operations ps r) (take-append-drop (i + 1) places)
-      (subst (λ ps. IsFirstCovered operations (take (i + 1) places ++ ps) r) rest (goes_on (take (i + 1) places) seen))
+      subst (λ ps. IsFirstCovered h ps r) (take-append-drop (i + 1) places)
+      (subst (λ ps. IsFirstCovered h (take (i + 1) places ++ ps) r) rest (goes_on (take (i + 1) places) seen))
 
   one_further : (seen others : List ℕ) (i place : ℕ) (r : EmptyAnswer) → i < length others → place ≡ get_or others i place
-      → IsFirstCovered operations ((seen ++ take i others) ++ place ∷ []) r → IsFirstCovered operations (seen ++ take (i + 1) others) r
+      → IsFirstCovered h ((seen ++ take i others) ++ place ∷ []) r → IsFirstCovered h (seen ++ take (i + 1) others) r
   one_further seen others i place r within is first =
-      subst (λ ps. IsFirstCovered operations (seen ++ ps) r) (sym (one_more others i place within is))
-      (subst (λ ps. IsFirstCovered operations ps r) (append_assoc seen (take i others) (place ∷ [])) first)
+      subst (λ ps. IsFirstCovered h (seen ++ ps) r) (sym (one_more others i place within is))
+      (subst (λ ps. IsFirstCovered h ps r) (append_assoc seen (take i others) (place ∷ [])) first)
 
   -- the window of one more of the others is covered
   pub one_more_covered : (seen others : List ℕ) (i place : ℕ) (first x r : EmptyAnswer) → i < length others → place ≡ get_or others i place
-      → IsFirstCovered operations (seen ++ take i others) first → IsFirstCovered operations (place ∷ []) x → IsSoonerOf first x r
-      → IsFirstCovered operations (seen ++ take (i + 1) others) r
+      → IsFirstCovered h (seen ++ take i others) first → IsFirstCovered h (place ∷ []) x → IsSoonerOf first x r
+      → IsFirstCovered h (seen ++ take (i + 1) others) r
   one_more_covered seen others i place first x r within is so_far covered sooner =
       one_further seen others i place r within is (sooner_is_first (seen ++ take i others) (place ∷ []) first x r so_far covered sooner)
 
   -- the window of one more has a gap
   pub one_more_free : (seen others : List ℕ) (i place c : ℕ) (o : Operation) (first : EmptyAnswer) → i < length others → place ≡ get_or others i place
-      → IsFirstCovered operations (seen ++ take i others) first → IsAt operations place o
-      → IsLeastFreeGap operations o (time_of c) → IsFirstCovered operations (seen ++ take (i + 1) others) first
+      → IsFirstCovered h (seen ++ take i others) first → IsAt h.operations place o
+      → IsLeastFreeGap h o (time_of c) → IsFirstCovered h (seen ++ take (i + 1) others) first
   one_more_free seen others i place c o first within is so_far at free =
       one_further seen others i place first within is (low_is_first (seen ++ take i others) (place ∷ []) (c ∷ []) first so_far ((o, at, free), tt))
 
   -- gaps of the first i windows and of the next are those of i + 1
   pub one_more_gap : (places gaps : List ℕ) (i place c : ℕ) (o : Operation) → i < length places → place ≡ get_or places i place
-      → AreGapsAt operations (take i places) gaps → IsAt operations place o → IsLeastFreeGap operations o (time_of c)
-      → AreGapsAt operations (take (i + 1) places) (gaps ++ c ∷ [])
+      → AreGapsAt h (take i places) gaps → IsAt h.operations place o → IsLeastFreeGap h o (time_of c)
+      → AreGapsAt h (take (i + 1) places) (gaps ++ c ∷ [])
   one_more_gap places gaps i place c o within is zip at free =
-      subst (λ seen. AreGapsAt operations seen (gaps ++ c ∷ [])) (sym (one_more places i place within is))
+      subst (λ seen. AreGapsAt h seen (gaps ++ c ∷ [])) (sym (one_more places i place within is))
       (one_more_zipped HasGap (take i places) gaps place c zip (o, at, free))
 
   -- the gaps of two lists of places
-  pub gaps_together : (low high gaps more : List ℕ) → AreGapsAt operations low gaps → AreGapsAt operations high more
-      → AreGapsAt operations (low ++ high) (gaps ++ more)
+  pub gaps_together : (low high gaps more : List ℕ) → AreGapsAt h low gaps → AreGapsAt h high more
+      → AreGapsAt h (low ++ high) (gaps ++ more)
   gaps_together [] high [] more zip zip' = zip'
   gaps_together [] high (c ∷ gaps) more zip zip' = absurd zip
   gaps_together (place ∷ low) high [] more zip zip' = absurd zip
   gaps_together (place ∷ low) high (c ∷ gaps) more zip zip' = (zip.0, gaps_together low high gaps more zip.1 zip')
 
   -- the gaps at the places of all empty dequeues are theirs
-  pub gaps_are_all : (places gaps : List ℕ) → HoldsPlaces operations is_empty_answer places → AreGapsAt operations places gaps
-      → AreLeastFreeGaps operations (map time_of gaps)
-  gaps_are_all places gaps named zip = gaps_listed places (filter is_empty_answer operations) gaps named zip
+  pub gaps_are_all : (places gaps : List ℕ) → HoldsPlaces h.operations is_empty_answer places → AreGapsAt h places gaps
+      → AreLeastFreeGaps h (map time_of gaps)
+  gaps_are_all places gaps named zip = gaps_listed places (filter is_empty_answer h.operations) gaps named zip
     where
-      gaps_listed : (places : List ℕ) (listed : List Operation) (gaps : List ℕ) → ArePlacesOf operations places listed
-          → AreGapsAt operations places gaps → AllZip (λ o c. IsLeastFreeGap operations o c) listed (map time_of gaps)
+      gaps_listed : (places : List ℕ) (listed : List Operation) (gaps : List ℕ) → ArePlacesOf h.operations places listed
+          → AreGapsAt h places gaps → AllZip (λ o c. IsLeastFreeGap h o c) listed (map time_of gaps)
       gaps_listed [] [] [] named zip = tt
       gaps_listed [] [] (c ∷ gaps) named zip = absurd zip
       gaps_listed [] (o ∷ listed) gaps named zip = cc
       gaps_listed (p ∷ places) [] gaps named zip = cc
       gaps_listed (p ∷ places) (o ∷ listed) [] named zip = absurd zip
       gaps_listed (p ∷ places) (o ∷ listed) (c ∷ gaps) named zip =
-          let at : IsAt operations p o = cc in
-          let rest : map (slice_get operations) places ≡ map (λ o. Some o) listed = cc in
-          (subst (λ x. IsLeastFreeGap operations x (time_of c)) (one_at operations p zip.0.0 o zip.0.1 at) zip.0.2, gaps_listed places listed gaps rest zip.1)
+          let at : IsAt h.operations p o = cc in
+          let rest : map (slice_get h.operations) places ≡ map (λ o. Some o) listed = cc in
+          (subst (λ x. IsLeastFreeGap h x (time_of c)) (one_at h.operations p zip.0.0 o zip.0.1 at) zip.0.2, gaps_listed places listed gaps rest zip.1)
 
   -- the first of all empty dequeues whose window is covered is the chosen one
-  pub first_is_chosen : (places : List ℕ) (first : EmptyAnswer) (cover : List Life) → HoldsPlaces operations is_empty_answer places
-      → IsFirstCovered operations places first → IsChosenCover operations first.operation cover
-      → IsChosenWitness operations first.operation cover
+  pub first_is_chosen : (places : List ℕ) (first : EmptyAnswer) (cover : List Life) → HoldsPlaces h.operations is_empty_answer places
+      → IsFirstCovered h places first → IsChosenCover h first.operation cover
+      → IsChosenWitness h first.operation cover
   first_is_chosen places first cover named is chosen = record {
     answers_empty = is.is_empty;
     is_covered = is.is_covered;
     first = λ o did covered.
-        let among = empty_is_listed operations o did in
-        let listed = place_listed operations places (filter is_empty_answer operations) among.0 o named among.1 among.2 in
+        let among = empty_is_listed h.operations o did in
+        let listed = place_listed h.operations places (filter is_empty_answer h.operations) among.0 o named among.1 among.2 in
         All-contains (ReturnsLater first) places listed.0 is.first listed.1 o listed.2 covered;
     cover_is_chosen = chosen;
   }

@@ -6,7 +6,8 @@ pub use Rattle.empty_witness.specs.declared.spans.Span.{Span}
 pub use Rattle.history_merge.proofs.Distinct.{call_before_return, contains_cons, no_enqueue, not_in_none, one_at}
 pub use Rattle.history_merge.proofs.Distinct.{place_of, return_differs_from_call, return_in_range}
 pub use Rattle.event_records.specs.declared.limits.TheConstants.{ORIGIN}
-pub use Rattle.history_merge.specs.Initial.{later_by, timeline}
+pub use Rattle.history_merge.specs.Initial.{Contents, later_by}
+pub use Rattle.history_merge.specs.Inner.Timeline.{initial_enqueues, timeline}
 pub use Rattle.history_merge.specs.Operations.{Did, IsAt, IsInWindow, NoneDid, Precedes}
 pub use Rattle.history_merge.specs.declared.operation.OpKind.TheVariants.{Deq, Empty, Enq, Not}
 pub use Rattle.history_merge.specs.declared.operation.Operation.{Operation}
@@ -22,21 +23,24 @@ pub use Rattle.std.proofs.lemmas.List.Elements.{All-append, All-contains, All-dr
 pub use Rattle.std.proofs.lemmas.List.Elements.{All-nil, All-pop, All-push, All-weaker, AllZip-get_or}
 pub use Rattle.std.proofs.lemmas.List.Elements.{Contains-append_cases, Contains-append_left, Contains-append_right}
 pub use Rattle.std.proofs.lemmas.List.Elements.{Contains-get_or, Contains-push, Contains-push_cases}
-pub use Rattle.std.proofs.lemmas.Option.{MatchOption-at_some, slice_get_within}
+pub use Rattle.std.proofs.lemmas.Option.{MatchOption-at_some, slice_get-map, slice_get_within}
 pub use Rattle.std.specs.List.{AllZip}
 pub use Rattle.std.specs.Prelude.{All, AllPairs, Contains, filter, is_none, IsSome, MatchOption, option_map, slice_get}
 pub use Rattle.std.specs.Prelude.{⊤}
 pub use Rattle.value_match.proofs.Lists.{one_deeper, one_more, one_more_zipped, passed_filter, passes_filter}
-pub use Rattle.value_match.proofs.Lives.{dequeued_if_called, life_is_contained, life_of_contained, places_of_value}
-pub use Rattle.value_match.proofs.Lives.{value_is_life, value_of_life}
-pub use Rattle.value_match.proofs.ToldPlaces.{empty_told, few_initial, value_told}
+pub use Rattle.value_match.proofs.Lives.{dequeued_if_called, life_is_contained, life_of_contained}
 pub use Rattle.value_match.specs.Choice.{IsChosenCover, IsChosenCoverFrom, IsChosenWitness, IsNextOfCover}
 pub use Rattle.value_match.specs.Choice.{StaysAtLeast}
-pub use Rattle.value_match.specs.Lives.{AreLeastFreeGaps, call_or_never, Covers, dequeue_call, dequeue_of, enqueue_of}
-pub use Rattle.value_match.specs.Lives.{enqueue_return, HoldsLives, HoldsPlaces, is_empty_answer, is_empty_kind}
-pub use Rattle.value_match.specs.Lives.{IsCovered, IsFreeGap, IsLeastFreeGap, IsLife, lives_of}
+pub use Rattle.value_match.specs.Lives.{AreLeastFreeGaps, call_or_never, Course, course, course_of, Covers}
+pub use Rattle.value_match.specs.Lives.{dequeue_call, dequeue_of, enqueue_of, enqueue_return, HoldsPlaces}
+pub use Rattle.value_match.specs.Lives.{is_empty_answer, is_empty_kind, IsCovered, IsFreeGap, IsLeastFreeGap, IsLife}
+pub use Rattle.value_match.specs.Lives.{lives_of, timed}
 pub use Rattle.value_match.specs.Fronts.{EntersBefore, FindsLongest, IsLongestOf}
-pub use Rattle.value_match.specs.Timeline.{behind, time_of, timeline_of}
+pub use Rattle.value_match.specs.Inner.Courses.{on}
+pub use Rattle.value_match.specs.Times.{time_of}
 pub use Rattle.value_match.specs.Violations.{CoversFrom, IsClear, IsWitnessViolation}
 pub use Rattle.value_match.specs.declared.life.Life.{Life}
 pub use Rattle.value_match.specs.declared.life.MatchedValue.{MatchedValue}
+pub use Rattle.value_match.proofs.ToldPlaces.{clear_on, life_value, value_lives}
+pub use Rattle.value_match.specs.Outcome.{HoldsValues}
+pub use Rattle.value_match.specs.declared.life.TheConstants.{NEVER}

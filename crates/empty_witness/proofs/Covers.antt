@@ -1,25 +1,24 @@
 -- A covered window has its chosen cover, which is as short as any.
-use Rattle.empty_witness.proofs.Common.{[], All, All-append, All-contains, All-weaker, ap, arith, behind}
-use Rattle.empty_witness.proofs.Common.{call_before_return, call_or_never, cases_lt, cases_order, Contains}
-use Rattle.empty_witness.proofs.Common.{Contains-append_cases, Contains-append_right, contains_cons, Covers}
-use Rattle.empty_witness.proofs.Common.{CoversFrom, Deq, dequeue_call, dequeue_of, dequeued_if_called, Did, drop}
-use Rattle.empty_witness.proofs.Common.{Empty, Enq, enqueue_of, enqueue_return, EntersBefore, few_initial}
-use Rattle.empty_witness.proofs.Common.{FindsLongest, HoldsLives, inl, inr, IsChosenCover, IsChosenCoverFrom, IsClear}
-use Rattle.empty_witness.proofs.Common.{IsCovered, IsLife, IsLongestOf, IsNextOfCover, IsSome, IsWitnessViolation}
-use Rattle.empty_witness.proofs.Common.{le-ltb, length, Life, life_is_contained, life_of_contained, List, lives_of}
-use Rattle.empty_witness.proofs.Common.{lt-ltb, MatchBool-at_false, MatchBool-at_true, MatchedValue, MatchOption}
-use Rattle.empty_witness.proofs.Common.{MatchOption-at_some, NamesChosenCover, no_enqueue, None, NoneDid, not_in_none}
-use Rattle.empty_witness.proofs.Common.{one_deeper, one_more_zipped, Operation, Option, option_map, places_of_value}
-use Rattle.empty_witness.proofs.Common.{refl, return_differs_from_call, return_in_range, rules, Some}
-use Rattle.empty_witness.proofs.Common.{StaysAtLeast, subst, suc, sym, take, take-append-drop, timeline, value_is_life}
-use Rattle.empty_witness.proofs.Common.{value_of_life, value_told, zero, ℕ, ◌++◌, ◌+◌, ◌<◌, ◌∷◌, ◌≡◌, ◌≢◌, ◌≤◌, ◌⊎◌}
+use Rattle.empty_witness.proofs.Common.{[], All, All-append, All-contains, All-weaker, ap, arith, call_before_return}
+use Rattle.empty_witness.proofs.Common.{call_or_never, cases_lt, cases_order, clear_on, Contains}
+use Rattle.empty_witness.proofs.Common.{Contains-append_cases, Contains-append_right, contains_cons, Course, course}
+use Rattle.empty_witness.proofs.Common.{Covers, CoversFrom, Deq, dequeue_call, dequeue_of, dequeued_if_called, Did}
+use Rattle.empty_witness.proofs.Common.{drop, Empty, Enq, enqueue_of, enqueue_return, EntersBefore, FindsLongest}
+use Rattle.empty_witness.proofs.Common.{HoldsValues, initial_enqueues, inl, inr, IsChosenCover, IsChosenCoverFrom}
+use Rattle.empty_witness.proofs.Common.{IsClear, IsCovered, IsLife, IsLongestOf, IsNextOfCover, IsSome}
+use Rattle.empty_witness.proofs.Common.{IsWitnessViolation, le-ltb, length, Life, life_is_contained, life_of_contained}
+use Rattle.empty_witness.proofs.Common.{life_value, List, lives_of, lt-ltb, MatchBool-at_false, MatchBool-at_true}
+use Rattle.empty_witness.proofs.Common.{MatchedValue, MatchOption, MatchOption-at_some, NamesChosenCover, NEVER}
+use Rattle.empty_witness.proofs.Common.{no_enqueue, None, NoneDid, not_in_none, on, one_deeper, one_more_zipped}
+use Rattle.empty_witness.proofs.Common.{Operation, Option, refl, return_differs_from_call, return_in_range}
+use Rattle.empty_witness.proofs.Common.{rules, Some, StaysAtLeast, subst, suc, sym, take, take-append-drop, timed}
+use Rattle.empty_witness.proofs.Common.{timeline, value_lives, zero, ℕ, ◌++◌, ◌+◌, ◌<◌, ◌∷◌, ◌≡◌, ◌≢◌, ◌≤◌, ◌⊎◌}
 use Rattle.std.proofs.Common.{append_assoc}
-use Rattle.value_match.specs.declared.life.TheConstants.{NEVER}
 use Rattle.value_match.proofs.Fronts.{stays_as_itself, stays_through}
 use Rattle.history_merge.specs.Complete.{AreComplete}
 use Rattle.value_match.specs.declared.violation.CoverStep.{CoverStep}
-use Rattle.value_match.specs.Outcome.{NamesCover, NamesStep}
-use Rattle.value_match.specs.Timeline.{told_place, told_source}
+use Rattle.value_match.proofs.ToldPlaces.{clear_life}
+use Rattle.value_match.specs.Outcome.{IsNamed, NamesCover}
 
 stays_at_least_one : (x y : Life) → StaysAtLeast x y ⊎ StaysAtLeast y x
 stays_at_least_one x y = elim (cases_order (dequeue_call x) (dequeue_call y)) [
@@ -74,8 +73,8 @@ longest_of (x ∷ lives) frontier = join (longest_of lives frontier) (cases_lt (
     ])
 
 -- if some value was enqueued before the frontier, one of them is next in the cover
-next_of_cover : (operations : List Operation) (frontier : ℕ) (some : Life) → IsClear operations → IsLife operations some
-    → enqueue_return some < frontier → (life : Life) × IsNextOfCover operations frontier life
+next_of_cover : (operations : List Operation) (frontier : ℕ) (some : Life) → IsClear (on operations) → IsLife (on operations) some
+    → enqueue_return some < frontier → (life : Life) × IsNextOfCover (on operations) frontier life
 next_of_cover operations frontier some clear is before = elim (longest_of (lives_of operations) frontier) [
   | inl found ↦ (
     found.0,
@@ -89,37 +88,37 @@ next_of_cover operations frontier some clear is before = elim (longest_of (lives
 ]
 
 -- a cover that goes on after its first value
-go_on : (operations : List Operation) (empty : Operation) (frontier : ℕ) (life : Life) (rest : List Life) → IsLife operations life
-    → enqueue_return life < frontier → dequeue_call life < NEVER → CoversFrom operations empty (dequeue_call life) rest
-    → CoversFrom operations empty frontier (life ∷ rest)
-go_on operations empty frontier life [] is enters dequeued covers = absurd covers
-go_on operations empty frontier life (next ∷ rest) is enters dequeued covers = (is, enters, dequeued, covers)
+go_on : (h : Course) (empty : Operation) (frontier : ℕ) (life : Life) (rest : List Life) → IsLife h life
+    → enqueue_return life < frontier → dequeue_call life < NEVER → CoversFrom h empty (dequeue_call life) rest
+    → CoversFrom h empty frontier (life ∷ rest)
+go_on h empty frontier life [] is enters dequeued covers = absurd covers
+go_on h empty frontier life (next ∷ rest) is enters dequeued covers = (is, enters, dequeued, covers)
 
 -- the chosen cover is a violation
-chosen_covers : (operations : List Operation) (empty : Operation) (frontier : ℕ) (cover : List Life) → empty.ret < NEVER
-    → IsChosenCoverFrom operations empty frontier cover → CoversFrom operations empty frontier cover
-chosen_covers operations empty frontier [] in_range chosen = absurd chosen
-chosen_covers operations empty frontier (life ∷ rest) in_range chosen = elim (cases_lt empty.ret (dequeue_call life)) [
+chosen_covers : (h : Course) (empty : Operation) (frontier : ℕ) (cover : List Life) → empty.ret < NEVER
+    → IsChosenCoverFrom h empty frontier cover → CoversFrom h empty frontier cover
+chosen_covers h empty frontier [] in_range chosen = absurd chosen
+chosen_covers h empty frontier (life ∷ rest) in_range chosen = elim (cases_lt empty.ret (dequeue_call life)) [
   | inl past ↦
-      let ends = MatchBool-at_true (rest ≡ []) (IsChosenCoverFrom operations empty (dequeue_call life) rest) (lt-ltb _ _ past) chosen.1 in
-      subst (λ r. CoversFrom operations empty frontier (life ∷ r)) (sym ends) (chosen.0.is_life, chosen.0.before_frontier, past)
+      let ends = MatchBool-at_true (rest ≡ []) (IsChosenCoverFrom h empty (dequeue_call life) rest) (lt-ltb _ _ past) chosen.1 in
+      subst (λ r. CoversFrom h empty frontier (life ∷ r)) (sym ends) (chosen.0.is_life, chosen.0.before_frontier, past)
   | inr leaves ↦
-      let further = MatchBool-at_false (rest ≡ []) (IsChosenCoverFrom operations empty (dequeue_call life) rest) (le-ltb _ _ leaves) chosen.1 in
-      go_on operations empty frontier life rest chosen.0.is_life chosen.0.before_frontier (omega arith)
-      (chosen_covers operations empty (dequeue_call life) rest in_range further)
+      let further = MatchBool-at_false (rest ≡ []) (IsChosenCoverFrom h empty (dequeue_call life) rest) (le-ltb _ _ leaves) chosen.1 in
+      go_on h empty frontier life rest chosen.0.is_life chosen.0.before_frontier (omega arith)
+      (chosen_covers h empty (dequeue_call life) rest in_range further)
 ]
 
 -- a chosen cover is a witness violation
-pub chosen_cover_violates : (operations : List Operation) (empty : Operation) (cover : List Life) → IsClear operations → Did operations empty Empty
-    → IsChosenCover operations empty cover → IsWitnessViolation operations empty cover
+pub chosen_cover_violates : (operations : List Operation) (empty : Operation) (cover : List Life) → IsClear (on operations) → Did operations empty Empty
+    → IsChosenCover (on operations) empty cover → IsWitnessViolation (on operations) empty cover
 chosen_cover_violates operations empty cover clear did chosen =
     let range = return_in_range operations empty clear.complete did.0 in
-    record { answers_empty = did; covers = chosen_covers operations empty empty.call cover (omega arith) chosen }
+    record { answers_empty = did; covers = chosen_covers (on operations) empty empty.call cover (omega arith) chosen }
 
 -- the chosen cover from an operation on, at most this many tickets before the empty dequeue returns
-cover_from : (left : ℕ) (operations : List Operation) (empty before : Operation) → IsClear operations → Did operations empty Empty
-    → IsCovered operations empty → Contains operations before → ((v : ℕ) → before.kind ≢ Enq v) → empty.call ≤ before.call → before.call < empty.ret
-    → empty.ret ≤ before.call + left → (cover : List Life) × IsChosenCoverFrom operations empty before.call cover
+cover_from : (left : ℕ) (operations : List Operation) (empty before : Operation) → IsClear (on operations) → Did operations empty Empty
+    → IsCovered (on operations) empty → Contains operations before → ((v : ℕ) → before.kind ≢ Enq v) → empty.call ≤ before.call → before.call < empty.ret
+    → empty.ret ≤ before.call + left → (cover : List Life) × IsChosenCoverFrom (on operations) empty before.call cover
 cover_from zero operations empty before clear did covered among other above below left = absurd (omega arith)
 cover_from (suc left) operations empty before clear did covered among other above below near =
     let z = covered before.call (above, below) in
@@ -137,12 +136,12 @@ cover_from (suc left) operations empty before clear did covered among other abov
           let own = no_enqueue found.0 (Deq next.1.is_life.0) did_d.1 refl in
           let apart = return_differs_from_call operations empty found.0 clear.complete did.0 did_d.0 own in
           let rest = cover_from left operations empty found.0 clear did covered did_d.0 own (omega arith) (omega arith) (omega arith) in
-          (next.0 ∷ rest.0, (next.1, rw (le-ltb empty.ret (dequeue_call next.0) leaves) (subst (λ c. IsChosenCoverFrom operations empty c rest.0) (sym calls) rest.1)))
+          (next.0 ∷ rest.0, (next.1, rw (le-ltb empty.ret (dequeue_call next.0) leaves) (subst (λ c. IsChosenCoverFrom (on operations) empty c rest.0) (sym calls) rest.1)))
     ]
 
 -- a covered empty dequeue has a chosen cover, which is a violation
-pub chosen_cover : (operations : List Operation) (empty : Operation) → IsClear operations → Did operations empty Empty → IsCovered operations empty
-    → (cover : List Life) × IsChosenCover operations empty cover × IsWitnessViolation operations empty cover
+pub chosen_cover : (operations : List Operation) (empty : Operation) → IsClear (on operations) → Did operations empty Empty → IsCovered (on operations) empty
+    → (cover : List Life) × IsChosenCover (on operations) empty cover × IsWitnessViolation (on operations) empty cover
 chosen_cover operations empty clear did covered =
     let other = no_enqueue empty Empty did.1 refl in
     let less = call_before_return operations empty clear.complete did.0 other in
@@ -150,50 +149,50 @@ chosen_cover operations empty clear did covered =
     (cover.0, cover.1, chosen_cover_violates operations empty cover.0 clear did cover.1)
 
 -- at each gap from the frontier to the empty dequeue's return, some value of the cover is definitely in the queue
-covered_by : (operations : List Operation) (empty : Operation) (frontier : ℕ) (cover : List Life) (c : ℕ) → CoversFrom operations empty frontier cover
-    → frontier ≤ c → c < empty.ret → (life : Life) × IsLife operations life × Covers life c
-covered_by operations empty frontier [] c covers above below = absurd covers
-covered_by operations empty frontier (life ∷ []) c covers above below = (life, covers.0, (omega (arith, covers.1), omega (arith, covers.2)))
-covered_by operations empty frontier (life ∷ next ∷ rest) c covers above below = elim (cases_lt c (dequeue_call life)) [
+covered_by : (h : Course) (empty : Operation) (frontier : ℕ) (cover : List Life) (c : ℕ) → CoversFrom h empty frontier cover
+    → frontier ≤ c → c < empty.ret → (life : Life) × IsLife h life × Covers life c
+covered_by h empty frontier [] c covers above below = absurd covers
+covered_by h empty frontier (life ∷ []) c covers above below = (life, covers.0, (omega (arith, covers.1), omega (arith, covers.2)))
+covered_by h empty frontier (life ∷ next ∷ rest) c covers above below = elim (cases_lt c (dequeue_call life)) [
   | inl here ↦ (life, covers.0, (omega (arith, covers.1), here))
-  | inr later ↦ covered_by operations empty (dequeue_call life) (next ∷ rest) c covers.3 later below
+  | inr later ↦ covered_by h empty (dequeue_call life) (next ∷ rest) c covers.3 later below
 ]
 
 -- a witness violation covers its empty dequeue
-pub violation_covers : (operations : List Operation) (empty : Operation) (cover : List Life) → IsWitnessViolation operations empty cover
-    → IsCovered operations empty
-violation_covers operations empty cover violation c window =
-    covered_by operations empty empty.call cover c violation.covers window.0 window.1
+pub violation_covers : (h : Course) (empty : Operation) (cover : List Life) → IsWitnessViolation h empty cover
+    → IsCovered h empty
+violation_covers h empty cover violation c window =
+    covered_by h empty empty.call cover c violation.covers window.0 window.1
 
 -- a cover that begins no later than the chosen one has no fewer values
-no_shorter : (operations : List Operation) (empty : Operation) (from frontier : ℕ) (cover other : List Life)
-    → IsChosenCoverFrom operations empty frontier cover → CoversFrom operations empty from other → from ≤ frontier → length cover ≤ length other
-no_shorter operations empty from frontier [] other chosen covers le = absurd chosen
-no_shorter operations empty from frontier (x ∷ xs) [] chosen covers le = absurd covers
-no_shorter operations empty from frontier (x ∷ xs) (y ∷ []) chosen covers le =
+no_shorter : (h : Course) (empty : Operation) (from frontier : ℕ) (cover other : List Life)
+    → IsChosenCoverFrom h empty frontier cover → CoversFrom h empty from other → from ≤ frontier → length cover ≤ length other
+no_shorter h empty from frontier [] other chosen covers le = absurd chosen
+no_shorter h empty from frontier (x ∷ xs) [] chosen covers le = absurd covers
+no_shorter h empty from frontier (x ∷ xs) (y ∷ []) chosen covers le =
     let stays = chosen.0.longest y covers.0 (omega (arith, covers.1)) in
     let past : empty.ret < dequeue_call x = omega (arith, stays.0, covers.2) in
-    let ends = MatchBool-at_true (xs ≡ []) (IsChosenCoverFrom operations empty (dequeue_call x) xs) (lt-ltb _ _ past) chosen.1 in
+    let ends = MatchBool-at_true (xs ≡ []) (IsChosenCoverFrom h empty (dequeue_call x) xs) (lt-ltb _ _ past) chosen.1 in
     let long : length xs ≡ 0 = ap length ends in
     omega arith
-no_shorter operations empty from frontier (x ∷ xs) (y ∷ next ∷ ys) chosen covers le =
+no_shorter h empty from frontier (x ∷ xs) (y ∷ next ∷ ys) chosen covers le =
     let stays = chosen.0.longest y covers.0 (omega (arith, covers.1)) in
     elim (cases_lt empty.ret (dequeue_call x)) [
       | inl past ↦
-          let ends = MatchBool-at_true (xs ≡ []) (IsChosenCoverFrom operations empty (dequeue_call x) xs) (lt-ltb _ _ past) chosen.1 in
+          let ends = MatchBool-at_true (xs ≡ []) (IsChosenCoverFrom h empty (dequeue_call x) xs) (lt-ltb _ _ past) chosen.1 in
           let long : length xs ≡ 0 = ap length ends in
           omega arith
       | inr leaves ↦
-          let further = MatchBool-at_false (xs ≡ []) (IsChosenCoverFrom operations empty (dequeue_call x) xs) (le-ltb _ _ leaves) chosen.1 in
-          let rest = no_shorter operations empty (dequeue_call y) (dequeue_call x) xs (next ∷ ys) further covers.3 stays.0 in
+          let further = MatchBool-at_false (xs ≡ []) (IsChosenCoverFrom h empty (dequeue_call x) xs) (le-ltb _ _ leaves) chosen.1 in
+          let rest = no_shorter h empty (dequeue_call y) (dequeue_call x) xs (next ∷ ys) further covers.3 stays.0 in
           omega arith
     ]
 
 -- no cover is shorter than the chosen one
-pub chosen_cover_is_shortest : (operations : List Operation) (empty : Operation) (cover other : List Life)
-    → IsChosenCover operations empty cover → IsWitnessViolation operations empty other → length cover ≤ length other
-chosen_cover_is_shortest operations empty cover other chosen violation =
-    no_shorter operations empty empty.call empty.call cover other chosen violation.covers (omega arith)
+pub chosen_cover_is_shortest : (h : Course) (empty : Operation) (cover other : List Life)
+    → IsChosenCover h empty cover → IsWitnessViolation h empty other → length cover ≤ length other
+chosen_cover_is_shortest h empty cover other chosen violation =
+    no_shorter h empty empty.call empty.call cover other chosen violation.covers (omega arith)
 
 -- ---- the walk along the chosen cover, from the call of an empty dequeue to its return
 
@@ -203,9 +202,9 @@ pub record IsCoverSoFar (initial : List ℕ) (operations : List Operation) (o : 
   pub named : NamesCover initial operations steps lives
   pub past_call : o.call ≤ frontier
   pub no_return : (x : Operation) → Contains (timeline initial operations) x → x.ret ≢ frontier
-  pub goes_on : frontier < o.ret → (rest : List Life) → IsChosenCoverFrom (timeline initial operations) o frontier rest
-      → IsChosenCover (timeline initial operations) o (lives ++ rest)
-  pub ends : o.ret < frontier → IsChosenCover (timeline initial operations) o lives
+  pub goes_on : frontier < o.ret → (rest : List Life) → IsChosenCoverFrom (course initial operations) o frontier rest
+      → IsChosenCover (course initial operations) o (lives ++ rest)
+  pub ends : o.ret < frontier → IsChosenCover (course initial operations) o lives
 
 -- no operation returns when a value's dequeue is called, or at the ticket that stands for never
 no_return_at : (operations : List Operation) (v : ℕ) (dequeue : Option Operation) → AreComplete operations
@@ -214,14 +213,17 @@ no_return_at : (operations : List Operation) (v : ℕ) (dequeue : Option Operati
 no_return_at operations v None complete none x among same = let range = return_in_range operations x complete among in omega arith
 no_return_at operations v (Some d) complete did x among same = return_differs_from_call operations x d complete among did.0 (no_enqueue d (Deq v) did.1 refl) same
 
-module _ (initial : List ℕ) (operations : List Operation) (values : List MatchedValue) (o : Operation) (clear : IsClear (timeline initial operations))
-    (holds : HoldsLives (timeline initial operations) values) (is_empty : Did (timeline initial operations) o Empty)
-    (covered : IsCovered (timeline initial operations) o) where
+module _ (initial : List ℕ) (operations : List Operation) (values : List MatchedValue) (o : Operation) (clear : IsClear (course initial operations))
+    (holds : HoldsValues (record { initial = initial; operations = operations }) values) (is_empty : Did (timed operations) o Empty)
+    (covered : IsCovered (course initial operations) o) where
   abbrev all : List Operation
   all = timeline initial operations
 
-  abbrev k : ℕ
-  k = length initial
+  complete : AreComplete all
+  complete = (clear_on initial operations clear).complete
+
+  empty_there : Did all o Empty
+  empty_there = (Contains-append_right (initial_enqueues initial) (timed operations) o is_empty.0, is_empty.1)
 
   -- before the first step
   pub no_steps_yet : IsCoverSoFar initial operations o [] o.call
@@ -229,9 +231,9 @@ module _ (initial : List ℕ) (operations : List Operation) (values : List Match
     lives = [];
     named = search rules;
     past_call = omega arith;
-    no_return = λ x among. return_differs_from_call all x o clear.complete among is_empty.0 (no_enqueue o Empty is_empty.1 refl);
+    no_return = λ x among. return_differs_from_call all x o complete among empty_there.0 (no_enqueue o Empty empty_there.1 refl);
     goes_on = λ below rest chosen. chosen;
-    ends = λ past. let less = call_before_return all o clear.complete is_empty.0 (no_enqueue o Empty is_empty.1 refl) in absurd (omega arith);
+    ends = λ past. let less = call_before_return all o complete empty_there.0 (no_enqueue o Empty empty_there.1 refl) in absurd (omega arith);
   }
 
   -- a value that covers the gap at the frontier was enqueued before it
@@ -239,8 +241,8 @@ module _ (initial : List ℕ) (operations : List Operation) (values : List Match
       → (value : MatchedValue) × Contains values value × EntersBefore frontier value.life × (frontier < dequeue_call value.life)
   entered_before steps frontier so_far below =
       let life = covered frontier (so_far.past_call, below) in
-      let value = value_of_life all values life.0 clear holds life.1 in
-      let differs = so_far.no_return (enqueue_of life.0) life.1.1.0 in
+      let value = life_value initial operations clear values holds life.0 life.1 in
+      let differs = so_far.no_return (enqueue_of life.0) (clear_life initial operations clear life.0 life.1).1.0 in
       let entered : EntersBefore frontier life.0 = omega (arith, life.2.0) in
       (value.0, value.1, subst (EntersBefore frontier) (sym value.2) entered, subst (λ l. frontier < dequeue_call l) (sym value.2) life.2.1)
 
@@ -291,12 +293,12 @@ module _ (initial : List ℕ) (operations : List Operation) (values : List Match
               (λ value leaves entered. (omega (arith, leaves, past, so_far.past_call), λ same. absurd (omega (arith, leaves, past, so_far.past_call, same))))
               (take n values) gone
 
-  is_next : (frontier : ℕ) (value : MatchedValue) → IsLongestOf (EntersBefore frontier) values value → IsNextOfCover all frontier value.life
+  is_next : (frontier : ℕ) (value : MatchedValue) → IsLongestOf (EntersBefore frontier) values value → IsNextOfCover (course initial operations) frontier value.life
   is_next frontier value is = record {
-    is_life = value_is_life all values value holds is.among;
+    is_life = value_lives initial operations clear values holds value is.among;
     before_frontier = is.passes;
     longest = λ other is_other before.
-        let held = value_of_life all values other clear holds is_other in
+        let held = life_value initial operations clear values holds other is_other in
         subst (StaysAtLeast value.life) held.2
         (All-contains (λ other. EntersBefore frontier other.life → StaysAtLeast value.life other.life) values held.0 is.longest held.1
         (subst (EntersBefore frontier) (sym held.2) before));
@@ -314,33 +316,38 @@ module _ (initial : List ℕ) (operations : List Operation) (values : List Match
   pub one_more_step : (steps : List CoverStep) (frontier : ℕ) (value : MatchedValue) → IsCoverSoFar initial operations o steps frontier → frontier < o.ret
       → IsLongestOf (EntersBefore frontier) values value
       → IsCoverSoFar initial operations o
-      (steps ++ (record { source = told_source k value.enqueue; dequeue = option_map (told_place k) value.dequeue }) ∷ []) (dequeue_call value.life)
+      (steps ++ (record { source = value.source; dequeue = value.dequeue }) ∷ []) (dequeue_call value.life)
   one_more_step steps frontier value so_far below is = record {
     lives = so_far.lives ++ value.life ∷ [];
-    named = one_more_zipped (NamesStep initial operations) steps so_far.lives
-        (record { source = told_source k value.enqueue; dequeue = option_map (told_place k) value.dequeue }) value.life
-        so_far.named (value_told initial operations (few_initial initial operations clear.complete) value (places_of_value all values value holds is.among) is_life);
+    named = one_more_zipped (λ (step : CoverStep) life. IsNamed initial operations step.source step.dequeue life) steps so_far.lives
+        (record { source = value.source; dequeue = value.dequeue }) value.life so_far.named
+        (All-contains (λ (m : MatchedValue). IsNamed initial operations m.source m.dequeue m.life) values value holds.named is.among);
     past_call = let rises = frontier_rises steps frontier value so_far below is in omega (arith, so_far.past_call);
-    no_return = no_return_at all is_life.0 (dequeue_of value.life) clear.complete is_life.2;
+    no_return = let there = clear_life initial operations clear value.life is_life in no_return_at all there.0 (dequeue_of value.life) complete there.2;
     goes_on = λ below' rest chosen.
-        subst (IsChosenCover all o) (sym (append_assoc so_far.lives (value.life ∷ []) rest))
+        subst (IsChosenCover (course initial operations) o) (sym (append_assoc so_far.lives (value.life ∷ []) rest))
         (so_far.goes_on below (value.life ∷ rest) (next, rw (le-ltb o.ret (dequeue_call value.life) (omega arith)) chosen));
     ends = λ past. so_far.goes_on below (value.life ∷ []) (next, rw (lt-ltb o.ret (dequeue_call value.life) past) refl);
   }
     where
-      is_life : IsLife all value.life
-      is_life = value_is_life all values value holds is.among
+      is_life : IsLife (course initial operations) value.life
+      is_life = value_lives initial operations clear values holds value is.among
 
-      next : IsNextOfCover all frontier value.life
+      next : IsNextOfCover (course initial operations) frontier value.life
       next = is_next frontier value is
 
   -- past the return the cover is whole
   pub cover_is_whole : (steps : List CoverStep) (frontier : ℕ) → IsCoverSoFar initial operations o steps frontier → o.ret ≤ frontier
       → NamesChosenCover initial operations o steps
   cover_is_whole steps frontier so_far past =
-      let differs = so_far.no_return o is_empty.0 in
+      let differs = so_far.no_return o empty_there.0 in
       let ended = so_far.ends (omega arith) in
-      (so_far.lives, so_far.named, ended, chosen_cover_violates all o so_far.lives clear is_empty ended)
+      let in_range = return_in_range all o complete empty_there.0 in (
+        so_far.lives,
+        so_far.named,
+        ended,
+        record { answers_empty = is_empty; covers = chosen_covers (course initial operations) o o.call so_far.lives (omega (arith, in_range)) ended },
+      )
 
 -- the value that was found is the longest of those enqueued before the frontier
 pub found_longest : (values : List MatchedValue) (frontier : ℕ) (found : Option MatchedValue) (value : MatchedValue)

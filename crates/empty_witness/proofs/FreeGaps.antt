@@ -1,10 +1,10 @@
 -- The window of an operation has a least free gap, or is covered.
 use Rattle.empty_witness.proofs.Common.{[], ap, AreApart, AreSpansOf, arith, call_before_return, cases_lt, cases_order}
-use Rattle.empty_witness.proofs.Common.{Contains, Contains-get_or, contains_cons, Covers, Enq, false, get_or}
+use Rattle.empty_witness.proofs.Common.{Contains, Contains-get_or, contains_cons, Course, Covers, Enq, false, get_or}
 use Rattle.empty_witness.proofs.Common.{get_or_default, Holds, inl, inr, IsClear, IsCovered, IsFirstOutside, IsFreeGap}
 use Rattle.empty_witness.proofs.Common.{IsLeastFreeGap, IsLife, le-ltb, leb, leb-false, leb-true, length, Life}
 use Rattle.empty_witness.proofs.Common.{life_is_contained, life_of_contained, List, lives_of, lt-ltb, ltb, MatchOption}
-use Rattle.empty_witness.proofs.Common.{max, not_in_none, one_deeper, Operation, Option, ORIGIN, refl, Span, subst}
+use Rattle.empty_witness.proofs.Common.{max, not_in_none, on, one_deeper, Operation, Option, ORIGIN, refl, Span, subst}
 use Rattle.empty_witness.proofs.Common.{suc, sym, time_of, true, zero, ℕ, ◌+◌, ◌-◌, ◌<◌, ◌∷◌, ◌≡◌, ◌≢◌, ◌≤◌, ◌⊎◌}
 use Rattle.std.specs.Bool.{then_some}
 use Rattle.std.specs.List.Sorted.{IsNonDecreasingBy, IsPartitionPoint}
@@ -62,10 +62,10 @@ module _ (spans : List Span) (from begun : ℕ) (point : IsPartitionPoint (λ sp
                 omega (arith, holds.0)
           ]
 
-module _ (operations : List Operation) (spans : List Span) (o : Operation) (gap : ℕ) (are : AreSpansOf operations spans)
+module _ (c : Course) (spans : List Span) (o : Operation) (gap : ℕ) (are : AreSpansOf c spans)
     (is : IsFirstOutside spans o.call gap) where
   -- inside of the window it is the least free gap
-  free_in_window : gap < o.ret → IsLeastFreeGap operations o gap
+  free_in_window : gap < o.ret → IsLeastFreeGap c o gap
   free_in_window below = record {
     in_window = (is.no_less, below);
     is_free = λ life is_life covers. is.outside ((are.cover gap).1 (life, is_life, covers));
@@ -76,17 +76,17 @@ module _ (operations : List Operation) (spans : List Span) (o : Operation) (gap 
   }
 
   -- past the window, the window is covered
-  covered_to : o.ret ≤ gap → IsCovered operations o
-  covered_to past c window = (are.cover c).0 (is.least c window.0 (omega (arith, window.1)))
+  covered_to : o.ret ≤ gap → IsCovered c o
+  covered_to past b window = (are.cover b).0 (is.least b window.0 (omega (arith, window.1)))
 
   -- a gap within the window is its least free one; past the window, that is covered
   pub gap_of_window : (found : Option ℕ) → ORIGIN ≤ o.call → found ≡ then_some (ltb gap o.ret) (gap - ORIGIN)
-      → MatchOption found (IsCovered operations o) (λ c. IsLeastFreeGap operations o (time_of c))
+      → MatchOption found (IsCovered c o) (λ g. IsLeastFreeGap c o (time_of g))
   gap_of_window found late same = rw same (elim (cases_lt gap o.ret) [
     | inl below ↦
         let from = is.no_less in
         let back : gap ≡ time_of (gap - ORIGIN) = omega arith in
-        rw (lt-ltb gap o.ret below) (subst (IsLeastFreeGap operations o) back (free_in_window below))
+        rw (lt-ltb gap o.ret below) (subst (IsLeastFreeGap c o) back (free_in_window below))
     | inr past ↦ rw (le-ltb gap o.ret past) (covered_to past)
   ])
 
@@ -109,9 +109,9 @@ covering (x ∷ lives) c =
     ]
 
 -- from a gap on below which the window is covered: the least free gap, or the whole window is covered
-free_from : (left c : ℕ) (operations : List Operation) (o : Operation) → IsClear operations
-    → ((b : ℕ) → o.call ≤ b → b < c → (life : Life) × IsLife operations life × Covers life b) → o.call ≤ c → c + left ≡ o.ret
-    → ((g : ℕ) × IsLeastFreeGap operations o g) ⊎ IsCovered operations o
+free_from : (left c : ℕ) (operations : List Operation) (o : Operation) → IsClear (on operations)
+    → ((b : ℕ) → o.call ≤ b → b < c → (life : Life) × IsLife (on operations) life × Covers life b) → o.call ≤ c → c + left ≡ o.ret
+    → ((g : ℕ) × IsLeastFreeGap (on operations) o g) ⊎ IsCovered (on operations) o
 free_from zero c operations o clear below above long = inr (λ b window. below b window.0 (omega (arith, window.1)))
 free_from (suc left) c operations o clear below above long =
     elim (covering (lives_of operations) c) [
@@ -127,21 +127,22 @@ free_from (suc left) c operations o clear below above long =
       )
     ]
   where
-    further : (life : Life) → IsLife operations life → Covers life c → (b : ℕ) → o.call ≤ b → b < suc c → (life : Life) × IsLife operations life × Covers life b
+    further : (life : Life) → IsLife (on operations) life → Covers life c → (b : ℕ) → o.call ≤ b → b < suc c
+        → (life : Life) × IsLife (on operations) life × Covers life b
     further life is covers b above' below' = elim (cases_lt b c) [
       | inl less ↦ below b above' less
       | inr more ↦ let same : c ≡ b = omega arith in (life, is, subst (Covers life) same covers)
     ]
 
-    least : (other : ℕ) → o.call ≤ other → IsFreeGap operations other → c ≤ other
+    least : (other : ℕ) → o.call ≤ other → IsFreeGap (on operations) other → c ≤ other
     least other above' free = elim (cases_lt other c) [
       | inr le ↦ le
       | inl less ↦ let covered = below other above' less in absurd (free covered.0 covered.1 covered.2)
     ]
 
 -- the window of an operation has a least free gap, or is covered
-pub free_gap_or_covered : (operations : List Operation) (o : Operation) → IsClear operations → Contains operations o → ((v : ℕ) → o.kind ≢ Enq v)
-    → ((g : ℕ) × IsLeastFreeGap operations o g) ⊎ IsCovered operations o
+pub free_gap_or_covered : (operations : List Operation) (o : Operation) → IsClear (on operations) → Contains operations o → ((v : ℕ) → o.kind ≢ Enq v)
+    → ((g : ℕ) × IsLeastFreeGap (on operations) o g) ⊎ IsCovered (on operations) o
 free_gap_or_covered operations o clear among other =
     let less = call_before_return operations o clear.complete among other in
     free_from (o.ret - o.call) o.call operations o clear (λ b above below. absurd (omega arith)) (omega arith) (omega arith)

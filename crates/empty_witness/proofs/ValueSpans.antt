@@ -1,11 +1,11 @@
 -- The spans of the stays of a history's values are the history's.
 use Rattle.empty_witness.proofs.Common.{[], All, All-pop, All-push, All-weaker, ap, AreApart, AreSpansOf, arith}
-use Rattle.empty_witness.proofs.Common.{Contains, Contains-append_left, Contains-push, Contains-push_cases, Covers}
-use Rattle.empty_witness.proofs.Common.{get_or, get_or_append_left, get_or_push, Holds, HoldsLives, inl, inr, IsClear}
-use Rattle.empty_witness.proofs.Common.{IsOfBoth, IsWithSpan, length, length-append, length-take-le, LiesIn, List}
-use Rattle.empty_witness.proofs.Common.{MatchedValue, max, not_in_none, one_more, Operation, refl, set, set_at, Some}
-use Rattle.empty_witness.proofs.Common.{Span, stay_of, subst, sym, take, take_all, value_is_life, value_of_life, ℕ}
-use Rattle.empty_witness.proofs.Common.{◌++◌, ◌+◌, ◌<◌, ◌∙◌, ◌∷◌, ◌≡◌, ◌≤◌, ◌⊎◌}
+use Rattle.empty_witness.proofs.Common.{Contains, Contains-append_left, Contains-push, Contains-push_cases, Contents}
+use Rattle.empty_witness.proofs.Common.{course_of, Covers, get_or, get_or_append_left, get_or_push, Holds, HoldsValues}
+use Rattle.empty_witness.proofs.Common.{inl, inr, IsClear, IsOfBoth, IsWithSpan, length, length-append, length-take-le}
+use Rattle.empty_witness.proofs.Common.{LiesIn, life_value, List, MatchedValue, max, not_in_none, one_more}
+use Rattle.empty_witness.proofs.Common.{refl, set, set_at, Some, Span, stay_of, subst, sym, take, take_all}
+use Rattle.empty_witness.proofs.Common.{value_lives, ℕ, ◌++◌, ◌+◌, ◌<◌, ◌∙◌, ◌∷◌, ◌≡◌, ◌≤◌, ◌⊎◌}
 use Rattle.std.proofs.lemmas.List.Quantifiers.{all_pairs_push}
 
 -- ---- spans that are apart, and one more
@@ -214,16 +214,16 @@ module _ (values : List MatchedValue) (n : ℕ) (spans : List Span) (m : Matched
   }
 
 -- the spans of all values are the history's
-pub are_spans : (operations : List Operation) (values : List MatchedValue) (n : ℕ) (spans : List Span) → IsClear operations → HoldsLives operations values
-    → length values ≤ n → AreSpansSoFar values n spans → AreSpansOf operations spans
-are_spans operations values n spans clear holds all are = record {
+pub are_spans : (history : Contents) (values : List MatchedValue) (n : ℕ) (spans : List Span) → IsClear (course_of history) → HoldsValues history values
+    → length values ≤ n → AreSpansSoFar values n spans → AreSpansOf (course_of history) spans
+are_spans history values n spans clear holds all are = record {
   apart = are.apart;
   cover = λ c. (
     λ lies.
         let stays = subst (λ xs. Stays xs c) (take_all n values all) (are.lies c lies) in
-        (stays.0.life, value_is_life operations values stays.0 holds stays.1, stays.2),
+        (stays.0.life, value_lives history.initial history.operations clear values holds stays.0 stays.1, stays.2),
     λ covered.
-        let value = value_of_life operations values covered.0 clear holds covered.1 in
+        let value = life_value history.initial history.operations clear values holds covered.0 covered.1 in
         let at = subst (λ l. Covers l c) (sym value.2) covered.2 in
         are.stays c (subst (λ xs. Stays xs c) (sym (take_all n values all)) (value.0, value.1, at)),
   );

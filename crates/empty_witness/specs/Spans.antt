@@ -1,8 +1,7 @@
 -- Spans of gaps, and those of the gaps at which some value is definitely in the queue.
 use Rattle.std.specs.Prelude.{◌↔◌, ℕ, ◌<◌, ◌≤◌, List, All, AllPairs, Contains}
-use Rattle.history_merge.specs.declared.operation.Operation.{Operation}
 use Rattle.value_match.specs.declared.life.Life.{Life}
-use Rattle.value_match.specs.Lives.{IsLife, Covers, enqueue_return, dequeue_call}
+use Rattle.value_match.specs.Lives.{Course, IsLife, Covers, enqueue_return, dequeue_call}
 use Rattle.empty_witness.specs.declared.spans.Span.{Span}
 
 -- the gap lies in the span
@@ -23,6 +22,6 @@ abbrev pub stay_of : Life → Span
 stay_of life = record { start = enqueue_return life; end = dequeue_call life }
 
 -- the spans are apart, and a gap lies in one if and only if some value is definitely in the queue
-pub record AreSpansOf (operations : List Operation) (spans : List Span) : Type 0 where
+pub record AreSpansOf (c : Course) (spans : List Span) : Type 0 where
   pub apart : AreApart spans
-  pub cover : (c : ℕ) → LiesIn spans c ↔ ((life : Life) × IsLife operations life × Covers life c)
+  pub cover : (gap : ℕ) → LiesIn spans gap ↔ ((life : Life) × IsLife c life × Covers life gap)

@@ -1,13 +1,12 @@
 ghost use Rattle.std.specs.Prelude.{◌≤◌, All, IfOk, length, take};
 ghost use Rattle.history_merge.specs.declared.operation.OpKind.TheVariants.{Empty};
 ghost use Rattle.history_merge.specs.Operations.{Did};
-ghost use Rattle.value_match.specs.Timeline.{timeline_of};
-ghost use Rattle.value_match.specs.Lives.{IsCovered, dequeue_call};
+ghost use Rattle.value_match.specs.Lives.{course_of, IsCovered, dequeue_call, timed};
 ghost use Rattle.empty_witness.specs.Inner.Spans.{NamesChosenCover};
 
 use history_merge::Operation;
 use std::alloc::{AllocError, Global};
-use value_match::{Cover, CoverStep, LongestTable, Matching, Values, told_maybe, told_source};
+use value_match::{Cover, CoverStep, LongestTable, Matching, Values};
 
 /// Returns the chosen cover of a window that is covered.
 ///
@@ -17,11 +16,10 @@ pub(crate) fn cover_of(
     matching: &Matching,
     answer: &Operation,
 ) -> Result<Cover, AllocError>
-    requires is_empty { Did (timeline_of matching.now) answer.now Empty }
-    requires covered { IsCovered (timeline_of matching.now) answer.now }
+    requires is_empty { Did (timed matching.now.operations) answer.now Empty }
+    requires covered { IsCovered (course_of matching.now) answer.now }
     ensures { IfOk result (λ cover. NamesChosenCover matching.now.initial matching.now.operations answer.now cover) }
 {
-    let initial_count = matching.initial().len();
     let values = matching.values();
     let (_gone, others) = values.split_at(count_gone(&values, answer.call));
     let table = LongestTable::new(alloc, others)?;
@@ -30,8 +28,8 @@ pub(crate) fn cover_of(
     while frontier < answer.ret {
         let value = table.longest_before(frontier).unwrap();
         steps.push(CoverStep {
-            source: told_source(initial_count, value.enqueue),
-            dequeue: told_maybe(initial_count, value.dequeue),
+            source: value.source,
+            dequeue: value.dequeue,
         })?;
         frontier = value.life.dequeue_call();
     }

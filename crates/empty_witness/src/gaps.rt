@@ -1,8 +1,8 @@
-ghost use Rattle.std.specs.Prelude.{◌≤◌, List, MatchOption};
+ghost use Rattle.std.specs.Prelude.{◌≤◌, MatchOption};
 ghost use Rattle.event_records.specs.declared.limits.TheConstants.{ORIGIN};
-ghost use Rattle.history_merge.specs.declared.operation.Operation.{Operation};
-ghost use Rattle.value_match.specs.Lives.{IsCovered, IsLeastFreeGap};
-ghost use Rattle.value_match.specs.Timeline.{time_of};
+ghost use Rattle.history_merge.specs.Initial.{Contents};
+ghost use Rattle.value_match.specs.Lives.{course_of, IsCovered, IsLeastFreeGap};
+ghost use Rattle.value_match.specs.Times.{time_of};
 ghost use Rattle.empty_witness.specs.Spans.{AreApart, AreSpansOf};
 ghost use Rattle.empty_witness.specs.Inner.Spans.{IsFirstOutside};
 
@@ -28,8 +28,8 @@ fn first_outside(spans: &[Span], from: u64) -> u64
 pub(crate) fn least_free_gap(spans: &[Span], answer: &Operation) -> Option<u64>
     requires apart { AreApart spans.now }
     requires late { ORIGIN ≤ answer.now.call }
-    ensures { (operations : List Operation) → AreSpansOf operations spans.now
-        → MatchOption result (IsCovered operations answer.now) (λ c. IsLeastFreeGap operations answer.now (time_of c)) }
+    ensures { (history : Contents) → AreSpansOf (course_of history) spans.now
+        → MatchOption result (IsCovered (course_of history) answer.now) (λ gap. IsLeastFreeGap (course_of history) answer.now (time_of gap)) }
 {
     let gap = first_outside(spans, answer.call);
     (gap < answer.ret).then_some(gap - ORIGIN)

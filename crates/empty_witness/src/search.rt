@@ -1,8 +1,9 @@
 ghost use Rattle.std.specs.Prelude.{◌≡◌, ◌≤◌, ◌++◌, ℕ, List, All, IfOk};
 ghost use Rattle.event_records.specs.declared.limits.TheConstants.{ORIGIN};
 ghost use Rattle.history_merge.specs.declared.operation.OpKind.TheVariants.{Empty};
-ghost use Rattle.history_merge.specs.Operations.{Did, IsAt};
-ghost use Rattle.value_match.specs.Timeline.{timeline_of};
+ghost use Rattle.history_merge.specs.Operations.{Did};
+ghost use Rattle.value_match.specs.Lives.{course_of, timed};
+ghost use Rattle.value_match.specs.Outcome.{IsOperation};
 ghost use Rattle.empty_witness.specs.Answers.{AreAllWindows, AreWindowsAt, IsEmptyAnswerAt, IsFirstCovered, IsGapAnswer, IsSoonerOf, IsWitnessAnswer};
 ghost use Rattle.empty_witness.specs.Spans.{AreSpansOf};
 
@@ -10,18 +11,19 @@ use crate::answer::{GapAnswer, Gaps, WitnessAnswer};
 use crate::cover::cover_of;
 use crate::gaps::least_free_gap;
 use crate::spans::{Span, spans_of};
+use event_records::ORIGIN;
 use history_merge::{OpId, Operation};
 use std::alloc::{AllocError, Global};
-use value_match::{Matching, told_place};
+use value_match::{Matching, Places};
 
-/// An empty dequeue of a timeline, with its place there.
+/// An empty dequeue at its times, and its place in the history.
 #[derive(Clone, Copy)]
 pub struct EmptyAnswer {
     pub place: OpId,
     pub operation: Operation,
 }
 
-/// What a search finds in the windows of some empty dequeues of a timeline.
+/// What a search finds in the windows of some empty dequeues.
 #[derive(Drop)]
 pub enum WindowsAnswer {
     /// None is covered: the least free gap of each, by its ticket, in their order.
@@ -39,10 +41,7 @@ pub fn gap_for(alloc: Global, matching: &Matching, empty: OpId) -> Result<GapAns
     requires { IsEmptyAnswerAt matching.now.operations empty }
     ensures { IfOk result (IsGapAnswer matching.now.initial matching.now.operations empty) }
 {
-    let initial_count = matching.initial().len();
-    let place = initial_count + empty.number() as usize;
-    prove!(place < matching.timeline().len());
-    let answer = answer_at(matching, OpId::new(place as u32));
+    let answer = answer_at(matching, empty);
     let spans = spans_of(alloc, matching)?;
     match least_free_gap(spans.as_slice(), &answer.operation) {
         Some(gap) => Ok(GapAnswer::Free(gap)),
@@ -59,17 +58,16 @@ pub fn gap_for(alloc: Global, matching: &Matching, empty: OpId) -> Result<GapAns
 pub fn find_witness(alloc: Global, matching: &Matching) -> Result<WitnessAnswer, AllocError>
     ensures { IfOk result (IsWitnessAnswer matching.now.initial matching.now.operations) }
 {
-    let empties = matching.timeline_empties();
-    if empties.is_empty() {
+    let empties = matching.empties();
+    if empties.len() == 0 {
         return witness_of(alloc, matching, WindowsAnswer::Free(Vec::new(alloc)));
     }
     let spans = spans_of(alloc, matching)?;
-    let windows = windows_at(alloc, matching, spans.as_slice(), empties)?;
+    let windows = windows_at(alloc, matching, spans.as_slice(), &empties)?;
     witness_of(alloc, matching, windows)
 }
 
-/// Returns the answer of `find_witness`, from what was found in the windows of all empty dequeues of the timeline
-/// history.
+/// Returns the answer of `find_witness`, from what was found in the windows of all empty dequeues.
 ///
 /// Time O(n log n) for n values if a window is covered, for its cover. The only error is out of memory.
 pub fn witness_of(
@@ -77,13 +75,13 @@ pub fn witness_of(
     matching: &Matching,
     windows: WindowsAnswer,
 ) -> Result<WitnessAnswer, AllocError>
-    requires { AreAllWindows (timeline_of matching.now) windows }
+    requires { AreAllWindows (course_of matching.now) windows }
     ensures { IfOk result (IsWitnessAnswer matching.now.initial matching.now.operations) }
 {
     match windows {
         WindowsAnswer::Free(gaps) => Ok(WitnessAnswer::Gaps(Gaps::from_vec(gaps))),
         WindowsAnswer::Covered(first) => Ok(WitnessAnswer::Covered {
-            empty: told_place(matching.initial().len(), first.place),
+            empty: first.place,
             cover: cover_of(alloc, matching, &first.operation)?,
         }),
     }
@@ -91,15 +89,20 @@ pub fn witness_of(
 
 /// Returns the empty dequeue at this place.
 fn answer_at(matching: &Matching, empty: OpId) -> EmptyAnswer
-    requires { IsEmptyAnswerAt (timeline_of matching.now) empty }
+    requires { IsEmptyAnswerAt matching.now.operations empty }
     ensures place { result.place ≡ empty }
-    ensures at { IsAt (timeline_of matching.now) empty result.operation }
-    ensures is_empty { Did (timeline_of matching.now) result.operation Empty }
+    ensures at { IsOperation matching.now.operations empty result.operation }
+    ensures is_empty { Did (timed matching.now.operations) result.operation Empty }
     ensures late { ORIGIN ≤ result.operation.call }
 {
+    let operation = matching.operations().get(empty).unwrap();
     EmptyAnswer {
         place: empty,
-        operation: matching.timeline()[empty.place()].unpack(),
+        operation: Operation {
+            call: operation.call + ORIGIN,
+            ret: operation.ret + ORIGIN,
+            ..operation
+        },
     }
 }
 
@@ -114,28 +117,27 @@ pub fn sooner_of(first: EmptyAnswer, second: EmptyAnswer) -> EmptyAnswer
     }
 }
 
-/// Searches the windows of the empty dequeues at these places of a timeline, by its spans: each window is one
-/// look-up.
+/// Searches the windows of the empty dequeues at these places, by the spans of the history: each window is one look-up.
 ///
 /// Time O(m log n) for m places and n spans. The only error is out of memory.
 pub fn windows_at(
     alloc: Global,
     matching: &Matching,
     spans: &[Span],
-    empties: &[OpId],
+    empties: &Places,
 ) -> Result<WindowsAnswer, AllocError>
-    requires empties { All (IsEmptyAnswerAt (timeline_of matching.now)) empties.now }
-    requires spans { AreSpansOf (timeline_of matching.now) spans.now }
-    ensures { IfOk result (λ windows. AreWindowsAt (timeline_of matching.now) empties.now windows) }
+    requires empties { All (IsEmptyAnswerAt matching.now.operations) empties.now }
+    requires spans { AreSpansOf (course_of matching.now) spans.now }
+    ensures { IfOk result (λ windows. AreWindowsAt (course_of matching.now) empties.now windows) }
 {
     let mut gaps = Vec::with_capacity(alloc, empties.len())?;
-    for (index, empty) in empties.iter().enumerate() {
-        let answer = answer_at(matching, *empty);
+    for index in 0..empties.len() {
+        let answer = answer_at(matching, empties.get(index));
         match least_free_gap(spans, &answer.operation) {
             Some(gap) => gaps.push(gap)?,
             None => {
                 let (_, others) = empties.split_at(index + 1);
-                return Ok(WindowsAnswer::Covered(first_covered(matching, spans, answer, others)));
+                return Ok(WindowsAnswer::Covered(first_covered(matching, spans, answer, &others)));
             }
         }
     }
@@ -147,15 +149,15 @@ fn first_covered(
     matching: &Matching,
     spans: &[Span],
     covered: EmptyAnswer,
-    others: &[OpId],
+    others: &Places,
 ) -> EmptyAnswer
-    requires others { All (IsEmptyAnswerAt (timeline_of matching.now)) others.now }
-    requires spans { AreSpansOf (timeline_of matching.now) spans.now }
-    ensures { (seen : List ℕ) → IsFirstCovered (timeline_of matching.now) seen covered → IsFirstCovered (timeline_of matching.now) (seen ++ others.now) result }
+    requires others { All (IsEmptyAnswerAt matching.now.operations) others.now }
+    requires spans { AreSpansOf (course_of matching.now) spans.now }
+    ensures { (seen : List ℕ) → IsFirstCovered (course_of matching.now) seen covered → IsFirstCovered (course_of matching.now) (seen ++ others.now) result }
 {
     let mut first = covered;
-    for empty in others {
-        let answer = answer_at(matching, *empty);
+    for index in 0..others.len() {
+        let answer = answer_at(matching, others.get(index));
         if least_free_gap(spans, &answer.operation).is_none() {
             first = sooner_of(first, answer);
         }

@@ -1,5 +1,5 @@
 ghost use Rattle.std.specs.Prelude.{◌≡◌, ◌<◌, IfOk, OnOk};
-ghost use Rattle.value_match.specs.Timeline.{timeline_of};
+ghost use Rattle.value_match.specs.Lives.{course_of};
 ghost use Rattle.empty_witness.specs.Spans.{AreApart, AreSpansOf, stay_of};
 ghost use Rattle.empty_witness.specs.Inner.Spans.{IsOfBoth, IsWithSpan};
 
@@ -17,7 +17,7 @@ pub struct Span {
 ///
 /// Time O(n) for n values. It takes memory for the spans alone, and the only error is out of memory.
 pub fn spans_of(alloc: Global, matching: &Matching) -> Result<Vec<Span>, AllocError>
-    ensures { IfOk result (λ spans. AreSpansOf (timeline_of matching.now) spans.items) }
+    ensures { IfOk result (λ spans. AreSpansOf (course_of matching.now) spans.items) }
 {
     let values = matching.values();
     let mut spans = Vec::new(alloc);

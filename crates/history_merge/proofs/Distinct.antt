@@ -1,26 +1,24 @@
 -- Different operations of a complete history have different tickets, and enqueue different values.
-use Rattle.history_merge.proofs.Common.{[], accept, accept_all, All, All-cons, All-contains, All-filter, All-head}
-use Rattle.history_merge.proofs.Common.{All-nil, All-tail, all_pairs_push, AllPairs, AllPairs-cons, AllPairs-filter}
+use Rattle.history_merge.proofs.Common.{accept, accept_all, All, All-cons, All-contains, All-head, All-nil}
+use Rattle.history_merge.proofs.Common.{[], All-tail, all_pairs_push, AllPairs, AllPairs-cons}
 use Rattle.history_merge.proofs.Common.{Any-from_list_any, ap, append-nil, AreApart, AreComplete, AreDistinct, arith}
 use Rattle.history_merge.proofs.Common.{Bool, called_value, called_values, calls_initial, cases_lt, cases_order}
 use Rattle.history_merge.proofs.Common.{common_steps, cond, cons_option, Contains, Contains-get_or, Deq, Did, drop}
 use Rattle.history_merge.proofs.Common.{Empty, Enq, enqueued_value, eq-eqb, eqb-true, eqb_tells, Event}
-use Rattle.history_merge.proofs.Common.{false_from_ne_true, false≢true, filter, filter_map, filter_map-append, find}
+use Rattle.history_merge.proofs.Common.{false_from_ne_true, false≢true, filter_map, filter_map-append, find}
 use Rattle.history_merge.proofs.Common.{find_at, get_or-append_seam, get_or-take, get_or_append_left, get_or_default}
 use Rattle.history_merge.proofs.Common.{get_or_from_slice_get, gets, HasRefusedInitial, InitialTwice, inl, inr}
 use Rattle.history_merge.proofs.Common.{is_call, is_initial, is_sum_by, IsCompleteFrom, IsCompleteHistory}
 use Rattle.history_merge.proofs.Common.{IsFirstTwice, IsPermutation, IsPermutation-map, IsTimed, kind_of, length}
-use Rattle.history_merge.proofs.Common.{length-take, list_any, list_any-append, list_any_at, lt-ltb, MAX_TICKET}
+use Rattle.history_merge.proofs.Common.{length-take, list_any, list_any-append, list_any_at, lt-ltb, map, MAX_TICKET}
 use Rattle.history_merge.proofs.Common.{MAX_TIME, nat_eq, nat_tests, None, Not, Operation, operation_of, operations_of}
 use Rattle.history_merge.proofs.Common.{OpKind, Option, option_and_then_some, option_map, option_map_or, or_comm}
-use Rattle.history_merge.proofs.Common.{position-Some, position_or_len, refl, repeats_value, rules, same_Some}
+use Rattle.history_merge.proofs.Common.{position-Some, position_or_len, refl, repeats_value, same_Some}
 use Rattle.history_merge.proofs.Common.{slice_get, slice_get-get_or, slice_get-map, slice_get_read, slice_get_within}
-use Rattle.history_merge.proofs.Common.{Some, split_at, subst, suc, sum_by, sum_by-IsPermutation, sym, take}
+use Rattle.history_merge.proofs.Common.{Some, split_at, subst, suc, sum_by, sum_by-IsPermutation, sym, take, take_all}
 use Rattle.history_merge.proofs.Common.{TicketsRise, was_called, What, zero, ◌++◌, ◌+◌, ◌-◌, ◌||◌, ◌∙◌, ◌∷◌, ◌≡◌, ◌≢◌}
 use Rattle.history_merge.proofs.Common.{◌⊎◌}
 use Rattle.std.proofs.Common.{append_assoc, false, get_or, length-append, List, true, ℕ, ◌<◌, ◌≤◌}
-use Rattle.std.specs.Prelude.{map}
-use Rattle.std.proofs.lemmas.List.{take_all}
 
 -- ---- what an accepted run of the queue enqueued and dequeued
 
@@ -132,13 +130,11 @@ taken_out_by k v e = grind arith
 
 -- a value that was put in before place j was put in by an enqueue there
 pub enqueue_of_member : (kinds : List OpKind) (j v : ℕ) → Member v (enqueued (take j kinds)) → StandsBefore kinds j (Enq v)
-enqueue_of_member kinds j v m =
-    let k = giver_of_member put_in kinds j v m in subst (StandsBefore kinds j) (put_in_by k.0 v k.1) k.2
+enqueue_of_member kinds j v m = grind (arith, giver_of_member, put_in_by)
 
 -- a value that was dequeued has its dequeue before
 pub dequeue_of_member : (kinds : List OpKind) (j v : ℕ) → Member v (dequeued (take j kinds)) → StandsBefore kinds j (Deq v)
-dequeue_of_member kinds j v m =
-    let k = giver_of_member taken_out kinds j v m in subst (StandsBefore kinds j) (taken_out_by k.0 v k.1) k.2
+dequeue_of_member kinds j v m = grind (arith, giver_of_member, taken_out_by)
 
 -- what was put in before place j, split at an enqueue before it
 pub split_at_enqueue : (kinds : List OpKind) (i j v : ℕ) → i < j → slice_get kinds i ≡ Some (Enq v)
@@ -528,28 +524,15 @@ module _ (operations : List Operation) (x y : Operation) (complete : AreComplete
 
   -- operations that are called at one time are one
   pub same_call : x.call ≡ y.call → x ≡ y
-  same_call same = elim one_or_apart [
-    | inl one ↦ one
-    | inr (inl apart) ↦ absurd (omega (arith, apart.called_first))
-    | inr (inr apart) ↦ absurd (omega (arith, apart.called_first))
-  ]
+  same_call same = grind (arith, one_or_apart)
 
   -- operations that return at one time are one
   pub same_return : x.ret ≡ y.ret → x ≡ y
-  same_return same = elim one_or_apart [
-    | inl one ↦ one
-    | inr (inl apart) ↦ absurd (apart.returns_apart same)
-    | inr (inr apart) ↦ absurd (apart.returns_apart (sym same))
-  ]
+  same_return same = grind (arith, one_or_apart)
 
   -- where one returns at the call of another, they are one
   pub returns_at_call : x.ret ≡ y.call → x ≡ y
-  returns_at_call same = elim one_or_apart [
-    | inl one ↦ one
-    | inr (inl apart) ↦ absurd (apart.return_apart same)
-    | inr (inr apart) ↦
-        let late = (All-contains IsTimed operations x complete.timed in_x).returns_late in absurd (omega (arith, apart.called_first, late))
-  ]
+  returns_at_call same = grind (arith, one_or_apart, All-contains)
 
 -- an operation is called by its return
 pub call_by_return : (operations : List Operation) (o : Operation) → AreComplete operations → Contains operations o → o.call ≤ o.ret
@@ -596,10 +579,6 @@ same_value_call operations x y v complete in_x in_y for_x for_y = elim (one_or_a
 pub same_enqueue : (operations : List Operation) (x y : Operation) (v : ℕ) → AreComplete operations → Did operations x (Enq v)
     → Did operations y (Enq v) → x ≡ y
 same_enqueue operations x y v complete did_x did_y = same_value_call operations x y v complete did_x.0 did_y.0 (inl did_x.1) (inl did_y.1)
-
--- some of complete operations are complete
-pub some_are_complete : (test : Operation → Bool) (operations : List Operation) → AreComplete operations → AreComplete (filter test operations)
-some_are_complete test operations complete = search (rules, All-filter, AllPairs-filter)
 
 -- ---- values that no two calls share, and initial values
 

@@ -3,27 +3,26 @@ use Rattle.history_merge.proofs.Common.{[], All, All-contains, All-nil, All-push
 use Rattle.history_merge.proofs.Common.{AreDistinct, AreFirstWith, arith, BadThread, called_values, CalledValues}
 use Rattle.history_merge.proofs.Common.{CallEnq, calls_initial, CallWhilePending, cases_lt, cases_order, Clash}
 use Rattle.history_merge.proofs.Common.{common_steps, Contains, Contains-append_right, drop, DuplicateValue, eqb_tells}
-use Rattle.history_merge.proofs.Common.{Event, fault_at, FitsTurn, Forming, Gathering, get_or-append-add}
+use Rattle.history_merge.proofs.Common.{Err, Event, fault_at, FitsTurn, Forming, Gathering, get_or-append-add}
 use Rattle.history_merge.proofs.Common.{get_or-append_seam, get_or_append_left, gets, HasFormed, HasGathered}
 use Rattle.history_merge.proofs.Common.{HasMetFault, HasRefusedInitial, HistoryFault, IfErr, IfOk, IfSome}
 use Rattle.history_merge.proofs.Common.{InitialTwice, inl, inr, is_some, IsClash, IsCompleteFrom, IsCompleteHistory}
-use Rattle.history_merge.proofs.Common.{IsErrAnd, IsFirstFault, IsFirstFaultAt, IsFirstSought, IsFirstTwice, IsForming}
+use Rattle.history_merge.proofs.Common.{IsErrAnd, IsFirstFault, IsFirstFaultAt, IsFirstTwice, IsForming}
 use Rattle.history_merge.proofs.Common.{IsLeastPending, IsRunOf, IsSought, Knows, last_or, length, MatchOption}
 use Rattle.history_merge.proofs.Common.{MatchOption-at_none, MatchOption-at_some, MatchResult, MAX_EVENTS, MAX_INITIAL}
 use Rattle.history_merge.proofs.Common.{MAX_THREAD, MAX_TICKET, Memory, nat_tests, NoFaultBefore, None, NothingPending}
-use Rattle.history_merge.proofs.Common.{operations_so_far, Option, Pending, pending_call, Placed, projection, refl}
-use Rattle.history_merge.proofs.Common.{repeats_value, result_err, ReturnWithoutCall, rules, slice_get}
+use Rattle.history_merge.proofs.Common.{Ok, operations_so_far, Option, Pending, pending_call, Placed, projection, refl}
+use Rattle.history_merge.proofs.Common.{repeats_value, Result, result_err, ReturnWithoutCall, rules, slice_get}
 use Rattle.history_merge.proofs.Common.{slice_get-get_or, slice_get_within, Some, Sought, Stands, subst, suc, sym}
-use Rattle.history_merge.proofs.Common.{take, take-append-le, take-append_seam, take-suc, TakesTurns, TicketOrder}
-use Rattle.history_merge.proofs.Common.{TicketsRise, WrongReturn, zero, ⊤, ◌++◌, ◌||◌, ◌↔◌, ◌∙◌, ◌∷◌, ◌≡◌, ◌≢◌, ◌⊎◌}
+use Rattle.history_merge.proofs.Common.{take, take-append-le, take-append_seam, take-suc, take_all, TakesTurns}
+use Rattle.history_merge.proofs.Common.{TicketOrder, TicketsRise, true, WrongReturn, zero, ⊤, ◌++◌, ◌||◌, ◌↔◌, ◌∙◌}
+use Rattle.history_merge.proofs.Common.{◌∷◌, ◌≡◌, ◌≢◌, ◌⊎◌}
 use Rattle.std.proofs.Common.{append_assoc, false, get_or, length-append, List, ℕ, ◌<◌, ◌≤◌}
 use Rattle.history_merge.proofs.Turns.{finished, fits_in_turns, nothing_after_turns, one_event_more, projection-at}
 use Rattle.history_merge.proofs.Turns.{turns_push, TurnsSoFar}
-use Rattle.std.proofs.lemmas.List.{take_all}
 use Rattle.history_merge.proofs.Distinct.{cut_at, distinct_push, each_more, initial_distinct, new_from_distinct}
 use Rattle.history_merge.proofs.Distinct.{one_at, twice_before, twice_not_distinct}
 use Rattle.history_merge.proofs.TheirEvents.{run_of}
-use Rattle.std.specs.Prelude.{Err, Ok, Result, true}
 use Rattle.history_merge.specs.declared.clash.Clash.TheVariants as clash
 
 -- ---- a list of events is a complete history if and only if it has no fault
@@ -346,10 +345,6 @@ pub record Searched (all left : List Event) (sought : Sought) (place : ℕ) : Ty
   pub count : place ≡ length seen
   pub none : (i : ℕ) (e : Event) → slice_get seen i ≡ Some e → ¬ (IsSought sought (record { place = i; event = e }))
 
--- at first none was seen
-pub searched_nothing : (all : List Event) (sought : Sought) → Searched all all sought 0
-searched_nothing all sought = record { seen = []; parts = refl; count = refl; none = λ i e here. absurd (cc here) }
-
 -- one more event that isn't looked for
 pub searched_more : (all old left : List Event) (sought : Sought) (place next : ℕ) (e : Event) → old ≡ e ∷ left → (place < MAX_EVENTS → next ≡ suc place)
     → ¬ (IsSought sought (record { place = place; event = e })) → (length all ≤ MAX_EVENTS → Searched all old sought place)
@@ -361,12 +356,6 @@ searched_more all old left sought place next e is counts other searched few =
     let size = length-append was.seen (e ∷ left) in
     let more = length-append was.seen (e ∷ []) in
     grind (arith, append_assoc, slice_get_within, each_more, slice_get-append_seam, slice_get-append_left)
-
--- one that is looked for is the first
-pub searched_first : (all old left : List Event) (sought : Sought) (place : ℕ) (e : Event) → old ≡ e ∷ left
-    → IsSought sought (record { place = place; event = e }) → (length all ≤ MAX_EVENTS → Searched all old sought place)
-    → length all ≤ MAX_EVENTS → IsFirstSought all sought (record { place = place; event = e })
-searched_first all old left sought place e is found searched few = grind (arith, at_seam, slice_get-append_left)
 
 -- ---- what contradicts what
 
@@ -396,3 +385,6 @@ pub kept-append : (initial : List ℕ) (events later : List Event) (kept : Optio
     → IfSome kept (IsClash initial (events ++ later))
 kept-append initial events later None is = is
 kept-append initial events later (Some found) is = clash-append initial events later found is
+
+-- where an event stands as more come after it, for `clash_of`
+pub ruleset standing = (first_with-append, stands-append, stands-push, take-append_seam)

@@ -1,23 +1,18 @@
 -- The operations of the events so far, and what a history builder keeps of them, after one more event and at the end.
-use Rattle.history_merge.proofs.Common.{[], ◌++◌, ◌+◌, ◌||◌, ◌∙◌, ◌∷◌, ◌≡◌, All-push, answered, answers}
-use Rattle.history_merge.proofs.Common.{answers_pending, ap, append-nil, arith, begun, breaks_ticket_order}
-use Rattle.history_merge.proofs.Common.{called_by, called_value, calls_initial, CallWhilePending}
-use Rattle.history_merge.proofs.Common.{cases_Bool, cond, DuplicateValue, eqb_tells, Event, events_of, false≢true}
-use Rattle.history_merge.proofs.Common.{fault_at, find-append, Forming}
-use Rattle.history_merge.proofs.Common.{HasFormed, inl, inr, is_call, is_called_in, is_none}
-use Rattle.history_merge.proofs.Common.{is_some, IsCompleteFrom, IsCompleteHistory, IsFormedOf, IsKept, IsRunOf}
-use Rattle.history_merge.proofs.Common.{kind_of, le-ltb, length, length-set, MAX_EVENTS, MAX_THREAD, nat_eq}
-use Rattle.history_merge.proofs.Common.{nat_tests, next_of, None, not, Operation, operation_of, operation_so_far}
-use Rattle.history_merge.proofs.Common.{operations_of, operations_so_far, OpKind, Option, option_map}
-use Rattle.history_merge.proofs.Common.{pending_call, projection, refl, repeats_value, RetEnq, ReturnWithoutCall, set}
-use Rattle.history_merge.proofs.Common.{slice_get, Some, some_pair_parts, subst, suc, sym}
-use Rattle.history_merge.proofs.Common.{TakesTurns, then_some, waiting, was_called, What, WrongReturn, common_steps}
-use Rattle.std.proofs.Common.{ℕ, true, false, List}
-use Rattle.std.proofs.Common.{◌≤◌}
-use Rattle.std.proofs.Common.{get_or, append_assoc}
+use Rattle.history_merge.proofs.Common.{[], All-push, answered, answers, answers_pending, ap, append-nil, append_assoc}
+use Rattle.history_merge.proofs.Common.{arith, begun, breaks_ticket_order, called_by, called_value, calls_initial}
+use Rattle.history_merge.proofs.Common.{CallWhilePending, cases_Bool, common_steps, cond, DuplicateValue, eqb_tells}
+use Rattle.history_merge.proofs.Common.{Event, events_of, false, false≢true, fault_at, find-append, Forming, get_or}
+use Rattle.history_merge.proofs.Common.{HasFormed, inl, inr, is_call, is_called_in, is_none, is_some, IsCompleteFrom}
+use Rattle.history_merge.proofs.Common.{IsCompleteHistory, IsFormedOf, IsKept, IsRunOf, kind_of, le-ltb, length}
+use Rattle.history_merge.proofs.Common.{length-set, List, MAX_EVENTS, MAX_THREAD, nat_eq, nat_tests, next_of, None}
+use Rattle.history_merge.proofs.Common.{not, Operation, operation_of, operation_so_far, operations_of}
+use Rattle.history_merge.proofs.Common.{operations_so_far, OpKind, Option, option_map, pending_call, projection, refl}
+use Rattle.history_merge.proofs.Common.{repeats_value, RetEnq, ReturnWithoutCall, set, slice_get, Some}
+use Rattle.history_merge.proofs.Common.{some_pair_parts, subst, suc, sym, TakesTurns, then_some, true, waiting}
+use Rattle.history_merge.proofs.Common.{was_called, What, WrongReturn, ℕ, ◌++◌, ◌+◌, ◌||◌, ◌∙◌, ◌∷◌, ◌≡◌, ◌≤◌}
 use Rattle.history_merge.proofs.TheirEvents.{run_of, told_of_run, call_so_far, next_is_first}
-use Rattle.history_merge.proofs.Turns.{one_event_more, answer_is_return}
-use Rattle.history_merge.proofs.Turns.{projection-at}
+use Rattle.history_merge.proofs.Turns.{answer_is_return, one_event_more, projection-at}
 
 -- ---- how one more event changes the operations of the events so far
 

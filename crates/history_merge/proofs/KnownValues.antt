@@ -4,12 +4,11 @@ use Rattle.history_merge.proofs.Common.{calls_initial, cond, cons_option, contai
 use Rattle.history_merge.proofs.Common.{enqueued_value, enqueues_from, eqb-true, Event, filter_map-append}
 use Rattle.history_merge.proofs.Common.{initial_enqueues, inl, inr, is_among, is_called_in, is_eq, is_initial}
 use Rattle.history_merge.proofs.Common.{IsNonDecreasingBy, IsPartitionPoint, Knows, later_by, length, list_any-append}
-use Rattle.history_merge.proofs.Common.{LOOSE, ltb, ltb-false, ltb-true, name_in, nat_cmp, nat_eq, nat_tests, not}
+use Rattle.history_merge.proofs.Common.{LOOSE, ltb, ltb-false, ltb-true, map, name_in, nat_cmp, nat_eq, nat_tests, not}
 use Rattle.history_merge.proofs.Common.{Operation, operations_so_far, option_map_or, or_cases, or_comm, ORIGIN, refl}
 use Rattle.history_merge.proofs.Common.{repeats_value, suc, sym, take, take-append-le, timeline, was_called, zero}
 use Rattle.history_merge.proofs.Common.{◌++◌, ◌+◌, ◌||◌, ◌∙◌, ◌∷◌, ◌≡◌, ◌⊎◌}
 use Rattle.std.proofs.Common.{append_assoc, false, get_or, List, true, ℕ, ◌<◌, ◌≤◌}
-use Rattle.std.specs.Prelude.{map}
 use Rattle.history_merge.proofs.Distinct.{known_is}
 use Rattle.history_merge.proofs.Formed.{called_in_operations}
 use Rattle.history_merge.proofs.Timelines.{length_enqueues}

@@ -1,21 +1,20 @@
 -- The timeline: what a queue holds first is enqueued before all else.
 use Rattle.history_merge.proofs.Common.{[], All, All-append, All-cons, All-contains, All-map, All-nil, All-permutation}
-use Rattle.history_merge.proofs.Common.{AllPairs, AllPairs-cons, ap, append-nil, append_cancel_left, AreApart}
+use Rattle.history_merge.proofs.Common.{AllPairs, AllPairs-cons, ap, append-nil, AreApart}
 use Rattle.history_merge.proofs.Common.{AreComplete, AreDistinct, arith, called_value, called_values, cases_eq}
 use Rattle.history_merge.proofs.Common.{common_steps, Contains, Contains-get_or, Contains-permutation, Deq, drop}
 use Rattle.history_merge.proofs.Common.{drop-append_seam, earlier_by, Empty, Enq, enqueue_at, enqueued_value}
-use Rattle.history_merge.proofs.Common.{enqueues_from, Event, get_or-drop, get_or-map, initial_enqueues, inl, inr}
-use Rattle.history_merge.proofs.Common.{IsAccepted, IsCompleteFrom, IsLegalOrder, IsLinearizable, IsPermutation}
+use Rattle.history_merge.proofs.Common.{enqueues_from, Event, get_or, get_or-drop, get_or-map, initial_enqueues, inl}
+use Rattle.history_merge.proofs.Common.{inr, IsAccepted, IsCompleteFrom, IsLegalOrder, IsLinearizable, IsPermutation}
 use Rattle.history_merge.proofs.Common.{IsPermutation-cons, IsPermutation-map, IsPermutation-refl}
 use Rattle.history_merge.proofs.Common.{IsPermutation-remove, IsPermutation-sym, IsPermutation-trans, IsTimed}
-use Rattle.history_merge.proofs.Common.{IsTimeline, kind_of, later_by, length, length-map, map-append, map-set}
-use Rattle.history_merge.proofs.Common.{map_fixed, MAX_INITIAL, nat_tests, nil_from_length, Not, OnErr, OnOk}
-use Rattle.history_merge.proofs.Common.{Operation, operations_of, operations_on, OpKind, ORIGIN, Precedes, refl}
-use Rattle.history_merge.proofs.Common.{remove, same_Some, set, set-append_right, slice_get, slice_get-map, Some}
-use Rattle.history_merge.proofs.Common.{subst, suc, sum_by, sum_by-cons, sum_by-IsPermutation, sym, take, take_more}
-use Rattle.history_merge.proofs.Common.{timeline, What, zero, ⊤, ◌++◌, ◌+◌, ◌-◌, ◌==◌, ◌↔◌, ◌∙◌, ◌∷◌, ◌≡◌, ◌⊎◌}
-use Rattle.std.proofs.Common.{append_assoc, Err, length-take-le, List, Ok, Result, true, ℕ, ◌<◌, ◌≤◌}
-use Rattle.std.specs.Prelude.{get_or, map}
+use Rattle.history_merge.proofs.Common.{IsTimeline, kind_of, later_by, length, length-map, map, map-append, map-set}
+use Rattle.history_merge.proofs.Common.{map_fixed, MAX_INITIAL, nat_tests, Not, OnErr, OnOk, Operation, operations_of}
+use Rattle.history_merge.proofs.Common.{operations_on, OpKind, ORIGIN, Precedes, refl, remove, same_Some, set}
+use Rattle.history_merge.proofs.Common.{set-append_right, slice_get, slice_get-map, Some, subst, suc, sum_by}
+use Rattle.history_merge.proofs.Common.{sum_by-cons, sum_by-IsPermutation, sym, take, take_more, timeline, What, zero}
+use Rattle.history_merge.proofs.Common.{⊤, ◌++◌, ◌+◌, ◌-◌, ◌↔◌, ◌∙◌, ◌∷◌, ◌≡◌, ◌⊎◌}
+use Rattle.std.proofs.Common.{append_assoc, Err, length-take-le, List, Ok, Result, ℕ, ◌<◌, ◌≤◌}
 use Rattle.std.proofs.lemmas.List.{length-append}
 use Rattle.history_merge.proofs.Distinct.{all_apart, contains_cons, each_timed, not_in_none, traced, value_called}
 
@@ -80,10 +79,6 @@ legal_earlier n queue operations found legal = (
     stays = All-map (λ o. later_by n (earlier_by n o) ≡ o) (later_by n) operations (λ k d below. ap (later_by n) (there_and_back n _))
 
 -- ---- how many operations a timeline has, which they are by their tickets, and one more of them
-
--- a list without elements
-pub no_elements : (xs : List ℕ) → true ≡ (length xs == 0) → xs ≡ []
-no_elements xs none = nil_from_length xs (grind (arith, nat_tests))
 
 -- an enqueue for each initial value
 pub length_enqueues : (n : ℕ) (initial : List ℕ) → length (enqueues_from n initial) ≡ length initial
@@ -329,20 +324,13 @@ all_from : (time n : ℕ) (values : List ℕ) (operations : List Operation) → 
     → All (λ o. (time ≤ o.call) × (time ≤ o.ret)) (enqueues_from time values ++ map (later_by n) operations)
 all_from time n [] operations after =
     All-map (λ o. (time ≤ o.call) × (time ≤ o.ret)) (later_by n) operations (λ k d below. (omega arith, omega arith))
-all_from time n (v ∷ values) operations after =
-    All-cons (λ o. (time ≤ o.call) × (time ≤ o.ret)) (enqueue_at time v)
-    (enqueues_from (time + 1) values ++ map (later_by n) operations) (omega arith, omega arith)
-    (λ k d below. let rest = all_from (time + 1) n values operations (omega arith) k d below in (omega (arith, rest.0), omega (arith, rest.1)))
+all_from time n (v ∷ values) operations after = grind (arith, All-cons, all_from (time + 1) n values operations)
 
 -- each of the enqueues precedes all later ones and all later operations
 lead_all : (time n : ℕ) (values : List ℕ) (operations : List Operation) → time + length values ≤ n
     → LeadAll (enqueues_from time values) (map (later_by n) operations)
 lead_all time n [] operations after = tt
-lead_all time n (v ∷ values) operations after = (
-  λ k d below. let rest = all_from (time + 1) n values operations (omega arith) k d below in
-      (omega (arith, rest.0), λ precedes. omega (arith, rest.1, precedes)),
-  lead_all (time + 1) n values operations (omega arith),
-)
+lead_all time n (v ∷ values) operations after = grind (arith, all_from, lead_all (time + 1) n values operations)
 
 enqueue_all : (time : ℕ) (values : List ℕ) → Enqueue values (enqueues_from time values)
 enqueue_all time [] = tt
@@ -364,17 +352,6 @@ module _ (initial : List ℕ) (operations : List Operation) (few : length initia
   timeline_order order legal =
       enqueues_put [] initial (initial_enqueues initial) (map (later_by ORIGIN) operations) (map (later_by ORIGIN) order) (enqueue_all _ initial)
       (lead_all _ ORIGIN initial operations (omega arith)) (legal_later ORIGIN initial operations order legal)
-
-  -- an order is a linearization from the initial values if and only if after their enqueues it is one of the timeline
-  pub timeline_orders : (order : List Operation)
-      → IsLegalOrder initial operations order ↔ IsLegalOrder [] (timeline initial operations) (timeline initial order)
-  timeline_orders order = (timeline_order order, back)
-    where
-      back : IsLegalOrder [] (timeline initial operations) (timeline initial order) → IsLegalOrder initial operations order
-      back legal =
-          let found = all_timeline_orders (timeline initial order) legal in
-          let same = append_cancel_left (initial_enqueues initial) (map (later_by ORIGIN) order) (map (later_by ORIGIN) found.0) found.1 in
-          subst (λ os. IsLegalOrder initial operations os) (sym (later_injective ORIGIN order found.0 same)) found.2
 
   -- so a linearization of the one exists if and only if one of the other does
   pub linearizable_from_exactly : IsLinearizable initial operations ↔ IsLinearizable [] (timeline initial operations)
@@ -440,10 +417,7 @@ apart_from time n (v ∷ values) calls operations after distinct among apart =
 -- the enqueues stay within the times before the first ticket
 enqueues_timed : (time : ℕ) (values : List ℕ) → 0 < time → time + length values ≤ ORIGIN → All IsTimed (enqueues_from time values)
 enqueues_timed time [] above within = All-nil IsTimed
-enqueues_timed time (v ∷ values) above within =
-    All-cons IsTimed (enqueue_at time v) (enqueues_from (time + 1) values)
-    (record { returns_late = omega arith; takes_time = λ other. absurd (other v refl); above_zero = above; in_range = omega arith })
-    (enqueues_timed (time + 1) values (omega arith) (omega arith))
+enqueues_timed time (v ∷ values) above within = grind (arith, All-cons, enqueues_timed (time + 1) values)
 
 -- the timeline is complete
 pub timeline_is_complete : (initial : List ℕ) (events : List Event) → IsCompleteFrom initial events → length initial ≤ MAX_INITIAL

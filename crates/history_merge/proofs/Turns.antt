@@ -1,12 +1,10 @@
 -- What a walk over the events keeps of each thread, and calls and returns of one thread, event by event.
-use Rattle.history_merge.proofs.Common.{[], ◌++◌, ◌+◌, ◌∙◌, ◌∷◌, ◌≡◌, All, All-head, All-tail, answers, ap}
-use Rattle.history_merge.proofs.Common.{append-nil, arith, CallEnq, cases_lt, eq-eqb, Event, filter-append, FitsTurn}
-use Rattle.history_merge.proofs.Common.{is_call, IsLeastPending, last_or, MatchOption, MAX_THREAD, nat_eq}
-use Rattle.history_merge.proofs.Common.{nat_tests, None, NothingPending, Option, option_and_then, pending_call}
-use Rattle.history_merge.proofs.Common.{projection, refl, RetEmpty, RetEnq, Some, sym, TakesTurns, then_some}
-use Rattle.history_merge.proofs.Common.{What}
+use Rattle.history_merge.proofs.Common.{All, All-head, All-tail, answers, ap, append-nil, append_assoc, arith, CallEnq}
+use Rattle.history_merge.proofs.Common.{[], cases_lt, eq-eqb, Event, filter-append, FitsTurn, is_call, IsLeastPending}
+use Rattle.history_merge.proofs.Common.{last_or, MatchOption, MAX_THREAD, nat_eq, nat_tests, None, NothingPending}
+use Rattle.history_merge.proofs.Common.{Option, option_and_then, pending_call, projection, refl, RetEmpty, RetEnq}
+use Rattle.history_merge.proofs.Common.{Some, sym, TakesTurns, then_some, true, What, ◌++◌, ◌+◌, ◌∙◌, ◌∷◌, ◌≡◌}
 use Rattle.std.proofs.Common.{ℕ, ◌≤◌, ◌<◌, false, List}
-use Rattle.std.proofs.Common.{true, append_assoc}
 
 -- ---- the pending calls, and how one more event changes them
 

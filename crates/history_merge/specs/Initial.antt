@@ -1,7 +1,6 @@
 -- Histories of a queue that holds some values first: its initial values, front first, which no operation enqueues.
-use Rattle.std.specs.Prelude.{ℕ, ◌+◌, ◌-◌, List, [], ◌∷◌, ◌++◌, length, map}
+use Rattle.std.specs.Prelude.{ℕ, ◌+◌, List, ◌++◌}
 use Rattle.event_records.specs.declared.event.Event.{Event}
-use Rattle.event_records.specs.declared.limits.TheConstants.{ORIGIN}
 use Rattle.history_merge.specs.declared.operation.Operation.{Operation}
 use Rattle.history_merge.specs.declared.operation.OpKind.TheVariants.{Enq}
 use Rattle.history_merge.specs.Complete.{AreDistinct, IsCompleteHistory, called_values}
@@ -21,25 +20,12 @@ pub record Contents : Type 0 where
   pub initial : List ℕ
   pub operations : List Operation
 
--- ---- the timeline: one scale of time, on which the initial values are enqueued before all else
+-- ---- one scale of time
 
--- an enqueue of the value, called and returned at this time
+-- the value comes in at this time, as an enqueue that is called and returns then
 abbrev pub enqueue_at : ℕ → ℕ → Operation
 enqueue_at time v = record { call = time; ret = time; thread = 0; kind = Enq v }
-
--- from this time on the values are enqueued, one after another
-abbrev pub enqueues_from : ℕ → List ℕ → List Operation
-enqueues_from time [] = []
-enqueues_from time (v ∷ rest) = enqueue_at time v ∷ enqueues_from (time + 1) rest
 
 -- the operation, this much later
 abbrev pub later_by : ℕ → Operation → Operation
 later_by n o = record { call = o.call + n; ret = o.ret + n; thread = o.thread; kind = o.kind }
-
--- the enqueues of the initial values, of which the last comes just before the time of ticket 0
-abbrev pub initial_enqueues : List ℕ → List Operation
-initial_enqueues initial = enqueues_from (ORIGIN - length initial) initial
-
--- the initial values are enqueued one after another, and then come the operations, each at the times of its tickets
-abbrev pub timeline : List ℕ → List Operation → List Operation
-timeline initial operations = initial_enqueues initial ++ map (later_by ORIGIN) operations

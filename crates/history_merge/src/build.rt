@@ -63,6 +63,7 @@ pub fn history(alloc: Global, events: &[Event]) -> Result<History, HistoryFault>
 /// assert_eq!(rt; recorded.initial(), [7].as_slice());
 /// assert_eq!(rt; recorded.operations().len(), 1);
 /// ```
+#[tactic(auto, using(std::proofs::lemmas::List::take_all))]
 pub fn history_from(
     alloc: Global,
     initial: Vec<u64>,

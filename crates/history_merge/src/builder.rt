@@ -95,6 +95,7 @@ impl HistoryBuilder {
     /// events the first faulty one decides, and of its faults the one that [`HistoryFault`] lists first; a call with
     /// an initial value has the fault `DuplicateValue` too. If no event has a fault, `Pending` names the least call
     /// ticket without a return. `Memory` comes if memory ran out, and then says nothing of the values and the events.
+    #[tactic(auto, using(crate::proofs::Faults::complete_has_no_fault))]
     pub fn finish(self) -> Result<History, HistoryFault>
         ensures outcome { (initial : List ℕ) (events : List Event) → HasGathered initial events self
             → MatchResult result (λ whole. (whole.initial ≡ initial) × (whole.events ≡ events)) (IsFirstFault initial events) }

@@ -77,6 +77,7 @@ impl Sought {
 }
 
 /// The first of the events that is looked for.
+#[tactic(auto, using(crate::proofs::Faults::searched_more))]
 fn first_of(events: Events<'_>, sought: Sought) -> Option<Placed>
     ensures { length events.entry ≤ MAX_EVENTS → IfSome result (IsFirstSought events.entry sought) }
 {
@@ -101,6 +102,7 @@ pub(crate) fn first_event(forming: &Forming, sought: Sought) -> Option<Placed>
 }
 
 /// What an event that has this fault contradicts, of the events before it and the initial values. Time O(n).
+#[tactic(auto, using(crate::proofs::Faults::standing))]
 #[inline(never)]
 pub(crate) fn clash_of(fault: HistoryFault, later: Placed, forming: &Forming) -> Option<Clash>
     requires { AreOfRun forming.now.timeline.operations }

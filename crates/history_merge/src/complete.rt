@@ -2,7 +2,8 @@ ghost use Rattle.std.specs.Prelude.{◌≡◌, ◌+◌, ◌≤◌, List, length}
 ghost use Rattle.event_records.specs.declared.event.Event.{Event};
 ghost use Rattle.event_records.specs.declared.limits.TheConstants.{MAX_EVENTS, MAX_INITIAL};
 ghost use Rattle.history_merge.specs.Complete.{AreComplete, IsCompleteHistory};
-ghost use Rattle.history_merge.specs.Initial.{IsCompleteFrom, timeline};
+ghost use Rattle.history_merge.specs.Initial.{IsCompleteFrom};
+ghost use Rattle.history_merge.specs.Inner.Timeline.{timeline};
 ghost use Rattle.history_merge.specs.Inner.Forming.{IsFormedOf};
 ghost use Rattle.history_merge.specs.Operations.{operations_of};
 

@@ -134,6 +134,7 @@ impl Forming {
     }
 
     /// Does so for a return that comes in order: it completes the operation of its thread's pending call.
+    #[tactic(auto, using(crate::proofs::Formed::wrong_return, std::proofs::lemmas::Option::slice_get_within))]
     #[inline(always)]
     fn answer(&mut self, event: Event, place: usize) -> Result<(), HistoryFault>
         requires thread { event.thread ≤ MAX_THREAD }
@@ -172,6 +173,7 @@ impl Forming {
     }
 
     /// Returns the least ticket of a pending call.
+    #[tactic(auto, using(crate::proofs::Turns::least_pending))]
     pub(crate) fn least_pending(&self) -> Option<u64>
         ensures { (events : List Event) → HasFormed events self.now → MatchOption result (NothingPending events) (IsLeastPending events) }
     {

@@ -2,7 +2,8 @@
 ghost use Rattle.std.specs.Prelude.{◌≡◌, ◌≤◌, ◌+◌, ◌-◌, ◌<◌, ◌++◌, ◌∷◌, [], IfOk, OnErr, OnOk, Some, length, map, slice_get, slice_set, vec_len};
 ghost use Rattle.event_records.specs.declared.limits.TheConstants.{MAX_INITIAL, MAX_TICKET, ORIGIN};
 ghost use Rattle.history_merge.specs.declared.operation.Operation.{Operation};
-ghost use Rattle.history_merge.specs.Initial.{enqueue_at, later_by, timeline};
+ghost use Rattle.history_merge.specs.Initial.{enqueue_at, later_by};
+ghost use Rattle.history_merge.specs.Inner.Timeline.{timeline};
 
 use crate::operation::{OpKind, Operation};
 use crate::operations::{Operations, earlier};

@@ -41,16 +41,14 @@ has_more_behind (b ∷ front) a some = (b, front ++ a.bytes, refl)
 pub has_more_in_buffer : (bytes : List ℕ) (at filled : ℕ) (ahead : Option Ahead) → at < filled → filled ≤ length bytes
     → IfSome (with_front (part bytes at filled) ahead) HasMore
 has_more_in_buffer bytes at filled None some within = tt
-has_more_in_buffer bytes at filled (Some a) some within =
-    grind (arith, length-take-le, length-drop, has_more_behind)
+has_more_in_buffer bytes at filled (Some a) some within = grind (arith, length-take-le, length-drop, has_more_behind)
 
 -- whether a read gave a byte says whether the input is over
 pub over_if_nothing : (ahead : Option Ahead) (n : ℕ) (bytes : List ℕ) → n ≤ length bytes → 0 < length bytes
     → (n ≡ 0 → 0 < length bytes → IsOver EndOfInput ahead) → IsOverIf (with_front (part bytes 0 n) ahead) (not (nat_lt 0 n))
 over_if_nothing None zero bytes within some ends = tt
 over_if_nothing (Some a) zero bytes within some ends = ends refl some
-over_if_nothing ahead (suc n) bytes within some ends =
-    grind (arith, nat_tests, common_steps, has_more_in_buffer)
+over_if_nothing ahead (suc n) bytes within some ends = grind (arith, nat_tests, common_steps, has_more_in_buffer)
 
 -- the bytes that are left, moved to the front, and those of a read after them: nothing is taken
 pub moved_and_read : (bytes more : List ℕ) (at filled n : ℕ) (old new : Option Ahead) → at ≤ filled → filled ≤ length bytes

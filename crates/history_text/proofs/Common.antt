@@ -1,11 +1,11 @@
 -- The names that most proofs of this crate cite, passed on from one place. Declares nothing.
-pub use Rattle.std.proofs.Common.{[], All, ap, append-nil, append_assoc, ap₂, arith, Bool, bytes_eq, codes, cond}
-pub use Rattle.std.proofs.Common.{Contains, decimal, drop, drop-drop, Err, false, filter_map, flat_map, get_or, IfErr}
-pub use Rattle.std.proofs.Common.{IfOk, IfSome, if◌then◌else◌, inl, inr, is_err, IsErrAnd, length, length-append}
-pub use Rattle.std.proofs.Common.{length-drop, length-take-le, List, map, MatchOption, MatchResult, nat_lt, None, not}
-pub use Rattle.std.proofs.Common.{Ok, OnOk, Option, option_map, option_to_list, refl, rules, slice_get, Some, subst}
-pub use Rattle.std.proofs.Common.{suc, sym, take, take-add, take-append-drop, take_all, true, zero, ℕ, ◌%◌, ◌&&◌, ◌*◌}
-pub use Rattle.std.proofs.Common.{◌++◌, ◌+◌, ◌-◌, ◌/◌, ◌<◌, ◌==◌, ◌^◌, ◌∙◌, ◌∷◌, ◌≡◌, ◌≤◌}
+pub use Rattle.std.proofs.Common.{All, ap, append-nil, append_assoc, ap₂, arith, Bool, bytes_eq, codes, Contains}
+pub use Rattle.std.proofs.Common.{decimal, drop, drop-drop, Err, false, filter_map, flat_map, get_or, IfErr, IfOk}
+pub use Rattle.std.proofs.Common.{IfSome, if◌then◌else◌, inl, inr, IsErrAnd, length, length-append, length-drop}
+pub use Rattle.std.proofs.Common.{length-take-le, List, map, MatchOption, MatchResult, nat_lt, None, not, Ok, Option}
+pub use Rattle.std.proofs.Common.{option_map, option_to_list, refl, rules, slice_get, Some, subst, suc, sym, take}
+pub use Rattle.std.proofs.Common.{take-add, take-append-drop, take_all, true, zero, [], ℕ, ◌%◌, ◌&&◌, ◌*◌, ◌++◌, ◌+◌}
+pub use Rattle.std.proofs.Common.{◌-◌, ◌<◌, ◌==◌, ◌^◌, ◌∙◌, ◌∷◌, ◌≡◌, ◌≤◌}
 pub use Rattle.std.proofs.lemmas.Bool.Decides.{nat_tests}
 pub use Rattle.std.proofs.lemmas.Fmt.{decimal_digit, decimal_nonempty, decimal_step, length-decimal-le}
 pub use Rattle.std.proofs.lemmas.Grind.{common_steps, flat_map-append}
@@ -30,8 +30,8 @@ pub use Rattle.text_lines.specs.declared.fault.TextFault.TheVariants.{Cut, Heade
 pub use Rattle.text_lines.proofs.Consuming.{before, before_end, Takes-append}
 pub use Rattle.text_lines.proofs.Fronts.{front_too_long, front_unfinished, whole}
 pub use Rattle.text_lines.proofs.Numbers.{end_ok, text_is}
-pub use Rattle.text_lines.proofs.Putting.{goes_out, one_more_put, puts_after, puts_then, refused_text, some_kept}
-pub use Rattle.text_lines.proofs.Putting.{some_then, stops_at_next, stops_before, stops_inside}
+pub use Rattle.text_lines.proofs.Putting.{one_more_put, puts_after, puts_then, some_kept, some_then, stops_at_next}
+pub use Rattle.text_lines.proofs.Putting.{stops_before, stops_inside}
 pub use Rattle.text_lines.proofs.Tables.{has_bits, is_line_form, numbers_back, parse_line_says, spelled_is_line}
 pub use Rattle.text_lines.proofs.WrittenLines.{all_digits, end_read, field_is_clean, IsLineOf, number_is_field}
 pub use Rattle.history_merge.specs.declared.operation.OpKind.{OpKind}
@@ -44,18 +44,17 @@ pub use Rattle.verdicts.specs.declared.verifying.ClaimLine.TheVariants.{Initial,
 pub use Rattle.verdicts.specs.declared.verifying.ViolationKind.{ViolationKind}
 pub use Rattle.history_text.specs.Claims.{claim_line_format, claim_line_in, ClaimFault, empty_operation, first_line}
 pub use Rattle.history_text.specs.Claims.{FirstLineFault, HasClaimLine, HasOperationLine, HasVerdictText, initial_form}
-pub use Rattle.history_text.specs.Claims.{initial_forms, initial_of, is_initial, IsKindInRange, IsNoFirstLine}
-pub use Rattle.history_text.specs.Claims.{IsVerdictTextFault, NoRoomForVerdict, operation_format, operation_forms}
-pub use Rattle.history_text.specs.Claims.{operation_of, valued_operation}
+pub use Rattle.history_text.specs.Claims.{initial_forms, initial_of, is_initial, IsKindInRange, IsVerdictTextFault}
+pub use Rattle.history_text.specs.Claims.{NoRoomForVerdict, operation_format, operation_forms, operation_of}
+pub use Rattle.history_text.specs.Claims.{valued_operation}
 pub use Rattle.history_text.specs.Histories.{event_format, event_forms, event_in, event_line, event_of, HasEventLine}
 pub use Rattle.history_text.specs.Histories.{HasHistoryText, HasValueInRange, lines_to_end, plain_event, valued_event}
 pub use Rattle.history_text.specs.Histories.{what_fields}
 pub use Rattle.history_text.specs.Inner.Taking.{BrokenLineFault, count_format, FaultAtFront, HasItemsFault, IsItemLine}
-pub use Rattle.history_text.specs.Inner.Taking.{IsOfInput, IsSpelled, NoLineFault, setting_format, TakesEnd, TakesItem}
+pub use Rattle.history_text.specs.Inner.Taking.{IsOfInput, IsSpelled, NoLineFault, setting_format}
 pub use Rattle.history_text.specs.Inner.Verdicts.{line_text, lines_text}
-pub use Rattle.history_text.specs.Items.{a_value, FaultAmong, Format, HaveLines, item_at_front, item_at_nothing}
-pub use Rattle.history_text.specs.Items.{item_in, ItemFault, line_at_front, line_of, LineFault, lines_of, NoRoom}
-pub use Rattle.history_text.specs.Items.{NoRoomAmong, read_by}
+pub use Rattle.history_text.specs.Items.{a_value, FaultAmong, Format, HaveLines, item_at_front, item_in, ItemFault}
+pub use Rattle.history_text.specs.Items.{line_at_front, line_of, LineFault, lines_of, NoRoom, NoRoomAmong, read_by}
 pub use Rattle.history_text.specs.Reading.{BeginsWith, HasFirstFault, HasMore, HasTextFault, Input, IsAll, IsOverIf}
 pub use Rattle.history_text.specs.Reading.{with_front}
 pub use Rattle.history_text.specs.Schedules.{draining, HasScheduleText, HasStepLine, IsAnswerInRange}
@@ -73,3 +72,5 @@ pub use Rattle.history_text.specs.Versions.{NoVersionFault, number_of, text_by, 
 pub use Rattle.history_text.specs.Versions.{value_forms, value_in}
 pub use Rattle.history_text.specs.declared.version.Version.{Version}
 pub use Rattle.history_text.specs.declared.version.Version.TheVariants.{One, Two}
+pub use Rattle.std.proofs.lemmas.List.Elements.{All-contains, All-from_recursion, All-more, All-push}
+pub use Rattle.std.proofs.lemmas.List.Elements.{recursion_from_All}

@@ -1,25 +1,22 @@
 -- From a fault of one line to the first fault of the whole input, and what is read of a text that stands at its front.
-use Rattle.history_text.proofs.Common.{[], Ahead, AllByRecursion, ap, append-nil, append_assoc, arith, before}
-use Rattle.history_text.proofs.Common.{before_end, BeginsWith, Bool, BrokenLineFault, bytes_eq, count_before_events}
-use Rattle.history_text.proofs.Common.{end_line, Ending, EndOfInput, Err, event_format, Failure, false}
-use Rattle.history_text.proofs.Common.{false_from_ne_true, fault_at, FaultAmong, FaultAtFront, fields_of}
+use Rattle.history_text.proofs.Common.{[], Ahead, All-from_recursion, All-push, AllByRecursion, ap, append-nil}
+use Rattle.history_text.proofs.Common.{append_assoc, arith, before, before_end, BeginsWith, BrokenLineFault, bytes_eq}
+use Rattle.history_text.proofs.Common.{count_before_events, end_line, Ending, EndOfInput, Err, event_format, Failure}
+use Rattle.history_text.proofs.Common.{false, false_from_ne_true, fault_at, FaultAmong, FaultAtFront, fields_of}
 use Rattle.history_text.proofs.Common.{flat_map-append, Format, Front, front_of, front_too_long, front_unfinished}
 use Rattle.history_text.proofs.Common.{has_no_line_feed, HasFirstFault, HasItemsFault, HasTextFault, HaveLines}
 use Rattle.history_text.proofs.Common.{HaveValueLines, Header, header_fault, header_of, IfErr, IfOk, IfSome}
-use Rattle.history_text.proofs.Common.{if◌then◌else◌, inl, inr, is_line_feed, IsErrAnd, IsItemLine, IsOfInput, IsOver}
+use Rattle.history_text.proofs.Common.{if◌then◌else◌, inr, is_line_feed, IsErrAnd, IsOfInput, IsOver}
 use Rattle.history_text.proofs.Common.{IsPartOfLine, IsSpelled, IsTextFault, item_at_front, item_in, ItemFault}
 use Rattle.history_text.proofs.Common.{join_with_byte-slice_split, length, length-append, line, line_at_front, line_of}
 use Rattle.history_text.proofs.Common.{lines_before_events, lines_of, lines_of_initial, List, longest_line}
 use Rattle.history_text.proofs.Common.{MatchResult, Memory, nat_lt, nat_tests, NoLineFault, None, NoRoom, NoRoomAmong}
-use Rattle.history_text.proofs.Common.{NoRoomForText, Nothing, Ok, One, Option, refl, Result, Some, spaced, subst, suc}
-use Rattle.history_text.proofs.Common.{sym, Takes, Takes-append, TakesEnd, TakesItem, text_is, TextFault, TooLong}
-use Rattle.history_text.proofs.Common.{true, Two, Unfinished, Version, Whole, whole, zero, ℕ, ◌++◌, ◌+◌, ◌<◌, ◌>>=◌}
-use Rattle.history_text.proofs.Common.{◌^◌, ◌∙◌, ◌∷◌, ◌≡◌, ◌≤◌}
-use Rattle.std.proofs.lemmas.List.Elements.{All-from_recursion, All-push, recursion_from_All}
+use Rattle.history_text.proofs.Common.{NoRoomForText, Nothing, NoVersionFault, Ok, One, Option, recursion_from_All}
+use Rattle.history_text.proofs.Common.{refl, Result, Some, spaced, subst, suc, sym, Takes, Takes-append, text_is}
+use Rattle.history_text.proofs.Common.{TextFault, TooLong, true, Two, Unfinished, Version, Whole, whole, zero, ℕ, ◌++◌}
+use Rattle.history_text.proofs.Common.{◌+◌, ◌<◌, ◌>>=◌, ◌^◌, ◌∙◌, ◌∷◌, ◌≡◌, ◌≤◌, common_steps}
 use Rattle.text_lines.proofs.MemoryOrNot.{follows, is_memory, known_fault}
 use Rattle.history_text.proofs.FormLines.{end_front, IsReadBack, Says}
-use Rattle.history_text.specs.Versions.{NoVersionFault}
-use Rattle.text_lines.specs.Faults.{MemoryOr}
 
 -- ---- one step after another
 
@@ -48,8 +45,7 @@ first_at rows other ending Nothing = Err (fault_at ending)
 pub first_read : {A : Type 0} (rows : List (A × List ℕ)) (other : TextFault) (ending : Ending) (value : A) (bytes rest : List ℕ)
     → has_no_line_feed bytes ≡ true → length bytes ≤ 80 → value_with rows other bytes rest ≡ Ok (value, rest)
     → first_at rows other ending (front_of (line bytes ++ rest)) ≡ Ok (value, rest)
-first_read rows other ending value bytes rest one short is =
-    ap (first_at rows other ending) (whole bytes rest (record { one = one; short = short })) ∙ is
+first_read rows other ending value bytes rest one short is = grind (arith, whole)
 
 -- a line that is none of these has the fault
 pub none_with : {A : Type 0} (rows : List (A × List ℕ)) (other : TextFault) (bytes rest : List ℕ)
@@ -208,16 +204,12 @@ module _ {T : Type 0} {HasIt : T → Type 0} {text : T → List ℕ} {MayFollow 
   -- a text that stands at the front has no fault
   pub text_has_no_fault : (lines : ℕ) (ending : Ending) (t : T) (r : List ℕ) (fault : TextFault) → HasIt t → MayFollow ending r
       → IsFault lines ending (text t ++ r) fault → ⊥
-  text_has_no_fault lines ending t r fault has may h =
-      let read = judged.read lines ending t r has may in
-      let found = judged.found lines ending (text t ++ r) fault h in
-      absurd (cc)
+  text_has_no_fault lines ending t r fault has may h = grind arith
 
   -- an input has one first fault
   pub one_first_fault : (lines : ℕ) (ending : Ending) (bytes : List ℕ) (f g : TextFault) → IsFault lines ending bytes f
       → IsFault lines ending bytes g → f ≡ g
-  one_first_fault lines ending bytes f g h k =
-      let first = judged.found lines ending bytes f h in let other = judged.found lines ending bytes g k in cc
+  one_first_fault lines ending bytes f g h k = grind arith
 
   -- a text that stands there is read, unless memory runs out
   pub reads_what_is_there : {V : Type 0} (LacksRoom : List ℕ → Type 0) (P : V → Type 0) (Told : V → T → Type 0) (lines : ℕ) (old new : Option Ahead)
@@ -232,11 +224,7 @@ module _ {T : Type 0} {HasIt : T → Type 0} {text : T → List ℕ} {MayFollow 
       (sym is.2.0 ∙ stands.1) in
       subst (Told v) same.0 is.4
   reads_what_is_there L P Told lines (Some a) new (Err fault) ok err found t has stands =
-      elim (is_memory fault) [
-        | inl same ↦ same
-        | inr known ↦ absurd (text_has_no_fault lines a.ending t stands.0 fault has stands.2 (subst (λ b. IsFault lines a.ending b fault) stands.1
-            (known_fault (L a.bytes) (IsFault lines a.ending a.bytes) fault known err)))
-      ]
+      grind (arith, is_memory, text_has_no_fault, known_fault)
 
 -- ---- what the line ahead is, by what was taken of it and by what its fields say
 
@@ -260,10 +248,6 @@ pub at_cut : (P : Ending → Front → Type 0) (old new : Option Ahead) (given :
 at_cut P old new given taken part over more holds =
     before_end old new EndOfInput given (λ e b. P e (front_of b)) taken over (subst (P EndOfInput) (sym (front_unfinished given part more)) holds)
 
--- the input had ended
-pub at_nothing : (P : Ending → Front → Type 0) (old new : Option Ahead) → Takes old new [] → IsOver EndOfInput new → P EndOfInput Nothing → AtFront old P
-at_nothing P old new taken over holds = before_end old new EndOfInput [] (λ e b. P e (front_of b)) taken over holds
-
 -- the line was too long
 pub at_long : (P : Ending → Front → Type 0) (old new : Option Ahead) (given : List ℕ) (b : ℕ) → Takes old new (given ++ b ∷ []) → IsPartOfLine given
     → length given ≡ longest_line → is_line_feed b ≡ false → ((e : Ending) → P e TooLong) → AtFront old P
@@ -282,19 +266,6 @@ no_line long None fault h = tt
 no_line long (Some a) fault h = grind (arith, h)
 
 -- ---- items
-
--- items that aren't counted end where the input does
-pub items_end : (is_counted : Bool) (old new : Option Ahead) (k : ℕ) → is_counted ≡ false → Takes old new [] → IsOver EndOfInput new
-    → TakesEnd is_counted old new k
-items_end true old new k is taken over = absurd (cc)
-items_end false old new k is taken over = (taken, over)
-
--- what an item's line was judged to be is what was taken
-pub items_taken : {A : Type 0} (format : Format A) (k : ℕ) (old new : Option Ahead) (bytes : List ℕ) (r : Result (Option A) TextFault)
-    → Takes old new (line bytes) → IfOk r (IsItemLine format k bytes) → IfOk r (TakesItem format old new k)
-items_taken format k old new bytes (Ok (Some x)) taken spelled = (subst (Takes old new) spelled.0 taken, spelled.1, spelled.2)
-items_taken format k old new bytes (Ok None) taken spelled = rw spelled.1 (subst (Takes old new) spelled.0 taken)
-items_taken format k old new bytes (Err fault) taken spelled = tt
 
 -- a line with a fault is that of the next item
 pub items_faulty : {A : Type 0} (format : Format A) (n k : ℕ) (old new : Option Ahead) (bytes : List ℕ) (r : Result (Option A) TextFault)
@@ -333,8 +304,7 @@ moved : (P Q : Ending → List ℕ → Type 0) (old mid : Option Ahead) (front :
     → ((e : Ending) (r : List ℕ) → P e r → Q e (front ++ r)) → IfSome mid (λ a. P a.ending a.bytes) → IfSome old (λ a. Q a.ending a.bytes)
 moved P Q None mid front taken step h = tt
 moved P Q (Some a) None front taken step h = absurd taken
-moved P Q (Some a) (Some b) front taken step h = subst (Q a.ending) (sym taken.0)
-    (subst (λ (e : Ending). Q e (front ++ b.bytes)) taken.1 (step b.ending b.bytes h))
+moved P Q (Some a) (Some b) front taken step h = grind arith
 
 -- a fault of the line after a taken front, line m, is one of the whole input
 pub line_fault : (P : ℕ → Ending → List ℕ → TextFault → Type 0) (Q : Ending → List ℕ → TextFault → Type 0) (LacksRoom : List ℕ → Type 0) (n m : ℕ)
@@ -349,35 +319,15 @@ pub later_fault : (P : ℕ → Ending → List ℕ → TextFault → Type 0) (Q 
     (old mid : Option Ahead) (front : List ℕ) (fault : TextFault) → m ≡ n → Takes old mid front
     → ((e : Ending) (r : List ℕ) (f : TextFault) → P n e r f → Q e (front ++ r) f) → ((r : List ℕ) → L r → M (front ++ r))
     → HasFirstFault (P m) L mid fault → HasFirstFault Q M old fault
-later_fault P Q L M n m old mid front fault same taken step room h =
-    moved (λ e r. MemoryOr (L r) (P m e r) fault) (λ e r. MemoryOr (M r) (Q e r) fault) old mid front taken
-    (λ e r. follows (L r) (M (front ++ r)) (P m e r) (Q e (front ++ r)) fault (room r) (λ f. rw same (step e r f))) h
-
--- the line after some items has the first fault
-pub item_is_first : {A : Type 0} (format : Format A) (n m : ℕ) (items : List A) (k : ℕ) (old mid : Option Ahead) (fault : TextFault) → IsOfInput fault
-    → HaveLines format items → Takes old mid (lines_of format items) → k ≡ length items → m ≡ n + length items
-    → FaultAtFront (λ end fault front. item_at_front format m k end front ≡ Err fault) mid fault
-    → HasItemsFault format n old fault
-item_is_first format n m items k old mid fault of_input right taken k_is m_is h =
-    line_fault (λ i e r f. item_at_front format i k e (front_of r) ≡ Err f) (λ e b f. ItemFault format n e f b) (NoRoom format) (n + length items) m
-    old mid (lines_of format items) fault m_is of_input taken
-    (λ e r next. record {
-      items = items;
-      rest = r;
-      right = right;
-      front = refl;
-      next = subst (λ j. item_at_front format (n + length items) j e (front_of r) ≡ Err fault) k_is next;
-    }) h
+later_fault P Q L M n m old mid front fault same taken step room h = grind (arith, moved, follows)
 
 -- ---- one more item
 
 -- one item more, if there is room for it
 pub HaveLines-push : {A : Type 0} (format : Format A) (items : List A) (x : A) → HaveLines format items → format.HasLine x → length items < format.most
     → HaveLines format (items ++ x ∷ [])
-HaveLines-push format items x right last few = record {
-  each = recursion_from_All format.HasLine _ (All-push format.HasLine items x (All-from_recursion format.HasLine items right.each) last);
-  few = omega (arith, length-append items (x ∷ []));
-}
+HaveLines-push format items x right last few =
+    grind (arith, nat_tests, common_steps, recursion_from_All, All-push, All-from_recursion, length-append)
 
 -- the lines of the items so far and of one more are taken
 pub takes_item : {A : Type 0} (format : Format A) (items : List A) (x : A) (old mid new : Option Ahead) → Takes old mid (lines_of format items)

@@ -11,7 +11,7 @@ use Rattle.history_text.proofs.Common.{initial_forms, initial_of, is_blank, is_i
 use Rattle.history_text.proofs.Common.{IsItemLine, IsKindInRange, IsLineOf, IsPartOfLine, IsSetting, IsSpelled}
 use Rattle.history_text.proofs.Common.{item_at_front, item_in, join_with_byte-slice_split, kind_fields, length}
 use Rattle.history_text.proofs.Common.{length-decimal-le, line, line_at_front, line_of, List, list_all, MAX_INITIAL}
-use Rattle.history_text.proofs.Common.{MAX_THREAD, MAX_TICKET, nat_lt, nat_tests, None, Not, Number, number_is_field}
+use Rattle.history_text.proofs.Common.{MAX_THREAD, MAX_TICKET, nat_tests, None, Not, Number, number_is_field}
 use Rattle.history_text.proofs.Common.{number_of, numbers_back, numbers_in, Ok, Op, Operation, operation_fields}
 use Rattle.history_text.proofs.Common.{operation_format, operation_forms, operation_of, OpKind, parse_line}
 use Rattle.history_text.proofs.Common.{parse_line_says, plain_event, plain_saying, plain_step, read_by, refl, Result}
@@ -20,7 +20,7 @@ use Rattle.history_text.proofs.Common.{setting_of, Some, spaced, spelled, spelle
 use Rattle.history_text.proofs.Common.{step_format, step_forms, step_in, step_of, step_with, sym, Table}
 use Rattle.history_text.proofs.Common.{take-append-drop, TextFault, true, value_fields, value_format, value_forms}
 use Rattle.history_text.proofs.Common.{value_in, valued_event, valued_operation, valued_saying, what_fields, whole}
-use Rattle.history_text.proofs.Common.{Word, ℕ, ◌%◌, ◌&&◌, ◌*◌, ◌++◌, ◌+◌, ◌/◌, ◌<◌, ◌==◌, ◌>>=◌, ◌^◌, ◌∙◌, ◌∷◌, ◌≡◌}
+use Rattle.history_text.proofs.Common.{Word, ℕ, ◌%◌, ◌&&◌, ◌*◌, ◌++◌, ◌+◌, ◌<◌, ◌==◌, ◌>>=◌, ◌^◌, ◌∙◌, ◌∷◌, ◌≡◌}
 use Rattle.history_text.proofs.Common.{◌≤◌}
 use Rattle.text_lines.proofs.Fields.{has_field}
 use Rattle.event_records.specs.declared.event.What.{What}
@@ -103,8 +103,7 @@ module _ {T A : Type 0} {format : Format A} {table : Table T} {make : T → List
   each_row : (rows : Table T) → AllByRecursion (λ row. ForNumbers row.1 (λ numbers. IsSpelled format (spelled row.1 numbers) (make row.0 numbers))) rows
       → AllByRecursion (λ row. (numbers : List ℕ) → AreOfForm row.1 numbers → IsSpelled format (spelled row.1 numbers) (make row.0 numbers)) rows
   each_row [] all = tt
-  each_row (row ∷ rows) all =
-      (of_numbers row.1 (λ numbers. IsSpelled format (spelled row.1 numbers) (make row.0 numbers)) all.0, each_row rows all.1)
+  each_row (row ∷ rows) all = grind (arith, of_numbers, each_row rows all.1)
 
   -- what a line is judged as spells it
   pub said_spelled : (n : ℕ) (fields : List (List ℕ)) (said : T × List ℕ) → parse_line n table fields ≡ Ok said
@@ -120,12 +119,7 @@ IsReadBack {A} format = (n k : ℕ) (ending : Ending) (item : A) (rest : List �
 -- an item whose line is read back is read at the front
 pub item_read : {A : Type 0} (format : Format A) → ((item : A) → format.HasLine item → IsReadAs format.read (format.fields item) item)
     → IsReadBack format
-item_read format back n k ending item rest has few =
-    let is = back item has in
-    let more : nat_lt k format.most ≡ true = grind (arith, nat_tests, few) in
-    let other : (format.is_counted && begins_as_end (spaced (format.fields item))) ≡ false = and_right format.is_counted _ is.one.other in
-    ap (item_at_front format n k ending) (whole (spaced (format.fields item)) rest is.one.part)
-    ∙ rw (other, more, is.one.back, is.read_back n) refl
+item_read format back n k ending item rest has few = grind (arith, and_right, whole)
 
 -- this text is a line that says this, wherever it stands
 abbrev pub Says : {A : Type 0} → (ℕ → List (List ℕ) → Result A TextFault) → List ℕ → A → Type 0
@@ -134,18 +128,7 @@ Says read text said = (n : ℕ) (ending : Ending) (rest : List ℕ) → line_at_
 -- a line that is read back says what it is read as
 pub line_read : {A : Type 0} (read : ℕ → List (List ℕ) → Result A TextFault) (fields : List (List ℕ)) (said : A) → IsReadAs read fields said
     → Says read (line (spaced fields)) said
-line_read read fields said is n ending rest =
-    ap (line_at_front read n ending) (whole (spaced fields) rest is.one.part) ∙ rw (is.one.back, is.read_back n) refl
-
--- what a table says of a line is made an item
-pub read_as : {T A : Type 0} (table : Table T) (make : T → List ℕ → A) (n : ℕ) (fields : List (List ℕ)) (t : T) (numbers : List ℕ)
-    → Ok (t, numbers) ≡ parse_line n table fields → Ok (make t numbers) ≡ read_by table make n fields
-read_as table make n fields t numbers said = rw (← said) refl
-
--- a fault that a table finds in a line is what it is read as
-pub read_faulty : {T A : Type 0} (table : Table T) (make : T → List ℕ → A) (n : ℕ) (fields : List (List ℕ)) (fault : TextFault)
-    → Err fault ≡ parse_line n table fields → Err fault ≡ read_by table make n fields
-read_faulty table make n fields fault said = rw (← said) refl
+line_read read fields said is n ending rest = grind (arith, whole)
 
 -- ---- the lines of a history: what is read is spelled so, and what is written is read back
 
@@ -342,19 +325,8 @@ module _ (bytes : List ℕ) (at : ℕ) (fits : (place : ℕ) → get_or bytes pl
 
   pub one_digit : at + 2 ≤ length bytes → get_or bytes (at + 1) 0 ≡ 32 → digit_at at < 10
       → drop at bytes ≡ decimal (digit_at at) ++ 32 ∷ drop (at + 2) bytes
-  one_digit long space digit =
-      let first = byte_then bytes at _ (at + 1) (omega arith) (back at digit) refl in
-      let last = byte_then bytes (at + 1) 32 (at + 2) (omega arith) space (omega arith) in
-      rw (first, last, decimal_digit (digit_at at) digit) refl
+  one_digit long space digit = grind (arith, byte_then, back, decimal_digit)
 
   pub two_digits : at + 3 ≤ length bytes → get_or bytes (at + 2) 0 ≡ 32 → 1 ≤ digit_at at → digit_at at < 10
       → digit_at (at + 1) < 10 → drop at bytes ≡ decimal (digit_at at * 10 + digit_at (at + 1)) ++ 32 ∷ drop (at + 3) bytes
-  two_digits long space some ten one =
-      let number = digit_at at * 10 + digit_at (at + 1) in
-      let tens : number / 10 ≡ digit_at at = omega (arith, one) in
-      let ones : number % 10 ≡ digit_at (at + 1) = omega (arith, one) in
-      let first = byte_then bytes at _ (at + 1) (omega arith) (back at ten) refl in
-      let second = byte_then bytes (at + 1) _ (at + 2) (omega arith) (back (at + 1) one) (omega arith) in
-      let last = byte_then bytes (at + 2) 32 (at + 3) (omega arith) space (omega arith) in
-      let step = decimal_step number (omega (arith, some)) (omega (arith, ten, one)) in
-      rw (first, second, last, step, tens, ones, decimal_digit (digit_at at) ten) refl
+  two_digits long space some ten one = grind (arith, byte_then, back, decimal_step, decimal_digit)

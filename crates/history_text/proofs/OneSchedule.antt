@@ -37,8 +37,7 @@ header_then lines ending rest = grind (arith, then_ok, header_read)
 
 setting_then : (lines threads ring : ℕ) (ending : Ending) (rest : List ℕ) → IsSetting threads ring
     → schedule_in lines ending (lines_before_steps threads ring ++ rest) ≡ steps_in (threads, ring) (lines + 3) ending rest
-setting_then lines threads ring ending rest within =
-    grind (arith, append_assoc, header_then, then_ok, setting_says)
+setting_then lines threads ring ending rest within = grind (arith, append_assoc, header_then, then_ok, setting_says)
 
 read : (lines : ℕ) (ending : Ending) (s : Schedule) (rest : List ℕ) → HasScheduleText s → Anything ending rest
     → schedule_in lines ending (schedule_text s ++ rest) ≡ Ok (s, rest)

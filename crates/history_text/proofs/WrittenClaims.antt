@@ -1,15 +1,15 @@
 -- A complete history has a text, and the claim of a verdict on a history that has a text has one. The lines at some places.
-use Rattle.history_text.proofs.Common.{[], All, AllByRecursion, ap, append-nil, ap₂, arith, Asked, Bool, claim_line}
-use Rattle.history_text.proofs.Common.{claim_of, ClaimLine, cons_option, Contains, Deq, Empty, Event, filter_map}
-use Rattle.history_text.proofs.Common.{flat_map, flat_map-append, greatest_value, HasClaimLine, HasEventLine}
-use Rattle.history_text.proofs.Common.{HasHistoryText, HasOperationLine, HasText, HasValueInRange, HasVerdictText}
-use Rattle.history_text.proofs.Common.{HaveValueLines, HistoryText, Initial, IsErrAnd, IsKindInRange, length}
-use Rattle.history_text.proofs.Common.{length-map, line_at, line_text, List, map, MatchOption, MAX_CLAIM_LINES}
-use Rattle.history_text.proofs.Common.{MAX_EVENTS, MAX_INITIAL, maybe_place, None, One, Op, Operation, operation_line}
-use Rattle.history_text.proofs.Common.{OpKind, Option, option_map, option_to_list, puts_then, PutsText, refl, Result}
+use Rattle.history_text.proofs.Common.{All, All-contains, All-from_recursion, AllByRecursion, ap, append-nil, ap₂}
+use Rattle.history_text.proofs.Common.{arith, Asked, Bool, claim_line, claim_of, ClaimLine, common_steps, cons_option}
+use Rattle.history_text.proofs.Common.{Contains, Deq, Empty, Event, filter_map, flat_map, flat_map-append}
+use Rattle.history_text.proofs.Common.{greatest_value, HasClaimLine, HasEventLine, HasHistoryText, HasOperationLine}
+use Rattle.history_text.proofs.Common.{HasText, HasValueInRange, HasVerdictText, HaveValueLines, HistoryText}
+use Rattle.history_text.proofs.Common.{IsErrAnd, IsKindInRange, length, length-map, line_at, line_text, List, map}
+use Rattle.history_text.proofs.Common.{MatchOption, MAX_CLAIM_LINES, MAX_EVENTS, MAX_INITIAL, maybe_place, nat_tests}
+use Rattle.history_text.proofs.Common.{None, One, Op, Operation, operation_line, OpKind, Option, option_map}
+use Rattle.history_text.proofs.Common.{option_to_list, puts_then, PutsText, recursion_from_All, refl, Result}
 use Rattle.history_text.proofs.Common.{slice_get, Some, stops_before, subst, sym, TakesFront, TakesSome, Two}
-use Rattle.history_text.proofs.Common.{verdict_places, Version, violation_places, ℕ, ◌++◌, ◌∙◌, ◌∷◌, ◌≡◌, ◌≤◌}
-use Rattle.std.proofs.lemmas.List.Elements.{recursion_from_All, All-contains, All-from_recursion}
+use Rattle.history_text.proofs.Common.{verdict_places, Version, violation_places, [], ℕ, ◌++◌, ◌∙◌, ◌∷◌, ◌≡◌, ◌≤◌}
 use Rattle.history_merge.specs.Complete.{IsCompleteHistory}
 use Rattle.history_merge.specs.Operations.{operations_of}
 use Rattle.history_merge.proofs.Distinct.{contains_at}
@@ -77,8 +77,7 @@ module _ (initial : List ℕ) (events : List Event) (values : AllByRecursion (λ
 
   has_claim_line : (p : LinePlace) (l : ClaimLine) → line_at initial (operations_of events) p ≡ Some l → HasClaimLine l
   has_claim_line (place.Op p) l is = mapped HasClaimLine Op (slice_get (operations_of events) p) l is (has_line_at p)
-  has_claim_line (place.Initial p) l is = mapped HasClaimLine Initial (slice_get initial p) l is
-      (λ v at. all_of (λ w. w ≤ greatest_value) initial v values (contains_at initial p v at))
+  has_claim_line (place.Initial p) l is = grind (arith, nat_tests, common_steps, mapped, all_of, contains_at)
 
   claim_by_parts : (verdict : Verdict) → length (verdict_places verdict) ≤ MAX_CLAIM_LINES → HasVerdictText (claim_of initial (operations_of events) verdict)
   claim_by_parts (found.Yes places) few = record {
@@ -107,9 +106,7 @@ module _ {S : Type 0} (contents : S → Option (List ℕ)) (has_refused : S → 
   pub first_stops : {P T E : Type 0} (f : P → List ℕ) (Q : E → Type 0) (r : Result T E) (xs ys : List P) (kept rest : List ℕ) (a b : S) → IsErrAnd r Q
       → TakesFront contents has_refused transition (kept ++ flat_map f xs) a b
       → PutsText contents has_refused transition kept rest (flat_map f (xs ++ ys)) a b r
-  first_stops f Q r xs ys kept rest a b is h =
-      subst (λ (t : List ℕ). PutsText contents has_refused transition kept rest t a b r) (sym (flat_map-append f xs ys))
-      (stops_before contents has_refused transition Q r kept rest (flat_map f xs) (flat_map f ys) a b is h)
+  first_stops f Q r xs ys kept rest a b is h = grind (arith, flat_map-append, stops_before)
 
   -- the lines of the first places are put, and then those of the others
   pub others_then : {P T E : Type 0} (f : P → List ℕ) (r : Result T E) (xs ys : List P) (kept mid rest : List ℕ) (a b c : S)

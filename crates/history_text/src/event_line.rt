@@ -67,6 +67,7 @@ fn event_of(what: What, numbers: &NumberFields) -> Event
 }
 
 /// Returns the thread at this place, and the place after the space that follows it.
+#[tactic(auto, using(crate::proofs::FormLines::one_digit, crate::proofs::FormLines::two_digits))]
 #[inline(always)]
 fn thread_at(bytes: &[u8], at: usize) -> Option<(u8, usize)>
     requires { at + 3 ≤ length bytes.now }

@@ -141,6 +141,7 @@ fn put_text<W: TextSink>(
 /// Writes the text of a history in a version. It takes no memory, and its time is linear in the text.
 ///
 /// The bytes go out in pieces of up to 4,096. It doesn't flush the writer.
+#[tactic(auto, using(text_lines::proofs::Putting::goes_out))]
 pub fn write_history<W: TextSink>(
     version: Version,
     history: &History,

@@ -104,6 +104,7 @@ impl<R: TextSource> TextReader<R> {
     }
 
     /// Whether there is a next byte. It doesn't take the byte.
+    #[tactic(auto, using(crate::proofs::Buffers::has_more_in_buffer))]
     fn has_byte(&mut self) -> Result<bool, ReadFailed>
         ensures left { Takes self.old.left self.new.left [] }
         ensures over { IfOk result (λ more. IsOverIf self.new.left (not more)) }
@@ -147,6 +148,7 @@ impl<R: TextSource> TextReader<R> {
     }
 
     /// Returns the next line if it is whole. A line that is too long has the given fault.
+    #[tactic(auto, using(crate::proofs::FirstFaults::no_line))]
     fn whole_line(&mut self, too_long: TextFault) -> Result<Line, TextFault>
         requires lines { self.old.lines + 1 < 2 ^ 64 }
         requires of_input { IsOfInput too_long }
@@ -178,6 +180,7 @@ impl<R: TextSource> TextReader<R> {
     }
 
     /// Returns the version of a history's text, by its first line.
+    #[tactic(auto, using(crate::proofs::FirstFaults::other_version))]
     fn version(&mut self) -> Result<Version, TextFault>
         requires { self.old.lines + 1 < 2 ^ 64 }
         ensures ok { IfOk result (λ version. Takes self.old.left self.new.left (line (header_of version))) }
@@ -193,6 +196,7 @@ impl<R: TextSource> TextReader<R> {
     }
 
     /// Returns the next item after this many, if there is room for it and its line stands whole in the buffer.
+    #[tactic(auto, using(crate::proofs::Buffers::takes_from_buffer))]
     #[inline(always)]
     fn item_in_buffer<T: Item>(&mut self, count: usize, digits: &mut usize) -> Option<T>
         requires { self.old.lines + 1 < 2 ^ 64 }
@@ -215,6 +219,7 @@ impl<R: TextSource> TextReader<R> {
 
     /// Reads on after what is left of the buffer, which comes to its front; unless a line stands whole there, or more bytes
     /// than are read of a line at once.
+    #[tactic(auto, using(crate::proofs::Buffers::moved_and_read))]
     #[inline(never)]
     fn complete_line(&mut self)
         ensures left { Takes self.old.left self.new.left [] }
@@ -287,6 +292,7 @@ impl<R: TextSource> TextReader<R> {
     }
 
     /// Collects the items from here on, up to the last line or the end of the input.
+    #[tactic(auto, using(crate::proofs::FirstFaults::no_room))]
     fn collect_items<T: Item, C: Collects<T>>(&mut self, into: &mut C) -> Result<(), TextFault>
         requires { self.old.lines < 2 ^ 63 + 2 ^ 33 }
         ensures collected { IfOk result (λ _. (items : List T) × HaveLines T.format items × TakesItems T.format self.old.left self.new.left items

@@ -240,6 +240,7 @@ fn put_verdict<W: TextSink>(
 ///     b"NO VFresh\n0 1 0 deq 7\n".as_slice()
 /// );
 /// ```
+#[tactic(auto, using(text_lines::proofs::Putting::goes_out))]
 pub fn write_verdict<W: TextSink>(
     history: &History,
     verdict: &Verdict,

@@ -1,30 +1,32 @@
 -- The values are put in order by repeated choice from two lists by times and flags, and with it the gaps of their enqueues.
-use Rattle.linearizer.proofs.Common.{[], All, All-contains, All-get_or, All-map, All-more, All-nil, All-permutation}
+use Rattle.history_merge.proofs.Timelines.{length_timeline}
+use Rattle.linearizer.proofs.Common.{All, All-contains, All-get_or, All-map, All-more, All-nil, All-permutation}
 use Rattle.linearizer.proofs.Common.{All-push, All-weaker, ap, append-nil, append_assoc, AreByTime, AreCalledInTime}
-use Rattle.linearizer.proofs.Common.{AreEnqueueGaps, arith, Bool, cases_lt, Contains, Contains-append_cases}
-use Rattle.linearizer.proofs.Common.{Contains-append_left, Contains-append_right, Contains-get_or}
-use Rattle.linearizer.proofs.Common.{Contains-permutation, Contains-push, Contains-push_cases, contains_at}
-use Rattle.linearizer.proofs.Common.{dequeue_call, dequeue_return, drop, EachIsChoice, elements_at, enqueue_call}
-use Rattle.linearizer.proofs.Common.{enqueue_gap, enqueue_return, entered_by, false, filter_map, gaps_in, get_or}
-use Rattle.linearizer.proofs.Common.{get_or_append_left, get_or_from_slice_get, get_or_push, HoldsLives, inl, inr}
-use Rattle.linearizer.proofs.Common.{IsChoice, IsClear, IsDequeuedAt, IsFirstLeft, IsFirstOvertaker, IsInOrder}
-use Rattle.linearizer.proofs.Common.{IsLeastBy, IsLeft, IsLife, IsNonDecreasingBy, IsOrderOfPlaces, IsPassedOver}
-use Rattle.linearizer.proofs.Common.{IsPermutation, IsPermutation-cons, IsPermutation-map, IsPermutation-middle}
-use Rattle.linearizer.proofs.Common.{IsPermutation-pop_more, IsPermutation-refl, IsPermutation-sym}
-use Rattle.linearizer.proofs.Common.{IsPermutation-trans, IsTaken, IsTimeOf, IsValueOrder, least_entered_by}
-use Rattle.linearizer.proofs.Common.{leaves_from, length, length-append, length-map, length-replicate, length-take}
-use Rattle.linearizer.proofs.Common.{length_permutation, length_push, Life, life_from, life_of_contained, List}
-use Rattle.linearizer.proofs.Common.{lives_in, lives_of, map-append, mapped_from, mapped_to, MatchedValue, MAX_MATCHED}
-use Rattle.linearizer.proofs.Common.{NEVER, nil_from_length, none_overtakes, NoOrderViolation, not_in_none, one_at}
-use Rattle.linearizer.proofs.Common.{Operation, Option, Overtakes, place_of, PLACES, places_in, places_of_value, refl}
-use Rattle.linearizer.proofs.Common.{replicate, set, slice_get, slice_get-get_or, slice_get_within, Some, subst, suc}
-use Rattle.linearizer.proofs.Common.{sym, take, TakesOneOf, Timed, true, value_is_life, value_of_life}
-use Rattle.linearizer.proofs.Common.{zero, ℕ, ◌++◌, ◌+◌, ◌-◌, ◌<◌, ◌∙◌, ◌∷◌, ◌≡◌, ◌≤◌, ◌⊎◌}
+use Rattle.linearizer.proofs.Common.{AreEnqueueGaps, arith, Bool, cases_lt, clear_life, clear_on, Contains}
+use Rattle.linearizer.proofs.Common.{Contains-append_cases, Contains-append_left, Contains-append_right}
+use Rattle.linearizer.proofs.Common.{Contains-get_or, Contains-permutation, Contains-push, Contains-push_cases}
+use Rattle.linearizer.proofs.Common.{contains_at, Contents, course_of, dequeue_call, dequeue_return, drop}
+use Rattle.linearizer.proofs.Common.{EachIsChoice, elements_at, enqueue_call, enqueue_gap, enqueue_return, entered_by}
+use Rattle.linearizer.proofs.Common.{false, filter_map, gaps_in, get_or, get_or_append_left, get_or_from_slice_get}
+use Rattle.linearizer.proofs.Common.{get_or_push, HoldsValues, inl, inr, IsChoice, IsClear, IsDequeuedAt, IsFirstLeft}
+use Rattle.linearizer.proofs.Common.{IsFirstOvertaker, IsInOrder, IsLeastBy, IsLeft, IsLife, IsNamed}
+use Rattle.linearizer.proofs.Common.{IsNonDecreasingBy, IsOrderOf, IsPassedOver, IsPermutation, IsPermutation-cons}
+use Rattle.linearizer.proofs.Common.{IsPermutation-map, IsPermutation-middle, IsPermutation-pop_more}
+use Rattle.linearizer.proofs.Common.{IsPermutation-refl, IsPermutation-sym, IsPermutation-trans, IsTaken, IsTimeOf}
+use Rattle.linearizer.proofs.Common.{IsValueOrder, least_entered_by, leaves_from, length, length-append, length-map}
+use Rattle.linearizer.proofs.Common.{length-replicate, length-take, length_permutation, length_push, Life, life_from}
+use Rattle.linearizer.proofs.Common.{life_value, List, lives_in, lives_of, map-append, mapped_from, mapped_to}
+use Rattle.linearizer.proofs.Common.{MatchedValue, MAX_MATCHED, NEVER, nil_from_length, NoOrderViolation, not_in_none}
+use Rattle.linearizer.proofs.Common.{on, one_at, Option, Overtakes, place_of, PLACES, places_in, refl, replicate}
+use Rattle.linearizer.proofs.Common.{same_lives, set, slice_get, slice_get-get_or, slice_get_within, Some, subst, suc}
+use Rattle.linearizer.proofs.Common.{sym, take, TakesOneOf, timed, Timed, timeline_of, true, value_lives, zero, ℕ, []}
+use Rattle.linearizer.proofs.Common.{◌++◌, ◌+◌, ◌-◌, ◌<◌, ◌∙◌, ◌∷◌, ◌≡◌, ◌≤◌, ◌⊎◌}
 use Rattle.linearizer.proofs.ValueOrder.{choice_in_other_order, least_at, made, stands_in_order, turn_of}
 use Rattle.linearizer.proofs.Positions.{at_most_least, least_of_later}
-use Rattle.linearizer.proofs.Times.{HasLifeTimes, times_of_life}
+use Rattle.linearizer.proofs.Times.{HasLifeTimes, history_times}
 use Rattle.std.proofs.lemmas.List.{get_or-take, length-set}
 use Rattle.linearizer.proofs.Elements.{at_place, elements_long, elements_push, from_some_and, lives_are}
+use Rattle.linearizer.proofs.Elements.{value_order_along}
 use Rattle.std.proofs.Math.Seq.{drop-append_seam}
 
 -- a choice isn't dequeued after a value that remains
@@ -38,30 +40,33 @@ no_later remaining x y is among takes_time later =
     ]
 
 -- no two values are dequeued against the order of their enqueues
-pub no_order_violation : (operations : List Operation) (lives : List Life) → IsClear operations → IsValueOrder operations lives → AreCalledInTime lives
-    → NoOrderViolation operations
-no_order_violation operations lives clear order in_time a b violation =
-    let at_a = place_of lives a (stands_in_order operations lives clear order a violation.is_a) in
-    let at_b = place_of lives b (stands_in_order operations lives clear order b violation.is_b) in
+pub no_order_violation : (history : Contents) (lives : List Life) → IsClear (course_of history) → IsValueOrder (course_of history) lives
+    → AreCalledInTime lives → NoOrderViolation (course_of history)
+no_order_violation history lives clear order in_time a b violation =
+    let stands = stands_in_order (timeline_of history) lives (clear_on history.initial history.operations clear)
+    (value_order_along (course_of history) (on (timeline_of history)) lives (sym (same_lives history.initial history.operations)) order) in
+    let at_a = place_of lives a (stands a (clear_life history.initial history.operations clear a violation.is_a)) in
+    let at_b = place_of lives b (stands b (clear_life history.initial history.operations clear b violation.is_b)) in
     elim (cases_lt at_b.0 at_a.0) [
       | inl second ↦ omega (arith, least_of_later lives at_b.0 at_a.0 a (omega arith) at_a.1, in_time at_b.0 b at_b.1, violation.overtakes.0)
       | inr first ↦
           let turn = turn_of lives at_a.0 at_b.0 a b order.each_is_choice first at_a.1 at_b.1 in
-          let times = times_of_life operations a clear violation.is_a in
+          let times = history_times history clear a violation.is_a in
           no_later turn.remaining a b turn.is_choice turn.remains (omega (arith, times.dequeue_takes_time)) violation.overtakes.1
     ]
 
 -- a value that is passed over is dequeued first of those that overtake another
-module _ (operations : List Operation) (values : List MatchedValue) (clear : IsClear operations) (holds : HoldsLives operations values)
+module _ (history : Contents) (values : List MatchedValue) (clear : IsClear (course_of history)) (holds : HoldsValues history values)
     (b : MatchedValue) (passed : IsPassedOver values b) where
-  is_b : IsLife operations b.life
-  is_b = value_is_life operations values b holds passed.is_value
+  is_b : IsLife (course_of history) b.life
+  is_b = value_lives history.initial history.operations clear values holds b passed.is_value
 
   abbrev a : Life
   a = passed.is_next.first_entered
 
-  is_a : IsLife operations a
-  is_a = life_of_contained operations a (subst (λ lives. Contains lives a) holds.0 (passed.among a passed.is_next.enters_first.0))
+  is_a : IsLife (course_of history) a
+  is_a = let m = mapped_from (λ m. m.life) values a (passed.among a passed.is_next.enters_first.0) in
+      subst (IsLife (course_of history)) m.2 (value_lives history.initial history.operations clear values holds m.0 m.1)
 
   -- the first of those left has entered when b is called
   entered_before : entered_by a < enqueue_call b.life
@@ -74,7 +79,7 @@ module _ (operations : List Operation) (values : List MatchedValue) (clear : IsC
   dequeued_first = elim (made passed.remaining b.life passed.is_next) [
     | inl dequeued ↦ dequeued
     | inr entered ↦
-        absurd (omega (arith, ap entered_by entered.1, (times_of_life operations b.life clear is_b).enters_after_call, entered_before))
+        absurd (omega (arith, ap entered_by entered.1, (history_times history clear b.life is_b).enters_after_call, entered_before))
   ]
 
   before : (x : Life) → Contains passed.remaining x → dequeue_return b.life ≤ dequeue_return x
@@ -84,45 +89,51 @@ module _ (operations : List Operation) (values : List MatchedValue) (clear : IsC
 
   overtakes : Overtakes b.life a
   overtakes =
-      let times_a = times_of_life operations a clear is_a in
-      let times_b = times_of_life operations b.life clear is_b in
+      let times_a = history_times history clear a is_a in
+      let times_b = history_times history clear b.life is_b in
       let sooner = before a passed.is_next.enters_first.0 in
       omega (arith, entered_before, dequeued_first.0, ap dequeue_return dequeued_first.1)
 
-  pub is_first_overtaker : IsFirstOvertaker operations b
+  pub is_first_overtaker : IsFirstOvertaker history b
   is_first_overtaker = record {
     is_life = is_b;
-    has_places = places_of_value operations values b holds passed.is_value;
+    named = All-contains (λ m. IsNamed history.initial history.operations m.source m.dequeue m.life) values b holds.named passed.is_value;
     overtaken = a;
     overtaken_is_life = is_a;
     overtakes = overtakes;
     first = λ x y is_x is_y over.
-        let m = value_of_life operations values x clear holds is_x in
-        let n = value_of_life operations values y clear holds is_y in
+        let m = life_value history.initial history.operations clear values holds x is_x in
+        let n = life_value history.initial history.operations clear values holds y is_y in
         let left = passed.are_left m.0 n.0 m.1 n.1 (subst (λ l. Overtakes m.0.life l) (sym n.2) (subst (λ l. Overtakes l y) (sym m.2) over)) in
         before x (subst (Contains passed.remaining) m.2 left);
   }
 
   -- so two values are dequeued against the order of their enqueues
-  pub passed_over : ¬ (NoOrderViolation operations)
-  passed_over none = none_overtakes operations a b.life clear none is_a is_b overtakes
+  pub passed_over : ¬ (NoOrderViolation (course_of history))
+  passed_over none =
+      let called = history_times history clear b.life is_b in
+      let never = history_times history clear a is_a in
+      let dequeued : dequeue_call b.life < NEVER = omega (arith, called.dequeue_takes_time, never.leaves_by_never, overtakes.1) in
+      none a b.life (record { is_a = is_a; is_b = is_b; is_dequeued = dequeued; overtakes = overtakes })
 
 -- the values of a matching have the times of lives
-pub each_has_times : (operations : List Operation) (values : List MatchedValue) → IsClear operations → HoldsLives operations values
+pub each_has_times : (history : Contents) (values : List MatchedValue) → IsClear (course_of history) → HoldsValues history values
     → All (λ value. HasLifeTimes value.life) values
-each_has_times operations values clear holds k d within =
-    times_of_life operations _ clear (value_is_life operations values _ holds (Contains-get_or values k d within))
+each_has_times history values clear holds k d within =
+    history_times history clear _ (value_lives history.initial history.operations clear values holds _ (Contains-get_or values k d within))
 
 some_of : {X Y : Type 0} (f : X → Option Y) (xs : List X) → length (filter_map f xs) ≤ length xs
 some_of f [] = omega arith
 some_of f (x ∷ xs) = grind (arith, some_of f xs)
 
 -- there are no more values than places
-pub few_values : (operations : List Operation) (values : List MatchedValue) → HoldsLives operations values → length operations ≤ MAX_MATCHED
-    → length values ≤ PLACES
-few_values operations values holds few =
-    let same : length values ≡ length (lives_of operations) = sym (length-map values (λ m. m.life)) ∙ ap (λ lives. length lives) holds.0 in
-    omega (arith, same, some_of (λ o. life_from operations o o.kind) operations)
+pub few_values : (history : Contents) (values : List MatchedValue) → IsClear (course_of history) → HoldsValues history values
+    → length history.initial + length history.operations ≤ MAX_MATCHED → length values ≤ PLACES
+few_values history values clear holds few =
+    let all = timeline_of history in
+    let same : length values ≡ length (lives_of all) =
+    sym (length-map values (λ m. m.life)) ∙ ap (λ lives. length lives) (holds.lives ∙ sym (same_lives history.initial history.operations)) in
+    omega (arith, same, some_of (λ o. life_from all o o.kind) all, length_timeline history.initial history.operations)
 
 -- ---- the values that are left, and the first of them in a list by times
 
@@ -182,14 +193,6 @@ pub record AreTimedSoFar (number : Life → ℕ) (values : List MatchedValue) (i
   pub are_past : All (λ timed. timed.time < NEVER) entries
   pub has_each : (place : ℕ) (m : MatchedValue) → place < i → slice_get values place ≡ Some m → number m.life < NEVER
       → (timed : Timed) × Contains entries timed × (timed.place ≡ place)
-
--- no values have none
-pub none_timed : (number : Life → ℕ) (values : List MatchedValue) → AreTimedSoFar number values 0 []
-none_timed number values = record {
-  are_timed = All-nil (IsTimeOf number values);
-  are_past = All-nil (λ timed. timed.time < NEVER);
-  has_each = λ place m below at less. absurd (omega (arith, below));
-}
 
 module _ (number : Life → ℕ) (values : List MatchedValue) (i : ℕ) (entries : List Timed) (m : MatchedValue)
     (so_far : AreTimedSoFar number values i entries) (at : slice_get values i ≡ Some m) where
@@ -660,14 +663,17 @@ met_passed_over values taken done gaps place entry next so_far least late = reco
 }
 
 -- put in order, the places of the accepted values are in the chosen order
-pub places_in_order : (operations : List Operation) (values : List MatchedValue) (order : List Timed) → HoldsLives operations values → IsInOrder values order
-    → IsOrderOfPlaces operations (places_in order)
-places_in_order operations values order holds is = record {
-  within = subst (λ n. All (λ place. place < n) (places_in order)) (sym (length-map values (λ m. m.life)) ∙ ap length holds.0) is.within;
-  in_order = record {
-    holds_each_once = subst (IsPermutation (lives_of operations)) (lives_are operations values (places_in order) holds)
-        (subst (λ lives. IsPermutation lives (lives_in (elements_at values (places_in order)))) holds.0
-        (IsPermutation-map (λ m. m.life) values (elements_at values (places_in order)) is.holds_each_once));
-    each_is_choice = subst EachIsChoice (lives_are operations values (places_in order) holds) is.each_is_choice;
-  };
-}
+pub places_in_order : (history : Contents) (values : List MatchedValue) (order : List Timed) → HoldsValues history values
+    → IsInOrder values order → IsOrderOf history order
+places_in_order history values order holds is =
+    let same = lives_are history values order holds in
+    record {
+      within = subst (λ n. All (λ place. place < n) (places_in order)) (sym (length-map values (λ m. m.life)) ∙ ap length holds.lives) is.within;
+      in_order = record {
+        holds_each_once = subst (IsPermutation (course_of history).lives) same
+            (subst (λ lives. IsPermutation lives (lives_in (elements_at values (places_in order)))) holds.lives
+            (IsPermutation-map (λ m. m.life) values (elements_at values (places_in order)) is.holds_each_once));
+        each_is_choice = subst EachIsChoice same is.each_is_choice;
+      };
+      gaps = subst (λ lives. AreEnqueueGaps lives (gaps_in order)) same is.gaps;
+    }

@@ -1,10 +1,11 @@
 -- The names that most proofs of this crate cite, passed on from one place. Declares nothing.
-pub use Rattle.event_records.specs.declared.limits.TheConstants.{MAX_INITIAL}
+pub use Rattle.event_records.specs.declared.limits.TheConstants.{MAX_INITIAL, MAX_TIME, ORIGIN}
 pub use Rattle.history_merge.proofs.Distinct.{call_before_return, call_by_return, contains_at, contains_cons}
 pub use Rattle.history_merge.proofs.Distinct.{no_enqueue, not_in_none, one_at, pairs_at, place_of, return_in_range}
 pub use Rattle.history_merge.proofs.Distinct.{returns_at_call, same_call, same_return}
 pub use Rattle.history_merge.specs.Complete.{AreComplete, IsTimed}
-pub use Rattle.history_merge.specs.Initial.{timeline}
+pub use Rattle.history_merge.specs.Initial.{Contents, later_by}
+pub use Rattle.history_merge.specs.Inner.Timeline.{timeline}
 pub use Rattle.history_merge.specs.Legal.{ArePlacesOf, IsLegalOrder}
 pub use Rattle.history_merge.specs.Operations.{Did, IsAt, IsInWindow, NoneDid, Precedes}
 pub use Rattle.history_merge.specs.Queue.{IsAccepted}
@@ -12,11 +13,12 @@ pub use Rattle.history_merge.specs.declared.operation.OpKind.{OpKind}
 pub use Rattle.history_merge.specs.declared.operation.OpKind.TheVariants.{Deq, Empty, Enq, Not}
 pub use Rattle.history_merge.specs.declared.operation.Operation.{Operation}
 pub use Rattle.linearizer.specs.Inner.Merging.{IsAhead, IsDequeueFrom, IsEnqueueFrom, IsMerge, IsMergedUpTo}
-pub use Rattle.linearizer.specs.Inner.Merging.{IsNoopFrom, IsValueFrom, IsWholeOrder, NoneBelow}
+pub use Rattle.linearizer.specs.Inner.Merging.{IsNoopFrom, IsValueFrom, NoneBelow}
 pub use Rattle.linearizer.specs.Inner.Placement.{Adds, AreCalledInTime, AreEnqueueGaps, dequeues_of, elements_at}
-pub use Rattle.linearizer.specs.Inner.Placement.{enqueues_of, gaps_in, HoldsNoops, HoldsUpTo, HoldsValues, IsNoopAt}
-pub use Rattle.linearizer.specs.Inner.Placement.{IsOrderOfPlaces, IsPlaced, lives_at, lives_in, NeverFall, noop_at}
-pub use Rattle.linearizer.specs.Inner.Placement.{places_in, position_of}
+pub use Rattle.linearizer.specs.Inner.Placement.{enqueues_of, gaps_in, HoldsNoops, HoldsUpTo, IsCalledInRange}
+pub use Rattle.linearizer.specs.Inner.Placement.{IsNoopAt, IsOrderOf, IsPlaced, IsToldAt, lives_in, NeverFall, noop_at}
+pub use Rattle.linearizer.specs.Inner.Placement.{noops_in, ordered_lives, place_of as told_of, Placed, placed_in}
+pub use Rattle.linearizer.specs.Inner.Placement.{places_in, PlacesValues, position_of}
 pub use Rattle.linearizer.specs.Inner.Sweep.{AreByTime, IsDequeuedAt, IsFirstLeft, IsInOrder, IsLeft, IsTaken}
 pub use Rattle.linearizer.specs.Inner.Sweep.{IsTimeOf, TakesOneOf}
 pub use Rattle.linearizer.specs.Inner.Swept.{IsPassedOver, IsSweepOf}
@@ -25,7 +27,6 @@ pub use Rattle.linearizer.specs.Order.{enqueues, IsChosenOrder, IsPositionFor, I
 pub use Rattle.linearizer.specs.Order.{noop_position, other_dequeues, Position, StandsBefore}
 pub use Rattle.linearizer.specs.Values.{dequeue_gap, EachIsChoice, enqueue_gap, greatest_leaves_from, IsChoice}
 pub use Rattle.linearizer.specs.Values.{IsLeastBy, IsValueOrder, least_entered_by}
-pub use Rattle.linearizer.specs.declared.position.Placed.{Placed}
 pub use Rattle.linearizer.specs.declared.timed.PackedTimed.{PackedTimed}
 pub use Rattle.linearizer.specs.declared.timed.TheConstants.{PLACES}
 pub use Rattle.linearizer.specs.declared.timed.Timed.{Timed}
@@ -35,7 +36,7 @@ pub use Rattle.std.proofs.Common.{[], ap, ap₂, arith, Bool, cond, drop, false,
 pub use Rattle.std.proofs.Common.{inl, inr, length, length-take-le, List, map, max, min, None, Option, refl, replicate}
 pub use Rattle.std.proofs.Common.{rules, set, Some, subst, suc, swap, sym, take, true, vec_len, zero, ℕ, ◌*◌, ◌++◌}
 pub use Rattle.std.proofs.Common.{◌+◌, ◌-◌, ◌<◌, ◌∙◌, ◌∷◌, ◌≡◌, ◌≢◌, ◌≤◌, ◌⊎◌}
-pub use Rattle.std.proofs.lemmas.Bool.{cases_eq, cases_lt, cases_order, eq-eqb, leb-true}
+pub use Rattle.std.proofs.lemmas.Bool.{cases_Bool, cases_eq, cases_lt, cases_order, eq-eqb, leb-true}
 pub use Rattle.std.proofs.lemmas.Bool.Decides.{nat_tests}
 pub use Rattle.std.proofs.lemmas.List.{append-nil, append_assoc, get_or-map, get_or_append_left, get_or_push}
 pub use Rattle.std.proofs.lemmas.List.{get_or_read, length-append, length-map, length-replicate, length-take}
@@ -68,14 +69,20 @@ pub use Rattle.value_match.proofs.Lists.{kept, mapped_from, mapped_to, one_deepe
 pub use Rattle.value_match.proofs.Lists.{passes_filter}
 pub use Rattle.value_match.proofs.Lives.{dequeued_if_called, found_dequeue, life_is_contained, life_of_contained}
 pub use Rattle.value_match.proofs.Lives.{one_life_of_dequeue, one_life_of_enqueue, places_of_value, same_dequeue}
-pub use Rattle.value_match.proofs.Lives.{value_is_life, value_of_life}
-pub use Rattle.value_match.specs.Accepted.{operation_at}
-pub use Rattle.value_match.specs.Lives.{AreLeastFreeGaps, call_or_never, dequeue_call, dequeue_of, dequeue_return}
-pub use Rattle.value_match.specs.Lives.{enqueue_call, enqueue_of, enqueue_return, entered_by, HasPlaces, HoldsLives}
-pub use Rattle.value_match.specs.Lives.{is_dequeue_of, is_empty_answer, is_empty_kind, is_refused, is_refused_kind}
-pub use Rattle.value_match.specs.Lives.{IsFreeGap, IsLeastFreeGap, IsLife, IsMaybeAt, leaves_from, life_from, lives_of}
-pub use Rattle.value_match.specs.Lives.{operations_of_life, return_or_never}
-pub use Rattle.value_match.specs.Timeline.{place_behind, time_of, timeline_of}
+pub use Rattle.value_match.proofs.Lives.{value_is_life}
+pub use Rattle.value_match.specs.Inner.Accepted.{operation_at}
+pub use Rattle.value_match.specs.Lives.{AreLeastFreeGaps, call_or_never, Course, course, course_of, dequeue_call}
+pub use Rattle.value_match.specs.Lives.{dequeue_of, dequeue_return, enqueue_call, enqueue_of, enqueue_return}
+pub use Rattle.value_match.specs.Lives.{entered_by, HoldsPlaces, is_dequeue_of, is_empty_answer, is_empty_kind}
+pub use Rattle.value_match.specs.Lives.{is_refused, is_refused_kind, IsFreeGap, IsLeastFreeGap, IsLife, IsMaybeAt}
+pub use Rattle.value_match.specs.Lives.{leaves_from, life_from, lives_of, operations_of_life, return_or_never, timed}
+pub use Rattle.value_match.specs.Times.{time_of}
+pub use Rattle.value_match.specs.Inner.Told.{timeline_of}
+pub use Rattle.value_match.specs.Inner.Courses.{on}
+pub use Rattle.value_match.specs.Outcome.{HoldsValues, IsMaybeOperation, IsNamed, IsOperation, IsSource}
+pub use Rattle.value_match.proofs.ToldPlaces.{clear_course, clear_life, clear_on, life_value, mapped_option}
+pub use Rattle.value_match.proofs.ToldPlaces.{operation_on, same_lives, value_lives}
+pub use Rattle.value_match.proofs.Agreeing.{Agree, agree_back, Carries, least_of, no_order_of}
 pub use Rattle.value_match.specs.Violations.{IsClear, NoOrderViolation, Overtakes}
 pub use Rattle.value_match.specs.declared.life.Life.{Life}
 pub use Rattle.value_match.specs.declared.life.MatchedValue.{MatchedValue}

@@ -1,24 +1,26 @@
 -- Elements of lists at their places, and those that stand beside each other in zipped lists.
-use Rattle.linearizer.proofs.Common.{[], Adds, All, All-contains, All-head, All-map, All-tail, all_zipped_more}
-use Rattle.linearizer.proofs.Common.{AllPairs, AllPairs-cons, AllZip, AllZip-left, AllZip-long, AllZip-right, ap}
-use Rattle.linearizer.proofs.Common.{append-nil, append_assoc, ArePlacesOf, arith, Bool, cases_eq, cond, cons_option}
-use Rattle.linearizer.proofs.Common.{Contains, Contains-append_cases, Contains-append_left, Contains-append_right}
-use Rattle.linearizer.proofs.Common.{Contains-get_or, Contains-permutation, contains_at, contains_cons, drop}
-use Rattle.linearizer.proofs.Common.{elements_at, Empty, false, filter, filter_map, filter_map-append, flat_map}
-use Rattle.linearizer.proofs.Common.{get_or, get_or-insert_below, get_or-map, get_or_from_slice_get, HasPlaces}
-use Rattle.linearizer.proofs.Common.{HoldsLives, inl, inr, insert, is_empty_answer, is_empty_kind, is_refused}
-use Rattle.linearizer.proofs.Common.{is_refused_kind, IsAt, IsClear, IsLeastFreeGap, IsNonDecreasingBy}
-use Rattle.linearizer.proofs.Common.{IsNonDecreasingBy-insert, IsNoopAt, IsOrderOfPlaces, IsPermutation}
-use Rattle.linearizer.proofs.Common.{IsPermutation-cons, IsPermutation-insert, IsPermutation-keeps, IsPermutation-refl}
-use Rattle.linearizer.proofs.Common.{IsPermutation-remove, IsPermutation-sym, IsPermutation-trans, IsPositionFor}
-use Rattle.linearizer.proofs.Common.{IsSomeAnd, kept, length, length-insert, length-map, length-swap, length-take-le}
-use Rattle.linearizer.proofs.Common.{Life, List, lives_at, lives_in, lives_of, map, MatchedValue, MatchOption-at_some}
-use Rattle.linearizer.proofs.Common.{MAX_MATCHED, min, None, noop_position, Not, not_in_none, one_deeper, one_more}
-use Rattle.linearizer.proofs.Common.{Operation, OpKind, Option, option_map, pairs_at, passed_filter, place_of, PLACES}
-use Rattle.linearizer.proofs.Common.{refl, remove, return_in_range, set, slice_get, slice_get-get_or, slice_get-map}
+use Rattle.linearizer.proofs.Common.{Adds, All, All-contains, All-head, All-map, All-tail, all_zipped_more, AllPairs}
+use Rattle.linearizer.proofs.Common.{AllPairs-cons, AllZip, AllZip-left, AllZip-right, ap, append-nil, append_assoc}
+use Rattle.linearizer.proofs.Common.{arith, Bool, call_by_return, cases_Bool, cases_eq, clear_course, clear_on, cond}
+use Rattle.linearizer.proofs.Common.{cons_option, Contains, Contains-append_cases, Contains-append_left}
+use Rattle.linearizer.proofs.Common.{Contains-append_right, Contains-get_or, Contains-permutation, contains_at}
+use Rattle.linearizer.proofs.Common.{contains_cons, Contents, Course, course_of, drop, elements_at, Empty, false}
+use Rattle.linearizer.proofs.Common.{filter, filter_map, filter_map-append, flat_map, get_or, get_or-insert_below}
+use Rattle.linearizer.proofs.Common.{get_or-map, get_or_from_slice_get, HoldsPlaces, HoldsValues, inl, inr, insert}
+use Rattle.linearizer.proofs.Common.{is_empty_answer, is_empty_kind, is_refused, is_refused_kind, IsCalledInRange}
+use Rattle.linearizer.proofs.Common.{IsClear, IsLeastFreeGap, IsNonDecreasingBy, IsNonDecreasingBy-insert, IsNoopAt}
+use Rattle.linearizer.proofs.Common.{IsOperation, IsOrderOf, IsPermutation, IsPermutation-cons, IsPermutation-insert}
+use Rattle.linearizer.proofs.Common.{IsPermutation-keeps, IsPermutation-refl, IsPermutation-remove, IsPermutation-sym}
+use Rattle.linearizer.proofs.Common.{IsPermutation-trans, IsPositionFor, IsSomeAnd, IsValueOrder, kept, later_by}
+use Rattle.linearizer.proofs.Common.{least_of, length, length-insert, length-map, length-swap, length-take-le, Life}
+use Rattle.linearizer.proofs.Common.{List, lives_in, map, mapped_option, MatchedValue, MatchOption-at_some}
+use Rattle.linearizer.proofs.Common.{MAX_MATCHED, MAX_TIME, None, noop_position, Not, not_in_none, on, one_deeper}
+use Rattle.linearizer.proofs.Common.{one_more, Operation, operation_at, operation_on, OpKind, Option, option_map}
+use Rattle.linearizer.proofs.Common.{ordered_lives, ORIGIN, pairs_at, passed_filter, place_of, PLACES, places_in, refl}
+use Rattle.linearizer.proofs.Common.{remove, return_in_range, set, slice_get, slice_get-get_or, slice_get-map}
 use Rattle.linearizer.proofs.Common.{slice_get_within, Some, subst, suc, swap, Swapped, swapped_from_swap, sym, take}
-use Rattle.linearizer.proofs.Common.{take_all, time_of, Timed, true, zero, ℕ, ⊤, ◌++◌, ◌+◌, ◌-◌, ◌<◌, ◌∙◌, ◌∷◌, ◌≡◌}
-use Rattle.linearizer.proofs.Common.{◌≤◌}
+use Rattle.linearizer.proofs.Common.{take_all, time_of, Timed, timed, timeline_of, true, zero, ℕ, ⊤, [], ◌++◌, ◌+◌}
+use Rattle.linearizer.proofs.Common.{◌-◌, ◌<◌, ◌∙◌, ◌∷◌, ◌≡◌, ◌≤◌}
 use Rattle.std.proofs.Common.{get_or-take}
 use Rattle.history_merge.specs.declared.packed.TheConstants.{PACKED_LIMIT}
 use Rattle.std.proofs.lemmas.List.{drop_more, set_at}
@@ -69,108 +71,140 @@ AllPairs-map f R (x ∷ xs) pairs = AllPairs-cons R (f x) (map f xs)
 -- ---- operations are added one by one, each at its position
 
 -- nothing is added at first
-pub adds_none : (operations : List Operation) (old : List Timed) → Adds operations [] old old
-adds_none operations old = record { added = []; after = sym (append-nil old); each_stands = tt }
+pub adds_none : (history : Contents) (old : List Timed) → Adds history [] old old
+adds_none history old = record { added = []; after = sym (append-nil old); each_stands = tt }
 
 -- one operation more is added with its gap
-adds_more : (operations listed : List Operation) (k : ℕ) (o : Operation) (old new : List Timed) (timed : Timed)
-    → Adds operations (take k listed) old new → slice_get listed k ≡ Some o → IsNoopAt operations o timed
-    → Adds operations (take (k + 1) listed) old (new ++ timed ∷ [])
-adds_more operations listed k o old new timed adds at is = record {
+adds_more : (history : Contents) (listed : List Operation) (k : ℕ) (o : Operation) (old new : List Timed) (timed : Timed)
+    → Adds history (take k listed) old new → slice_get listed k ≡ Some o → IsNoopAt history o timed
+    → Adds history (take (k + 1) listed) old (new ++ timed ∷ [])
+adds_more history listed k o old new timed adds at is = record {
   added = adds.added ++ timed ∷ [];
   after = ap (λ items. items ++ timed ∷ []) adds.after ∙ append_assoc old adds.added (timed ∷ []);
-  each_stands = subst (λ xs. AllZip (IsNoopAt operations) xs (adds.added ++ timed ∷ [])) (sym (take_next listed k o at))
-      (all_zipped_more (IsNoopAt operations) (take k listed) adds.added o timed adds.each_stands is);
+  each_stands = subst (λ xs. AllZip (IsNoopAt history) xs (adds.added ++ timed ∷ [])) (sym (take_next listed k o at))
+      (all_zipped_more (IsNoopAt history) (take k listed) adds.added o timed adds.each_stands is);
 }
 
--- the operation that a place of the list names
-pub record IsNamed (operations listed : List Operation) (k p : ℕ) : Type 0 where
+-- the operations of these kinds, at their times
+abbrev of_kinds : (OpKind → Bool) → List Operation → List Operation
+of_kinds kinds operations = filter (λ o. kinds o.kind) (timed operations)
+
+kinds_later : (kinds : OpKind → Bool) (operations : List Operation) → of_kinds kinds operations ≡ timed (filter (λ o. kinds o.kind) operations)
+kinds_later kinds [] = refl
+kinds_later kinds (o ∷ operations) = grind (arith, kinds_later kinds operations, cases_Bool (kinds o.kind))
+
+-- the k-th of the operations of some kinds, and its place
+pub record IsListed (history : Contents) (kinds : OpKind → Bool) (k p : ℕ) : Type 0 where
   pub o : Operation
-  pub is_listed : slice_get listed k ≡ Some o
-  pub at : IsAt operations p o
+  pub is_listed : slice_get (filter (λ o. kinds o.kind) (timed history.operations)) k ≡ Some o
+  pub at : IsOperation history.operations p o
 
--- a place names its operation
-pub named : (operations listed : List Operation) (places : List ℕ) (k p : ℕ) → ArePlacesOf operations places listed → slice_get places k ≡ Some p
-    → IsNamed operations listed k p
-named operations listed [] k p are at = cc
-named operations [] (q ∷ places) k p are at = cc
-named operations (o ∷ listed) (q ∷ places) zero p are at =
-    let here : slice_get operations q ≡ Some o = cc in
-    let same : q ≡ p = cc in
-    record { o = o; is_listed = refl; at = subst (λ r. slice_get operations r ≡ Some o) same here }
-named operations (o ∷ listed) (q ∷ places) (suc k) p are at =
-    let rest : map (slice_get operations) places ≡ map Some listed = cc in
-    let is = named operations listed places k p rest at in
-    record { o = is.o; is_listed = is.is_listed; at = is.at }
+-- the operation at the k-th of the places
+pub listed_at : (history : Contents) (kinds : OpKind → Bool) (places : List ℕ) (k p : ℕ) → HoldsPlaces history.operations (λ o. kinds o.kind) places
+    → slice_get places k ≡ Some p → IsListed history kinds k p
+listed_at history kinds places k p holds at =
+    let operations = history.operations in
+    let listed = filter (λ o. kinds o.kind) operations in
+    let stands : option_map Some (slice_get listed k) ≡ Some (slice_get operations p) =
+    sym (slice_get-map Some listed k) ∙ sym (ap (λ os. slice_get os k) holds) ∙ slice_get-map (slice_get operations) places k
+    ∙ ap (option_map (slice_get operations)) at in
+    let found = mapped_option Some (slice_get listed k) (slice_get operations p) stands in
+    record {
+      o = later_by ORIGIN found.0;
+      is_listed = ap (λ os. slice_get os k) (kinds_later kinds operations)
+          ∙ slice_get-map (later_by ORIGIN) listed k ∙ ap (option_map (later_by ORIGIN)) found.1;
+      at = slice_get-map (later_by ORIGIN) operations p ∙ ap (option_map (later_by ORIGIN)) (sym found.2);
+    }
 
--- where a place that is named is in range
-pub named_within : (operations read listed : List Operation) (k p : ℕ) → IsNamed operations listed k p → read ≡ operations → p < length read
-named_within operations read listed k p is reads = rw reads (slice_get_within operations p is.o is.at)
+-- as many operations as places
+pub listed_long : (history : Contents) (kinds : OpKind → Bool) (places : List ℕ) → HoldsPlaces history.operations (λ o. kinds o.kind) places
+    → length (filter (λ o. kinds o.kind) (timed history.operations)) ≡ length places
+listed_long history kinds places holds =
+    let listed = filter (λ o. kinds o.kind) history.operations in
+    ap length (kinds_later kinds history.operations) ∙ length-map listed (later_by ORIGIN)
+    ∙ sym (sym (length-map places (slice_get history.operations)) ∙ ap length holds ∙ length-map listed Some)
 
--- and the operation stands there in a list that is the same
-pub named_at : (operations read listed : List Operation) (k p : ℕ) (is : IsNamed operations listed k p) → read ≡ operations → IsAt read p is.o
-named_at operations read listed k p is reads = subst (λ os. IsAt os p is.o) (sym reads) is.at
+-- so all are added with the last of them
+pub all_added : (history : Contents) (kinds : OpKind → Bool) (places : List ℕ) (n : ℕ) (old new : List Timed)
+    → HoldsPlaces history.operations (λ o. kinds o.kind) places → length places ≤ n
+    → Adds history (take n (filter (λ o. kinds o.kind) (timed history.operations))) old new
+    → Adds history (filter (λ o. kinds o.kind) (timed history.operations)) old new
+all_added history kinds places n old new holds all adds =
+    subst (λ xs. Adds history xs old new) (take_all n _ (omega (arith, listed_long history kinds places holds))) adds
 
--- and small enough to be packed
-pub named_few : (operations listed : List Operation) (k p : ℕ) → IsNamed operations listed k p → length operations ≤ MAX_MATCHED → p < PLACES
-named_few operations listed k p is few = omega (arith, slice_get_within operations p is.o is.at)
+-- the operation that was at its ticket
+pub earlier_at : (operations : List Operation) (p : ℕ) (o : Operation) → IsOperation operations p o
+    → (x : Operation) × (slice_get operations p ≡ Some x) × (later_by ORIGIN x ≡ o)
+earlier_at operations p o at = mapped_option (later_by ORIGIN) (slice_get operations p) o (sym (slice_get-map (later_by ORIGIN) operations p) ∙ at)
 
--- and the gap before its return is too
-pub named_early : (operations listed : List Operation) (k p gap : ℕ) (is : IsNamed operations listed k p) → IsClear operations
-    → IsLeastFreeGap operations is.o gap → gap < PACKED_LIMIT
-named_early operations listed k p gap is clear free =
-    let returned = return_in_range operations is.o clear.complete (contains_at operations p is.o is.at) in
-    omega (arith, returned, free.in_window.1)
+-- the operation that is read at the place
+pub read_at : (operations : List Operation) (p : ℕ) (o : Operation) → IsOperation operations p o → later_by ORIGIN (operation_at operations p) ≡ o
+read_at operations p o at =
+    let x = earlier_at operations p o at in ap (later_by ORIGIN) (get_or_from_slice_get operations p x.0 _ x.1) ∙ x.2
 
-stands_empty : (operations : List Operation) (lives : List Life) (o : Operation) (gap : ℕ) (k : OpKind) → is_empty_kind k ≡ true
-    → IsLeastFreeGap operations o gap → IsPositionFor operations lives o k (noop_position o gap)
-stands_empty operations lives o gap Empty is free = (gap, free, refl)
-stands_empty operations lives o gap _ is free = cc
+-- a place of the history is small enough to be packed
+pub place_fits : (operations : List Operation) (p : ℕ) (o : Operation) → IsOperation operations p o → length operations ≤ MAX_MATCHED → p < PLACES
+place_fits operations p o at few = omega (arith, slice_get_within (timed operations) p o at, length-map operations (later_by ORIGIN))
 
-stands_refused : (operations : List Operation) (lives : List Life) (o : Operation) (k : OpKind) → is_refused_kind k ≡ true
-    → IsPositionFor operations lives o k (noop_position o o.call)
-stands_refused operations lives o (Not v) is = refl
-stands_refused operations lives o _ is = cc
+module _ (history : Contents) (clear : IsClear (course_of history)) where
+  abbrev all : List Operation
+  all = timeline_of history
 
--- an empty dequeue at its least free gap
-pub adds_empty : (operations : List Operation) (k p gap : ℕ) (old new : List Timed) (is : IsNamed operations (filter is_empty_answer operations) k p)
-    → Adds operations (take k (filter is_empty_answer operations)) old new → IsLeastFreeGap operations is.o gap
-    → Adds operations (take (k + 1) (filter is_empty_answer operations)) old (new ++ record { time = gap; place = p } ∷ [])
-adds_empty operations k p gap old new is adds free = adds_more _ _ k is.o old new _ adds is.is_listed (record {
-  at = is.at;
-  stands = λ lives. stands_empty _ lives is.o gap _ (passed_filter is_empty_answer operations is.o
-      (contains_at (filter is_empty_answer operations) k is.o is.is_listed)).1 free;
-})
+  in_range : (p : ℕ) (o : Operation) → IsOperation history.operations p o → o.ret ≤ MAX_TIME
+  in_range p o at = return_in_range all o (clear_on history.initial history.operations clear).complete
+      (contains_at all _ o (operation_on history.initial history.operations p o at))
+
+  -- the operation's call can be packed
+  pub called_in_range : (p : ℕ) (o : Operation) → IsOperation history.operations p o → IsCalledInRange history.operations p
+  called_in_range p o at =
+      let x = earlier_at history.operations p o at in
+      let calls : x.0.call + ORIGIN ≡ o.call = ap (λ (y : Operation). y.call) x.2 in
+      let less = call_by_return all o (clear_on history.initial history.operations clear).complete
+      (contains_at all _ o (operation_on history.initial history.operations p o at)) in
+      subst (λ found. IsSomeAnd found (λ o. o.call + ORIGIN < PACKED_LIMIT)) (sym x.1) (omega (arith, in_range p o at))
+
+  -- and so can the gap before its return
+  pub gap_fits : (p gap : ℕ) (o : Operation) → IsOperation history.operations p o → IsLeastFreeGap (course_of history) o gap → gap < PACKED_LIMIT
+  gap_fits p gap o at free = omega (arith, in_range p o at, free.in_window.1)
+
+  -- an empty dequeue at its least free gap
+  pub adds_empty : (k p gap : ℕ) (old new : List Timed) (is : IsListed history is_empty_kind k p)
+      → Adds history (take k (filter is_empty_answer (timed history.operations))) old new → IsLeastFreeGap (course_of history) is.o gap
+      → Adds history (take (k + 1) (filter is_empty_answer (timed history.operations))) old (new ++ record { time = gap; place = p } ∷ [])
+  adds_empty k p gap old new is adds free = adds_more history _ k is.o old new _ adds is.is_listed (record {
+    at = is.at;
+    stands = λ lives. stands_empty lives is.o.kind (passed_filter is_empty_answer (timed history.operations) is.o (contains_at _ k is.o is.is_listed)).1;
+  })
+    where
+      stands_empty : (lives : List Life) (kind : OpKind) → is_empty_kind kind ≡ true → IsPositionFor (on all) lives is.o kind (noop_position is.o gap)
+      stands_empty lives Empty empty = (gap, least_of (course_of history) (on all) (clear_course history.initial history.operations clear) is.o gap free, refl)
+      stands_empty lives _ empty = cc
 
 -- a failed enqueue at its call
-pub adds_refused : (operations : List Operation) (k p call : ℕ) (old new : List Timed) (is : IsNamed operations (filter is_refused operations) k p)
-    → Adds operations (take k (filter is_refused operations)) old new → call ≡ is.o.call
-    → Adds operations (take (k + 1) (filter is_refused operations)) old (new ++ record { time = call; place = p } ∷ [])
-adds_refused operations k p call old new is adds calls = adds_more _ _ k is.o old new _ adds is.is_listed (record {
+pub adds_refused : (history : Contents) (k p call : ℕ) (old new : List Timed) (is : IsListed history is_refused_kind k p)
+    → Adds history (take k (filter is_refused (timed history.operations))) old new → call ≡ (operation_at history.operations p).call + ORIGIN
+    → Adds history (take (k + 1) (filter is_refused (timed history.operations))) old (new ++ record { time = call; place = p } ∷ [])
+adds_refused history k p call old new is adds calls = adds_more history _ k is.o old new _ adds is.is_listed (record {
   at = is.at;
-  stands = λ lives. subst (λ gap. IsPositionFor operations lives is.o is.o.kind (noop_position is.o gap)) (sym calls)
-      (stands_refused _ lives is.o _ (passed_filter is_refused operations is.o
-      (contains_at (filter is_refused operations) k is.o is.is_listed)).1);
+  stands = λ lives. subst (λ gap. IsPositionFor (on (timeline_of history)) lives is.o is.o.kind (noop_position is.o gap))
+      (sym (calls ∙ ap (λ (o : Operation). o.call) (read_at history.operations p is.o is.at)))
+      (stands_refused lives is.o.kind (passed_filter is_refused (timed history.operations) is.o (contains_at _ k is.o is.is_listed)).1);
 })
+  where
+    stands_refused : (lives : List Life) (kind : OpKind) → is_refused_kind kind ≡ true
+        → IsPositionFor (on (timeline_of history)) lives is.o kind (noop_position is.o is.o.call)
+    stands_refused lives (Not v) refused = refl
+    stands_refused lives _ refused = cc
 
--- the gap beside an answer, and how many there are of both
-pub gap_beside : (operations listed : List Operation) (gaps : List ℕ) (k gap d : ℕ) (o : Operation)
-    → AllZip (λ o c. IsLeastFreeGap operations o c) listed (map time_of gaps) → slice_get listed k ≡ Some o → gap ≡ get_or gaps k d
-    → IsLeastFreeGap operations o (time_of gap)
-gap_beside operations listed gaps k gap d o free at is =
-    let found = beside_first (λ o c. IsLeastFreeGap operations o c) listed (map time_of gaps) k o free at in
+-- the gap beside an answer
+pub gap_beside : (c : Course) (listed : List Operation) (gaps : List ℕ) (k gap d : ℕ) (o : Operation)
+    → AllZip (λ o gap. IsLeastFreeGap c o gap) listed (map time_of gaps) → slice_get listed k ≡ Some o → gap ≡ get_or gaps k d
+    → IsLeastFreeGap c o (time_of gap)
+gap_beside c listed gaps k gap d o free at is =
+    let found = beside_first (λ o gap. IsLeastFreeGap c o gap) listed (map time_of gaps) k o free at in
     let within = slice_get_within (map time_of gaps) k found.0 found.1 in
-    subst (IsLeastFreeGap operations o) (sym (get_or_from_slice_get (map time_of gaps) k found.0 0 found.1)
+    subst (IsLeastFreeGap c o) (sym (get_or_from_slice_get (map time_of gaps) k found.0 0 found.1)
     ∙ get_or-map time_of gaps k d 0 (omega (arith, within, length-map gaps time_of)) ∙ ap time_of (sym is)) found.2
-
--- all empty answers are added
-pub adds_all : (operations listed : List Operation) (places gaps : List ℕ) (n : ℕ) (old new : List Timed) → ArePlacesOf operations places listed
-    → AllZip (λ o c. IsLeastFreeGap operations o c) listed (map time_of gaps) → n ≡ min (length places) (length gaps)
-    → Adds operations (take n listed) old new → Adds operations listed old new
-adds_all operations listed places gaps n old new are free long adds =
-    let places_long : length places ≡ length listed = sym (length-map places (slice_get operations)) ∙ ap length are ∙ length-map listed Some in
-    let gaps_long = AllZip-long (λ o c. IsLeastFreeGap operations o c) listed (map time_of gaps) free in
-    subst (λ xs. Adds operations xs old new) (take_all n listed (omega (arith, length-map gaps time_of))) adds
 
 -- ---- elements with different keys stand at one place each, in any order of the list
 
@@ -241,10 +275,6 @@ whole old last some is_last =
     let few = length-take-le (length old - 1) old (omega arith) in
     sym (take_all (length old) old (omega arith)) ∙ ap (λ n. take n old) (sym all) ∙ one_more old (length old - 1) last (omega arith) is_last
     ∙ sym (ap (λ n. insert others n last) (sym few) ∙ insert_end others last)
-
--- none is shifted at first
-pub none_shifted : {X : Type 0} (old : List X) (last : X) → 0 < length old → last ≡ get_or old (length old - 1) last → IsShifted old (length old - 1) old
-none_shifted old last some is_last = record { left_over = last; is = whole old last some is_last }
 
 module _ {X : Type 0} (old now : List X) (place : ℕ) (shifted : IsShifted old place now) (inside : place < length old) where
   -- all but the last
@@ -434,33 +464,39 @@ element_at xs (q ∷ places) (suc i) p within at =
     let here = first_of xs q places (All-head (λ p. p < length xs) q places within) in
     ap (λ ys. slice_get ys (suc i)) here.2 ∙ element_at xs places i p (All-tail (λ p. p < length xs) q places within) at
 
+-- the order of the same lives is one order
+pub value_order_along : (c d : Course) (lives : List Life) → c.lives ≡ d.lives → IsValueOrder c lives → IsValueOrder d lives
+value_order_along c d lives same order =
+    record { holds_each_once = subst (λ ls. IsPermutation ls lives) same order.holds_each_once; each_is_choice = order.each_is_choice }
+
 -- the lives of the values at these places
-pub lives_are : (operations : List Operation) (values : List MatchedValue) (places : List ℕ) → HoldsLives operations values
-    → lives_in (elements_at values places) ≡ lives_at operations places
-lives_are operations values places holds = sym (elements_mapped (λ m. m.life) values places) ∙ ap (λ lives. elements_at lives places) holds.0
+pub lives_are : (history : Contents) (values : List MatchedValue) (order : List Timed) → HoldsValues history values
+    → lives_in (elements_at values (places_in order)) ≡ ordered_lives history order
+lives_are history values order holds =
+    sym (elements_mapped (λ m. m.life) values (places_in order)) ∙ ap (λ lives. elements_at lives (places_in order)) holds.lives
 
 -- as many lives as places
-pub lives_long : (operations : List Operation) (places : List ℕ) → IsOrderOfPlaces operations places → length (lives_at operations places) ≡ length places
-lives_long operations places order = elements_long (lives_of operations) places order.within
+pub lives_long : (history : Contents) (order : List Timed) → IsOrderOf history order → length (ordered_lives history order) ≡ length order
+lives_long history order is =
+    elements_long (course_of history).lives (places_in order) is.within ∙ length-map order (λ timed. timed.place)
 
 -- the value at a place of the order
-pub record IsValueAt (operations : List Operation) (values : List MatchedValue) (places : List ℕ) (rank place : ℕ) : Type 0 where
+pub record IsValueAt (history : Contents) (values : List MatchedValue) (order : List Timed) (rank place : ℕ) : Type 0 where
   pub value : MatchedValue
   pub is_at : slice_get values place ≡ Some value
-  pub has_rank : slice_get (lives_at operations places) rank ≡ Some value.life
-  pub has_places : HasPlaces operations value
+  pub has_rank : slice_get (ordered_lives history order) rank ≡ Some value.life
 
 -- the value at one of the places
-pub value_at : (operations : List Operation) (values : List MatchedValue) (places : List ℕ) (rank place : ℕ) → HoldsLives operations values
-    → IsOrderOfPlaces operations places → slice_get places rank ≡ Some place → IsValueAt operations values places rank place
-value_at operations values places rank place holds order at =
-    let below = All-contains (λ p. p < length (lives_of operations)) places place order.within (contains_at places rank place at) in
-    let m = at_place values place (omega (arith, below, ap length holds.0, length-map values (λ m. m.life))) in
+pub value_at : (history : Contents) (values : List MatchedValue) (order : List Timed) (rank : ℕ) (t : Timed) → HoldsValues history values
+    → IsOrderOf history order → slice_get order rank ≡ Some t → IsValueAt history values order rank t.place
+value_at history values order rank t holds is at =
+    let place = slice_get-map (λ (x : Timed). x.place) order rank ∙ ap (option_map (λ (x : Timed). x.place)) at in
+    let below = All-contains (λ p. p < length (course_of history).lives) (places_in order) t.place is.within (contains_at (places_in order) rank t.place place) in
+    let m = at_place values t.place (omega (arith, below, ap length holds.lives, length-map values (λ m. m.life))) in
     record {
       value = m.0;
       is_at = m.1;
       has_rank =
-          element_at (lives_of operations) places rank place order.within at ∙ ap (λ lives. slice_get lives place) (sym holds.0)
-          ∙ slice_get-map (λ m. m.life) values place ∙ ap (option_map (λ m. m.life)) m.1;
-      has_places = All-contains (HasPlaces operations) values m.0 holds.1 (contains_at values place m.0 m.1);
+          element_at (course_of history).lives (places_in order) rank t.place is.within place ∙ ap (λ lives. slice_get lives t.place) (sym holds.lives)
+          ∙ slice_get-map (λ m. m.life) values t.place ∙ ap (option_map (λ m. m.life)) m.1;
     }

@@ -6,7 +6,7 @@
 -- Positions: each enqueue and dequeue has a gap in its window, gaps rise along the order, and each operation has one position.
 -- Runs, OneOrder: by their positions the operations are a run that the queue accepts, the one chosen order.
 -- Merging: the lists of placed operations, merged, are that order.
--- Told: the order of a timeline, by the places of the history, and from gaps by tickets.
+-- Told: what was merged is the chosen order of the history.
 mod Common
 pub mod Runs
 pub mod Times

@@ -1,21 +1,27 @@
 -- The operations of the values are listed at their positions, and three lists that rise are merged by the positions of theirs.
-use Rattle.linearizer.proofs.Common.{[], All-nil, All-push, AllZip, ap, append-nil, append_assoc, AreEnqueueGaps}
-use Rattle.linearizer.proofs.Common.{arith, Bool, cases_lt, cons_option, contains_at, dequeue_gap, dequeue_of}
-use Rattle.linearizer.proofs.Common.{dequeue_position, dequeues_of, did_dequeue, earlier_dequeues, enqueue_gap}
-use Rattle.linearizer.proofs.Common.{enqueue_of, enqueue_position, enqueues, enqueues_of, false, filter_map-append}
-use Rattle.linearizer.proofs.Common.{fold, gaps_in, get_or, get_or_from_slice_get, greatest_leaves_from, HasPlaces}
-use Rattle.linearizer.proofs.Common.{HoldsLives, HoldsUpTo, HoldsValues, if◌then◌else◌, inl, inr, IsAhead, IsAt}
-use Rattle.linearizer.proofs.Common.{IsDequeueFrom, IsEnqueueFrom, IsLife, IsMaybeAt, IsMerge, IsMergedUpTo}
-use Rattle.linearizer.proofs.Common.{IsNoopFrom, IsOrderOfPlaces, IsPermutation, IsPermutation-append_left}
-use Rattle.linearizer.proofs.Common.{IsPermutation-cons, IsPermutation-middle, IsPermutation-refl, IsPermutation-sym}
-use Rattle.linearizer.proofs.Common.{IsPermutation-to_front, IsPermutation-trans, IsPlaced, IsPositionFor, IsTrue}
-use Rattle.linearizer.proofs.Common.{IsValueFrom, IsValueOrder, leaves_from, length, Life, List, lives_at, map}
-use Rattle.linearizer.proofs.Common.{map-append, MatchedValue, MatchOption, max, nat_lt, NeverFall, None, NoneBelow}
-use Rattle.linearizer.proofs.Common.{one_at, Operation, Option, option_map, other_dequeues, pairs_at, Placed}
-use Rattle.linearizer.proofs.Common.{places_in, Position, position_of, refl, slice_get, slice_get-map}
-use Rattle.linearizer.proofs.Common.{slice_get_within, Some, StandsBefore, subst, sym, take, take_all, Timed, true, ℕ}
-use Rattle.linearizer.proofs.Common.{◌++◌, ◌+◌, ◌<◌, ◌↔◌, ◌∙◌, ◌∷◌, ◌≡◌, ◌≤◌}
-use Rattle.linearizer.proofs.Elements.{at_place, IsValueAt, lives_long, take_next, value_at, zip_joined}
+use Rattle.value_match.specs.declared.life.Source.{Source}
+use Rattle.value_match.specs.declared.life.Source.TheVariants as source
+use Rattle.value_match.specs.Times.{initial_enqueue, initial_time}
+use Rattle.std.proofs.lemmas.List.Elements.{All-append}
+use Rattle.linearizer.proofs.Common.{All, All-cons, All-contains, All-nil, All-push, ap, append-nil, append_assoc}
+use Rattle.linearizer.proofs.Common.{arith, Bool, cases_lt, cons_option, contains_at, Contents}
+use Rattle.linearizer.proofs.Common.{course_of, dequeue_gap, dequeue_of, dequeue_position, dequeues_of, did_dequeue}
+use Rattle.linearizer.proofs.Common.{earlier_dequeues, enqueue_gap, enqueue_of, enqueue_position, enqueues}
+use Rattle.linearizer.proofs.Common.{enqueues_of, false, filter_map-append, fold, gaps_in, get_or}
+use Rattle.linearizer.proofs.Common.{get_or_from_slice_get, greatest_leaves_from, HoldsUpTo, HoldsValues}
+use Rattle.linearizer.proofs.Common.{if◌then◌else◌, inl, inr, IsAhead, IsClear, IsDequeueFrom, IsEnqueueFrom, IsLife}
+use Rattle.linearizer.proofs.Common.{IsMaybeOperation, IsMerge, IsMergedUpTo, IsNamed, IsNoopFrom, IsOperation}
+use Rattle.linearizer.proofs.Common.{IsOrderOf, IsPermutation, IsPermutation-append_left, IsPermutation-cons}
+use Rattle.linearizer.proofs.Common.{IsPermutation-middle, IsPermutation-refl, IsPermutation-sym}
+use Rattle.linearizer.proofs.Common.{IsPermutation-to_front, IsPermutation-trans, IsPlaced, IsPositionFor, IsSource}
+use Rattle.linearizer.proofs.Common.{IsToldAt, IsTrue, IsValueFrom, IsValueOrder, leaves_from, length, Life, List, map}
+use Rattle.linearizer.proofs.Common.{map-append, mapped_option, MatchedValue, MatchOption, max, MAX_INITIAL, nat_lt}
+use Rattle.linearizer.proofs.Common.{NeverFall, None, NoneBelow, on, one_at, Operation, Option, option_map}
+use Rattle.linearizer.proofs.Common.{ordered_lives, other_dequeues, pairs_at, Placed, placed_in}
+use Rattle.linearizer.proofs.Common.{PlacesValues, Position, position_of, refl, same_lives, slice_get, slice_get-map}
+use Rattle.linearizer.proofs.Common.{slice_get_within, Some, StandsBefore, subst, sym, take, take_all, Timed}
+use Rattle.linearizer.proofs.Common.{timeline_of, told_of, true, ℕ, [], ◌++◌, ◌+◌, ◌<◌, ◌↔◌, ◌∙◌, ◌∷◌, ◌≡◌, ◌≤◌}
+use Rattle.linearizer.proofs.Elements.{at_place, IsValueAt, lives_long, take_next, value_at, value_order_along}
 use Rattle.linearizer.proofs.ValueOrder.{is_life}
 use Rattle.std.proofs.lemmas.List.Quantifiers.{all_pairs_push}
 use Rattle.linearizer.specs.declared.position.Position.{Position as Stored}
@@ -36,20 +42,16 @@ one_more_among xs ys zs x moved = subst (λ l. IsPermutation l (zs ++ x ∷ []))
     (IsPermutation-sym _ _ (IsPermutation-to_front zs x))))
 
 -- where a dequeue stands that is placed at the greatest of these times
-pub dequeue_stands : (lives : List Life) (i gap left later : ℕ) (placed : Placed) → gap ≡ enqueue_gap lives i
+pub dequeue_stands : (lives : List Life) (i gap left later : ℕ) (position : Stored) → gap ≡ enqueue_gap lives i
     → left ≡ greatest_leaves_from (take (i + 1) lives) → later ≡ max left gap
-    → position_of placed.position ≡ record { gap = later; class = (if nat_lt gap later then earlier_dequeues else other_dequeues); rank = i }
-    → position_of placed.position ≡ dequeue_position lives i
-dequeue_stands lives i gap left later placed gap_is left_is later_is stands =
+    → position_of position ≡ record { gap = later; class = (if nat_lt gap later then earlier_dequeues else other_dequeues); rank = i }
+    → position_of position ≡ dequeue_position lives i
+dequeue_stands lives i gap left later position gap_is left_is later_is stands =
     let last : later ≡ dequeue_gap lives i = omega (arith, later_is, left_is, gap_is) in
     rw (← last, ← gap_is) stands
 
--- one value more, of which the gaps and the tickets are known
-module _ (operations : List Operation) (lives : List Life) (order : IsValueOrder operations lives) (i : ℕ) (life : Life)
-    (at : slice_get lives i ≡ Some life) where
-  is : IsLife operations life
-  is = is_life operations lives order life (contains_at lives i life at)
-
+-- one value more
+module _ (lives : List Life) (i : ℕ) (life : Life) (at : slice_get lives i ≡ Some life) where
   pub greatest_more : greatest_leaves_from (take (i + 1) lives) ≡ max (greatest_leaves_from (take i lives)) (leaves_from life)
   greatest_more =
       ap greatest_leaves_from (take_next lives i life at) ∙ ap (fold max 0) (map-append leaves_from (take i lives) (life ∷ []))
@@ -61,148 +63,151 @@ module _ (operations : List Operation) (lives : List Life) (order : IsValueOrder
   dequeues_more : dequeues_of (take (i + 1) lives) ≡ dequeues_of (take i lives) ++ cons_option (dequeue_of life) []
   dequeues_more = ap dequeues_of (take_next lives i life at) ∙ filter_map-append dequeue_of (take i lives) (life ∷ [])
 
-  enqueue_placed : (gap : ℕ) (placed : Placed) → gap ≡ enqueue_gap lives i → IsAt operations placed.operation (enqueue_of life)
-      → position_of placed.position ≡ record { gap = gap; class = enqueues; rank = i }
-      → IsPlaced operations lives (enqueue_of life) placed
-  enqueue_placed gap placed gap_is names stands = (
-    names,
-    subst (λ k. IsPositionFor operations lives (enqueue_of life) k (position_of placed.position)) (sym is.1.1)
-        (i, life, at, refl, stands ∙ ap (λ g. record { gap = g; class = enqueues; rank = i }) gap_is),
-  )
-
-  dequeue_placed : (gap left later : ℕ) (d : Operation) (placed : Placed) → gap ≡ enqueue_gap lives i
-      → left ≡ greatest_leaves_from (take (i + 1) lives) → later ≡ max left gap → dequeue_of life ≡ Some d
-      → IsAt operations placed.operation d → position_of placed.position
-      ≡ record { gap = later; class = (if nat_lt gap later then earlier_dequeues else other_dequeues); rank = i } → IsPlaced operations lives d placed
-  dequeue_placed gap left later d placed gap_is left_is later_is dequeues names stands = (
-    names,
-    subst (λ k. IsPositionFor operations lives d k (position_of placed.position)) (sym (did_dequeue operations life d is dequeues).1)
-        (i, life, at, dequeues, dequeue_stands lives i gap left later placed gap_is left_is later_is stands),
-  )
-
--- what is known at the turn of a value: its place, and the gap of its enqueue
-pub record IsTurn (operations : List Operation) (lives : List Life) (i : ℕ) (m : MatchedValue) (gap : ℕ) : Type 0 where
-  pub order : IsValueOrder operations lives
-  pub places : HasPlaces operations m
+-- what is known at the turn of a value: whence it comes and where its dequeue stands, and the gap of its enqueue
+pub record IsTurn (history : Contents) (lives : List Life) (i : ℕ) (m : MatchedValue) (gap : ℕ) : Type 0 where
+  pub few : length history.initial ≤ MAX_INITIAL
+  pub order : IsValueOrder (on (timeline_of history)) lives
+  pub named : IsNamed history.initial history.operations m.source m.dequeue m.life
   pub at : slice_get lives i ≡ Some m.life
   pub gap_is : gap ≡ enqueue_gap lives i
 
--- the value that is read in a turn
-value_read : (operations : List Operation) (values : List MatchedValue) (timed : List Timed) (i : ℕ) (t : Timed) → HoldsLives operations values
-    → IsOrderOfPlaces operations (places_in timed) → slice_get timed i ≡ Some t → IsValueAt operations values (places_in timed) i t.place
-value_read operations values timed i t holds order at = value_at operations values (places_in timed) i t.place holds order
-    (slice_get-map (λ (x : Timed). x.place) timed i ∙ ap (option_map (λ (x : Timed). x.place)) at)
+module _ (history : Contents) (values : List MatchedValue) (order : List Timed) (i : ℕ) (t : Timed) (clear : IsClear (course_of history))
+    (holds : HoldsValues history values) (is : IsOrderOf history order) (at : slice_get order i ≡ Some t) where
+  -- the value that is read in a turn
+  read : IsValueAt history values order i t.place
+  read = value_at history values order i t holds is at
 
--- it is one of the values
-pub turn_within : (operations : List Operation) (values : List MatchedValue) (timed : List Timed) (i : ℕ) (t : Timed) → HoldsLives operations values
-    → IsOrderOfPlaces operations (places_in timed) → slice_get timed i ≡ Some t → t.place < length values
-turn_within operations values timed i t holds order at =
-    let here = value_read operations values timed i t holds order at in slice_get_within values t.place here.value here.is_at
+  -- it is one of the values
+  pub turn_within : t.place < length values
+  turn_within = slice_get_within values t.place read.value read.is_at
 
--- the turn, by what is read in it
-pub turn_is : (operations : List Operation) (values : List MatchedValue) (timed : List Timed) (i : ℕ) (t : Timed) (m : MatchedValue)
-    → HoldsLives operations values → IsOrderOfPlaces operations (places_in timed)
-    → AreEnqueueGaps (lives_at operations (places_in timed)) (gaps_in timed) → slice_get timed i ≡ Some t → m ≡ get_or values t.place m
-    → IsTurn operations (lives_at operations (places_in timed)) i m t.time
-turn_is operations values timed i t m holds order are_gaps here_is reads =
-    let here = value_read operations values timed i t holds order here_is in
-    let same = reads ∙ get_or_from_slice_get values t.place here.value m here.is_at in
-    record {
-      order = order.in_order;
-      places = subst (HasPlaces operations) (sym same) here.has_places;
-      at = here.has_rank ∙ ap (λ m. Some m.life) (sym same);
-      gap_is =
-          sym (get_or_from_slice_get (gaps_in timed) i t.time 0 (slice_get-map (λ (x : Timed). x.time) timed i ∙ ap (option_map (λ (x : Timed). x.time)) here_is))
-          ∙ are_gaps.at_each i (slice_get_within (lives_at operations (places_in timed)) i here.value.life here.has_rank);
-    }
+  -- the turn, by what is read in it
+  pub turn_is : (m : MatchedValue) → m ≡ get_or values t.place m → IsTurn history (ordered_lives history order) i m t.time
+  turn_is m reads =
+      let same = reads ∙ get_or_from_slice_get values t.place read.value m read.is_at in
+      let few = clear.complete.3 in
+      record {
+        few = few;
+        order = value_order_along (course_of history) (on (timeline_of history)) _ (sym (same_lives history.initial history.operations)) is.in_order;
+        named = subst (λ m. IsNamed history.initial history.operations m.source m.dequeue m.life) (sym same)
+            (All-contains (λ m. IsNamed history.initial history.operations m.source m.dequeue m.life) values _ holds.named
+            (contains_at values t.place read.value read.is_at));
+        at = read.has_rank ∙ ap (λ m. Some m.life) (sym same);
+        gap_is =
+            sym (get_or_from_slice_get (gaps_in order) i t.time 0 (slice_get-map (λ (x : Timed). x.time) order i ∙ ap (option_map (λ (x : Timed). x.time)) at))
+            ∙ is.gaps.at_each i (slice_get_within (ordered_lives history order) i read.value.life read.has_rank);
+      }
 
 -- nothing is placed at first
-pub nothing_placed : (operations : List Operation) (lives : List Life) → HoldsUpTo operations lives 0 0 0 []
-nothing_placed operations lives = record { left_is = refl; listed = []; each_once = IsPermutation-refl []; each_placed = tt }
+pub nothing_placed : (history : Contents) (lives : List Life) → HoldsUpTo history lives 0 0 0 []
+nothing_placed history lives = record { left_is = refl; each_once = IsPermutation-refl []; each_placed = All-nil (IsPlaced history lives) }
 
 -- all are placed
-pub all_placed : (operations : List Operation) (places : List ℕ) (i j left : ℕ) (placed : List Placed) → IsOrderOfPlaces operations places
-    → length places ≤ i → length places ≤ j
-    → HoldsUpTo operations (lives_at operations places) i j left placed → HoldsValues operations placed
-all_placed operations places i j left placed order all_in all_out so_far =
-    let lives = lives_at operations places in
-    let long = lives_long operations places order in
+pub all_placed : (history : Contents) (order : List Timed) (i j left : ℕ) (placed : List Placed) → IsOrderOf history order
+    → length order ≤ i → length order ≤ j → HoldsUpTo history (ordered_lives history order) i j left placed → PlacesValues history placed
+all_placed history order i j left placed is all_in all_out so_far =
+    let lives = ordered_lives history order in
+    let long = lives_long history order is in
     record {
       lives = lives;
-      in_order = order.in_order;
-      listed = so_far.listed;
-      each_once = subst (λ ls. IsPermutation (enqueues_of ls ++ dequeues_of lives) so_far.listed) (take_all i lives (omega arith))
-          (subst (λ ls. IsPermutation (enqueues_of (take i lives) ++ dequeues_of ls) so_far.listed) (take_all j lives (omega arith)) so_far.each_once);
+      in_order = is.in_order;
+      each_once = subst (λ ls. IsPermutation (enqueues_of ls ++ dequeues_of lives) (placed_in placed)) (take_all i lives (omega arith))
+          (subst (λ ls. IsPermutation (enqueues_of (take i lives) ++ dequeues_of ls) (placed_in placed)) (take_all j lives (omega arith)) so_far.each_once);
       each_placed = so_far.each_placed;
     }
 
+-- the enqueue that a value comes from has its place, that of an initial value none
+source_told : (history : Contents) (source : Source) (o : Operation) → length history.initial ≤ MAX_INITIAL
+    → IsSource history.initial history.operations source o → IsToldAt history.operations (told_of source) o
+source_told history (source.Enq place) o few at = at
+source_told history (source.Initial place) o few at =
+    let v = mapped_option (initial_enqueue (length history.initial) place) (slice_get history.initial place) o at in
+    let within = slice_get_within history.initial place v.0 v.1 in
+    let calls : initial_time (length history.initial) place ≡ o.call = ap (λ (x : Operation). x.call) v.2 in
+    omega arith
+
 -- the next enqueue is placed
-module _ (operations : List Operation) (lives : List Life) (i : ℕ) (m : MatchedValue) (gap : ℕ) (turn : IsTurn operations lives i m gap) where
+module _ (history : Contents) (lives : List Life) (i : ℕ) (m : MatchedValue) (gap : ℕ) (turn : IsTurn history lives i m gap) where
+  is : IsLife (on (timeline_of history)) m.life
+  is = is_life (timeline_of history) lives turn.order m.life (contains_at lives i m.life turn.at)
+
+  -- where it stands
+  abbrev pub enqueue_placed : Stored → Placed
+  enqueue_placed position = record { operation = enqueue_of m.life; place = told_of m.source; position = position }
+
   -- one enqueue more is placed
-  pub enqueue_more : (j left : ℕ) (placed : List Placed) (first : Placed) → HoldsUpTo operations lives i j left placed → first.operation ≡ m.enqueue
-      → position_of first.position ≡ record { gap = gap; class = enqueues; rank = i }
-      → HoldsUpTo operations lives (i + 1) j left (placed ++ first ∷ [])
-  enqueue_more j left placed first so_far names stands = record {
+  pub enqueue_more : (j left : ℕ) (placed : List Placed) (position : Stored) → HoldsUpTo history lives i j left placed
+      → position_of position ≡ record { gap = gap; class = enqueues; rank = i }
+      → HoldsUpTo history lives (i + 1) j left (placed ++ enqueue_placed position ∷ [])
+  enqueue_more j left placed position so_far stands = record {
     left_is = so_far.left_is;
-    listed = so_far.listed ++ enqueue_of m.life ∷ [];
-    each_once = subst (λ os. IsPermutation (os ++ dequeues_of (take j lives)) (so_far.listed ++ enqueue_of m.life ∷ []))
-        (sym (enqueues_more operations lives turn.order i m.life turn.at)) (one_more_among _ _ _ _ so_far.each_once);
-    each_placed = zip_joined (IsPlaced operations lives) _ _ placed _ so_far.each_placed (
-      enqueue_placed _ lives turn.order i m.life turn.at gap first turn.gap_is
-          (subst (λ p. IsAt operations p (enqueue_of m.life)) (sym names) turn.places.0) stands,
-      tt,
+    each_once = subst (λ os. IsPermutation (os ++ dequeues_of (take j lives)) (placed_in (placed ++ enqueue_placed position ∷ [])))
+        (sym (enqueues_more lives i m.life turn.at))
+        (subst (IsPermutation ((enqueues_of (take i lives) ++ enqueue_of m.life ∷ []) ++ dequeues_of (take j lives)))
+        (sym (map-append (λ p. p.operation) placed (enqueue_placed position ∷ []))) (one_more_among _ _ _ _ so_far.each_once));
+    each_placed = All-push (IsPlaced history lives) placed (enqueue_placed position) so_far.each_placed (
+      source_told history m.source (enqueue_of m.life) turn.few turn.named.0,
+      subst (λ k. IsPositionFor (on (timeline_of history)) lives (enqueue_of m.life) k (position_of position)) (sym is.1.1)
+          (i, m.life, turn.at, refl, stands ∙ ap (λ g. record { gap = g; class = enqueues; rank = i }) turn.gap_is),
     );
   }
 
 -- the turn of the next dequeue
-module _ (operations : List Operation) (lives : List Life) (j : ℕ) (m : MatchedValue) (gap left left' : ℕ) (turn : IsTurn operations lives j m gap)
-    (left_is : left' ≡ max (leaves_from m.life) left) (i : ℕ) (placed : List Placed) (so_far : HoldsUpTo operations lives i j left placed) where
+module _ (history : Contents) (lives : List Life) (j : ℕ) (m : MatchedValue) (gap left left' : ℕ) (turn : IsTurn history lives j m gap)
+    (left_is : left' ≡ max (leaves_from m.life) left) (i : ℕ) (placed : List Placed) (so_far : HoldsUpTo history lives i j left placed) where
   -- the gap is the greatest that the values up to the next dequeue leave from
   pub left_more : left' ≡ greatest_leaves_from (take (j + 1) lives)
-  left_more = let more = greatest_more operations lives turn.order j m.life turn.at in omega (arith, more, left_is, so_far.left_is)
+  left_more = let more = greatest_more lives j m.life turn.at in omega (arith, more, left_is, so_far.left_is)
 
-  with_rest : (rest : List Placed) → AllZip (IsPlaced operations lives) (cons_option (dequeue_of m.life) []) rest
-      → HoldsUpTo operations lives i (j + 1) left' (placed ++ rest)
-  with_rest rest zip = record {
+  with_rest : (rest : List Placed) → cons_option (dequeue_of m.life) [] ≡ placed_in rest → All (IsPlaced history lives) rest
+      → HoldsUpTo history lives i (j + 1) left' (placed ++ rest)
+  with_rest rest same each = record {
     left_is = left_more;
-    listed = so_far.listed ++ cons_option (dequeue_of m.life) [];
-    each_once = subst (λ os. IsPermutation os (so_far.listed ++ cons_option (dequeue_of m.life) []))
+    each_once = subst (λ os. IsPermutation os (placed_in (placed ++ rest)))
         (append_assoc (enqueues_of (take i lives)) (dequeues_of (take j lives)) (cons_option (dequeue_of m.life) [])
-        ∙ ap (λ os. enqueues_of (take i lives) ++ os) (sym (dequeues_more operations lives turn.order j m.life turn.at)))
+        ∙ ap (λ os. enqueues_of (take i lives) ++ os) (sym (dequeues_more lives j m.life turn.at)))
+        (subst (IsPermutation ((enqueues_of (take i lives) ++ dequeues_of (take j lives)) ++ cons_option (dequeue_of m.life) []))
+        (ap (λ os. placed_in placed ++ os) same ∙ sym (map-append (λ p. p.operation) placed rest))
         (IsPermutation-append_left (cons_option (dequeue_of m.life) [])
-        (enqueues_of (take i lives) ++ dequeues_of (take j lives)) so_far.listed so_far.each_once);
-    each_placed = zip_joined (IsPlaced operations lives) so_far.listed (cons_option (dequeue_of m.life) []) placed rest so_far.each_placed zip;
+        (enqueues_of (take i lives) ++ dequeues_of (take j lives)) (placed_in placed) so_far.each_once));
+    each_placed = All-append (IsPlaced history lives) placed rest so_far.each_placed each;
   }
 
   -- a value that is never dequeued has its turn, and nothing is placed
-  pub turn_alone : m.dequeue ≡ None → HoldsUpTo operations lives i (j + 1) left' placed
-  turn_alone none = subst (HoldsUpTo operations lives i (j + 1) left') (append-nil placed)
-      (with_rest [] (nothing m.dequeue (dequeue_of m.life) none turn.places.1))
+  pub turn_alone : m.dequeue ≡ None → HoldsUpTo history lives i (j + 1) left' placed
+  turn_alone none = subst (HoldsUpTo history lives i (j + 1) left') (append-nil placed)
+      (with_rest [] (nothing m.dequeue (dequeue_of m.life) none turn.named.1) (All-nil (IsPlaced history lives)))
     where
-      nothing : (place : Option ℕ) (dequeue : Option Operation) → place ≡ None → IsMaybeAt operations place dequeue
-          → AllZip (IsPlaced operations lives) (cons_option dequeue []) []
-      nothing None None same places = tt
-      nothing None (Some d) same places = absurd places
-      nothing (Some p) dequeue same places = cc
+      nothing : (place : Option ℕ) (dequeue : Option Operation) → place ≡ None → IsMaybeOperation history.operations place dequeue
+          → cons_option dequeue [] ≡ []
+      nothing None None same at = refl
+      nothing None (Some d) same at = absurd at
+      nothing (Some p) dequeue same at = cc
 
   -- one dequeue more is placed
-  pub turn_with_dequeue : (p later : ℕ) (second : Placed) → m.dequeue ≡ Some p → later ≡ max left' gap → second.operation ≡ p
-      → position_of second.position ≡ record { gap = later; class = (if nat_lt gap later then earlier_dequeues else other_dequeues); rank = j }
-      → HoldsUpTo operations lives i (j + 1) left' (placed ++ second ∷ [])
-  turn_with_dequeue p later second same later_is names stands = with_rest (second ∷ []) (one m.dequeue (dequeue_of m.life) same turn.places.1 refl)
+  pub turn_with_dequeue : (p later : ℕ) (position : Stored) → m.dequeue ≡ Some p → later ≡ max left' gap
+      → position_of position ≡ record { gap = later; class = (if nat_lt gap later then earlier_dequeues else other_dequeues); rank = j }
+      → (d : Operation) × HoldsUpTo history lives i (j + 1) left' (placed ++ record { operation = d; place = Some p; position = position } ∷ [])
+  turn_with_dequeue p later position same later_is stands = one m.dequeue (dequeue_of m.life) same turn.named.1 refl
     where
-      one : (place : Option ℕ) (dequeue : Option Operation) → place ≡ Some p → IsMaybeAt operations place dequeue → dequeue_of m.life ≡ dequeue
-          → AllZip (IsPlaced operations lives) (cons_option dequeue []) (second ∷ [])
-      one None dequeue same places is = cc
-      one (Some q) None same places is = absurd places
-      one (Some q) (Some d) same places is = (
-        dequeue_placed operations lives turn.order j m.life turn.at gap left' later d second turn.gap_is
-            left_more later_is is at_second stands,
-        tt,
-      )
-        where
-          at_second : IsAt operations second.operation d
-          at_second = let here : q ≡ second.operation = cc in subst (λ r. IsAt operations r d) here places
+      is : IsLife (on (timeline_of history)) m.life
+      is = is_life (timeline_of history) lives turn.order m.life (contains_at lives j m.life turn.at)
+
+      one : (place : Option ℕ) (dequeue : Option Operation) → place ≡ Some p → IsMaybeOperation history.operations place dequeue → dequeue_of m.life ≡ dequeue
+          → (d : Operation) × HoldsUpTo history lives i (j + 1) left' (placed ++ record { operation = d; place = Some p; position = position } ∷ [])
+      one None dequeue same at is_d = cc
+      one (Some q) None same at is_d = absurd at
+      one (Some q) (Some d) same at is_d =
+          let here : q ≡ p = cc in (
+            d,
+            with_rest (record { operation = d; place = Some p; position = position } ∷ []) (ap (λ o. cons_option o []) is_d)
+                (All-cons (IsPlaced history lives) _ [] (
+                  subst (λ r. IsOperation history.operations r d) here at,
+                  subst (λ k. IsPositionFor (on (timeline_of history)) lives d k (position_of position))
+                      (sym (did_dequeue (timeline_of history) m.life d is is_d).1)
+                      (j, m.life, turn.at, is_d, dequeue_stands lives j gap left' later position turn.gap_is left_more later_is stands),
+                ) (All-nil (IsPlaced history lives))),
+          )
 
 -- ---- three lists in one
 
@@ -240,13 +245,13 @@ next_noop noops k x p never at (n, y, above, at_n, is) before =
     ]
 
 -- one operation more, than which none of those ahead stands before
-module _ (operations : List Operation) (lives : List Life) (noops : List Placed) (i j left k : ℕ) (places : List ℕ)
-    (merged : IsMergedUpTo operations lives noops i j left k places) where
+module _ (history : Contents) (lives : List Life) (noops : List Placed) (i j left k : ℕ) (places : List ℕ)
+    (merged : IsMergedUpTo history lives noops i j left k places) where
   -- the merged list grows by an operation before which none of those ahead stands
-  grown : (i' j' left' k' : ℕ) (x : Placed) (values' : List Placed) → HoldsUpTo operations lives i' j' left' values'
+  grown : (i' j' left' k' : ℕ) (x : Placed) (values' : List Placed) → HoldsUpTo history lives i' j' left' values'
       → IsPermutation ((merged.values ++ take k noops) ++ x ∷ []) (values' ++ take k' noops) → IsAhead lives noops i j k (position_of x.position)
       → ((p : Position) → IsAhead lives noops i' j' k' p → IsAhead lives noops i j k p × ¬ (StandsBefore p (position_of x.position)))
-      → IsMergedUpTo operations lives noops i' j' left' k' (places ++ x.operation ∷ [])
+      → IsMergedUpTo history lives noops i' j' left' k' (places ++ cons_option x.place [])
   grown i' j' left' k' x values' held moved ahead still = record {
     values = values';
     held = held;
@@ -257,11 +262,11 @@ module _ (operations : List Operation) (lives : List Life) (noops : List Placed)
         (λ n d below. merged.none_below n d below (position_of x.position) ahead);
     none_below = All-push (λ y. NoneBelow (IsAhead lives noops i' j' k') (Some y.position)) _ x
         (λ n d below p is. merged.none_below n d below p (still p is).0) (λ p is. (still p is).1);
-    places_are = ap (λ ps. ps ++ x.operation ∷ []) merged.places_are ∙ sym (map-append (λ p. p.operation) merged.sorted (x ∷ []));
+    places_are = ap (λ ps. ps ++ cons_option x.place []) merged.places_are ∙ sym (filter_map-append (λ p. p.place) merged.sorted (x ∷ []));
   }
 
   -- a value more, without a dequeue that is placed
-  pub passed : (left' : ℕ) → HoldsUpTo operations lives i (j + 1) left' merged.values → IsMergedUpTo operations lives noops i (j + 1) left' k places
+  pub passed : (left' : ℕ) → HoldsUpTo history lives i (j + 1) left' merged.values → IsMergedUpTo history lives noops i (j + 1) left' k places
   passed left' held = record {
     values = merged.values;
     held = held;
@@ -281,10 +286,10 @@ module _ (operations : List Operation) (lives : List Life) (noops : List Placed)
   value_moved x = IsPermutation-sym _ _ (one_more_among _ _ _ x (IsPermutation-refl _))
 
   -- the next dequeue, past the no-ops and the enqueues that are left
-  pub dequeue_added : (left' : ℕ) (x : Placed) → HoldsUpTo operations lives i (j + 1) left' (merged.values ++ x ∷ []) → j < length lives
+  pub dequeue_added : (left' : ℕ) (x : Placed) → HoldsUpTo history lives i (j + 1) left' (merged.values ++ x ∷ []) → j < length lives
       → position_of x.position ≡ dequeue_position lives j
       → NoneBelow (IsEnqueueFrom lives i) (Some x.position) → NoneBelow (IsNoopFrom noops k) (Some x.position)
-      → IsMergedUpTo operations lives noops i (j + 1) left' k (places ++ x.operation ∷ [])
+      → IsMergedUpTo history lives noops i (j + 1) left' k (places ++ cons_option x.place [])
   dequeue_added left' x held within stands enqueues noops_after =
       grown i (j + 1) left' k x (merged.values ++ x ∷ []) held (value_moved x) (inl (inr (j, omega arith, within, stands))) still
     where
@@ -296,10 +301,10 @@ module _ (operations : List Operation) (lives : List Life) (noops : List Placed)
       still p (inr is) = (inr is, noops_after p is)
 
   -- the next enqueue, past the dequeues and the no-ops that are left
-  pub enqueue_added : (x : Placed) → HoldsUpTo operations lives (i + 1) j left (merged.values ++ x ∷ []) → i < length lives
+  pub enqueue_added : (x : Placed) → HoldsUpTo history lives (i + 1) j left (merged.values ++ x ∷ []) → i < length lives
       → position_of x.position ≡ enqueue_position lives i
       → NoneBelow (IsDequeueFrom lives j) (Some x.position) → NoneBelow (IsNoopFrom noops k) (Some x.position)
-      → IsMergedUpTo operations lives noops (i + 1) j left k (places ++ x.operation ∷ [])
+      → IsMergedUpTo history lives noops (i + 1) j left k (places ++ cons_option x.place [])
   enqueue_added x held within stands dequeues noops_after =
       grown (i + 1) j left k x (merged.values ++ x ∷ []) held (value_moved x) (inl (inl (i, omega arith, within, stands))) still
     where
@@ -312,7 +317,7 @@ module _ (operations : List Operation) (lives : List Life) (noops : List Placed)
 
   -- the next no-op, past the values that are left
   pub noop_added : (x : Placed) → NeverFall noops → slice_get noops k ≡ Some x → NoneBelow (IsValueFrom lives i j) (Some x.position)
-      → IsMergedUpTo operations lives noops i j left (k + 1) (places ++ x.operation ∷ [])
+      → IsMergedUpTo history lives noops i j left (k + 1) (places ++ cons_option x.place [])
   noop_added x never at values = grown i j left _ x _ merged.held
       (subst (IsPermutation ((merged.values ++ take k noops) ++ x ∷ []))
       (append_assoc merged.values (take k noops) (x ∷ []) ∙ ap (λ xs. merged.values ++ xs) (sym (take_next noops k x at)))
@@ -324,10 +329,10 @@ module _ (operations : List Operation) (lives : List Life) (noops : List Placed)
           let from : IsNoopFrom noops k p = (n, y, omega arith, at_n, is) in (inr from, next_noop noops k x p never at from)
 
 -- nothing is merged at first
-pub nothing_merged : (operations : List Operation) (lives : List Life) (noops : List Placed) → IsMergedUpTo operations lives noops 0 0 0 0 []
-nothing_merged operations lives noops = record {
+pub nothing_merged : (history : Contents) (lives : List Life) (noops : List Placed) → IsMergedUpTo history lives noops 0 0 0 0 []
+nothing_merged history lives noops = record {
   values = [];
-  held = nothing_placed operations lives;
+  held = nothing_placed history lives;
   sorted = [];
   each_once = IsPermutation-refl [];
   never_fall = λ i j d below within. absurd (omega arith);
@@ -336,20 +341,20 @@ nothing_merged operations lives noops = record {
 }
 
 -- an operation that does not stand after the limit has none below it of which none is below the limit
-pub below_next : (Is : Position → Type 0) (limit : Option Stored) (x : Placed) (told : Bool)
-    → MatchOption limit (told ≡ false) (λ q. IsTrue told ↔ StandsBefore (position_of q) (position_of x.position)) → told ≡ false
-    → NoneBelow Is limit → NoneBelow Is (Some x.position)
+pub below_next : (Is : Position → Type 0) (limit : Option Stored) (x : Stored) (told : Bool)
+    → MatchOption limit (told ≡ false) (λ q. IsTrue told ↔ StandsBefore (position_of q) (position_of x)) → told ≡ false
+    → NoneBelow Is limit → NoneBelow Is (Some x)
 below_next Is None x told tells not none p is = absurd (none p is)
 below_next Is (Some q) x told tells not none p is =
-    through p (position_of q) (position_of x.position) (none p is) (λ before. let yes : told ≡ true = tells.1 before in cc)
+    through p (position_of q) (position_of x) (none p is) (λ before. let yes : told ≡ true = tells.1 before in cc)
 
 -- none is below the limit where none stands before an operation that stands after it
-pub below_limit : (Is : Position → Type 0) (limit : Option Stored) (x : Placed) (told : Bool)
-    → MatchOption limit (told ≡ false) (λ q. IsTrue told ↔ StandsBefore (position_of q) (position_of x.position)) → told ≡ true
-    → NoneBelow Is (Some x.position) → NoneBelow Is limit
+pub below_limit : (Is : Position → Type 0) (limit : Option Stored) (x : Stored) (told : Bool)
+    → MatchOption limit (told ≡ false) (λ q. IsTrue told ↔ StandsBefore (position_of q) (position_of x)) → told ≡ true
+    → NoneBelow Is (Some x) → NoneBelow Is limit
 below_limit Is None x told tells is_after none p is = cc
 below_limit Is (Some q) x told tells is_after none p is =
-    λ before. none p is (before_through p (position_of q) (position_of x.position) before (tells.0 is_after))
+    λ before. none p is (before_through p (position_of q) (position_of x) before (tells.0 is_after))
 
 -- where no limit is, nothing is left
 all_dequeued : (lives : List Life) (j : ℕ) → NoneBelow (IsDequeueFrom lives j) None → length lives ≤ j
@@ -365,13 +370,13 @@ all_noop noops k none = elim (cases_lt k (length noops)) [
 ]
 
 -- all are merged
-pub all_merged : (operations : List Operation) (order : List ℕ) (noops : List Placed) (i j left k : ℕ) (places : List ℕ)
-    → IsOrderOfPlaces operations order → length order ≤ i → NoneBelow (IsDequeueFrom (lives_at operations order) j) None
-    → NoneBelow (IsNoopFrom noops k) None → IsMergedUpTo operations (lives_at operations order) noops i j left k places → IsMerge operations noops places
-all_merged operations order noops i j left k places is all_in all_out none merged = (
+pub all_merged : (history : Contents) (order : List Timed) (noops : List Placed) (i j left k : ℕ) (places : List ℕ)
+    → IsOrderOf history order → length order ≤ i → NoneBelow (IsDequeueFrom (ordered_lives history order) j) None
+    → NoneBelow (IsNoopFrom noops k) None → IsMergedUpTo history (ordered_lives history order) noops i j left k places → IsMerge history noops places
+all_merged history order noops i j left k places is all_in all_out none merged = (
   merged.values,
-  all_placed operations order i j left merged.values is all_in (omega
-      (arith, all_dequeued (lives_at operations order) j all_out, lives_long operations order is)) merged.held,
+  all_placed history order i j left merged.values is all_in (omega
+      (arith, all_dequeued (ordered_lives history order) j all_out, lives_long history order is)) merged.held,
   record {
     sorted = merged.sorted;
     holds_each_once = subst (λ xs. IsPermutation (merged.values ++ xs) merged.sorted) (take_all k noops (all_noop noops k none)) merged.each_once;

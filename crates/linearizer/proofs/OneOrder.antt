@@ -1,29 +1,34 @@
 -- There is one chosen order, and one only.
-use Rattle.linearizer.proofs.Common.{[], Adds, All, All-cons, All-head, All-nil, All-permutation, All-tail, AllPairs}
-use Rattle.linearizer.proofs.Common.{AllPairs-cons, AllZip, ap, append_assoc, ap₂, AreComplete, AreLeastFreeGaps}
-use Rattle.linearizer.proofs.Common.{ArePlacesOf, arith, Bool, call_before_return, cond, cons_option, Contains}
-use Rattle.linearizer.proofs.Common.{Contains-permutation, contains_at, contains_cons, Deq, dequeue_gap, dequeue_of}
-use Rattle.linearizer.proofs.Common.{dequeue_position, dequeues_of, Did, did_dequeue, Empty, Enq, enqueue_gap}
-use Rattle.linearizer.proofs.Common.{enqueue_of, enqueue_position, enqueues_of, false, filter, flat_map, get_or}
+use Rattle.history_merge.proofs.Timelines.{later_injective}
+use Rattle.history_merge.specs.declared.packed.TheConstants.{PACKED_LIMIT}
+use Rattle.linearizer.proofs.Common.{Adds, Agree, All, All-cons, All-head, All-nil, All-permutation, All-tail}
+use Rattle.linearizer.proofs.Common.{AllPairs, AllPairs-cons, AllZip, ap, ap₂, AreComplete, AreLeastFreeGaps, arith}
+use Rattle.linearizer.proofs.Common.{Bool, call_before_return, cases_lt, clear_course, clear_on, cond}
+use Rattle.linearizer.proofs.Common.{cons_option, Contains, Contains-permutation, contains_at, contains_cons, Contents}
+use Rattle.linearizer.proofs.Common.{Course, course, course_of, Deq, dequeue_gap, dequeue_of, dequeue_position}
+use Rattle.linearizer.proofs.Common.{dequeues_of, Did, did_dequeue, Empty, Enq, enqueue_gap, enqueue_of}
+use Rattle.linearizer.proofs.Common.{enqueue_position, enqueues, enqueues_of, false, filter, flat_map, get_or}
 use Rattle.linearizer.proofs.Common.{get_or-map, get_or_from_slice_get, HoldsNoops, inl, inr, is_empty_answer}
-use Rattle.linearizer.proofs.Common.{is_empty_kind, is_refused, is_refused_kind, IsAccepted, IsChosenOrder, IsClear}
-use Rattle.linearizer.proofs.Common.{IsLegalOrder, IsLife, IsMerge, IsNonDecreasingBy, IsNoopAt, IsPermutation}
-use Rattle.linearizer.proofs.Common.{IsPermutation-append_left, IsPermutation-append_right, IsPermutation-cons}
+use Rattle.linearizer.proofs.Common.{is_empty_kind, is_refused, is_refused_kind, IsAccepted, IsCalledInRange}
+use Rattle.linearizer.proofs.Common.{IsChosenOrder, IsClear, IsLegalOrder, IsLife, IsNonDecreasingBy, IsNoopAt}
+use Rattle.linearizer.proofs.Common.{IsOperation, IsPermutation, IsPermutation-append_left, IsPermutation-cons}
 use Rattle.linearizer.proofs.Common.{IsPermutation-map, IsPermutation-middle, IsPermutation-refl, IsPermutation-sym}
 use Rattle.linearizer.proofs.Common.{IsPermutation-trans, IsPlaced, IsPositionFor, IsPositionOf, IsValueOrder}
-use Rattle.linearizer.proofs.Common.{IsWholeOrder, length, length-map, Life, List, map, MAX_MATCHED, NeverFall}
-use Rattle.linearizer.proofs.Common.{no_enqueue, None, noop_answers, noop_at, NoOrderViolation, Not, not_in_none}
-use Rattle.linearizer.proofs.Common.{one_deeper, Operation, operation_at, operations_of_life, OpKind, Option}
-use Rattle.linearizer.proofs.Common.{option_to_list, pairs_at, passed_filter, passes_filter, place_of, Placed, PLACES}
-use Rattle.linearizer.proofs.Common.{Position, position_of, Precedes, refl, slice_get, slice_get-get_or}
-use Rattle.linearizer.proofs.Common.{slice_get_within, Some, StandsBefore, subst, suc, sym, Timed, true, zero, ℕ, ◌*◌}
-use Rattle.linearizer.proofs.Common.{◌++◌, ◌+◌, ◌<◌, ◌∙◌, ◌∷◌, ◌≡◌, ◌≤◌, ◌⊎◌}
+use Rattle.linearizer.proofs.Common.{later_by, least_of, length, length-map, Life, List, lives_of, map, MAX_MATCHED}
+use Rattle.linearizer.proofs.Common.{NeverFall, no_enqueue, None, noop_answers, noop_at, noop_position, noops_in}
+use Rattle.linearizer.proofs.Common.{NoOrderViolation, Not, not_in_none, on, one_deeper, Operation, operation_at}
+use Rattle.linearizer.proofs.Common.{operation_on, operations_of_life, OpKind, Option, option_map, option_to_list}
+use Rattle.linearizer.proofs.Common.{ORIGIN, pairs_at, passed_filter, passes_filter, place_of, placed_in, PLACES}
+use Rattle.linearizer.proofs.Common.{Position, Precedes, refl, same_lives, slice_get, slice_get-get_or, slice_get-map}
+use Rattle.linearizer.proofs.Common.{Some, StandsBefore, subst, suc, sym, Timed, timed, timeline}
+use Rattle.linearizer.proofs.Common.{timeline_of, true, zero, ℕ, [], ◌*◌, ◌++◌, ◌+◌, ◌<◌, ◌∙◌, ◌∷◌, ◌≡◌, ◌≤◌, ◌⊎◌}
 use Rattle.linearizer.proofs.Positions.{are_gaps, dequeue_gap_in_window, dequeued_first, enqueue_gap_in_window}
 use Rattle.linearizer.proofs.Positions.{has_position, HoldsValue, IsAround, IsDequeued, items_of, life_of_dequeue}
 use Rattle.linearizer.proofs.Positions.{life_of_enqueue, one_operation, one_position, one_value}
 use Rattle.linearizer.proofs.Elements.{AllPairs-map, AllPairs-tail, at_place, beside_first, beside_second}
 use Rattle.linearizer.proofs.Elements.{from_flat_map, into_flat_map, none_twice-append, none_twice-filter}
 use Rattle.linearizer.proofs.Elements.{none_twice_from_places, NoneTwice, one_place, same_elements_permute, zip_joined}
+use Rattle.linearizer.proofs.Elements.{called_in_range, from_some_and, read_at, value_order_along, place_fits}
 use Rattle.linearizer.proofs.ValueOrder.{is_life, is_life_at, stands_in_order, values_have_one_order}
 use Rattle.linearizer.proofs.ValueOrder.{values_have_order}
 use Rattle.linearizer.proofs.Runs.{not_both, run_is_accepted, through}
@@ -32,8 +37,8 @@ use Rattle.linearizer.proofs.Times.{IsOf, not_both_kinds, one_life_of_operation,
 -- ---- the chosen order is legal
 
 -- a position lies in the window of its operation, or just before
-in_window_for : (operations : List Operation) (lives : List Life) → IsClear operations → NoOrderViolation operations → IsValueOrder operations lives
-    → (o : Operation) → Contains operations o → (k : OpKind) → o.kind ≡ k → (p : Position) → IsPositionFor operations lives o k p → IsAround o p.gap
+in_window_for : (operations : List Operation) (lives : List Life) → IsClear (on operations) → NoOrderViolation (on operations) → IsValueOrder (on operations) lives
+    → (o : Operation) → Contains operations o → (k : OpKind) → o.kind ≡ k → (p : Position) → IsPositionFor (on operations) lives o k p → IsAround o p.gap
 in_window_for operations lives clear none order o among (Enq v) is p stands =
     let window = enqueue_gap_in_window operations lives clear none order stands.0 stands.1 stands.2 in
     subst (λ x. IsAround x p.gap) stands.3 (subst (λ c. IsAround (enqueue_of stands.1) c) (sym (ap (λ p. p.gap) stands.4)) window)
@@ -49,20 +54,20 @@ in_window_for operations lives clear none order o among (Not v) is p stands =
     let gaps : p.gap ≡ o.call = ap (λ p. p.gap) stands in
     (omega arith, omega arith)
 
-module _ (operations order : List Operation) (clear : IsClear operations) (none : NoOrderViolation operations) (chosen : IsChosenOrder operations order) where
+module _ (operations order : List Operation) (clear : IsClear (on operations)) (none : NoOrderViolation (on operations)) (chosen : IsChosenOrder (on operations) order) where
   abbrev lives : List Life
   lives = chosen.lives
 
-  abbrev values : IsValueOrder operations lives
+  abbrev values : IsValueOrder (on operations) lives
   values = chosen.values_in_order
 
   is_operation : (o : Operation) → Contains order o → Contains operations o
   is_operation o among = Contains-permutation order operations o (IsPermutation-sym operations order chosen.holds_each_once) among
 
-  position_beside : (o : Operation) → Contains operations o → (p : Position) × Contains chosen.positions p × IsPositionOf operations lives o p
+  position_beside : (o : Operation) → Contains operations o → (p : Position) × Contains chosen.positions p × IsPositionOf (on operations) lives o p
   position_beside o among =
       let place = place_of order o (Contains-permutation operations order o chosen.holds_each_once among) in
-      let found = beside_first (λ o position. IsPositionOf operations lives o position) order chosen.positions place.0 o chosen.each_has_position place.1 in
+      let found = beside_first (λ o position. IsPositionOf (on operations) lives o position) order chosen.positions place.0 o chosen.each_has_position place.1 in
       (found.0, contains_at chosen.positions place.0 found.0 found.1, found.2)
 
   each_enqueue_stands : (i : ℕ) → i < length lives → Contains chosen.positions (enqueue_position lives i)
@@ -71,7 +76,7 @@ module _ (operations order : List Operation) (clear : IsClear operations) (none 
       let is = is_life_at operations lives i x.0 values x.1 in
       let found = position_beside (enqueue_of x.0) is.1.0 in
       subst (Contains chosen.positions) (one_position operations lives clear values (enqueue_of x.0) (Enq is.0) found.0 (enqueue_position lives i)
-      (subst (λ k. IsPositionFor operations lives (enqueue_of x.0) k found.0) is.1.1 found.2) (i, x.0, x.1, refl, refl)) found.1
+      (subst (λ k. IsPositionFor (on operations) lives (enqueue_of x.0) k found.0) is.1.1 found.2) (i, x.0, x.1, refl, refl)) found.1
 
   each_dequeue_stands : (i : ℕ) → i < length lives → IsDequeued lives i → Contains chosen.positions (dequeue_position lives i)
   each_dequeue_stands i within (life, d, at, dequeues) =
@@ -79,7 +84,7 @@ module _ (operations order : List Operation) (clear : IsClear operations) (none 
       let did = did_dequeue operations life d is dequeues in
       let found = position_beside d did.0 in
       subst (Contains chosen.positions) (one_position operations lives clear values d (Deq is.0) found.0 (dequeue_position lives i)
-      (subst (λ k. IsPositionFor operations lives d k found.0) did.1 found.2) (i, life, at, dequeues, refl)) found.1
+      (subst (λ k. IsPositionFor (on operations) lives d k found.0) did.1 found.2) (i, life, at, dequeues, refl)) found.1
 
   accepted : IsAccepted [] (map (λ o. o.kind) order)
   accepted =
@@ -92,8 +97,8 @@ module _ (operations order : List Operation) (clear : IsClear operations) (none 
 
   extends : (i j : ℕ) (x y : Operation) → i < j → slice_get order i ≡ Some x → slice_get order j ≡ Some y → ¬ (Precedes y x)
   extends i j x y below at_x at_y precedes =
-      let p = beside_first (λ o position. IsPositionOf operations lives o position) order chosen.positions i x chosen.each_has_position at_x in
-      let r = beside_first (λ o position. IsPositionOf operations lives o position) order chosen.positions j y chosen.each_has_position at_y in
+      let p = beside_first (λ o position. IsPositionOf (on operations) lives o position) order chosen.positions i x chosen.each_has_position at_x in
+      let r = beside_first (λ o position. IsPositionOf (on operations) lives o position) order chosen.positions j y chosen.each_has_position at_y in
       let before = pairs_at StandsBefore chosen.positions i j p.0 r.0 chosen.positions_rise below p.1 r.1 in
       let window_x = in_window_for operations lives clear none values x (is_operation x (contains_at order i x at_x)) x.kind refl p.0 p.2 in
       let window_y = in_window_for operations lives clear none values y (is_operation y (contains_at order j y at_y)) y.kind refl r.0 r.2 in
@@ -112,7 +117,7 @@ module _ (operations order : List Operation) (clear : IsClear operations) (none 
   }
 
 -- the chosen order is legal
-pub chosen_order_is_legal : (operations order : List Operation) → IsClear operations → NoOrderViolation operations → IsChosenOrder operations order
+pub chosen_order_is_legal : (operations order : List Operation) → IsClear (on operations) → NoOrderViolation (on operations) → IsChosenOrder (on operations) order
     → IsLegalOrder [] operations order
 chosen_order_is_legal operations order clear none chosen = legal operations order clear none chosen
 
@@ -174,10 +179,10 @@ pub operations_rise : (operations : List Operation) → AreComplete operations �
 operations_rise operations complete i j d below within = (complete.apart i j d below within).called_first
 
 -- operations whose positions never fall are in the chosen order
-pub sorted_is_chosen : (operations order : List Operation) (lives : List Life) (positions : List Position) → IsClear operations
-    → IsValueOrder operations lives → IsPermutation operations order
-    → AllZip (λ o position. IsPositionOf operations lives o position) order positions → AllPairs (λ p q. ¬ (StandsBefore q p)) positions
-    → IsChosenOrder operations order
+pub sorted_is_chosen : (operations order : List Operation) (lives : List Life) (positions : List Position) → IsClear (on operations)
+    → IsValueOrder (on operations) lives → IsPermutation operations order
+    → AllZip (λ o position. IsPositionOf (on operations) lives o position) order positions → AllPairs (λ p q. ¬ (StandsBefore q p)) positions
+    → IsChosenOrder (on operations) order
 sorted_is_chosen operations order lives positions clear values moved zip never_fall = record {
   lives = lives;
   positions = positions;
@@ -200,24 +205,24 @@ sorted_is_chosen operations order lives positions clear values moved zip never_f
 }
   where
     R : Operation → Position → Type 0
-    R o position = IsPositionOf operations lives o position
+    R o position = IsPositionOf (on operations) lives o position
 
     in_operations : (o : Operation) → Contains order o → Contains operations o
     in_operations o among = Contains-permutation order operations o (IsPermutation-sym operations order moved) among
 
 -- there is a chosen order
-pub chosen_order_exists : (operations : List Operation) (gaps : List ℕ) → IsClear operations → NoOrderViolation operations
-    → AreLeastFreeGaps operations gaps → (order : List Operation) × IsChosenOrder operations order
+pub chosen_order_exists : (operations : List Operation) (gaps : List ℕ) → IsClear (on operations) → NoOrderViolation (on operations)
+    → AreLeastFreeGaps (on operations) gaps → (order : List Operation) × IsChosenOrder (on operations) order
 chosen_order_exists operations gaps clear none free =
     let values = values_have_order operations clear in
-    let each = located (λ o p. IsPositionOf operations values.0 o p) operations
+    let each = located (λ o p. IsPositionOf (on operations) values.0 o p) operations
     (λ o among. has_position operations values.0 clear values.1 gaps free o among o.kind refl) in
     let sorted = sorted_by_position each.0 in (
       map (λ z. z.0) sorted.0,
       sorted_is_chosen operations (map (λ z. z.0) sorted.0) values.0 (map (λ z. z.1) sorted.0) clear values.1
           (subst (λ os. IsPermutation os (map (λ z. z.0) sorted.0)) each.1 (IsPermutation-map (λ z. z.0) each.0 sorted.0 sorted.1))
-          (unzipped (λ o p. IsPositionOf operations values.0 o p) sorted.0
-          (All-permutation (λ z. IsPositionOf operations values.0 z.0 z.1) each.0 sorted.0 sorted.1 each.2))
+          (unzipped (λ o p. IsPositionOf (on operations) values.0 o p) sorted.0
+          (All-permutation (λ z. IsPositionOf (on operations) values.0 z.0 z.1) each.0 sorted.0 sorted.1 each.2))
           (AllPairs-map (λ z. z.1) (λ p q. ¬ (StandsBefore q p)) sorted.0 sorted.2),
     )
 
@@ -246,36 +251,59 @@ one_list {X} Before one_way (x ∷ xs) (y ∷ ys) rise_x rise_y into back =
     behind y ys z (inl same) before = absurd (one_way z z (subst (λ w. Before w z) same before) (subst (λ w. Before w z) same before))
     behind y ys z (inr among) before = among
 
+-- ---- the same of a history by its own course
+
+-- where an operation stands in a course it stands in one that agrees with it
+pub position_along : (c d : Course) → Agree c d → (lives : List Life) (o : Operation) (k : OpKind) (p : Position) → IsPositionFor c lives o k p
+    → IsPositionFor d lives o k p
+position_along c d agree _ o (Enq v) p at = at
+position_along c d agree _ o (Deq v) p at = at
+position_along c d agree _ o Empty p at = (at.0, least_of c d agree o at.0 at.1, at.2)
+position_along c d agree _ o (Not v) p at = at
+
 -- x and y have positions, the first before the second
-abbrev AreBefore : List Operation → List Life → Operation → Operation → Type 0
-AreBefore operations lives x y =
-    (p : Position) × (q : Position) × IsPositionOf operations lives x p × IsPositionOf operations lives y q × StandsBefore p q
+abbrev AreBefore : Course → List Life → Operation → Operation → Type 0
+AreBefore c lives x y = (p : Position) × (q : Position) × IsPositionOf c lives x p × IsPositionOf c lives y q × StandsBefore p q
 
-operations_stand : (operations order : List Operation) (chosen : IsChosenOrder operations order) → AllPairs (AreBefore operations chosen.lives) order
-operations_stand operations order chosen i j d below within =
-    let p = beside_first R order chosen.positions i (get_or order i d) chosen.each_has_position (slice_get-get_or order i d (omega arith)) in
-    let q = beside_first R order chosen.positions j (get_or order j d) chosen.each_has_position (slice_get-get_or order j d within) in
-    (p.0, q.0, p.2, q.2, pairs_at StandsBefore chosen.positions i j p.0 q.0 chosen.positions_rise below p.1 q.1)
-  where
-    R : Operation → Position → Type 0
-    R o position = IsPositionOf operations chosen.lives o position
+module _ (c : Course) (operations : List Operation) (agree : Agree c (on operations)) (same_lives : c.lives ≡ lives_of operations) where
+  operations_stand : (order : List Operation) (chosen : IsChosenOrder c order) → AllPairs (AreBefore c chosen.lives) order
+  operations_stand order chosen i j d below within =
+      let p = beside_first R order chosen.positions i (get_or order i d) chosen.each_has_position (slice_get-get_or order i d (omega arith)) in
+      let q = beside_first R order chosen.positions j (get_or order j d) chosen.each_has_position (slice_get-get_or order j d within) in
+      (p.0, q.0, p.2, q.2, pairs_at StandsBefore chosen.positions i j p.0 q.0 chosen.positions_rise below p.1 q.1)
+    where
+      R : Operation → Position → Type 0
+      R o position = IsPositionOf c chosen.lives o position
 
--- there is one
-pub chosen_order_is_one : (operations xs ys : List Operation) → IsClear operations → IsChosenOrder operations xs → IsChosenOrder operations ys → xs ≡ ys
-chosen_order_is_one operations xs ys clear first second =
-    let lives = values_have_one_order operations first.lives second.lives clear first.values_in_order second.values_in_order in
-    one_list (AreBefore operations second.lives) one_way xs ys
-    (subst (λ ls. AllPairs (AreBefore operations ls) xs) lives (operations_stand operations xs first)) (operations_stand operations ys second)
-    (λ o among. Contains-permutation operations ys o second.holds_each_once
-    (Contains-permutation xs operations o (IsPermutation-sym operations xs first.holds_each_once) among))
-    (λ o among. Contains-permutation operations xs o first.holds_each_once
-    (Contains-permutation ys operations o (IsPermutation-sym operations ys second.holds_each_once) among))
-  where
-    one_way : (x y : Operation) → AreBefore operations second.lives x y → AreBefore operations second.lives y x → ⊥
-    one_way x y (p, q, at_p, at_q, before) (q', p', at_q', at_p', after) =
-        let same_p = one_position operations second.lives clear second.values_in_order x x.kind p' p at_p' at_p in
-        let same_q = one_position operations second.lives clear second.values_in_order y y.kind q' q at_q' at_q in
-        not_both p q before (subst (λ r. StandsBefore q r) same_p (subst (λ r. StandsBefore r p') same_q after))
+  -- there is one
+  order_is_one : (xs ys : List Operation) → IsClear (on operations) → IsChosenOrder c xs → IsChosenOrder c ys → xs ≡ ys
+  order_is_one xs ys clear first second =
+      let lives = values_have_one_order operations first.lives second.lives clear (value_order_along c (on operations) _ same_lives first.values_in_order)
+      second_values in
+      one_list (AreBefore c second.lives) one_way xs ys
+      (subst (λ ls. AllPairs (AreBefore c ls) xs) lives (operations_stand xs first)) (operations_stand ys second)
+      (λ o among. Contains-permutation c.operations ys o second.holds_each_once
+      (Contains-permutation xs c.operations o (IsPermutation-sym c.operations xs first.holds_each_once) among))
+      (λ o among. Contains-permutation c.operations xs o first.holds_each_once
+      (Contains-permutation ys c.operations o (IsPermutation-sym c.operations ys second.holds_each_once) among))
+    where
+      second_values : IsValueOrder (on operations) second.lives
+      second_values = value_order_along c (on operations) _ same_lives second.values_in_order
+
+      one : (x : Operation) (p q : Position) → IsPositionOf c second.lives x p → IsPositionOf c second.lives x q → p ≡ q
+      one x p q at_p at_q = one_position operations second.lives clear second_values x x.kind p q
+          (position_along c (on operations) agree _ x x.kind p at_p) (position_along c (on operations) agree _ x x.kind q at_q)
+
+      one_way : (x y : Operation) → AreBefore c second.lives x y → AreBefore c second.lives y x → ⊥
+      one_way x y (p, q, at_p, at_q, before) (q', p', at_q', at_p', after) =
+          not_both p q before (subst (λ r. StandsBefore q r) (one x p' p at_p' at_p) (subst (λ r. StandsBefore r p') (one y q' q at_q' at_q) after))
+
+-- and one of a history
+pub one_chosen_order : (initial : List ℕ) (operations xs ys : List Operation) → IsClear (course initial operations)
+    → IsChosenOrder (course initial operations) (timed xs) → IsChosenOrder (course initial operations) (timed ys) → xs ≡ ys
+one_chosen_order initial operations xs ys clear first second = later_injective ORIGIN xs ys
+    (order_is_one (course initial operations) (timeline initial operations) (clear_course initial operations clear)
+    (sym (same_lives initial operations)) (timed xs) (timed ys) (clear_on initial operations clear) first second)
 
 -- ---- each operation is an enqueue or the dequeue of one value, an empty dequeue, or a failed enqueue
 
@@ -334,8 +362,8 @@ in_life life o (inl enqueues) = (zero, omega arith, enqueues)
 in_life life o (inr dequeues) = one_deeper (enqueue_of life) (option_to_list (dequeue_of life)) o
     (subst (λ d. Contains (option_to_list d) o) (sym dequeues) (zero, omega arith, refl))
 
-module _ (operations : List Operation) (clear : IsClear operations) where
-  none_twice_in_life : (life : Life) → IsLife operations life → NoneTwice (operations_of_life life)
+module _ (operations : List Operation) (clear : IsClear (on operations)) where
+  none_twice_in_life : (life : Life) → IsLife (on operations) life → NoneTwice (operations_of_life life)
   none_twice_in_life life is = (
     λ among. absurd (not_both_kinds operations life life (enqueue_of life) is is refl (in_option (dequeue_of life) (enqueue_of life) among)),
     alone (dequeue_of life),
@@ -345,7 +373,7 @@ module _ (operations : List Operation) (clear : IsClear operations) where
       alone None = tt
       alone (Some d) = (not_in_none d, tt)
 
-  pub none_twice_in_lives : (lives : List Life) → NoneTwice lives → ((x : Life) → Contains lives x → IsLife operations x)
+  pub none_twice_in_lives : (lives : List Life) → NoneTwice lives → ((x : Life) → Contains lives x → IsLife (on operations) x)
       → NoneTwice (flat_map operations_of_life lives)
   none_twice_in_lives [] none are = tt
   none_twice_in_lives (life ∷ lives) none are =
@@ -359,11 +387,11 @@ module _ (operations : List Operation) (clear : IsClear operations) where
           (of_life x o at) in
           none.0 (subst (Contains lives) (sym one) among)
 
-  module _ (lives : List Life) (order : IsValueOrder operations lives) where
+  module _ (lives : List Life) (order : IsValueOrder (on operations) lives) where
     into_lives : (o : Operation) → Contains (filter moves_value operations) o → Contains (flat_map operations_of_life lives) o
     into_lives o among = let passed = passed_filter moves_value operations o among in by_kind passed.0 o.kind refl passed.1
       where
-        stands : (life : Life) → IsLife operations life → IsOf life o → Contains (flat_map operations_of_life lives) o
+        stands : (life : Life) → IsLife (on operations) life → IsOf life o → Contains (flat_map operations_of_life lives) o
         stands life is of = into_flat_map operations_of_life lives life o (stands_in_order operations lives clear order life is) (in_life life o of)
 
         by_kind : Contains operations o → (k : OpKind) → o.kind ≡ k → moves_kind k ≡ true → Contains (flat_map operations_of_life lives) o
@@ -375,7 +403,7 @@ module _ (operations : List Operation) (clear : IsClear operations) where
     from_lives o among = let found = from_flat_map operations_of_life lives o among in
         moved found.0 (is_life operations lives order found.0 found.1) (of_life found.0 o found.2)
       where
-        moved : (life : Life) → IsLife operations life → IsOf life o → Contains (filter moves_value operations) o
+        moved : (life : Life) → IsLife (on operations) life → IsOf life o → Contains (filter moves_value operations) o
         moved life is (inl enqueues) =
             let did : Did operations o (Enq is.0) = subst (λ x. Did operations x (Enq is.0)) enqueues is.1 in
             passes_filter moves_value operations o (ap moves_kind did.1) did.0
@@ -398,138 +426,99 @@ module _ (operations : List Operation) (clear : IsClear operations) where
         (IsPermutation-append_left (filter is_refused operations) (here ++ filter is_empty_answer operations) (there ++ filter is_empty_answer operations)
         (IsPermutation-append_left (filter is_empty_answer operations) here there (IsPermutation-trans here by_value there moved (by_class lives))))
 
--- ---- what was placed and sorted gives the places of the chosen order, which is legal
-
-module _ (operations : List Operation) (lives : List Life) where
-  abbrev operation_of : Placed → Operation
-  operation_of p = operation_at operations p.operation
-
-  -- the place is that of its operation, and right
-  abbrev IsRight : Placed → Type 0
-  IsRight p = IsPlaced operations lives (operation_of p) p
-
-  -- the operations listed are those of the places, and each place is right
-  listed_are : (listed : List Operation) (placed : List Placed) → AllZip (IsPlaced operations lives) listed placed
-      → (listed ≡ map operation_of placed) × All IsRight placed
-  listed_are [] [] zip = (refl, All-nil IsRight)
-  listed_are [] (p ∷ placed) zip = absurd zip
-  listed_are (o ∷ listed) [] zip = absurd zip
-  listed_are (o ∷ listed) (p ∷ placed) zip =
-      let rest = listed_are listed placed zip.1 in
-      let same : o ≡ operation_of p = sym (get_or_from_slice_get operations p.operation o _ zip.0.0) in
-      (ap₂ (λ x xs. x ∷ xs) same rest.0, All-cons IsRight p placed (subst (λ x. IsPlaced operations lives x p) same zip.0) rest.1)
-
-  -- so they name the operations, and these have their positions
-  right_places : (placed : List Placed) → All IsRight placed → ArePlacesOf operations (map (λ p. p.operation) placed) (map operation_of placed)
-      × AllZip (λ o position. IsPositionOf operations lives o position) (map operation_of placed) (map (λ p. position_of p.position) placed)
-  right_places [] all = (refl, tt)
-  right_places (p ∷ placed) all =
-      let rest = right_places placed (All-tail IsRight p placed all) in
-      let here = All-head IsRight p placed all in
-      (ap₂ (λ x xs. x ∷ xs) here.0 rest.0, (here.1, rest.1))
-
--- all operations stand at their positions, and are merged by them
-pub chosen_and_legal : (operations : List Operation) (noops : List Placed) (places : List ℕ) → IsClear operations → NoOrderViolation operations
-    → HoldsNoops operations noops → IsMerge operations noops places → IsWholeOrder operations places
-chosen_and_legal operations noops places clear none noop (values, held, sorted) =
-    let lives = held.lives in
-    let of_values = enqueues_of lives ++ dequeues_of lives in
-    let of_noops = filter is_empty_answer operations ++ filter is_refused operations in
-    let listed = held.listed ++ of_noops in
-    let all = values ++ noop.added in
-    let order = map (operation_of operations lives) sorted.sorted in
-    let once = IsPermutation-trans operations (of_values ++ of_noops) listed
-    (subst (IsPermutation operations) (append_assoc of_values (filter is_empty_answer operations) (filter is_refused operations))
-    (each_once operations clear lives held.in_order (operations_rise operations clear.complete)))
-    (IsPermutation-append_left of_noops of_values held.listed held.each_once) in
-    let all_sorted = IsPermutation-trans all (values ++ noops) sorted.sorted (IsPermutation-append_right values noop.added noops noop.each_once)
-    sorted.holds_each_once in
-    let are = listed_are operations lives listed all (zip_joined (IsPlaced operations lives) held.listed of_noops values noop.added held.each_placed
-    (noop.each_placed lives)) in
-    let moved = IsPermutation-trans operations (map (operation_of operations lives) all) order (subst (IsPermutation operations) are.0 once)
-    (IsPermutation-map (operation_of operations lives) all sorted.sorted all_sorted) in
-    let right = right_places operations lives sorted.sorted (All-permutation (IsRight operations lives) all sorted.sorted all_sorted are.1) in
-    let chosen = sorted_is_chosen operations order lives (map (λ p. position_of p.position) sorted.sorted) clear held.in_order moved right.1
-    (AllPairs-map (λ p. position_of p.position) (λ p q. ¬ (StandsBefore q p)) sorted.sorted sorted.never_falls) in (
-      order,
-      subst (λ ps. ArePlacesOf operations ps order) (sym sorted.places_are) right.0,
-      chosen,
-      chosen_order_is_legal operations order clear none chosen,
-    )
-
 -- ---- sorted by gap and place, the operations that change nothing never fall
 
--- operations come in the order of their calls
-calls_by_place : (operations : List Operation) (p q : ℕ) → AreComplete operations → p ≤ q → q < length operations
-    → (operation_at operations p).call ≤ (operation_at operations q).call
-calls_by_place operations p q complete at_most within =
-    grind (arith, operations_rise operations complete p q (record { call = 0; ret = 0; thread = 0; kind = Enq 0 }))
+module _ (history : Contents) (clear : IsClear (course_of history)) where
+  abbrev read : ℕ → Operation
+  read place = operation_at history.operations place
 
--- sorted by gap and place, none stands before an earlier one
-pub noops_never_fall : (operations : List Operation) (sorted : List Timed) → AreComplete operations → length operations ≤ MAX_MATCHED
-    → All (λ timed. timed.place < length operations) sorted → IsNonDecreasingBy (λ timed. PLACES * timed.time + timed.place) sorted
-    → NeverFall (map (noop_at operations) sorted)
-noops_never_fall operations sorted complete few within rises i j d below inside before =
-    let long = length-map sorted (noop_at operations) in
-    let nowhere : Timed = record { time = 0; place = 0 } in
-    let x = get_or sorted i nowhere in
-    let y = get_or sorted j nowhere in
-    let at_x = get_or-map (noop_at operations) sorted i nowhere d (omega arith) in
-    let at_y = get_or-map (noop_at operations) sorted j nowhere d (omega arith) in
-    let words = rises i j nowhere (omega arith) (omega arith) in
-    let in_x = within i nowhere (omega arith) in
-    let in_y = within j nowhere (omega arith) in
-    clash x y words in_x in_y (rw (at_x, at_y) at before)
-  where
-    clash : (x y : Timed) → PLACES * x.time + x.place ≤ PLACES * y.time + y.place → x.place < length operations → y.place < length operations
-        → (y.time < x.time) ⊎ ((y.time ≡ x.time) × ((noop_answers < noop_answers) ⊎ ((noop_answers ≡ noop_answers)
-        × ((operation_at operations y.place).call < (operation_at operations x.place).call)))) → ⊥
-    clash x y words in_x in_y (inl less) = omega (arith, words, less, in_x, in_y, few)
-    clash x y words in_x in_y (inr (same, inl less)) = omega (arith, less)
-    clash x y words in_x in_y (inr (same, inr (class, less))) =
-        let calls = calls_by_place operations x.place y.place complete (omega (arith, words, same)) in_y in omega (arith, calls, less)
+  -- what is read at a place that is in range stands there
+  stands_there : (p : ℕ) → IsCalledInRange history.operations p → IsOperation history.operations p (later_by ORIGIN (read p))
+  stands_there p within =
+      let o = from_some_and (slice_get history.operations p) (λ o. o.call + ORIGIN < PACKED_LIMIT) within in
+      slice_get-map (later_by ORIGIN) history.operations p
+      ∙ ap (option_map (later_by ORIGIN)) (o.1 ∙ ap Some (sym (get_or_from_slice_get history.operations p o.0 _ o.1)))
 
--- each of them is an operation
-stands_within : (operations listed : List Operation) (timed : List Timed) → AllZip (IsNoopAt operations) listed timed
-    → All (λ t. t.place < length operations) timed
-stands_within operations listed timed each k d within =
-    let o = beside_second (IsNoopAt operations) listed timed k (get_or timed k d) each (slice_get-get_or timed k d within) in
-    slice_get_within operations (get_or timed k d).place o.0 o.2.at
+  -- operations come in the order of their calls
+  calls_by_place : (p q : ℕ) → IsCalledInRange history.operations p → IsCalledInRange history.operations q → p ≤ q → (read p).call ≤ (read q).call
+  calls_by_place p q in_p in_q at_most = elim (cases_lt p q) [
+    | inl below ↦
+        let first = pairs_at (λ x y. x.call < y.call) (timeline_of history) _ _ _ _
+        (operations_rise _ (clear_on history.initial history.operations clear).complete) (omega (arith, below))
+        (operation_on history.initial history.operations p _ (stands_there p in_p))
+        (operation_on history.initial history.operations q _ (stands_there q in_q)) in
+        omega (arith, first)
+    | inr above ↦ let same : p ≡ q = omega arith in omega (arith, ap (λ k. (read k).call) same)
+  ]
 
--- and stands at its position
-stand_placed : (operations listed : List Operation) (timed : List Timed) (lives : List Life) → AllZip (IsNoopAt operations) listed timed
-    → AllZip (IsPlaced operations lives) listed (map (noop_at operations) timed)
-stand_placed operations [] [] lives each = tt
-stand_placed operations [] (t ∷ timed) lives each = absurd each
-stand_placed operations (o ∷ listed) [] lives each = absurd each
-stand_placed operations (o ∷ listed) (t ∷ timed) lives each =
-    let same = get_or_from_slice_get operations t.place o _ each.0.at in (
-      (
-        each.0.at,
-        subst (λ (x : Operation). IsPositionOf operations lives o (record { gap = t.time; class = noop_answers; rank = x.call })) (sym same)
-            (each.0.stands lives),
-      ),
-      stand_placed operations listed timed lives each.1,
-    )
+  -- sorted by gap and place, none stands before an earlier one
+  pub noops_never_fall : (sorted : List Timed) → length history.operations ≤ MAX_MATCHED
+      → All (λ timed. IsCalledInRange history.operations timed.place) sorted → IsNonDecreasingBy (λ timed. PLACES * timed.time + timed.place) sorted
+      → NeverFall (map (noop_at history.operations) sorted)
+  noops_never_fall sorted few within rises i j d below inside before =
+      let long = length-map sorted (noop_at history.operations) in
+      let nowhere : Timed = record { time = 0; place = 0 } in
+      let at_x = get_or-map (noop_at history.operations) sorted i nowhere d (omega arith) in
+      let at_y = get_or-map (noop_at history.operations) sorted j nowhere d (omega arith) in
+      clash (get_or sorted i nowhere) (get_or sorted j nowhere) (rises i j nowhere (omega arith) (omega arith)) (within i nowhere (omega arith))
+      (within j nowhere (omega arith)) (rw (at_x, at_y) at before)
+    where
+      clash : (x y : Timed) → PLACES * x.time + x.place ≤ PLACES * y.time + y.place → IsCalledInRange history.operations x.place
+          → IsCalledInRange history.operations y.place
+          → (y.time < x.time) ⊎ ((y.time ≡ x.time) × ((noop_answers < noop_answers) ⊎ ((noop_answers ≡ noop_answers)
+          × ((read y.place).call + ORIGIN < (read x.place).call + ORIGIN)))) → ⊥
+      clash x y words in_x in_y (inl less) =
+          let fits_x = place_fits _ x.place _ (stands_there x.place in_x) few in
+          let fits_y = place_fits _ y.place _ (stands_there y.place in_y) few in
+          omega (arith, words, less, fits_x, fits_y)
+      clash x y words in_x in_y (inr (same, inl less)) = omega (arith, less)
+      clash x y words in_x in_y (inr (same, inr (class, less))) =
+          let calls = calls_by_place x.place y.place in_x in_y (omega (arith, words, same)) in omega (arith, calls, less)
 
--- the empty answers and the refused enqueues
-module _ (operations : List Operation) (first all : List Timed) (empties : Adds operations (filter is_empty_answer operations) [] first)
-    (refused : Adds operations (filter is_refused operations) first all) where
-  both : AllZip (IsNoopAt operations) (filter is_empty_answer operations ++ filter is_refused operations) all
-  both = subst (AllZip (IsNoopAt operations) (filter is_empty_answer operations ++ filter is_refused operations))
-      (sym (refused.after ∙ ap (λ xs. xs ++ refused.added) empties.after)) (zip_joined (IsNoopAt operations) _ _ _ _
-      empties.each_stands refused.each_stands)
+  -- each of them is an operation
+  stands_within : (listed : List Operation) (timed : List Timed) → AllZip (IsNoopAt history) listed timed
+      → All (λ t. IsCalledInRange history.operations t.place) timed
+  stands_within listed timed each k d within =
+      let o = beside_second (IsNoopAt history) listed timed k (get_or timed k d) each (slice_get-get_or timed k d within) in
+      called_in_range history clear (get_or timed k d).place o.0 o.2.at
 
-  -- in any order they are operations
-  pub noops_within : (sorted : List Timed) → IsPermutation all sorted → All (λ timed. timed.place < length operations) sorted
-  noops_within sorted moved = All-permutation (λ timed. timed.place < length operations) all sorted moved (stands_within operations _ all both)
+  -- and stands at its position
+  stand_placed : (listed : List Operation) (timed : List Timed) (lives : List Life) → AllZip (IsNoopAt history) listed timed
+      → (listed ≡ placed_in (map (noop_at history.operations) timed)) × All (IsPlaced history lives) (map (noop_at history.operations) timed)
+  stand_placed [] [] lives each = (refl, All-nil (IsPlaced history lives))
+  stand_placed [] (t ∷ timed) lives each = absurd each
+  stand_placed (o ∷ listed) [] lives each = absurd each
+  stand_placed (o ∷ listed) (t ∷ timed) lives each =
+      let same = sym (read_at history.operations t.place o each.0.at) in
+      let rest = stand_placed listed timed lives each.1 in (
+        ap₂ (λ x xs. x ∷ xs) same rest.0,
+        All-cons (IsPlaced history lives) (noop_at history.operations t) (map (noop_at history.operations) timed) (
+          subst (IsOperation history.operations t.place) same each.0.at,
+          subst (λ (x : Operation). IsPositionOf (on (timeline_of history)) lives x (noop_position x t.time)) same (each.0.stands lives),
+        ) rest.1,
+      )
 
-  -- sorted by gap and place, they are those that are merged
-  pub noops_held : (sorted : List Timed) → IsPermutation all sorted → NeverFall (map (noop_at operations) sorted)
-      → HoldsNoops operations (map (noop_at operations) sorted)
-  noops_held sorted moved never = record {
-    added = map (noop_at operations) all;
-    each_placed = λ lives. stand_placed operations _ all lives both;
-    each_once = IsPermutation-map (noop_at operations) all sorted moved;
-    never_fall = never;
-  }
+  -- the empty answers and the refused enqueues
+  module _ (first all : List Timed) (empties : Adds history (filter is_empty_answer (timed history.operations)) [] first)
+      (refused : Adds history (filter is_refused (timed history.operations)) first all) where
+    both : AllZip (IsNoopAt history) (noops_in history) all
+    both = subst (AllZip (IsNoopAt history) (noops_in history))
+        (sym (refused.after ∙ ap (λ xs. xs ++ refused.added) empties.after)) (zip_joined (IsNoopAt history) _ _ _ _
+        empties.each_stands refused.each_stands)
+
+    -- in any order they are operations
+    pub noops_within : (sorted : List Timed) → IsPermutation all sorted → All (λ timed. IsCalledInRange history.operations timed.place) sorted
+    noops_within sorted moved = All-permutation (λ timed. IsCalledInRange history.operations timed.place) all sorted moved (stands_within _ all both)
+
+    -- sorted by gap and place, they are those that are merged
+    pub noops_held : (sorted : List Timed) → IsPermutation all sorted → NeverFall (map (noop_at history.operations) sorted)
+        → HoldsNoops history (map (noop_at history.operations) sorted)
+    noops_held sorted moved never =
+        let at = noop_at history.operations in
+        record {
+          each_placed = λ lives. All-permutation (IsPlaced history lives) (map at all) (map at sorted) (IsPermutation-map at all sorted moved)
+              (stand_placed _ all lives both).1;
+          each_once = subst (λ os. IsPermutation os (placed_in (map at sorted))) (sym (stand_placed _ all [] both).0)
+              (IsPermutation-map (λ p. p.operation) (map at all) (map at sorted) (IsPermutation-map at all sorted moved));
+          never_fall = never;
+        }

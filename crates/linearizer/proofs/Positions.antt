@@ -11,7 +11,7 @@ use Rattle.linearizer.proofs.Common.{noop_position, NoOrderViolation, Not, not_i
 use Rattle.linearizer.proofs.Common.{one_life_of_dequeue, one_life_of_enqueue, Operation, OpKind, Option}
 use Rattle.linearizer.proofs.Common.{passes_filter, place_of, Position, refl, return_in_range, return_or_never}
 use Rattle.linearizer.proofs.Common.{same_call, same_dequeue, slice_get, slice_get_within, Some, subst, suc, sym, take}
-use Rattle.linearizer.proofs.Common.{zero, ℕ, ◌+◌, ◌<◌, ◌∙◌, ◌∷◌, ◌≡◌, ◌≤◌, ◌⊎◌}
+use Rattle.linearizer.proofs.Common.{zero, ℕ, ◌+◌, ◌<◌, ◌∙◌, ◌∷◌, ◌≡◌, ◌≤◌, ◌⊎◌, on}
 use Rattle.linearizer.proofs.ValueOrder.{is_life, is_life_at, least_at, made, may_stand_before, stands_in_order}
 use Rattle.linearizer.proofs.ValueOrder.{turn_of}
 use Rattle.linearizer.proofs.Times.{one_place_of_life, returned_in_time, returns_at_no_leave, times_of_life}
@@ -93,8 +93,8 @@ gaps_rise lives i j le =
 abbrev pub IsAround : Operation → ℕ → Type 0
 IsAround o c = (o.call ≤ c + 1) × (c < o.ret)
 
-module _ (operations : List Operation) (lives : List Life) (clear : IsClear operations) (none : NoOrderViolation operations)
-    (order : IsValueOrder operations lives) where
+module _ (operations : List Operation) (lives : List Life) (clear : IsClear (on operations)) (none : NoOrderViolation (on operations))
+    (order : IsValueOrder (on operations) lives) where
   called_before_entered : (i j : ℕ) (x y : Life) → i ≤ j → slice_get lives i ≡ Some x → slice_get lives j ≡ Some y → enqueue_call x ≤ entered_by y
   called_before_entered i j x y le at_x at_y =
       let may = may_stand_before operations lives i j x y clear none order le at_x at_y in omega (arith, may.0)
@@ -130,7 +130,7 @@ module _ (operations : List Operation) (lives : List Life) (clear : IsClear oper
       (omega arith, omega arith)
 
 -- at a free gap a value that has entered has left
-entered_has_left : (operations : List Operation) (life : Life) (c : ℕ) → IsClear operations → IsLife operations life → IsFreeGap operations c
+entered_has_left : (operations : List Operation) (life : Life) (c : ℕ) → IsClear (on operations) → IsLife (on operations) life → IsFreeGap (on operations) c
     → entered_by life ≤ c → leaves_from life ≤ c
 entered_has_left operations life c clear is free entered =
     let times = times_of_life operations life clear is in
@@ -140,8 +140,8 @@ entered_has_left operations life c clear is free entered =
     ]
 
 -- a value before one that has entered has left
-pub left_before_entered : (operations : List Operation) (lives : List Life) (c i j : ℕ) (x y : Life) → IsClear operations → IsValueOrder operations lives
-    → IsFreeGap operations c → i ≤ j → slice_get lives i ≡ Some x → slice_get lives j ≡ Some y → entered_by y ≤ c → leaves_from x ≤ c
+pub left_before_entered : (operations : List Operation) (lives : List Life) (c i j : ℕ) (x y : Life) → IsClear (on operations) → IsValueOrder (on operations) lives
+    → IsFreeGap (on operations) c → i ≤ j → slice_get lives i ≡ Some x → slice_get lives j ≡ Some y → entered_by y ≤ c → leaves_from x ≤ c
 left_before_entered operations lives c i j x y clear order free le at_x at_y entered =
     let turn = turn_of lives i j x y order.each_is_choice le at_x at_y in
     let a = turn.is_choice.first_entered in
@@ -182,7 +182,7 @@ one_value lives i v w x y =
     cc
 
 -- a value before one that is dequeued is dequeued
-pub dequeued_first : (operations : List Operation) (lives : List Life) → IsClear operations → NoOrderViolation operations → IsValueOrder operations lives
+pub dequeued_first : (operations : List Operation) (lives : List Life) → IsClear (on operations) → NoOrderViolation (on operations) → IsValueOrder (on operations) lives
     → (i j : ℕ) → i ≤ j → j < length lives → IsDequeued lives j → IsDequeued lives i
 dequeued_first operations lives clear none order i j le within (y, d, at_y, dequeues) =
     let x = at_place lives i (omega arith) in
@@ -207,9 +207,9 @@ entered_later lives zero c less le = let found = reached_by_one NEVER c lives le
 entered_later [] (suc i) c less le = absurd (omega arith)
 entered_later (x ∷ lives) (suc i) c less le = let more = entered_later lives i c less le in (suc more.0, more.1, omega (arith, more.2), more.3, more.4)
 
-module _ (operations : List Operation) (lives : List Life) (clear : IsClear operations) (order : IsValueOrder operations lives) where
+module _ (operations : List Operation) (lives : List Life) (clear : IsClear (on operations)) (order : IsValueOrder (on operations) lives) where
   -- the values enqueued before a free gap are all dequeued by then
-  gone_at_free_gap : (c : ℕ) → IsFreeGap operations c → c < NEVER → (i : ℕ) → i < length lives → enqueue_gap lives i < c
+  gone_at_free_gap : (c : ℕ) → IsFreeGap (on operations) c → c < NEVER → (i : ℕ) → i < length lives → enqueue_gap lives i < c
       → (dequeue_gap lives i ≤ c) × IsDequeued lives i
   gone_at_free_gap c free in_range i within entered =
       let later = entered_later lives i c in_range (omega arith) in
@@ -223,7 +223,7 @@ module _ (operations : List Operation) (lives : List Life) (clear : IsClear oper
       (omega arith, (x.0, found.0, x.1, found.1))
 
   -- an operation at its position is an item of the run
-  item_of : (o : Operation) → Contains operations o → (k : OpKind) → o.kind ≡ k → (position : Position) → IsPositionFor operations lives o k position
+  item_of : (o : Operation) → Contains operations o → (k : OpKind) → o.kind ≡ k → (position : Position) → IsPositionFor (on operations) lives o k position
       → IsItemOf lives k position
   item_of o among (Enq v) is position stands =
       (stands.0, slice_get_within lives stands.0 stands.1 stands.2, (stands.1, stands.2, ap (λ o. o.kind) stands.3 ∙ is), stands.4)
@@ -244,7 +244,7 @@ module _ (operations : List Operation) (lives : List Life) (clear : IsClear oper
 
   -- the positions of the operations say what they did
   pub items_of : (os : List Operation) (positions : List Position) → ((o : Operation) → Contains os o → Contains operations o)
-      → AllZip (λ o position. IsPositionOf operations lives o position) os positions → AllZip (IsItemOf lives) (map (λ o. o.kind) os) positions
+      → AllZip (λ o position. IsPositionOf (on operations) lives o position) os positions → AllZip (IsItemOf lives) (map (λ o. o.kind) os) positions
   items_of [] [] among stands = stands
   items_of [] (p ∷ positions) among stands = stands
   items_of (o ∷ os) [] among stands = stands
@@ -270,19 +270,19 @@ one_did kind (x ∷ operations) = elim (same_kind x.kind kind) [
 ]
 
 -- what is dequeued was enqueued
-enqueue_of_dequeued : (operations : List Operation) (o : Operation) (v : ℕ) → IsClear operations → Did operations o (Deq v)
+enqueue_of_dequeued : (operations : List Operation) (o : Operation) (v : ℕ) → IsClear (on operations) → Did operations o (Deq v)
     → (e : Operation) × Did operations e (Enq v)
 enqueue_of_dequeued operations o v clear did = elim (one_did (Enq v) operations) [
   | inl found ↦ found
   | inr none ↦ elim (one_did (Not v) operations) [
     | inl refused ↦ absurd (clear.no_fresh o (Some refused.0) (record { value = v; dequeues = did; enqueues = inl refused.1 }))
-    | inr none' ↦ absurd (clear.no_fresh o None (record { value = v; dequeues = did; not_accepted = none; not_refused = none' }))
+    | inr none' ↦ absurd (clear.no_fresh o None (record { value = v; dequeues = did; not_accepted = λ enq did. none enq did.0 did.1; not_refused = none' }))
   ]
 ]
 
 -- a successful enqueue begins a life
 pub life_of_enqueue : (operations : List Operation) (e : Operation) (v : ℕ) → Did operations e (Enq v)
-    → (life : Life) × IsLife operations life × (enqueue_of life ≡ e)
+    → (life : Life) × IsLife (on operations) life × (enqueue_of life ≡ e)
 life_of_enqueue operations e v did = (
   record { enqueue = e; dequeue = find (is_dequeue_of v) operations },
   (v, did, found_dequeue operations v (find (is_dequeue_of v) operations) refl),
@@ -290,8 +290,8 @@ life_of_enqueue operations e v did = (
 )
 
 -- a dequeue ends a life
-pub life_of_dequeue : (operations : List Operation) (o : Operation) (v : ℕ) → IsClear operations → Did operations o (Deq v)
-    → (life : Life) × IsLife operations life × (dequeue_of life ≡ Some o)
+pub life_of_dequeue : (operations : List Operation) (o : Operation) (v : ℕ) → IsClear (on operations) → Did operations o (Deq v)
+    → (life : Life) × IsLife (on operations) life × (dequeue_of life ≡ Some o)
 life_of_dequeue operations o v clear did =
     let e = enqueue_of_dequeued operations o v clear did in
     let found = found_dequeue operations v (find (is_dequeue_of v) operations) refl in
@@ -302,10 +302,10 @@ life_of_dequeue operations o v clear did =
     one e did_e None none = absurd (none o did.0 did.1)
     one e did_e (Some d) did_d = ap (λ x. Some x) (same_dequeue operations e d o v clear did_e did_d did)
 
-module _ (operations : List Operation) (lives : List Life) (clear : IsClear operations) (order : IsValueOrder operations lives) where
+module _ (operations : List Operation) (lives : List Life) (clear : IsClear (on operations)) (order : IsValueOrder (on operations) lives) where
   -- each operation has a position
-  pub has_position : (gaps : List ℕ) → AreLeastFreeGaps operations gaps → (o : Operation) → Contains operations o → (k : OpKind) → o.kind ≡ k
-      → (position : Position) × IsPositionFor operations lives o k position
+  pub has_position : (gaps : List ℕ) → AreLeastFreeGaps (on operations) gaps → (o : Operation) → Contains operations o → (k : OpKind) → o.kind ≡ k
+      → (position : Position) × IsPositionFor (on operations) lives o k position
   has_position gaps free o among (Enq v) is =
       let life = life_of_enqueue operations o v (among, is) in
       let place = place_of lives life.0 (stands_in_order operations lives clear order life.0 life.1) in
@@ -316,12 +316,12 @@ module _ (operations : List Operation) (lives : List Life) (clear : IsClear oper
       (dequeue_position lives place.0, (place.0, life.0, place.1, life.2, refl))
   has_position gaps free o among Empty is =
       let place = place_of (filter is_empty_answer operations) o (passes_filter is_empty_answer operations o (rw is refl) among) in
-      let gap = beside_first (λ o c. IsLeastFreeGap operations o c) (filter is_empty_answer operations) gaps place.0 o free place.1 in
+      let gap = beside_first (λ o c. IsLeastFreeGap (on operations) o c) (filter is_empty_answer operations) gaps place.0 o free place.1 in
       (noop_position o gap.0, (gap.0, gap.2, refl))
   has_position gaps free o among (Not v) is = (noop_position o o.call, refl)
 
   -- an operation has no second position
-  pub one_position : (o : Operation) (k : OpKind) (p q : Position) → IsPositionFor operations lives o k p → IsPositionFor operations lives o k q → p ≡ q
+  pub one_position : (o : Operation) (k : OpKind) (p q : Position) → IsPositionFor (on operations) lives o k p → IsPositionFor (on operations) lives o k q → p ≡ q
   one_position o (Enq v) p q at_p at_q =
       let one = one_life_of_enqueue operations at_p.1 at_q.1 clear (is_life_at operations lives at_p.0 at_p.1 order at_p.2)
       (is_life_at operations lives at_q.0 at_q.1 order at_q.2) (at_p.3 ∙ sym at_q.3) in
@@ -347,7 +347,7 @@ data Stands (lives : List Life) (o : Operation) (p : Position) : Type 0 where
   leaves : (i : ℕ) (life : Life) → slice_get lives i ≡ Some life → dequeue_of life ≡ Some o → p ≡ dequeue_position lives i → Stands lives o p
   noops : (c : ℕ) → p ≡ noop_position o c → Stands lives o p
 
-stands_as : (operations : List Operation) (lives : List Life) (o : Operation) (k : OpKind) (p : Position) → IsPositionFor operations lives o k p
+stands_as : (operations : List Operation) (lives : List Life) (o : Operation) (k : OpKind) (p : Position) → IsPositionFor (on operations) lives o k p
     → Stands lives o p
 stands_as operations lives o (Enq v) p at = enters at.0 at.1 at.2 at.3 at.4
 stands_as operations lives o (Deq v) p at = leaves at.0 at.1 at.2 at.3 at.4
@@ -355,7 +355,7 @@ stands_as operations lives o Empty p at = noops at.0 at.2
 stands_as operations lives o (Not v) p at = noops o.call at
 
 -- at a position stands one operation
-module _ (operations : List Operation) (lives : List Life) (clear : IsClear operations) (x y : Operation) (p : Position) (in_x : Contains operations x)
+module _ (operations : List Operation) (lives : List Life) (clear : IsClear (on operations)) (x y : Operation) (p : Position) (in_x : Contains operations x)
     (in_y : Contains operations y) where
   same_at : Stands lives x p → Stands lives y p → x ≡ y
   same_at (enters i a at_a of_a is_a) (enters j b at_b of_b is_b) =
@@ -372,5 +372,5 @@ module _ (operations : List Operation) (lives : List Life) (clear : IsClear oper
   same_at (leaves i a at_a of_a is_a) (noops c is_c) = absurd (noop_is_no_dequeue _ _ _ (are_gaps lives) p i (ap (λ r. r.class) is_c) is_a)
   same_at (noops c is_c) (leaves j b at_b of_b is_b) = absurd (noop_is_no_dequeue _ _ _ (are_gaps lives) p j (ap (λ r. r.class) is_c) is_b)
 
-  pub one_operation : IsPositionOf operations lives x p → IsPositionOf operations lives y p → x ≡ y
+  pub one_operation : IsPositionOf (on operations) lives x p → IsPositionOf (on operations) lives y p → x ≡ y
   one_operation at_x at_y = same_at (stands_as operations lives x x.kind p at_x) (stands_as operations lives y y.kind p at_y)

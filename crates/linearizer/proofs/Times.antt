@@ -1,12 +1,13 @@
 -- The tickets of the lives of a clear history.
-use Rattle.linearizer.proofs.Common.{All-contains, AllPairs, ap, AreComplete, arith, call_before_return}
-use Rattle.linearizer.proofs.Common.{call_by_return, call_or_never, Contains, Deq, dequeue_call, dequeue_of}
+use Rattle.linearizer.proofs.Common.{All-contains, AllPairs, ap, AreComplete, arith, call_before_return, timeline_of}
+use Rattle.linearizer.proofs.Common.{call_by_return, call_or_never, Contains, Deq, dequeue_call, dequeue_of, clear_on}
 use Rattle.linearizer.proofs.Common.{dequeue_return, Did, did_dequeue, Enq, enqueue_call, enqueue_of, enqueue_return}
-use Rattle.linearizer.proofs.Common.{entered_by, inl, inr, IsClear, IsLife, IsTimed, IsValueOrder, leaves_from, Life}
-use Rattle.linearizer.proofs.Common.{life_from, List, lives_of, MatchOption, NEVER, no_enqueue, None, NoneDid}
-use Rattle.linearizer.proofs.Common.{one_life_of_dequeue, one_life_of_enqueue, Operation, OpKind, Option, refl}
-use Rattle.linearizer.proofs.Common.{return_in_range, return_or_never, returns_at_call, same_return, same_Some}
-use Rattle.linearizer.proofs.Common.{slice_get, Some, subst, sym, ℕ, ◌<◌, ◌∙◌, ◌≡◌, ◌≢◌, ◌≤◌, ◌⊎◌}
+use Rattle.linearizer.proofs.Common.{enqueues, entered_by, inl, inr, IsClear, IsLife, IsTimed, IsValueOrder, course_of}
+use Rattle.linearizer.proofs.Common.{leaves_from, Life, life_from, List, lives_of, MatchOption, NEVER, no_enqueue}
+use Rattle.linearizer.proofs.Common.{None, NoneDid, on, one_life_of_dequeue, one_life_of_enqueue, Operation, OpKind}
+use Rattle.linearizer.proofs.Common.{Option, refl, return_in_range, return_or_never, returns_at_call, same_return}
+use Rattle.linearizer.proofs.Common.{same_Some, slice_get, Some, subst, sym, ℕ, ◌<◌, ◌∙◌, ◌≡◌, ◌≢◌, ◌≤◌, ◌⊎◌, Contents}
+use Rattle.linearizer.proofs.Common.{clear_life}
 use Rattle.linearizer.proofs.Elements.{kept_rises, one_place}
 
 -- what is known of the tickets of one life
@@ -27,7 +28,7 @@ record HasDequeueTimes (enqueue : Operation) (dequeue : Option Operation) : Type
   in_range : return_or_never dequeue ≤ NEVER
 
 -- the times of a life are in their order
-pub times_of_life : (operations : List Operation) (life : Life) → IsClear operations → IsLife operations life → HasLifeTimes life
+pub times_of_life : (operations : List Operation) (life : Life) → IsClear (on operations) → IsLife (on operations) life → HasLifeTimes life
 times_of_life operations life clear (v, did, dequeues) =
     let range = return_in_range operations (enqueue_of life) clear.complete did.0 in
     let timed = All-contains IsTimed operations (enqueue_of life) clear.complete.timed did.0 in
@@ -63,8 +64,13 @@ times_of_life operations life clear (v, did, dequeues) =
           in_range = omega arith;
         }
 
+-- and those of a life of a history
+pub history_times : (history : Contents) → IsClear (course_of history) → (life : Life) → IsLife (course_of history) life → HasLifeTimes life
+history_times history clear life is = times_of_life (timeline_of history) life (clear_on history.initial history.operations clear)
+    (clear_life history.initial history.operations clear life is)
+
 -- what is dequeued returns before the last ticket is over
-pub returned_in_time : (operations : List Operation) (life : Life) (d : Operation) → IsClear operations → IsLife operations life
+pub returned_in_time : (operations : List Operation) (life : Life) (d : Operation) → IsClear (on operations) → IsLife (on operations) life
     → dequeue_of life ≡ Some d → dequeue_return life < NEVER
 returned_in_time operations life d clear is dequeues =
     let range = return_in_range operations d clear.complete (did_dequeue operations life d is dequeues).0 in
@@ -86,7 +92,7 @@ pub record HasTicket (of : Operation → ℕ) (operations : List Operation) (lif
 
 -- the ticket of a life's dequeue, or that for never
 dequeue_has : (of : Operation → ℕ) (or_never : Option Operation → ℕ) (operations : List Operation) (life : Life) → or_never None ≡ NEVER
-    → ((d : Operation) → of d ≡ or_never (Some d)) → IsLife operations life
+    → ((d : Operation) → of d ≡ or_never (Some d)) → IsLife (on operations) life
     → HasTicket of operations life (or_never (dequeue_of life)) ⊎ (or_never (dequeue_of life) ≡ NEVER)
 dequeue_has of or_never operations life never some is = go (dequeue_of life) refl is.2
   where
@@ -95,12 +101,13 @@ dequeue_has of or_never operations life never some is = go (dequeue_of life) ref
     go None same none = inr never
     go (Some d) same did = inl (record { o = d; among = did.0; is_of = inr same; is = some d })
 
-dequeue_returns : (operations : List Operation) (life : Life) → IsLife operations life
+dequeue_returns : (operations : List Operation) (life : Life) → IsLife (on operations) life
     → HasTicket (λ o. o.ret) operations life (dequeue_return life) ⊎ (dequeue_return life ≡ NEVER)
 dequeue_returns operations life is = dequeue_has (λ o. o.ret) return_or_never operations life refl (λ d. refl) is
 
 -- a value has entered at a return of its own
-pub entered_at_return : (operations : List Operation) (life : Life) → IsClear operations → IsLife operations life → HasTicket (λ o. o.ret) operations life (entered_by life)
+pub entered_at_return : (operations : List Operation) (life : Life) → IsClear (on operations)
+    → IsLife (on operations) life → HasTicket (λ o. o.ret) operations life (entered_by life)
 entered_at_return operations life clear is =
     let times = times_of_life operations life clear is in
     let first : (entered_by life ≡ enqueue_return life) ⊎ ((entered_by life ≡ dequeue_return life) × (dequeue_return life < enqueue_return life)) =
@@ -114,7 +121,7 @@ entered_at_return operations life clear is =
     ]
 
 -- a value leaves at a call of its own, or never
-pub leaves_at_call : (operations : List Operation) (life : Life) → IsClear operations → IsLife operations life
+pub leaves_at_call : (operations : List Operation) (life : Life) → IsClear (on operations) → IsLife (on operations) life
     → HasTicket (λ o. o.call) operations life (leaves_from life) ⊎ (leaves_from life ≡ NEVER)
 leaves_at_call operations life clear is =
     let times = times_of_life operations life clear is in
@@ -128,36 +135,36 @@ leaves_at_call operations life clear is =
     ]
 
 -- the kind of an enqueue is not that of a dequeue
-pub not_both_kinds : (operations : List Operation) (x y : Life) (o : Operation) → IsLife operations x → IsLife operations y → enqueue_of x ≡ o
+pub not_both_kinds : (operations : List Operation) (x y : Life) (o : Operation) → IsLife (on operations) x → IsLife (on operations) y → enqueue_of x ≡ o
     → dequeue_of y ≡ Some o → ⊥
 not_both_kinds operations x y o is_x is_y enqueues dequeues =
     let clash : Enq is_x.0 ≡ Deq is_y.0 = sym is_x.1.1 ∙ ap (λ o. o.kind) enqueues ∙ (did_dequeue operations y o is_y dequeues).1 in
     cc
 
 -- lives that share an operation are one
-pub one_life_of_operation : (operations : List Operation) (x y : Life) (o : Operation) → IsClear operations → IsLife operations x
-    → IsLife operations y → IsOf x o → IsOf y o → x ≡ y
+pub one_life_of_operation : (operations : List Operation) (x y : Life) (o : Operation) → IsClear (on operations) → IsLife (on operations) x
+    → IsLife (on operations) y → IsOf x o → IsOf y o → x ≡ y
 one_life_of_operation operations x y o clear is_x is_y (inl e) (inl f) = one_life_of_enqueue operations x y clear is_x is_y (e ∙ sym f)
 one_life_of_operation operations x y o clear is_x is_y (inl e) (inr f) = absurd (not_both_kinds operations x y o is_x is_y e f)
 one_life_of_operation operations x y o clear is_x is_y (inr e) (inl f) = absurd (not_both_kinds operations y x o is_y is_x f e)
 one_life_of_operation operations x y o clear is_x is_y (inr e) (inr f) = one_life_of_dequeue operations x y o clear is_x is_y e f
 
 -- lives of which operations return at one ticket are one
-one_life_of_return : (operations : List Operation) (x y : Life) (s t : ℕ) → IsClear operations → IsLife operations x → IsLife operations y
+one_life_of_return : (operations : List Operation) (x y : Life) (s t : ℕ) → IsClear (on operations) → IsLife (on operations) x → IsLife (on operations) y
     → HasTicket (λ o. o.ret) operations x s → HasTicket (λ o. o.ret) operations y t → s ≡ t → x ≡ y
 one_life_of_return operations x y s t clear is_x is_y at_x at_y same =
     let one = same_return operations at_x.o at_y.o clear.complete at_x.among at_y.among (at_x.is ∙ same ∙ sym at_y.is) in
     one_life_of_operation operations x y at_y.o clear is_x is_y (subst (λ o. IsOf x o) one at_x.is_of) at_y.is_of
 
 -- one value has entered at a time
-pub one_life_of_entering : (operations : List Operation) (x y : Life) → IsClear operations → IsLife operations x → IsLife operations y
+pub one_life_of_entering : (operations : List Operation) (x y : Life) → IsClear (on operations) → IsLife (on operations) x → IsLife (on operations) y
     → entered_by x ≡ entered_by y → x ≡ y
 one_life_of_entering operations x y clear is_x is_y same =
     one_life_of_return operations x y (entered_by x) (entered_by y) clear is_x is_y (entered_at_return operations x clear is_x)
     (entered_at_return operations y clear is_y) same
 
 -- one value's dequeue returns at a time, but never
-pub one_life_of_dequeue_return : (operations : List Operation) (x y : Life) → IsClear operations → IsLife operations x → IsLife operations y
+pub one_life_of_dequeue_return : (operations : List Operation) (x y : Life) → IsClear (on operations) → IsLife (on operations) x → IsLife (on operations) y
     → dequeue_return x ≡ dequeue_return y → (x ≡ y) ⊎ (dequeue_return x ≡ NEVER)
 one_life_of_dequeue_return operations x y clear is_x is_y same =
     elim (dequeue_returns operations x is_x) [
@@ -169,7 +176,7 @@ one_life_of_dequeue_return operations x y clear is_x is_y same =
     ]
 
 -- no dequeue returns where a value leaves, but never
-pub returns_at_no_leave : (operations : List Operation) (x y : Life) → IsClear operations → IsLife operations x → IsLife operations y
+pub returns_at_no_leave : (operations : List Operation) (x y : Life) → IsClear (on operations) → IsLife (on operations) x → IsLife (on operations) y
     → dequeue_return x ≡ leaves_from y → leaves_from y ≡ NEVER
 returns_at_no_leave operations x y clear is_x is_y same = elim (leaves_at_call operations y clear is_y) [
   | inr never ↦ never
@@ -196,7 +203,7 @@ lives_rise operations complete =
     kept_rises (λ o. life_from operations o o.kind) (λ o. o.call) enqueue_call operations (λ o life same. enqueues_itself operations o o.kind life same) rise
 
 -- a life stands at one place of the order of values
-pub one_place_of_life : (operations : List Operation) (lives : List Life) (i j : ℕ) (x y : Life) → IsClear operations → IsValueOrder operations lives
+pub one_place_of_life : (operations : List Operation) (lives : List Life) (i j : ℕ) (x y : Life) → IsClear (on operations) → IsValueOrder (on operations) lives
     → slice_get lives i ≡ Some x → slice_get lives j ≡ Some y → x ≡ y → i ≡ j
 one_place_of_life operations lives i j x y clear order at_x at_y same =
     one_place enqueue_call (lives_of operations) lives i j x y (lives_rise operations clear.complete) order.holds_each_once at_x at_y (ap enqueue_call same)

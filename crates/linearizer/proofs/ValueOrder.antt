@@ -7,7 +7,7 @@ use Rattle.linearizer.proofs.Common.{IsPermutation-remove, IsPermutation-sym, Is
 use Rattle.linearizer.proofs.Common.{leaves_from, length, length_permutation, Life, life_is_contained}
 use Rattle.linearizer.proofs.Common.{life_of_contained, List, lives_of, none_overtakes, NoOrderViolation, not_in_none}
 use Rattle.linearizer.proofs.Common.{one_deeper, Operation, refl, rules, slice_get, Some, subst, suc, sym, zero, ℕ}
-use Rattle.linearizer.proofs.Common.{◌<◌, ◌∙◌, ◌∷◌, ◌≡◌, ◌≤◌, ◌⊎◌}
+use Rattle.linearizer.proofs.Common.{◌<◌, ◌∙◌, ◌∷◌, ◌≡◌, ◌≤◌, ◌⊎◌, on}
 use Rattle.linearizer.proofs.Times.{one_life_of_dequeue_return, one_life_of_entering, one_place_of_life, times_of_life}
 use Rattle.linearizer.proofs.Elements.{none_twice_from_places, NoneTwice}
 
@@ -64,16 +64,16 @@ IsOpposite x y = (entered_by x < enqueue_call y) × (dequeue_return y < leaves_f
 abbrev pub MayStandBefore : Life → Life → Type 0
 MayStandBefore x y = ¬ (entered_by y < enqueue_call x) × ¬ (dequeue_return y < leaves_from x)
 
-module _ (operations : List Operation) (clear : IsClear operations) (none : NoOrderViolation operations) where
+module _ (operations : List Operation) (clear : IsClear (on operations)) (none : NoOrderViolation (on operations)) where
   -- no two values stand opposite, as one would overtake the other
-  no_two_opposite : (x y : Life) → IsLife operations x → IsLife operations y → ¬ (IsOpposite x y)
+  no_two_opposite : (x y : Life) → IsLife (on operations) x → IsLife (on operations) y → ¬ (IsOpposite x y)
   no_two_opposite x y is_x is_y opposite =
       let times_x = times_of_life operations x clear is_x in
       let times_y = times_of_life operations y clear is_y in
       none_overtakes operations x y clear none is_x is_y (omega arith)
 
   -- the choice may stand before all that remain
-  pub choice_may_stand_before : (remaining : List Life) (choice other : Life) → ((x : Life) → Contains remaining x → IsLife operations x)
+  pub choice_may_stand_before : (remaining : List Life) (choice other : Life) → ((x : Life) → Contains remaining x → IsLife (on operations) x)
       → IsChoice remaining choice → Contains remaining other → MayStandBefore choice other
   choice_may_stand_before remaining choice other are is among =
       let a = is.first_entered in
@@ -90,25 +90,25 @@ module _ (operations : List Operation) (clear : IsClear operations) (none : NoOr
       ]
 
 -- what stands in the order of values is a life, and each life stands there
-pub is_life : (operations : List Operation) (lives : List Life) → IsValueOrder operations lives → (x : Life) → Contains lives x → IsLife operations x
+pub is_life : (operations : List Operation) (lives : List Life) → IsValueOrder (on operations) lives → (x : Life) → Contains lives x → IsLife (on operations) x
 is_life operations lives order x among =
     life_of_contained operations x (Contains-permutation lives (lives_of operations) x
     (IsPermutation-sym (lives_of operations) lives order.holds_each_once) among)
 
 -- what stands at a place of the order is a life
-pub is_life_at : (operations : List Operation) (lives : List Life) (i : ℕ) (x : Life) → IsValueOrder operations lives → slice_get lives i ≡ Some x
-    → IsLife operations x
+pub is_life_at : (operations : List Operation) (lives : List Life) (i : ℕ) (x : Life) → IsValueOrder (on operations) lives → slice_get lives i ≡ Some x
+    → IsLife (on operations) x
 is_life_at operations lives i x order at = is_life operations lives order x (contains_at lives i x at)
 
 -- each value stands in the order
-pub stands_in_order : (operations : List Operation) (lives : List Life) → IsClear operations → IsValueOrder operations lives → (x : Life)
-    → IsLife operations x → Contains lives x
+pub stands_in_order : (operations : List Operation) (lives : List Life) → IsClear (on operations) → IsValueOrder (on operations) lives → (x : Life)
+    → IsLife (on operations) x → Contains lives x
 stands_in_order operations lives clear order x is = Contains-permutation (lives_of operations) lives x order.holds_each_once
     (life_is_contained operations x clear is)
 
 -- each value may stand before those after it
-pub may_stand_before : (operations : List Operation) (lives : List Life) (i j : ℕ) (x y : Life) → IsClear operations → NoOrderViolation operations
-    → IsValueOrder operations lives → i ≤ j → slice_get lives i ≡ Some x → slice_get lives j ≡ Some y → MayStandBefore x y
+pub may_stand_before : (operations : List Operation) (lives : List Life) (i j : ℕ) (x y : Life) → IsClear (on operations) → NoOrderViolation (on operations)
+    → IsValueOrder (on operations) lives → i ≤ j → slice_get lives i ≡ Some x → slice_get lives j ≡ Some y → MayStandBefore x y
 may_stand_before operations lives i j x y clear none order le at_x at_y =
     let turn = turn_of lives i j x y order.each_is_choice le at_x at_y in
     choice_may_stand_before operations clear none turn.remaining x y (λ z among. is_life operations lives order z (turn.among z among))
@@ -193,7 +193,7 @@ in_order (suc n) (x ∷ xs) long =
     (choice.0 ∷ rest.0, all_moved, (choice_in_other_order _ _ _ all_moved choice.1, rest.2))
 
 -- the values have an order
-pub values_have_order : (operations : List Operation) → IsClear operations → (lives : List Life) × IsValueOrder operations lives
+pub values_have_order : (operations : List Operation) → IsClear (on operations) → (lives : List Life) × IsValueOrder (on operations) lives
 values_have_order operations clear =
     let found = in_order (length (lives_of operations)) (lives_of operations) refl in
     (found.0, record { holds_each_once = found.1; each_is_choice = found.2 })
@@ -211,7 +211,7 @@ least_alike number xs ys a b same is_a is_b =
     let second = least_at number ys b a is_b (same.into a is_a.0) in
     omega arith
 
-one_choice : (operations : List Operation) (xs ys : List Life) (c d : Life) → IsClear operations → ((x : Life) → Contains xs x → IsLife operations x)
+one_choice : (operations : List Operation) (xs ys : List Life) (c d : Life) → IsClear (on operations) → ((x : Life) → Contains xs x → IsLife (on operations) x)
     → AreSame xs ys → IsChoice xs c → IsChoice ys d → c ≡ d
 one_choice operations xs ys c d clear are same is_c is_d =
     let a = is_c.first_entered in let a' = is_d.first_entered in
@@ -254,7 +254,7 @@ rest_alike {X} x y xs ys one same = record {
       | inr later ↦ later
     ]
 
-one_order : (operations : List Operation) (xs ys : List Life) → IsClear operations → ((x : Life) → Contains xs x → IsLife operations x)
+one_order : (operations : List Operation) (xs ys : List Life) → IsClear (on operations) → ((x : Life) → Contains xs x → IsLife (on operations) x)
     → AreSame xs ys → EachIsChoice xs → EachIsChoice ys → xs ≡ ys
 one_order operations [] [] clear are same each each' = refl
 one_order operations [] (y ∷ ys) clear are same each each' = absurd (not_in_none y (same.back y (zero, omega arith, refl)))
@@ -265,8 +265,8 @@ one_order operations (x ∷ xs) (y ∷ ys) clear are same each each' =
     cc
 
 -- the values have one order
-pub values_have_one_order : (operations : List Operation) (xs ys : List Life) → IsClear operations → IsValueOrder operations xs
-    → IsValueOrder operations ys → xs ≡ ys
+pub values_have_one_order : (operations : List Operation) (xs ys : List Life) → IsClear (on operations) → IsValueOrder (on operations) xs
+    → IsValueOrder (on operations) ys → xs ≡ ys
 values_have_one_order operations xs ys clear order order' = one_order _ xs ys clear (is_life _ xs order) (record {
   into = λ x among. Contains-permutation _ ys x order'.holds_each_once
       (Contains-permutation xs _ x (IsPermutation-sym _ xs order.holds_each_once) among);

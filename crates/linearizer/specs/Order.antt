@@ -4,10 +4,9 @@ use Rattle.std.specs.List.{AllZip}
 use Rattle.history_merge.specs.declared.operation.Operation.{Operation}
 use Rattle.history_merge.specs.declared.operation.OpKind.{OpKind}
 use Rattle.history_merge.specs.declared.operation.OpKind.TheVariants.{Enq, Deq, Empty, Not}
-use Rattle.history_merge.specs.Initial.{timeline}
 use Rattle.history_merge.specs.Legal.{IsLegalOrder, ArePlacesOf}
 use Rattle.value_match.specs.declared.life.Life.{Life}
-use Rattle.value_match.specs.Lives.{IsLeastFreeGap, dequeue_of, enqueue_of}
+use Rattle.value_match.specs.Lives.{Course, IsLeastFreeGap, course, dequeue_of, enqueue_of, timed}
 use Rattle.linearizer.specs.Values.{IsValueOrder, enqueue_gap, dequeue_gap}
 
 -- where an operation stands: its gap, its class within the gap, and its rank within the class
@@ -43,37 +42,36 @@ dequeue_position lives i =
 
 -- an operation that changes nothing stands at this gap, by its call
 abbrev pub noop_position : Operation → ℕ → Position
-noop_position o c = record { gap = c; class = noop_answers; rank = o.call }
+noop_position o gap = record { gap = gap; class = noop_answers; rank = o.call }
 
 -- where the operation stands, by what it did
-abbrev pub IsPositionFor : List Operation → List Life → Operation → OpKind → Position → Type 0
-IsPositionFor operations lives o (Enq v) position =
+abbrev pub IsPositionFor : Course → List Life → Operation → OpKind → Position → Type 0
+IsPositionFor c lives o (Enq v) position =
     (i : ℕ) × (life : Life) × (slice_get lives i ≡ Some life) × (enqueue_of life ≡ o) × (position ≡ enqueue_position lives i)
-IsPositionFor operations lives o (Deq v) position =
+IsPositionFor c lives o (Deq v) position =
     (i : ℕ) × (life : Life) × (slice_get lives i ≡ Some life) × (dequeue_of life ≡ Some o) × (position ≡ dequeue_position lives i)
-IsPositionFor operations lives o Empty position = (c : ℕ) × IsLeastFreeGap operations o c × (position ≡ noop_position o c)
-IsPositionFor operations lives o (Not v) position = position ≡ noop_position o o.call
+IsPositionFor c lives o Empty position = (gap : ℕ) × IsLeastFreeGap c o gap × (position ≡ noop_position o gap)
+IsPositionFor c lives o (Not v) position = position ≡ noop_position o o.call
 
 -- where the operation stands
-abbrev pub IsPositionOf : List Operation → List Life → Operation → Position → Type 0
-IsPositionOf operations lives o position = IsPositionFor operations lives o o.kind position
+abbrev pub IsPositionOf : Course → List Life → Operation → Position → Type 0
+IsPositionOf c lives o position = IsPositionFor c lives o o.kind position
 
 -- by gap, then by class, then by rank
 abbrev pub StandsBefore : Position → Position → Type 0
 StandsBefore p q = (p.gap < q.gap) ⊎ ((p.gap ≡ q.gap) × ((p.class < q.class) ⊎ ((p.class ≡ q.class) × (p.rank < q.rank))))
 
 -- all operations by rising position
-pub record IsChosenOrder (operations order : List Operation) : Type 0 where
+pub record IsChosenOrder (c : Course) (order : List Operation) : Type 0 where
   pub lives : List Life
   pub positions : List Position
-  pub values_in_order : IsValueOrder operations lives
-  pub holds_each_once : IsPermutation operations order
-  pub each_has_position : AllZip (λ o position. IsPositionOf operations lives o position) order positions
+  pub values_in_order : IsValueOrder c lives
+  pub holds_each_once : IsPermutation c.operations order
+  pub each_has_position : AllZip (λ o position. IsPositionOf c lives o position) order positions
   pub positions_rise : AllPairs StandsBefore positions
 
--- the places are those of an order that is legal for a queue that holds these values first, and that, behind the enqueues of these
--- values, is the chosen one of the timeline
+-- the places are those of the chosen order of the history, which is legal for a queue that holds these values first
 abbrev pub AreChosenAndLegal : List ℕ → List Operation → List ℕ → Type 0
 AreChosenAndLegal initial operations places =
-    (order : List Operation) × ArePlacesOf operations places order × IsChosenOrder (timeline initial operations) (timeline initial order)
+    (order : List Operation) × ArePlacesOf operations places order × IsChosenOrder (course initial operations) (timed order)
     × IsLegalOrder initial operations order

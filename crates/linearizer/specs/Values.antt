@@ -1,9 +1,9 @@
 -- The order of the accepted values, and the gaps at which their operations stand.
-use Rattle.std.specs.Prelude.{◌≡◌, ℕ, ◌<◌, ◌≤◌, ◌-◌, ◌+◌, min, max, List, [], ◌∷◌, fold, map, take, drop, All, Contains, IsPermutation, ⊤}
-use Rattle.history_merge.specs.declared.operation.Operation.{Operation}
+use Rattle.std.specs.Prelude.{All, Contains, drop, fold, IsPermutation, List, map, max, min, take, ℕ, ⊤, [], ◌+◌, ◌-◌}
+use Rattle.std.specs.Prelude.{◌<◌, ◌∷◌, ◌≡◌, ◌≤◌}
 use Rattle.value_match.specs.declared.life.Life.{Life}
 use Rattle.value_match.specs.declared.life.TheConstants.{NEVER}
-use Rattle.value_match.specs.Lives.{lives_of, entered_by, leaves_from, dequeue_return}
+use Rattle.value_match.specs.Lives.{Course, entered_by, leaves_from, dequeue_return}
 
 -- one of the lives, at which this number is least
 abbrev pub IsLeastBy : (Life → ℕ) → List Life → Life → Type 0
@@ -25,8 +25,8 @@ EachIsChoice [] = ⊤
 EachIsChoice (life ∷ rest) = IsChoice (life ∷ rest) life × EachIsChoice rest
 
 -- the accepted values in their chosen order
-pub record IsValueOrder (operations : List Operation) (lives : List Life) : Type 0 where
-  pub holds_each_once : IsPermutation (lives_of operations) lives
+pub record IsValueOrder (c : Course) (lives : List Life) : Type 0 where
+  pub holds_each_once : IsPermutation c.lives lives
   pub each_is_choice : EachIsChoice lives
 
 -- the first time at which one of the values has definitely entered

@@ -1,19 +1,19 @@
 //! The operations that change nothing, by their positions.
-ghost use Rattle.std.specs.Prelude.{◌≡◌, ◌↔◌, ◌<◌, ◌≤◌, All, IfOk, IsSomeAnd, IsTrue, MatchOption, OnOk, Some, false, filter, length, map, slice_get};
+ghost use Rattle.std.specs.Prelude.{◌≡◌, ◌+◌, ◌↔◌, ◌<◌, ◌≤◌, All, IfOk, IsSomeAnd, IsTrue, MatchOption, OnOk, Some, false, filter, length, map, slice_get};
 ghost use Rattle.history_merge.specs.declared.packed.TheConstants.{PACKED_LIMIT};
-ghost use Rattle.history_merge.specs.declared.operation.Operation.{Operation};
-ghost use Rattle.history_merge.specs.Operations.{IsAt};
-ghost use Rattle.value_match.specs.Lives.{AreLeastFreeGaps, is_empty_answer, is_refused};
-ghost use Rattle.value_match.specs.Timeline.{time_of, timeline_of};
+ghost use Rattle.event_records.specs.declared.limits.TheConstants.{ORIGIN};
+ghost use Rattle.value_match.specs.Lives.{AreLeastFreeGaps, course_of, is_empty_answer, is_refused, timed};
+ghost use Rattle.value_match.specs.Inner.Accepted.{operation_at};
+ghost use Rattle.value_match.specs.Times.{time_of};
 ghost use Rattle.value_match.specs.Violations.{IsClear};
 ghost use Rattle.value_match.specs.declared.matching.TheConstants.{MAX_MATCHED};
 ghost use Rattle.linearizer.specs.Order.{StandsBefore};
-ghost use Rattle.linearizer.specs.Inner.Placement.{Adds, HoldsNoops, noop_at, position_of};
+ghost use Rattle.linearizer.specs.Inner.Placement.{Adds, HoldsNoops, IsCalledInRange, noop_at, position_of};
 
-use crate::position::{Class, Placed, Position, stands_after};
+use crate::position::{Class, Position};
 use crate::timed::{PackedTimed, Timed};
 use event_records::ORIGIN;
-use history_merge::{OpId, PackedOperation};
+use history_merge::{OpId, Operations};
 use std::alloc::{AllocError, Global};
 use std::marker::Model;
 use value_match::Matching;
@@ -23,27 +23,26 @@ use value_match::Matching;
 /// It borrows the operations, and holds a word for each no-op.
 #[derive(Drop)]
 pub(crate) struct Noops<'a> {
-    operations: &'a [PackedOperation],
+    operations: Operations<'a>,
     // The place and the gap of each.
     at: Vec<PackedTimed>,
 }
 
 impl<'a> Model for Noops<'a> {
-    ghost use Rattle.std.specs.Prelude.{◌<◌, All, List, length, map};
-    ghost use Rattle.linearizer.specs.declared.position.Placed.{Placed};
-    ghost use Rattle.linearizer.specs.Inner.Placement.{noop_at};
+    ghost use Rattle.std.specs.Prelude.{All, List, map};
+    ghost use Rattle.linearizer.specs.Inner.Placement.{IsCalledInRange, Placed, noop_at};
 
     ghost Value = { List Placed };
 
-    ghost view = { λ n. map (noop_at n.operations.now) n.at.items };
+    ghost view = { λ n. map (noop_at n.operations) n.at.items };
 
-    ghost invariant = { λ n. All (λ timed. timed.place < length n.operations.now) n.at.items };
+    ghost invariant = { λ n. All (λ timed. IsCalledInRange n.operations timed.place) n.at.items };
 }
 
 impl<'a> Noops<'a> {
-    fn new(operations: &'a [PackedOperation], at: Vec<PackedTimed>) -> Noops<'a>
-        requires { All (λ timed. timed.place < length operations.now) at.items }
-        ensures { result ≡ map (noop_at operations.now) at.items }
+    fn new(operations: Operations<'a>, at: Vec<PackedTimed>) -> Noops<'a>
+        requires { All (λ timed. IsCalledInRange operations timed.place) at.items }
+        ensures { result ≡ map (noop_at operations.entry) at.items }
     {
         Noops { operations, at }
     }
@@ -55,16 +54,28 @@ impl<'a> Noops<'a> {
         self.at.len()
     }
 
-    /// The one at this place of the list.
+    /// The place of the one at this place of the list.
     #[inline(always)]
-    pub(crate) fn get(&self, at: usize) -> Placed
+    pub(crate) fn place(&self, at: usize) -> OpId
         requires { at < length self.now }
-        ensures { slice_get self.now at ≡ Some result }
+        ensures { IsSomeAnd (slice_get self.now at) (λ x. x.place ≡ Some result) }
     {
-        let place = self.at[at].place();
+        OpId::new(self.at[at].place())
+    }
+
+    /// Where it stands.
+    #[inline(always)]
+    fn position(&self, at: usize) -> Position
+        requires { at < length self.now }
+        ensures { IsSomeAnd (slice_get self.now at) (λ x. x.position ≡ result) }
+    {
         let gap = self.at[at].unpack().time;
-        let call = self.operations[place as usize].unpack().call;
-        Placed::at(OpId::new(place), gap, Class::Noop, call)
+        let rank = call_at(&self.operations, OpId::new(self.at[at].place()));
+        Position {
+            gap,
+            class: Class::Noop,
+            rank,
+        }
     }
 
     /// Whether the one at this place of the list stands after a position, if one is given. Mostly its gap decides.
@@ -80,7 +91,7 @@ impl<'a> Noops<'a> {
         if position.gap < self.at[at].unpack().time {
             return true;
         }
-        stands_after(&self.get(at), Some(position))
+        self.position(at).stands_after(Some(position))
     }
 }
 
@@ -91,11 +102,12 @@ pub(crate) fn noops_of<'a>(
     matching: &'a Matching,
     gaps: &[u64],
 ) -> Result<Noops<'a>, AllocError>
-    requires { AreLeastFreeGaps (timeline_of matching.now) (map time_of gaps.now) }
-    ensures { IfOk result (λ noops. HoldsNoops (timeline_of matching.now) noops) }
+    requires clear { IsClear (course_of matching.now) }
+    requires gaps { AreLeastFreeGaps (course_of matching.now) (map time_of gaps.now) }
+    ensures { IfOk result (λ noops. HoldsNoops matching.now noops) }
 {
-    let operations = matching.timeline();
-    let count = gaps.len().saturating_add(matching.timeline_refused().len());
+    let operations = matching.operations();
+    let count = gaps.len().saturating_add(matching.refused().len());
     let mut noops = Vec::with_capacity(alloc, count)?;
     add_empties(&mut noops, matching, gaps)?;
     add_refused(&mut noops, matching)?;
@@ -110,15 +122,16 @@ fn add_empties(
     matching: &Matching,
     gaps: &[u64],
 ) -> Result<(), AllocError>
-    requires few { length (timeline_of matching.now) ≤ MAX_MATCHED }
-    requires clear { IsClear (timeline_of matching.now) }
-    requires gaps { AreLeastFreeGaps (timeline_of matching.now) (map time_of gaps.now) }
-    ensures { OnOk result (Adds (timeline_of matching.now) (filter is_empty_answer (timeline_of matching.now)) noops.old.items noops.new.items) }
+    requires few { length matching.now.operations ≤ MAX_MATCHED }
+    requires clear { IsClear (course_of matching.now) }
+    requires gaps { AreLeastFreeGaps (course_of matching.now) (map time_of gaps.now) }
+    ensures { OnOk result (Adds matching.now (filter is_empty_answer (timed matching.now.operations)) noops.old.items noops.new.items) }
 {
-    for (id, gap) in matching.timeline_empties().iter().zip(gaps) {
+    let empties = matching.empties();
+    for at in 0..empties.len() {
         noops.push(PackedTimed::new(Timed {
-            place: id.place(),
-            time: *gap + ORIGIN,
+            place: empties.get(at).place(),
+            time: gaps[at] + ORIGIN,
         }))?;
     }
     Ok(())
@@ -127,12 +140,15 @@ fn add_empties(
 /// Adds the refused enqueues, each at its call.
 #[tactic(auto, using(crate::proofs::Elements::adds_none))]
 fn add_refused(noops: &mut Vec<PackedTimed>, matching: &Matching) -> Result<(), AllocError>
-    ensures { OnOk result (Adds (timeline_of matching.now) (filter is_refused (timeline_of matching.now)) noops.old.items noops.new.items) }
+    requires { IsClear (course_of matching.now) }
+    ensures { OnOk result (Adds matching.now (filter is_refused (timed matching.now.operations)) noops.old.items noops.new.items) }
 {
-    let operations = matching.timeline();
-    for id in matching.timeline_refused() {
+    let operations = matching.operations();
+    let refused = matching.refused();
+    for at in 0..refused.len() {
+        let id = refused.get(at);
         noops.push(PackedTimed::new(Timed {
-            time: call_at(operations, *id),
+            time: call_at(&operations, id),
             place: id.place(),
         }))?;
     }
@@ -140,10 +156,14 @@ fn add_refused(noops: &mut Vec<PackedTimed>, matching: &Matching) -> Result<(), 
 }
 
 /// The time of the call of this operation.
-fn call_at(operations: &[PackedOperation], id: OpId) -> u64
-    requires { id < length operations.now }
-    ensures call { (o : Operation) → IsAt operations.now id o → result ≡ o.call }
+#[inline(always)]
+fn call_at(operations: &Operations, id: OpId) -> u64
+    requires { IsCalledInRange operations.now id }
+    ensures call { result ≡ (operation_at operations.now id).call + ORIGIN }
     ensures in_range { result < PACKED_LIMIT }
 {
-    operations[id.place()].unpack().call
+    match operations.get(id) {
+        Some(operation) => operation.call + ORIGIN,
+        None => unreachable!("the place is that of an operation"),
+    }
 }

@@ -1,35 +1,30 @@
 ghost use Rattle.std.specs.Prelude.{◌≡◌, ℕ, [], IfOk, List, OnOk, length};
-ghost use Rattle.history_merge.specs.declared.operation.Operation.{Operation};
+ghost use Rattle.history_merge.specs.Initial.{Contents};
 ghost use Rattle.value_match.specs.declared.life.Life.{Life};
-ghost use Rattle.value_match.specs.Timeline.{timeline_of};
-ghost use Rattle.value_match.specs.Violations.{IsClear};
-ghost use Rattle.linearizer.specs.Inner.Placement.{AreEnqueueGaps, IsOrderOfPlaces, NeverFall, gaps_in, lives_at, places_in};
+ghost use Rattle.linearizer.specs.Inner.Placement.{IsOrderOf, NeverFall, ordered_lives, place_of};
 ghost use Rattle.linearizer.specs.Inner.Merging.{IsDequeueFrom, IsEnqueueFrom, IsNoopFrom, IsMerge, IsMergedUpTo, IsValueFrom, NoneBelow};
 
 use crate::noops::Noops;
-use crate::ordered_values::OrderedValues;
-use crate::position::{Placed, Position, stands_after};
+use crate::position::Position;
 use crate::timed::PackedTimed;
 use history_merge::OpId;
 use std::alloc::{AllocError, Global};
-use value_match::Matching;
+use value_match::{Matching, Source};
 
-/// The operations by rising position.
+/// The places of the operations by rising position.
 ///
 /// The enqueues rise, the dequeues do, and the no-ops are sorted: the three lists are merged.
 pub(crate) fn merge(
     alloc: Global,
     matching: &Matching,
-    values: &OrderedValues,
+    order: &[PackedTimed],
     noops: &Noops,
 ) -> Result<Vec<OpId>, AllocError>
-    requires values { values.now ≡ timeline_of matching.now }
+    requires order { IsOrderOf matching.now order.now }
     requires noops { NeverFall noops.now }
-    ensures clear { IsClear (timeline_of matching.now) }
-    ensures merged { IfOk result (λ places. IsMerge (timeline_of matching.now) noops.now places.items) }
+    ensures { IfOk result (λ places. IsMerge matching.now noops.now places.items) }
 {
-    let order = values.order();
-    let mut places = Vec::with_capacity(alloc, matching.timeline().len())?;
+    let mut places = Vec::with_capacity(alloc, matching.operations().len())?;
     let mut so_far = place_enqueues(&mut places, matching, order, noops)?;
     place_dequeues(&mut places, &mut so_far, matching, order, noops, None)?;
     place_noops(&mut places, &mut so_far.noops, noops, None)?;
@@ -53,10 +48,9 @@ fn place_enqueues(
     noops: &Noops,
 ) -> Result<Merged, AllocError>
     requires none { places.old.items ≡ [] }
-    requires order { IsOrderOfPlaces (timeline_of matching.now) (places_in order.now) }
-    requires gaps { AreEnqueueGaps (lives_at (timeline_of matching.now) (places_in order.now)) (gaps_in order.now) }
+    requires order { IsOrderOf matching.now order.now }
     requires noops { NeverFall noops.now }
-    ensures { IfOk result (λ so_far. IsMergedUpTo (timeline_of matching.now) (lives_at (timeline_of matching.now) (places_in order.now))
+    ensures { IfOk result (λ so_far. IsMergedUpTo matching.now (ordered_lives matching.now order.now)
         noops.now (length order.now) so_far.dequeues so_far.left so_far.noops places.new.items) }
 {
     let values = matching.values();
@@ -67,13 +61,25 @@ fn place_enqueues(
     };
     for (rank, entered) in order.iter().enumerate() {
         let entered = entered.unpack();
-        let enqueue = Placed::enqueue(values.get(entered.place).enqueue, entered.time, rank);
-        let before = Some(enqueue.position);
+        let before = Some(Position::of_enqueue(entered.time, rank));
         place_dequeues(places, &mut so_far, matching, order, noops, before)?;
         place_noops(places, &mut so_far.noops, noops, before)?;
-        places.push(enqueue.operation)?;
+        if let Some(place) = place_of(values.get(entered.place).source) {
+            places.push(place)?;
+        }
     }
     Ok(so_far)
+}
+
+/// The place of the enqueue that the value comes from, if it comes from one.
+#[inline(always)]
+fn place_of(source: Source) -> Option<OpId>
+    ensures { result ≡ place_of source }
+{
+    match source {
+        Source::Enq(place) => Some(place),
+        Source::Initial(_) => None,
+    }
 }
 
 /// Adds the next dequeues in the order of the values, up to the first that stands after this position, if one is given;
@@ -87,18 +93,17 @@ fn place_dequeues(
     noops: &Noops,
     before: Option<Position>,
 ) -> Result<(), AllocError>
-    requires order { IsOrderOfPlaces (timeline_of matching.now) (places_in order.now) }
-    requires gaps { AreEnqueueGaps (lives_at (timeline_of matching.now) (places_in order.now)) (gaps_in order.now) }
+    requires order { IsOrderOf matching.now order.now }
     requires noops { NeverFall noops.now }
-    ensures adds { OnOk result ((i : ℕ) → NoneBelow (IsEnqueueFrom (lives_at (timeline_of matching.now) (places_in order.now)) i) before
-        → IsMergedUpTo (timeline_of matching.now) (lives_at (timeline_of matching.now) (places_in order.now)) noops.now i
+    ensures adds { OnOk result ((i : ℕ) → NoneBelow (IsEnqueueFrom (ordered_lives matching.now order.now) i) before
+        → IsMergedUpTo matching.now (ordered_lives matching.now order.now) noops.now i
         so_far.old.dequeues so_far.old.left so_far.old.noops places.old.items
-        → IsMergedUpTo (timeline_of matching.now) (lives_at (timeline_of matching.now) (places_in order.now)) noops.now i
+        → IsMergedUpTo matching.now (ordered_lives matching.now order.now) noops.now i
         so_far.new.dequeues so_far.new.left so_far.new.noops places.new.items) }
-    ensures up_to { OnOk result ((i : ℕ) → NoneBelow (IsEnqueueFrom (lives_at (timeline_of matching.now) (places_in order.now)) i) before
-        → IsMergedUpTo (timeline_of matching.now) (lives_at (timeline_of matching.now) (places_in order.now)) noops.now i
+    ensures up_to { OnOk result ((i : ℕ) → NoneBelow (IsEnqueueFrom (ordered_lives matching.now order.now) i) before
+        → IsMergedUpTo matching.now (ordered_lives matching.now order.now) noops.now i
         so_far.old.dequeues so_far.old.left so_far.old.noops places.old.items
-        → NoneBelow (IsDequeueFrom (lives_at (timeline_of matching.now) (places_in order.now)) so_far.new.dequeues) before) }
+        → NoneBelow (IsDequeueFrom (ordered_lives matching.now order.now) so_far.new.dequeues) before) }
 {
     let values = matching.values();
     while so_far.dequeues < order.len() {
@@ -108,12 +113,12 @@ fn place_dequeues(
         let enqueue_gap = entered.time;
         let left = value.life.leaves_from().max(so_far.left);
         if let Some(dequeue) = value.dequeue {
-            let dequeue = Placed::dequeue(dequeue, enqueue_gap, left.max(enqueue_gap), rank);
-            if stands_after(&dequeue, before) {
+            let position = Position::of_dequeue(enqueue_gap, left.max(enqueue_gap), rank);
+            if position.stands_after(before) {
                 return Ok(());
             }
-            place_noops(places, &mut so_far.noops, noops, Some(dequeue.position))?;
-            places.push(dequeue.operation)?;
+            place_noops(places, &mut so_far.noops, noops, Some(position))?;
+            places.push(dequeue)?;
         }
         *so_far = Merged {
             dequeues: rank + 1,
@@ -133,16 +138,16 @@ fn place_noops(
     before: Option<Position>,
 ) -> Result<(), AllocError>
     requires { NeverFall noops.now }
-    ensures adds { OnOk result ((operations : List Operation) (lives : List Life) (i j left : ℕ) → NoneBelow (IsValueFrom lives i j) before
-        → IsMergedUpTo operations lives noops.now i j left count.old places.old.items
-        → IsMergedUpTo operations lives noops.now i j left count.new places.new.items) }
+    ensures adds { OnOk result ((history : Contents) (lives : List Life) (i j left : ℕ) → NoneBelow (IsValueFrom lives i j) before
+        → IsMergedUpTo history lives noops.now i j left count.old places.old.items
+        → IsMergedUpTo history lives noops.now i j left count.new places.new.items) }
     ensures up_to { OnOk result (NoneBelow (IsNoopFrom noops.now count.new) before) }
 {
     while *count < noops.len() {
         if noops.is_after(*count, before) {
             return Ok(());
         }
-        places.push(noops.get(*count).operation)?;
+        places.push(noops.place(*count))?;
         *count += 1;
     }
     Ok(())

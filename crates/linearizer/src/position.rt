@@ -2,8 +2,6 @@ ghost use Rattle.std.specs.Prelude.{◌≡◌, ◌↔◌, if◌then◌else◌, n
 ghost use Rattle.linearizer.specs.Order.{StandsBefore, earlier_dequeues, enqueues, other_dequeues};
 ghost use Rattle.linearizer.specs.Inner.Placement.{position_of};
 
-use history_merge::OpId;
-
 /// The order of operations within one gap.
 #[derive(Clone, Copy, PartialEq, PartialOrd)]
 pub(crate) enum Class {
@@ -25,39 +23,23 @@ pub(crate) struct Position {
     pub(crate) rank: u64,
 }
 
-/// An operation, and where it stands.
-#[derive(Clone, Copy)]
-pub(crate) struct Placed {
-    pub(crate) operation: OpId,
-    pub(crate) position: Position,
-}
-
-impl Placed {
+impl Position {
     ghost use Rattle.linearizer.specs.Inner.Placement.{position_of};
 
-    pub(crate) fn at(operation: OpId, gap: u64, class: Class, rank: u64) -> Placed
-        ensures operation { result.operation ≡ operation }
-        ensures position { result.position ≡ record { gap = gap; class = class; rank = rank } }
+    /// That of the enqueue of the value at this place of the order of values.
+    pub(crate) fn of_enqueue(gap: u64, place: usize) -> Position
+        ensures { position_of result ≡ record { gap = gap; class = enqueues; rank = place } }
     {
-        let position = Position { gap, class, rank };
-        Placed {
-            operation,
-            position,
+        Position {
+            gap,
+            class: Class::Enqueue,
+            rank: place as u64,
         }
     }
 
-    /// The enqueue of the value at this place of the order of values.
-    pub(crate) fn enqueue(operation: OpId, gap: u64, place: usize) -> Placed
-        ensures operation { result.operation ≡ operation }
-        ensures position { position_of result.position ≡ record { gap = gap; class = enqueues; rank = place } }
-    {
-        Placed::at(operation, gap, Class::Enqueue, place as u64)
-    }
-
-    /// The dequeue of the value at this place of the order of values.
-    pub(crate) fn dequeue(operation: OpId, enqueue_gap: u64, gap: u64, place: usize) -> Placed
-        ensures operation { result.operation ≡ operation }
-        ensures position { position_of result.position ≡ record {
+    /// That of the dequeue of the value at this place of the order of values.
+    pub(crate) fn of_dequeue(enqueue_gap: u64, gap: u64, place: usize) -> Position
+        ensures { position_of result ≡ record {
           gap = gap;
           class = (if nat_lt enqueue_gap gap then earlier_dequeues else other_dequeues);
           rank = place;
@@ -68,16 +50,20 @@ impl Placed {
         } else {
             Class::OtherDequeue
         };
-        Placed::at(operation, gap, class, place as u64)
+        Position {
+            gap,
+            class,
+            rank: place as u64,
+        }
     }
-}
 
-/// Whether the operation stands after this position, if one is given.
-pub(crate) fn stands_after(placed: &Placed, position: Option<Position>) -> bool
-    ensures { MatchOption position (result ≡ false) (λ p. IsTrue result ↔ StandsBefore (position_of p) (position_of placed.now.position)) }
-{
-    match position {
-        Some(position) => position < placed.position,
-        None => false,
+    /// Whether it stands after another, if one is given.
+    pub(crate) fn stands_after(self, other: Option<Position>) -> bool
+        ensures { MatchOption other (result ≡ false) (λ p. IsTrue result ↔ StandsBefore (position_of p) (position_of self)) }
+    {
+        match other {
+            Some(other) => other < self,
+            None => false,
+        }
     }
 }

@@ -1,30 +1,33 @@
 -- A value that overtakes another is an order violation, and each order violation is one.
-use Rattle.order_violation.proofs.Common.{[], All, All-append, All-contains, All-nil, All-push, arith}
-use Rattle.order_violation.proofs.Common.{call_or_never, Contains, Contains-append_left, Contains-append_right}
-use Rattle.order_violation.proofs.Common.{Contains-push, dequeue_call, dequeue_of, dequeue_return, enqueue_call}
-use Rattle.order_violation.proofs.Common.{EntersBefore, false, FindsFirst, FindsLongest, get_or}
-use Rattle.order_violation.proofs.Common.{HoldsLives, inl, inr, is_some, IsFirstOvertaking, IsLife, IsLongestOf}
-use Rattle.order_violation.proofs.Common.{IsMaybeAt, IsSoonerOf, length, Life, List, MatchedValue, MatchOption, None}
-use Rattle.order_violation.proofs.Common.{NonePasses, Option, option_map, Overtakes, refl, return_or_never, Some}
+use Rattle.order_violation.proofs.Common.{[], All, All-append, All-contains, All-nil, All-push, arith, call_or_never}
+use Rattle.order_violation.proofs.Common.{Contains, Contains-append_left, Contains-append_right, Contains-push}
+use Rattle.order_violation.proofs.Common.{dequeue_call, dequeue_of, dequeue_return, enqueue_call, EntersBefore, false}
+use Rattle.order_violation.proofs.Common.{FindsFirst, FindsLongest, get_or, inl, inr, is_some, IsFirstFound}
+use Rattle.order_violation.proofs.Common.{IsFirstOvertaking, IsLife, IsLongestOf, IsMaybeAt, IsMaybeOperation, IsNamed}
+use Rattle.order_violation.proofs.Common.{IsOrderAnswer, IsSoonerOf, length, Life, List, MatchedValue, MatchOption}
+use Rattle.order_violation.proofs.Common.{None, NonePasses, Option, Overtakes, refl, return_or_never, Some}
 use Rattle.order_violation.proofs.Common.{StaysAtLeast, subst, sym, take, true, ℕ, ◌++◌, ◌+◌, ◌<◌, ◌∷◌, ◌≡◌, ◌≤◌}
-use Rattle.order_violation.specs.Pairs.{IsChosenPair, IsFirstFound, IsFirstOvertaker, IsOrderAnswer, told_pair}
+use Rattle.order_violation.specs.Pairs.{IsChosenPair, IsFirstOvertaker, pair_of}
 use Rattle.history_merge.specs.declared.operation.Operation.{Operation}
 use Rattle.history_merge.specs.declared.operation.OpKind.TheVariants.{Deq}
 use Rattle.history_merge.specs.Operations.{Did, NoneDid}
 use Rattle.history_merge.specs.Complete.{AreApart, AreComplete}
-use Rattle.history_merge.specs.Initial.{timeline}
+use Rattle.history_merge.specs.Initial.{Contents}
+use Rattle.history_merge.specs.Inner.Timeline.{timeline}
 use Rattle.history_merge.proofs.Distinct.{call_by_return, contains_at, pairs_at, return_in_range}
 use Rattle.value_match.specs.declared.life.TheConstants.{NEVER}
-use Rattle.value_match.specs.Timeline.{told_place, told_source}
-use Rattle.value_match.specs.Outcome.{IsMaybeOperation}
+use Rattle.value_match.specs.Inner.Told.{behind}
+use Rattle.value_match.specs.Outcome.{HoldsValues}
+use Rattle.value_match.specs.Inner.Courses.{on}
+use Rattle.value_match.specs.Lives.{course_of, timed}
 use Rattle.value_match.specs.Violations.{IsClear, IsOrderViolation, NoOrderViolation}
 use Rattle.std.proofs.lemmas.Option.{MatchOption-at_some}
-use Rattle.value_match.proofs.Lives.{dequeued_if_called, places_of_value, value_is_life, value_of_life}
-use Rattle.value_match.proofs.ToldPlaces.{few_initial, value_told}
+use Rattle.value_match.proofs.Lives.{dequeued_if_called}
+use Rattle.value_match.proofs.ToldPlaces.{clear_life, clear_on, life_value, maybe_on, value_lives}
 use Rattle.value_match.proofs.Lists.{one_more}
 
 -- what ends a life is a dequeue of its value
-pub did_dequeue : (operations : List Operation) (life : Life) (d : Operation) (is : IsLife operations life) → dequeue_of life ≡ Some d
+pub did_dequeue : (operations : List Operation) (life : Life) (d : Operation) (is : IsLife (on operations) life) → dequeue_of life ≡ Some d
     → Did operations d (Deq is.0)
 did_dequeue operations life d is dequeues = MatchOption-at_some (NoneDid operations (Deq is.0)) (λ d. Did operations d (Deq is.0)) d dequeues is.2
 
@@ -49,44 +52,12 @@ called_first operations p q None b complete below at_x at_y = elim at_x [ ]
 called_first operations p q (Some x) None complete below at_x at_y = elim at_y [ ]
 
 -- where there is no order violation, no value overtakes another
-pub none_overtakes : (operations : List Operation) (a b : Life) → IsClear operations → NoOrderViolation operations → IsLife operations a
-    → IsLife operations b → ¬ (Overtakes b a)
+pub none_overtakes : (operations : List Operation) (a b : Life) → IsClear (on operations) → NoOrderViolation (on operations) → IsLife (on operations) a
+    → IsLife (on operations) b → ¬ (Overtakes b a)
 none_overtakes operations a b clear none is_a is_b overtakes =
     let last = (called_by operations is_a.0 (dequeue_of a) clear.complete is_a.2).0 in
     let called = (called_by operations is_b.0 (dequeue_of b) clear.complete is_b.2).1 (omega (arith, overtakes.1)) in
     none a b (record { is_a = is_a; is_b = is_b; is_dequeued = called; overtakes = overtakes })
-
--- if no value overtakes another, there is no order violation
-pub no_overtaking : (operations : List Operation) (values : List MatchedValue) → IsClear operations → HoldsLives operations values
-    → All (λ b. NonePasses (Overtakes b.life) values) values → NoOrderViolation operations
-no_overtaking operations values clear holds none x y violation =
-    let (a, among_a, is_a) = value_of_life operations values x clear holds violation.is_a in
-    let (b, among_b, is_b) = value_of_life operations values y clear holds violation.is_b in
-    All-contains (λ a. ¬ (Overtakes b.life a.life)) values a (All-contains (λ b. NonePasses (Overtakes b.life) values) values b none among_b) among_a
-    (rw (is_a, is_b) violation.overtakes)
-
--- the first of the values that overtake another is the first of all lives that do
-pub first_of_lives : (operations : List Operation) (values : List MatchedValue) (b : MatchedValue) → IsClear operations → HoldsLives operations values
-    → IsFirstOvertaking values values b → IsFirstOvertaker operations b
-first_of_lives operations values b clear holds is = record {
-  is_life = value_is_life operations values b holds is.among;
-  has_places = places_of_value operations values b holds is.among;
-  overtaken = is.overtaken.life;
-  overtaken_is_life = value_is_life operations values is.overtaken holds is.overtaken_among;
-  overtakes = is.overtakes;
-  first = λ x a is_x is_a overtakes.
-      let (y, among_y, same_y) = value_of_life operations values x clear holds is_x in
-      let (z, among_z, same_z) = value_of_life operations values a clear holds is_a in
-      subst (λ l. dequeue_return b.life ≤ dequeue_return l) same_y
-      (All-contains (λ other. (a : MatchedValue) → Contains values a → Overtakes other.life a.life
-      → dequeue_return b.life ≤ dequeue_return other.life) values y is.first among_y z among_z (rw (same_y, same_z) overtakes));
-}
-
--- what is found among the values is found of all operations
-pub first_found : (operations : List Operation) (values : List MatchedValue) (found : Option MatchedValue) → IsClear operations
-    → HoldsLives operations values → FindsFirst values values found → IsFirstFound operations found
-first_found operations values None clear holds none = no_overtaking operations values clear holds none
-first_found operations values (Some b) clear holds is = first_of_lives operations values b clear holds is
 
 place_there : (operations : List Operation) (place : Option ℕ) (o : Option Operation) (d : Operation) → IsMaybeAt operations place o → o ≡ Some d
     → (p : ℕ) × (place ≡ Some p)
@@ -94,46 +65,92 @@ place_there operations (Some p) o d at is = (p, refl)
 place_there operations None None d at is = cc
 place_there operations None (Some e) d at is = absurd at
 
-module _ (initial : List ℕ) (operations : List Operation) (values : List MatchedValue) (clear : IsClear (timeline initial operations))
-    (holds : HoldsLives (timeline initial operations) values) (a b : MatchedValue) (first : IsFirstOvertaker (timeline initial operations) b)
-    (longest : IsLongestOf (Overtakes b.life) values a) where
-  abbrev all : List Operation
-  all = timeline initial operations
+-- ---- the values of a history
 
+module _ (history : Contents) (clear : IsClear (course_of history)) where
   abbrev k : ℕ
-  k = length initial
+  k = length history.initial
 
-  stays_longest : (other : Life) → IsOrderViolation all other b.life → StaysAtLeast a.life other
-  stays_longest other violation =
-      let (x, among, same) = value_of_life all values other clear holds violation.is_a in
-      subst (StaysAtLeast a.life) same (All-contains (λ y. Overtakes b.life y.life → StaysAtLeast a.life y.life) values x longest.longest among
-      (subst (Overtakes b.life) (sym same) violation.overtakes))
+  abbrev all : List Operation
+  all = timeline history.initial history.operations
 
-  is_violation : IsOrderViolation all a.life b.life
-  is_violation =
-      let is_a = value_is_life all values a holds longest.among in
-      let last = (called_by all is_a.0 (dequeue_of a.life) clear.complete is_a.2).0 in record {
-        is_a = is_a;
-        is_b = first.is_life;
-        is_dequeued = (called_by all first.is_life.0 (dequeue_of b.life) clear.complete first.is_life.2).1 (omega (arith, longest.passes.1));
-        overtakes = longest.passes;
-      }
+  -- when the value of a life is called to be dequeued
+  called : (life : Life) → IsLife (course_of history) life
+      → (dequeue_call life ≤ NEVER) × (dequeue_return life < NEVER → dequeue_call life < NEVER)
+  called life is =
+      let there = clear_life history.initial history.operations clear life is in
+      called_by all there.0 (dequeue_of life) (clear_on history.initial history.operations clear).complete there.2
 
-  -- the first value that overtakes another, with the longest that it overtakes, is the chosen pair
-  pub is_chosen_pair : (p : ℕ) → b.dequeue ≡ Some p → IsChosenPair initial operations (record {
-    enq_a = told_source k a.enqueue;
-    enq_b = told_source k b.enqueue;
-    deq_b = told_place k p;
-    deq_a = option_map (told_place k) a.dequeue;
-  })
-  is_chosen_pair p named =
-      let few = few_initial initial operations clear.complete in
-      let at_b = value_told initial operations few b first.has_places first.is_life in record {
+  -- of two dequeues the first by place is called before the other returns
+  pub called_in_order : (p q : ℕ) (a b : Option Operation) → p < q → IsMaybeOperation history.operations (Some p) a
+      → IsMaybeOperation history.operations (Some q) b → call_or_never a < return_or_never b
+  called_in_order p q a b below at_p at_q =
+      called_first all (behind k p) (behind k q) a b (clear_on history.initial history.operations clear).complete (omega arith)
+      (maybe_on history.initial history.operations (Some p) a at_p) (maybe_on history.initial history.operations (Some q) b at_q)
+
+  module _ (values : List MatchedValue) (holds : HoldsValues history values) where
+    -- a value is a life, and a life is that of a value
+    is_value : (value : MatchedValue) → Contains values value → IsLife (course_of history) value.life
+    is_value = value_lives history.initial history.operations clear values holds
+
+    pub a_value : (life : Life) → IsLife (course_of history) life → (value : MatchedValue) × Contains values value × (value.life ≡ life)
+    a_value = life_value history.initial history.operations clear values holds
+
+    -- if no value overtakes another, there is no order violation
+    no_overtaking : All (λ b. NonePasses (Overtakes b.life) values) values → NoOrderViolation (course_of history)
+    no_overtaking none x y violation =
+        let (a, among_a, is_a) = a_value x violation.is_a in
+        let (b, among_b, is_b) = a_value y violation.is_b in
+        All-contains (λ a. ¬ (Overtakes b.life a.life)) values a (All-contains (λ b. NonePasses (Overtakes b.life) values) values b none among_b) among_a
+        (rw (is_a, is_b) violation.overtakes)
+
+    -- the first of the values that overtake another is the first of all lives that do
+    first_of_lives : (b : MatchedValue) → IsFirstOvertaking values values b → IsFirstOvertaker history b
+    first_of_lives b is = record {
+      is_life = is_value b is.among;
+      named = All-contains (λ m. IsNamed history.initial history.operations m.source m.dequeue m.life) values b holds.named is.among;
+      overtaken = is.overtaken.life;
+      overtaken_is_life = is_value is.overtaken is.overtaken_among;
+      overtakes = is.overtakes;
+      first = λ x a is_x is_a overtakes.
+          let (y, among_y, same_y) = a_value x is_x in
+          let (z, among_z, same_z) = a_value a is_a in
+          subst (λ l. dequeue_return b.life ≤ dequeue_return l) same_y
+          (All-contains (λ other. (a : MatchedValue) → Contains values a → Overtakes other.life a.life
+          → dequeue_return b.life ≤ dequeue_return other.life) values y is.first among_y z among_z (rw (same_y, same_z) overtakes));
+    }
+
+    -- what is found among the values is found of all lives
+    pub first_found : (found : Option MatchedValue) → FindsFirst values values found → IsFirstFound history found
+    first_found None none = no_overtaking none
+    first_found (Some b) is = first_of_lives b is
+
+    module _ (a b : MatchedValue) (first : IsFirstOvertaker history b) (longest : IsLongestOf (Overtakes b.life) values a) where
+      stays_longest : (other : Life) → IsOrderViolation (course_of history) other b.life → StaysAtLeast a.life other
+      stays_longest other violation =
+          let (x, among, same) = a_value other violation.is_a in
+          subst (StaysAtLeast a.life) same (All-contains (λ y. Overtakes b.life y.life → StaysAtLeast a.life y.life) values x longest.longest among
+          (subst (Overtakes b.life) (sym same) violation.overtakes))
+
+      is_violation : IsOrderViolation (course_of history) a.life b.life
+      is_violation =
+          let is_a = is_value a longest.among in
+          let last = (called a.life is_a).0 in record {
+            is_a = is_a;
+            is_b = first.is_life;
+            is_dequeued = (called b.life first.is_life).1 (omega (arith, longest.passes.1));
+            overtakes = longest.passes;
+          }
+
+      -- the first value that overtakes another, with the longest that it overtakes, is the chosen pair
+      is_chosen_pair : (p : ℕ) → b.dequeue ≡ Some p
+          → IsChosenPair history.initial history.operations (record { enq_a = a.source; enq_b = b.source; deq_b = p; deq_a = a.dequeue })
+      is_chosen_pair p named = record {
         a = a.life;
         b = b.life;
         names = (
-          value_told initial operations few a (places_of_value all values a holds longest.among) is_violation.is_a,
-          (at_b.0, subst (λ q. IsMaybeOperation initial operations (option_map (told_place k) q) (dequeue_of b.life)) named at_b.1),
+          All-contains (λ m. IsNamed history.initial history.operations m.source m.dequeue m.life) values a holds.named longest.among,
+          (first.named.0, subst (λ q. IsMaybeOperation history.operations q (dequeue_of b.life)) named first.named.1),
         );
         is_chosen = record {
           violates = is_violation;
@@ -142,12 +159,12 @@ module _ (initial : List ℕ) (operations : List Operation) (values : List Match
         };
       }
 
-  -- so their pair is the answer
-  pub is_answer : IsOrderAnswer initial operations (told_pair k a b)
-  is_answer =
-      let dequeue = dequeued_if_called b.life is_violation.is_dequeued in
-      let place = place_there all b.dequeue (dequeue_of b.life) dequeue.0 first.has_places.1 dequeue.1 in
-      rw place.1 (is_chosen_pair place.0 place.1)
+      -- so their pair is the answer
+      pub is_answer : IsOrderAnswer history.initial history.operations (pair_of a b)
+      is_answer =
+          let dequeue = dequeued_if_called b.life is_violation.is_dequeued in
+          let place = place_there (timed history.operations) b.dequeue (dequeue_of b.life) dequeue.0 first.named.1 dequeue.1 in
+          rw place.1 (is_chosen_pair place.0 place.1)
 
 -- ---- the first that overtakes another, of two lists of candidates and of one more in a scan
 

@@ -3,12 +3,11 @@ use Rattle.std.specs.Prelude.{All, Contains, List, MatchOption, None, Option, op
 use Rattle.history_merge.specs.declared.operation.Operation.{Operation}
 use Rattle.value_match.specs.declared.life.Life.{Life}
 use Rattle.value_match.specs.declared.life.MatchedValue.{MatchedValue}
-use Rattle.value_match.specs.Lives.{dequeue_return, HasPlaces, IsLife}
+use Rattle.value_match.specs.Lives.{course, course_of, dequeue_return, IsLife}
 use Rattle.value_match.specs.Fronts.{NonePasses}
 use Rattle.value_match.specs.Violations.{NoOrderViolation, order, Overtakes}
-use Rattle.history_merge.specs.Initial.{timeline}
-use Rattle.value_match.specs.Timeline.{told_place, told_source}
-use Rattle.value_match.specs.Outcome.{Names}
+use Rattle.history_merge.specs.Initial.{Contents}
+use Rattle.value_match.specs.Outcome.{IsNamed, Names}
 use Rattle.value_match.specs.declared.violation.Violation.{Violation}
 use Rattle.value_match.specs.declared.violation.Violation.TheVariants.{Order}
 use Rattle.value_match.specs.Choice.{IsChosenOrderViolation}
@@ -31,21 +30,21 @@ pub record IsFirstOvertaking (values candidates : List MatchedValue) (b : Matche
   pub first : All (λ other. (a : MatchedValue) → Contains values a → Overtakes other.life a.life → dequeue_return b.life ≤ dequeue_return other.life) candidates
 
 -- of the accepted values that overtake another, the one that is dequeued first
-pub record IsFirstOvertaker (operations : List Operation) (b : MatchedValue) : Type 0 where
-  pub is_life : IsLife operations b.life
-  pub has_places : HasPlaces operations b
+pub record IsFirstOvertaker (history : Contents) (b : MatchedValue) : Type 0 where
+  pub is_life : IsLife (course_of history) b.life
+  pub named : IsNamed history.initial history.operations b.source b.dequeue b.life
   pub overtaken : Life
-  pub overtaken_is_life : IsLife operations overtaken
+  pub overtaken_is_life : IsLife (course_of history) overtaken
   pub overtakes : Overtakes b.life overtaken
-  pub first : (x a : Life) → IsLife operations x → IsLife operations a → Overtakes x a → dequeue_return b.life ≤ dequeue_return x
+  pub first : (x a : Life) → IsLife (course_of history) x → IsLife (course_of history) a → Overtakes x a → dequeue_return b.life ≤ dequeue_return x
 
 -- the candidate that overtakes a value and is dequeued first, or none if none overtakes
 abbrev pub FindsFirst : List MatchedValue → List MatchedValue → Option MatchedValue → Type 0
 FindsFirst values candidates found = MatchOption found (All (λ b. NonePasses (Overtakes b.life) values) candidates) (λ b. IsFirstOvertaking values candidates b)
 
 -- the one of the accepted values that overtake another that is dequeued first, or none where no two are an order violation
-abbrev pub IsFirstFound : List Operation → Option MatchedValue → Type 0
-IsFirstFound operations found = MatchOption found (NoOrderViolation operations) (IsFirstOvertaker operations)
+abbrev pub IsFirstFound : Contents → Option MatchedValue → Type 0
+IsFirstFound history found = MatchOption found (NoOrderViolation (course_of history)) (IsFirstOvertaker history)
 
 -- ---- a pair of values dequeued against the order of their enqueues
 
@@ -58,18 +57,13 @@ pub record IsChosenPair (initial : List ℕ) (operations : List Operation) (pair
   pub a : Life
   pub b : Life
   pub names : Names initial operations (violation_of pair) (order a b)
-  pub is_chosen : IsChosenOrderViolation (timeline initial operations) a b
+  pub is_chosen : IsChosenOrderViolation (course initial operations) a b
 
--- the pair of two values, by the places of the history, if the second is dequeued
-abbrev pub told_pair : ℕ → MatchedValue → MatchedValue → Option OrderPair
-told_pair k a b = option_map (λ p. record {
-  enq_a = told_source k a.enqueue;
-  enq_b = told_source k b.enqueue;
-  deq_b = told_place k p;
-  deq_a = option_map (told_place k) a.dequeue;
-}) b.dequeue
+-- the pair of two values, if the second is dequeued
+abbrev pub pair_of : MatchedValue → MatchedValue → Option OrderPair
+pair_of a b = option_map (λ p. record { enq_a = a.source; enq_b = b.source; deq_b = p; deq_a = a.dequeue }) b.dequeue
 
 -- the chosen pair, or none if no values are dequeued against the order of their enqueues
 abbrev pub IsOrderAnswer : List ℕ → List Operation → Option OrderPair → Type 0
-IsOrderAnswer initial operations None = NoOrderViolation (timeline initial operations)
+IsOrderAnswer initial operations None = NoOrderViolation (course initial operations)
 IsOrderAnswer initial operations (Some pair) = IsChosenPair initial operations pair

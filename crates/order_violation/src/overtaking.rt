@@ -1,4 +1,4 @@
-ghost use Rattle.std.specs.Prelude.{◌↔◌, List, IsTrue};
+ghost use Rattle.std.specs.Prelude.{◌≡◌, ◌↔◌, IsTrue, List, MatchOption};
 ghost use Rattle.value_match.specs.declared.life.MatchedValue.{MatchedValue};
 ghost use Rattle.value_match.specs.Lives.{enqueue_call};
 ghost use Rattle.value_match.specs.Fronts.{EntersBefore, FindsLongest};
@@ -15,6 +15,16 @@ pub fn sooner_of(first: MatchedValue, second: MatchedValue) -> MatchedValue
         first
     } else {
         second
+    }
+}
+
+/// Returns the one of the value so far, if there is one, and of another that is dequeued first.
+fn sooner_with(first: Option<MatchedValue>, other: MatchedValue) -> MatchedValue
+    ensures { MatchOption first (result ≡ other) (λ so_far. IsSoonerOf so_far other result) }
+{
+    match first {
+        Some(so_far) => sooner_of(so_far, other),
+        None => other,
     }
 }
 
@@ -52,7 +62,7 @@ pub fn first_overtaking(table: &LongestTable, candidates: &Values) -> Option<Mat
         let b = candidates.get(place);
         let longest = table.longest_before(b.life.enqueue_call());
         if if_overtaken(&b.life, longest).is_some() {
-            first = Some(first.map_or(b, |so_far| sooner_of(so_far, b)));
+            first = Some(sooner_with(first, b));
         }
     }
     first

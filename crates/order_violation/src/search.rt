@@ -1,19 +1,16 @@
-ghost use Rattle.std.specs.Prelude.{◌≡◌, All, IfOk, List};
-ghost use Rattle.history_merge.specs.Complete.{AreComplete};
-ghost use Rattle.history_merge.specs.declared.operation.Operation.{Operation};
-ghost use Rattle.value_match.specs.Lives.{HasPlaces, IsMaybeAt, dequeue_of};
-ghost use Rattle.value_match.specs.Fronts.{FindsLongest};
-ghost use Rattle.order_violation.specs.Pairs.{IsFirstFound, IsOrderAnswer, told_pair};
-ghost use Rattle.value_match.specs.Violations.{Overtakes};
-ghost use Rattle.value_match.specs.Timeline.{timeline_of};
+ghost use Rattle.std.specs.Prelude.{◌≡◌, IfOk, List, MatchOption};
+ghost use Rattle.value_match.specs.declared.life.MatchedValue.{MatchedValue};
+ghost use Rattle.value_match.specs.Lives.{course_of, dequeue_of};
+ghost use Rattle.value_match.specs.Outcome.{HoldsValues, IsMaybeOperation};
+ghost use Rattle.value_match.specs.Fronts.{FindsLongest, IsLongerOf};
+ghost use Rattle.order_violation.specs.Pairs.{IsFirstFound, IsOrderAnswer, pair_of};
+ghost use Rattle.value_match.specs.Violations.{IsClear, Overtakes};
 
 use crate::overtaking::{first_overtaking, overtakes};
 use crate::pair::OrderPair;
 use history_merge::OpId;
 use std::alloc::{AllocError, Global};
-use value_match::{
-    Life, LongestTable, MatchedValue, Matching, Values, told_maybe, told_place, told_source,
-};
+use value_match::{Life, LongestTable, MatchedValue, Matching};
 
 /// Finds the chosen pair of values dequeued against the order of their enqueues, if there is one: of the values
 /// dequeued before another that was enqueued before them the one dequeued first, and of those others the one that
@@ -33,32 +30,32 @@ pub fn find_order(alloc: Global, matching: &Matching) -> Result<Option<OrderPair
 ///
 /// Time O(n) for n values, and no memory.
 pub fn chosen_pair(matching: &Matching, first: Option<MatchedValue>) -> Option<OrderPair>
-    requires { IsFirstFound (timeline_of matching.now) first }
+    requires { IsFirstFound matching.now first }
     ensures { IsOrderAnswer matching.now.initial matching.now.operations result }
 {
-    let initial_count = matching.initial().len();
     let b = first?;
-    let a = longest_among(&matching.values(), &b.life, &b.dequeue)?;
-    pair_of(initial_count, a, b)
+    let a = longest_among(matching, &b.life, &b.dequeue)?;
+    pair_of(a, b)
 }
 
-/// The pair of two values, by the places of the history, if the second is dequeued.
-fn pair_of(initial_count: usize, a: MatchedValue, b: MatchedValue) -> Option<OrderPair>
-    ensures { result ≡ told_pair initial_count a b }
+/// The pair of two values, if the second is dequeued.
+fn pair_of(a: MatchedValue, b: MatchedValue) -> Option<OrderPair>
+    ensures { result ≡ pair_of a b }
 {
     Some(OrderPair {
-        enq_a: told_source(initial_count, a.enqueue),
-        enq_b: told_source(initial_count, b.enqueue),
-        deq_b: told_place(initial_count, b.dequeue?),
-        deq_a: told_maybe(initial_count, a.dequeue),
+        enq_a: a.source,
+        enq_b: b.source,
+        deq_b: b.dequeue?,
+        deq_a: a.dequeue,
     })
 }
 
 /// Returns of the values that b overtakes, whose dequeue stands at this place, the one that stays longest.
-fn longest_among(values: &Values, b: &Life, dequeue: &Option<OpId>) -> Option<MatchedValue>
-    requires { (operations : List Operation) × AreComplete operations × All (HasPlaces operations) values.now × IsMaybeAt operations dequeue.now (dequeue_of b.now) }
-    ensures { FindsLongest (Overtakes b.now) values.now result }
+fn longest_among(matching: &Matching, b: &Life, dequeue: &Option<OpId>) -> Option<MatchedValue>
+    requires { IsMaybeOperation matching.now.operations dequeue.now (dequeue_of b.now) }
+    ensures { (values : List MatchedValue) × IsClear (course_of matching.now) × HoldsValues matching.now values × FindsLongest (Overtakes b.now) values result }
 {
+    let values = matching.values();
     let mut longest: Option<MatchedValue> = None;
     for place in 0..values.len() {
         // Most are dequeued before b, as the places say without a look at the operations.
@@ -70,8 +67,18 @@ fn longest_among(values: &Values, b: &Life, dequeue: &Option<OpId>) -> Option<Ma
         }
         let a = values.get(place);
         if overtakes(b, &a.life) {
-            longest = Some(longest.map_or(a, |longest| longest.longer_of(a)));
+            longest = Some(longer_with(longest, a));
         }
     }
     longest
+}
+
+/// Returns the one of the value so far, if there is one, and of another that stays longer.
+fn longer_with(longest: Option<MatchedValue>, other: MatchedValue) -> MatchedValue
+    ensures { MatchOption longest (result ≡ other) (λ so_far. IsLongerOf so_far other result) }
+{
+    match longest {
+        Some(so_far) => so_far.longer_of(other),
+        None => other,
+    }
 }

@@ -1,5 +1,5 @@
 -- A list in two parts.
-use Rattle.parallel_finders.proofs.Common.{◌++◌, ◌≡◌, drop, List, take, take-append-drop, ℕ}
+use Rattle.parallel_finders.proofs.Common.{drop, List, take, take-append-drop, ℕ, ◌++◌, ◌≡◌}
 
 -- the parts make the whole
 pub whole : {X : Type 0} (xs low high : List X) (n : ℕ) → low ≡ take n xs → high ≡ drop n xs → low ++ high ≡ xs

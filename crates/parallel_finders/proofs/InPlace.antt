@@ -1,13 +1,14 @@
 -- A vector whose slice is sorted, and one that is found sorted.
-use Rattle.parallel_finders.proofs.Common.{[], ◌++◌, ◌+◌, ◌<◌, ◌∷◌, ◌≡◌, ◌≤◌, ap, append-nil, arith, Bool, Bor, drop}
-use Rattle.parallel_finders.proofs.Common.{false, get_or, is_le, IsNonDecreasingBy, IsPermutation, length, List}
-use Rattle.parallel_finders.proofs.Common.{nat_cmp, Some, suc, sym, take, take_all, true, zero, ℕ}
+use Rattle.parallel_finders.proofs.Common.{[], ap, append-nil, arith, Bool, Bor, drop, false, get_or, is_le}
+use Rattle.parallel_finders.proofs.Common.{IsNonDecreasingBy, IsPermutation, length, List, nat_cmp, Some, suc, sym}
+use Rattle.parallel_finders.proofs.Common.{take, take_all, true, zero, ℕ, ◌++◌, ◌+◌, ◌<◌, ◌∷◌, ◌≡◌, ◌≤◌}
 use denote.Param.Members.{Mut}
 use Rattle.std.specs.Fn.{ComputesKey}
 use Rattle.std.specs.Ordering.{is_some_and}
 use Rattle.std.specs.List.{IsAllAdjacentAnswer}
 use Rattle.std.proofs.lemmas.List.{drop_all}
-use Rattle.std.proofs.lemmas.List.Sorted.{IsNonDecreasingBy-from_all_adjacent, IsPermutation-trans, non_decreasing_from_is_sorted}
+use Rattle.std.proofs.lemmas.List.Sorted.{IsNonDecreasingBy-from_all_adjacent, IsPermutation-trans}
+use Rattle.std.proofs.lemmas.List.Sorted.{non_decreasing_from_is_sorted}
 use Rattle.value_match.proofs.Lists.{moved_in_place}
 
 -- the elements of a vector after its slice was sorted

@@ -1,16 +1,15 @@
 ghost use Rattle.std.specs.Prelude.{◌≡◌, ◌++◌, All, IfOk};
 ghost use Rattle.std.specs.Thread.{IsSync};
-ghost use Rattle.value_match.specs.Timeline.{timeline_of};
+ghost use Rattle.value_match.specs.Lives.{course_of};
 ghost use Rattle.empty_witness.specs.Answers.{AreWindowsAt, IsEmptyAnswerAt};
 ghost use Rattle.empty_witness.specs.Spans.{AreSpansOf};
 ghost use Rattle.empty_witness.specs.declared.search.WindowsAnswer.TheVariants.{Free, Covered};
 ghost use Rattle.parallel_finders.specs.Inner.Together.{AreTogether};
 
 use empty_witness::{EmptyAnswer, Span, WindowsAnswer, sooner_of, windows_at};
-use history_merge::OpId;
 use std::alloc::{AllocError, Global};
 use std::thread::{Threads, join};
-use value_match::Matching;
+use value_match::{Matching, Places};
 
 /// Searches the windows of the empty dequeues at these places, in pieces.
 #[cycle(halves)]
@@ -19,12 +18,12 @@ pub(crate) fn windows_at_par<R: Threads + Sync>(
     alloc: Global,
     matching: &Matching,
     spans: &[Span],
-    empties: &[OpId],
+    empties: &Places,
     pieces: usize,
 ) -> Result<WindowsAnswer, AllocError>
-    requires empties { All (IsEmptyAnswerAt (timeline_of matching.now)) empties.now }
-    requires spans { AreSpansOf (timeline_of matching.now) spans.now }
-    ensures { IfOk result (λ windows. AreWindowsAt (timeline_of matching.now) empties.now windows) }
+    requires empties { All (IsEmptyAnswerAt matching.now.operations) empties.now }
+    requires spans { AreSpansOf (course_of matching.now) spans.now }
+    ensures { IfOk result (λ windows. AreWindowsAt (course_of matching.now) empties.now windows) }
 {
     if pieces < 2 || empties.len() < 2 {
         return windows_at(alloc, matching, spans, empties);
@@ -33,13 +32,13 @@ pub(crate) fn windows_at_par<R: Threads + Sync>(
     let some = pieces / 2;
     let others = pieces - some;
     let left = || -> Result<WindowsAnswer, AllocError>
-        requires { IsSync R.row × All (IsEmptyAnswerAt (timeline_of matching.now)) low.now × AreSpansOf (timeline_of matching.now) spans.now }
-        ensures { IfOk result (λ windows. AreWindowsAt (timeline_of matching.entry.now) low.entry.now windows) }
-    { windows_at_par(rt, alloc, matching, spans, low, some) };
+        requires { IsSync R.row × All (IsEmptyAnswerAt matching.now.operations) low × AreSpansOf (course_of matching.now) spans.now }
+        ensures { IfOk result (λ windows. AreWindowsAt (course_of matching.entry.now) low.entry windows) }
+    { windows_at_par(rt, alloc, matching, spans, &low, some) };
     let right = || -> Result<WindowsAnswer, AllocError>
-        requires { IsSync R.row × All (IsEmptyAnswerAt (timeline_of matching.now)) high.now × AreSpansOf (timeline_of matching.now) spans.now }
-        ensures { IfOk result (λ windows. AreWindowsAt (timeline_of matching.entry.now) high.entry.now windows) }
-    { windows_at_par(rt, alloc, matching, spans, high, others) };
+        requires { IsSync R.row × All (IsEmptyAnswerAt matching.now.operations) high × AreSpansOf (course_of matching.now) spans.now }
+        ensures { IfOk result (λ windows. AreWindowsAt (course_of matching.entry.now) high.entry windows) }
+    { windows_at_par(rt, alloc, matching, spans, &high, others) };
     let (first, second) = join(rt, left, right);
     windows_of_both(first?, second?)
 }

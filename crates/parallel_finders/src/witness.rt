@@ -25,10 +25,10 @@ pub fn find_witness_par<R: Threads + Sync>(
     requires { (1 ≤ pieces) × (pieces ≤ MAX_PIECES) }
     ensures { IfOk result (IsWitnessAnswer matching.now.initial matching.now.operations) }
 {
-    if matching.values().len() < MIN_ITEMS || matching.timeline_empties().is_empty() {
+    if matching.values().len() < MIN_ITEMS || matching.empties().len() == 0 {
         return find_witness(alloc, matching);
     }
-    let few = matching.timeline_empties().len() < MIN_ITEMS;
+    let few = matching.empties().len() < MIN_ITEMS;
     witness_in_pieces(rt, alloc, matching, if few { 1 } else { pieces })
 }
 
@@ -42,7 +42,7 @@ pub fn witness_in_pieces<R: Threads + Sync>(
     ensures { IfOk result (IsWitnessAnswer matching.now.initial matching.now.operations) }
 {
     let spans = spans_of(alloc, matching)?;
-    let empties = matching.timeline_empties();
-    let windows = windows_at_par(rt, alloc, matching, spans.as_slice(), empties, pieces)?;
+    let empties = matching.empties();
+    let windows = windows_at_par(rt, alloc, matching, spans.as_slice(), &empties, pieces)?;
     witness_of(alloc, matching, windows)
 }

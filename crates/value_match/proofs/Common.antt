@@ -28,37 +28,40 @@ pub use Rattle.std.specs.Prelude.{All, AllPairs, Contains, filter, filter_map, f
 pub use Rattle.std.specs.Prelude.{MatchOption, option_map, slice_get, ⊤}
 pub use lib.Dec.{ltb}
 pub use lib.Seq.{take-nil}
-pub use Rattle.history_merge.proofs.Distinct.{CallsFor, contains_at, contains_cons, found_first, not_in_none, one_at}
-pub use Rattle.history_merge.proofs.Distinct.{pairs_at, place_of, same_enqueue, same_return, same_value_call}
-pub use Rattle.history_merge.proofs.Distinct.{each_more}
+pub use Rattle.history_merge.proofs.Distinct.{CallsFor, contains_at, contains_cons, each_more, found_first}
+pub use Rattle.history_merge.proofs.Distinct.{not_in_none, one_at, pairs_at, place_of, same_enqueue, same_return}
+pub use Rattle.history_merge.proofs.Distinct.{same_value_call}
 pub use Rattle.history_merge.proofs.KnownValues.{is_eq-nat_cmp, none_by_key}
 pub use Rattle.history_merge.proofs.Timelines.{length_enqueues}
 pub use Rattle.history_merge.specs.Complete.{AreComplete, IsTimed}
 pub use Rattle.event_records.specs.declared.limits.TheConstants.{MAX_INITIAL, ORIGIN}
-pub use Rattle.history_merge.specs.Initial.{enqueue_at, enqueues_from, initial_enqueues, later_by, timeline}
+pub use Rattle.history_merge.specs.Initial.{enqueue_at, later_by}
+pub use Rattle.history_merge.specs.Inner.Timeline.{enqueues_from, initial_enqueues, timeline}
 pub use Rattle.history_merge.specs.Legal.{ArePlacesOf}
 pub use Rattle.history_merge.specs.Operations.{Did, enqueued_value, IsAt, NoneDid, operations_of}
 pub use Rattle.history_merge.specs.declared.operation.OpKind.{OpKind}
 pub use Rattle.history_merge.specs.declared.operation.OpKind.TheVariants.{Deq, Empty, Enq, Not}
 pub use Rattle.history_merge.specs.declared.operation.Operation.{Operation}
-pub use Rattle.value_match.specs.Accepted.{maybe_operation_at, operation_at, value_at}
+pub use Rattle.value_match.specs.Inner.Accepted.{HasPlaces, HoldsLives, maybe_operation_at, operation_at, PlacedLife}
+pub use Rattle.value_match.specs.Inner.Accepted.{told_at, value_at}
 pub use Rattle.value_match.specs.Choice.{StaysAtLeast}
-pub use Rattle.value_match.specs.Fronts.{Any, AreEntriesOf, HasFronts, IsEntryOf, IsFrontAt, IsTableOf, values_at}
+pub use Rattle.value_match.specs.Fronts.{Any, AreEntriesOf, EntersBefore, FindsLongest, HasFronts, IsEntryOf}
+pub use Rattle.value_match.specs.Fronts.{IsFrontAt, IsLongerOf, IsLongestOf, IsTableOf, NonePasses, values_at}
 pub use Rattle.value_match.specs.Inner.MatchOutcome.{AreChosenFresh, AreChosenRepeat, AreTakers, IsMatchOutcomeOf}
 pub use Rattle.value_match.specs.Inner.Others.{CallsNoneOf, HoldsNear, HoldsOthers, IsCall, IsNearSource, NoneOf}
 pub use Rattle.value_match.specs.Inner.Sources.{AreSettled, HasTakersTo, HoldsDequeues, HoldsSources, IsCallPlace}
 pub use Rattle.value_match.specs.Inner.Sources.{IsDequeuePlace, IsFreshFrom, IsSourceOf, NoneFresh, return_at}
 pub use Rattle.value_match.specs.Inner.Sources.{TakesFrom}
-pub use Rattle.value_match.specs.Lives.{call_or_never, dequeue_call, dequeue_of, dequeues_kind, enqueue_of}
-pub use Rattle.value_match.specs.Lives.{enqueue_return, HasPlaces, HoldsLives, HoldsPlaces, is_dequeue_of}
-pub use Rattle.value_match.specs.Lives.{is_empty_answer, is_refused, IsLife, IsMaybeAt, life_from, lives_of}
-pub use Rattle.value_match.specs.Fronts.{EntersBefore, FindsLongest, IsLongerOf, IsLongestOf, NonePasses}
-pub use Rattle.value_match.specs.Outcome.{IsMaybeOperation, IsOperation, IsSource, NamesChosenFresh, NamesChosenRepeat}
-pub use Rattle.value_match.specs.Outcome.{NamesStep}
-pub use Rattle.value_match.specs.Timeline.{behind, initial_enqueue, initial_time, timeline_of}
-pub use Rattle.value_match.specs.Timeline.{place_behind, told_place, told_source}
-pub use Rattle.value_match.specs.Violations.{CoversFrom, IsClear, IsEnqueuedTooLate, IsFreshViolation}
-pub use Rattle.value_match.specs.Violations.{NoFreshViolation}
+pub use Rattle.value_match.specs.Lives.{call_or_never, Course, course, course_of, dequeue_call, dequeue_of}
+pub use Rattle.value_match.specs.Lives.{dequeues_kind, enqueue_of, enqueue_return, HoldsPlaces, is_dequeue_of}
+pub use Rattle.value_match.specs.Lives.{is_empty_answer, is_refused, IsLife, IsMaybeAt, life_from, lives_of, timed}
+pub use Rattle.value_match.specs.Inner.Courses.{on}
+pub use Rattle.value_match.specs.Outcome.{HoldsValues, IsMaybeOperation, IsNamed, IsOperation, IsSource}
+pub use Rattle.value_match.specs.Outcome.{NamesChosenFresh, NamesChosenRepeat}
+pub use Rattle.value_match.specs.Times.{initial_enqueue, initial_time}
+pub use Rattle.value_match.specs.Inner.Told.{behind, timeline_of, told_place, told_source}
+pub use Rattle.value_match.specs.Violations.{CoversFrom, fresh, IsClear, IsEnqueuedTooLate, IsFreshViolation}
+pub use Rattle.value_match.specs.Violations.{NoFreshViolation, repeat}
 pub use Rattle.value_match.specs.declared.accepted.Pair.{Pair}
 pub use Rattle.value_match.specs.declared.fresh.FreshPlaces.{FreshPlaces}
 pub use Rattle.value_match.specs.declared.life.Life.{Life}

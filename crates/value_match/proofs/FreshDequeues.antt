@@ -1,12 +1,11 @@
 -- Dequeues of values that were not there, told by the places of the calls.
-use Rattle.value_match.proofs.Common.{ap, AreChosenFresh, AreComplete, arith, Bool, CallsFor, cases_lt}
-use Rattle.value_match.proofs.Common.{cond, Contains, contains_at, Deq, each_more, Enq, enqueued_value, false}
-use Rattle.value_match.proofs.Common.{false≢true, FreshPlaces, IfSome, inl, inr, is_refused, IsAt, IsCallPlace}
-use Rattle.value_match.proofs.Common.{IsEnqueuedTooLate, IsFreshFrom, IsFreshViolation, IsMaybeAt, IsSourceOf, IsTrue}
-use Rattle.value_match.proofs.Common.{le-ltb, length, List, lt-ltb, ltb-true, MatchOption, nat_lt}
-use Rattle.value_match.proofs.Common.{NoFreshViolation, None, NoneFresh, Not, one_at, Operation, OpKind, Option}
-use Rattle.value_match.proofs.Common.{place_of, refl, return_at, same_value_call, slice_get_within, Some, subst, sym}
-use Rattle.value_match.proofs.Common.{true, ℕ, ◌+◌, ◌<◌, ◌||◌, ◌↔◌, ◌≡◌, ◌≤◌, ◌⊎◌}
+use Rattle.value_match.proofs.Common.{ap, AreChosenFresh, AreComplete, arith, Bool, CallsFor, cases_lt, cond, Contains}
+use Rattle.value_match.proofs.Common.{contains_at, Deq, each_more, Enq, enqueued_value, false, false≢true, FreshPlaces}
+use Rattle.value_match.proofs.Common.{IfSome, inl, inr, is_refused, IsAt, IsCallPlace, IsEnqueuedTooLate, IsFreshFrom}
+use Rattle.value_match.proofs.Common.{IsFreshViolation, IsMaybeAt, IsSourceOf, IsTrue, le-ltb, length, List, lt-ltb}
+use Rattle.value_match.proofs.Common.{ltb-true, MatchOption, nat_lt, NoFreshViolation, None, NoneFresh, Not, on}
+use Rattle.value_match.proofs.Common.{one_at, Operation, OpKind, Option, place_of, refl, return_at, same_value_call}
+use Rattle.value_match.proofs.Common.{slice_get_within, Some, subst, sym, true, ℕ, ◌+◌, ◌<◌, ◌||◌, ◌↔◌, ◌≡◌, ◌≤◌, ◌⊎◌}
 use Rattle.value_match.proofs.ToldPlaces.{fresh_dequeues}
 
 -- an operation that called to enqueue a value was accepted or refused
@@ -21,7 +20,7 @@ pub fresh_by_call : (operations : List Operation) (i p : ℕ) (o call : Operatio
     → IsTrue (is_refused call || nat_lt o.ret call.call) ↔ IsFreshFrom operations (Some p) o
 fresh_by_call operations i p o call v here is there calls = (λ soon. (Some call, there, late soon), only)
   where
-    late : (is_refused call || nat_lt o.ret call.call) ≡ true → IsEnqueuedTooLate operations o call
+    late : (is_refused call || nat_lt o.ret call.call) ≡ true → IsEnqueuedTooLate (on operations) o call
     late soon = record {
       value = v;
       dequeues = (contains_at operations i o here, is);
@@ -42,10 +41,10 @@ fresh_by_call operations i p o call v here is there calls = (λ soon. (Some call
 pub fresh_at_none : (operations : List Operation) (i : ℕ) (o x : Operation) (v : ℕ) → IsAt operations i o → o.kind ≡ Deq v
     → IsCallPlace operations v None → IsAt operations i x → IsTrue true ↔ IsFreshFrom operations None x
 fresh_at_none operations i o x v here is none there =
-    let fresh : IsFreshViolation operations o None = record {
+    let fresh : IsFreshViolation (on operations) o None = record {
       value = v;
       dequeues = (contains_at operations i o here, is);
-      not_accepted = λ x among did. none x among (rw did refl);
+      not_accepted = λ x did. none x did.0 (rw did.1 refl);
       not_refused = λ x among did. none x among (rw did refl);
     } in
     rw (one_at operations i x o there here) (λ _. (None, tt, fresh), λ _. refl)
@@ -60,13 +59,13 @@ fresh_at_some operations i p o x v soon here is call tells there =
 -- the call that a violation names is the source
 pub named_by_source : (operations : List Operation) (o : Operation) (enq : Option Operation) (source : Option ℕ) → AreComplete operations
     → IsSourceOf operations o.kind source
-    → IsFreshViolation operations o enq → IsMaybeAt operations source enq
+    → IsFreshViolation (on operations) o enq → IsMaybeAt operations source enq
 named_by_source operations o None source complete from violates = named source (subst (λ kind. IsSourceOf operations kind source) violates.dequeues.1 from)
   where
     named : (place : Option ℕ) → IsCallPlace operations violates.value place → IsMaybeAt operations place None
     named None none = tt
     named (Some p) (call, there, calls) = elim (calls_for call.kind violates.value calls) [
-      | inl accepted ↦ absurd (violates.not_accepted call (contains_at operations p call there) accepted)
+      | inl accepted ↦ absurd (violates.not_accepted call (contains_at operations p call there, accepted))
       | inr refused ↦ absurd (violates.not_refused call (contains_at operations p call there) refused)
     ]
 named_by_source operations o (Some e) source complete from violates = named source (subst (λ kind. IsSourceOf operations kind source) violates.dequeues.1 from)
@@ -85,7 +84,7 @@ named_by_source operations o (Some e) source complete from violates = named sour
 pub no_dequeue : (operations : List Operation) (i : ℕ) (o : Operation) → IsAt operations i o → ((v : ℕ) → ¬ (o.kind ≡ Deq v)) → NoneFresh operations i
     → NoneFresh operations (i + 1)
 no_dequeue operations i o here other none =
-    each_more (λ k x. (enq : Option Operation) → ¬ (IsFreshViolation operations x enq)) operations i o here
+    each_more (λ k x. (enq : Option Operation) → ¬ (IsFreshViolation (on operations) x enq)) operations i o here
     (λ enq violates. let dequeue = fresh_dequeues operations o enq violates in other dequeue.0 dequeue.1) none
 
 -- a dequeue after the call for its value
@@ -94,14 +93,14 @@ pub in_time_more : (operations : List Operation) (i p : ℕ) (o : Operation) (v 
     → ((call : Operation) → IsAt operations p call → false ≡ (is_refused call || nat_lt o.ret call.call))
     → NoneFresh operations i → NoneFresh operations (i + 1)
 in_time_more operations i p o v complete here is call tells none =
-    each_more (λ k x. (enq : Option Operation) → ¬ (IsFreshViolation operations x enq)) operations i o here
+    each_more (λ k x. (enq : Option Operation) → ¬ (IsFreshViolation (on operations) x enq)) operations i o here
     (λ enq violates.
     let source = subst (λ kind. IsSourceOf operations kind (Some p)) (sym is) call in
     let from : IsFreshFrom operations (Some p) o = (enq, named_by_source operations o enq (Some p) complete source violates, violates) in
     false≢true ((fresh_at_some operations i p o o v false here is call tells here).1 from)) none
 
 -- what violates is one of the operations
-pub violates_among : (operations : List Operation) (o : Operation) (enq : Option Operation) → IsFreshViolation operations o enq → Contains operations o
+pub violates_among : (operations : List Operation) (o : Operation) (enq : Option Operation) → IsFreshViolation (on operations) o enq → Contains operations o
 violates_among operations o None violates = violates.dequeues.0
 violates_among operations o (Some e) violates = violates.dequeues.0
 
@@ -110,11 +109,11 @@ abbrev pub IsFirstFresh : List Operation → ℕ → Option FreshPlaces → Type
 IsFirstFresh operations n None = NoneFresh operations n
 IsFirstFresh operations n (Some found) =
     (deq : Operation) × IsAt operations found.deq deq × IsFreshFrom operations found.enq deq
-    × ((k : ℕ) (o : Operation) → k < n → IsAt operations k o → (enq : Option Operation) → IsFreshViolation operations o enq → deq.ret ≤ o.ret)
+    × ((k : ℕ) (o : Operation) → k < n → IsAt operations k o → (enq : Option Operation) → IsFreshViolation (on operations) o enq → deq.ret ≤ o.ret)
 
 -- at the end none violates, or what was found is the chosen one
 pub first_of_all : (operations : List Operation) (n : ℕ) (first : Option FreshPlaces) → length operations ≤ n → IsFirstFresh operations n first
-    → MatchOption first (NoFreshViolation operations) (AreChosenFresh operations)
+    → MatchOption first (NoFreshViolation (on operations)) (AreChosenFresh operations)
 first_of_all operations n None all none = λ deq enq violates.
     let at = place_of operations deq (violates_among operations deq enq violates) in
     none at.0 deq (let within = slice_get_within operations at.0 deq at.1 in omega arith) at.1 enq violates
@@ -145,16 +144,16 @@ module _ (operations : List Operation) (i : ℕ) (o : Operation) (source : Optio
       → ¬ (IsFreshFrom operations source o) → IsFirstFresh operations i first → IsFirstFresh operations (i + 1) first
   first_skip first complete from not_fresh found = skip first found
     where
-      clear : (enq : Option Operation) → ¬ (IsFreshViolation operations o enq)
+      clear : (enq : Option Operation) → ¬ (IsFreshViolation (on operations) o enq)
       clear enq violates = not_fresh (enq, named_by_source operations o enq source complete from violates, violates)
 
       skip : (first : Option FreshPlaces) → IsFirstFresh operations i first → IsFirstFresh operations (i + 1) first
-      skip None found = each_more (λ k x. (enq : Option Operation) → ¬ (IsFreshViolation operations x enq)) operations i o here clear found
+      skip None found = each_more (λ k x. (enq : Option Operation) → ¬ (IsFreshViolation (on operations) x enq)) operations i o here clear found
       skip (Some f) (deq, at, fresh, before) = (
         deq,
         at,
         fresh,
-        each_more (λ k x. (enq : Option Operation) → IsFreshViolation operations x enq → deq.ret ≤ x.ret) operations i o here
+        each_more (λ k x. (enq : Option Operation) → IsFreshViolation (on operations) x enq → deq.ret ≤ x.ret) operations i o here
             (λ enq violates. absurd (clear enq violates)) before,
       )
 
@@ -173,13 +172,13 @@ module _ (operations : List Operation) (i : ℕ) (o : Operation) (source : Optio
 
       -- a dequeue that returns no later than the operations so far
       soonest : (f : FreshPlaces) (deq : Operation) → IsAt operations f.deq deq → IsFreshFrom operations f.enq deq
-          → ((k : ℕ) (x : Operation) → k < i → IsAt operations k x → (enq : Option Operation) → IsFreshViolation operations x enq → deq.ret ≤ x.ret)
+          → ((k : ℕ) (x : Operation) → k < i → IsAt operations k x → (enq : Option Operation) → IsFreshViolation (on operations) x enq → deq.ret ≤ x.ret)
           → deq.ret ≤ o.ret → IsFirstFresh operations (i + 1) (Some f)
       soonest f deq at from before last = (
         deq,
         at,
         from,
-        each_more (λ k x. (enq : Option Operation) → IsFreshViolation operations x enq → deq.ret ≤ x.ret) operations i o here (λ _ _. last) before,
+        each_more (λ k x. (enq : Option Operation) → IsFreshViolation (on operations) x enq → deq.ret ≤ x.ret) operations i o here (λ _ _. last) before,
       )
 
       pick : (first : Option FreshPlaces) → (first ≡ None → sooner ≡ other)

@@ -12,6 +12,7 @@ use Rattle.value_match.proofs.Common.{MatchedValue, MatchOption, None, NonePasse
 use Rattle.value_match.proofs.Common.{StaysAtLeast, subst, sym, take, take_all, take_more, true, values_at, ℕ, ◌++◌}
 use Rattle.value_match.proofs.Common.{◌+◌, ◌<◌, ◌∙◌, ◌∷◌, ◌≡◌, ◌≤◌}
 use Rattle.value_match.proofs.Lists.{one_more}
+use Rattle.value_match.specs.declared.life.Source.TheVariants.{Initial}
 
 -- ---- one more value in a scan for the longest of those that pass
 
@@ -62,7 +63,7 @@ module _ (Passes : Life → Type 0) where
 
 -- where there is no value, and no front
 abbrev nobody : MatchedValue
-nobody = record { life = record { enqueue = record { call = 0; ret = 0; thread = 0; kind = Empty }; dequeue = None }; enqueue = 0; dequeue = None }
+nobody = record { life = record { enqueue = record { call = 0; ret = 0; thread = 0; kind = Empty }; dequeue = None }; source = Initial 0; dequeue = None }
 
 -- a front in place of none
 abbrev pub nowhere : Front

@@ -1,10 +1,10 @@
 -- What a list contains, and what is made of lists.
-use Rattle.value_match.proofs.Common.{[], ◌++◌, ◌+◌, ◌<◌, ◌∙◌, ◌∷◌, ◌≡◌, All-contains, All-weaker, AllZip, ap}
-use Rattle.value_match.proofs.Common.{append-nil, arith, Bool, cons_option, Contains, Contains-append_right}
-use Rattle.value_match.proofs.Common.{contains_cons, drop, drop_all, filter, filter-append, filter_map}
-use Rattle.value_match.proofs.Common.{filter_map-append, get_or, get_or-map, inl, inr, IsPermutation, length}
-use Rattle.value_match.proofs.Common.{length-map, List, map, None, not_in_none, Option, place_of, refl, Some, subst}
-use Rattle.value_match.proofs.Common.{suc, sym, take, take_all, take_more, true, zero, ℕ}
+use Rattle.value_match.proofs.Common.{[], All-contains, All-weaker, AllZip, ap, append-nil, arith, Bool, cons_option}
+use Rattle.value_match.proofs.Common.{Contains, Contains-append_right, contains_cons, drop, drop_all, filter}
+use Rattle.value_match.proofs.Common.{filter-append, filter_map, filter_map-append, get_or, get_or-map, inl, inr}
+use Rattle.value_match.proofs.Common.{IsPermutation, length, length-map, List, map, None, not_in_none, Option}
+use Rattle.value_match.proofs.Common.{place_of, refl, Some, subst, suc, sym, take, take_all, take_more, true, zero, ℕ}
+use Rattle.value_match.proofs.Common.{◌++◌, ◌+◌, ◌<◌, ◌∙◌, ◌∷◌, ◌≡◌}
 use Rattle.std.proofs.lemmas.List.Elements.{All-contains_itself, All-filter, All-map, filter_passes}
 use Rattle.history_merge.proofs.Distinct.{cut_at}
 

@@ -1,12 +1,12 @@
 -- The lives that are listed are the lives that there are, and operations tell them apart.
-use Rattle.value_match.proofs.Common.{[], ◌<◌, ◌∙◌, ◌∷◌, ◌≡◌, All-contains, ap, arith, Bool, call_or_never}
-use Rattle.value_match.proofs.Common.{cases_Bool, cases_order, Contains, contains_at, contains_cons, Deq}
-use Rattle.value_match.proofs.Common.{dequeue_call, dequeue_of, dequeues_kind, Did, Enq, enqueue_of, eq-eqb}
-use Rattle.value_match.proofs.Common.{eqb-true, false, find, found_first, HasPlaces, HoldsLives, inl, inr}
-use Rattle.value_match.proofs.Common.{is_dequeue_of, IsClear, IsLife, Life, life_from, List, lives_of, MatchedValue}
-use Rattle.value_match.proofs.Common.{MatchOption, NEVER, None, NoneDid, not_in_none, Operation, OpKind, Option}
-use Rattle.value_match.proofs.Common.{refl, same_enqueue, same_return, Some, subst, sym, true, ℕ}
-use Rattle.value_match.proofs.Lists.{kept, keeps, mapped_from, mapped_to}
+use Rattle.value_match.proofs.Common.{[], All-contains, ap, arith, Bool, call_or_never, cases_Bool, cases_order}
+use Rattle.value_match.proofs.Common.{Contains, contains_at, contains_cons, Deq, dequeue_call, dequeue_of}
+use Rattle.value_match.proofs.Common.{dequeues_kind, Did, Enq, enqueue_of, eq-eqb, eqb-true, false, find, found_first}
+use Rattle.value_match.proofs.Common.{HasPlaces, HoldsLives, inl, inr, is_dequeue_of, IsClear, IsLife, Life, life_from}
+use Rattle.value_match.proofs.Common.{List, lives_of, MatchOption, NEVER, None, NoneDid, not_in_none, on, Operation}
+use Rattle.value_match.proofs.Common.{OpKind, Option, PlacedLife, refl, same_enqueue, same_return, Some, subst, sym}
+use Rattle.value_match.proofs.Common.{true, ℕ, ◌<◌, ◌∙◌, ◌∷◌, ◌≡◌}
+use Rattle.value_match.proofs.Lists.{keeps, kept, mapped_to}
 
 -- what follows if `find` gives nothing
 none_found : {X : Type 0} (p : X → Bool) (xs : List X) (x : X) → find p xs ≡ None → Contains xs x → p x ≡ false
@@ -32,19 +32,19 @@ found_dequeue operations v (Some d) same = let first = found_first (is_dequeue_o
     (contains_at operations first.place d first.at, dequeues v d.kind first.passes)
 
 -- a life that is listed is a life
-pub life_of_contained : (operations : List Operation) (life : Life) → Contains (lives_of operations) life → IsLife operations life
+pub life_of_contained : (operations : List Operation) (life : Life) → Contains (lives_of operations) life → IsLife (on operations) life
 life_of_contained operations life among =
     let o = kept (λ o. life_from operations o o.kind) operations life among in
     begun o.0 o.1 o.0.kind refl o.2
   where
-    begun : (o : Operation) → Contains operations o → (k : OpKind) → o.kind ≡ k → life_from operations o k ≡ Some life → IsLife operations life
+    begun : (o : Operation) → Contains operations o → (k : OpKind) → o.kind ≡ k → life_from operations o k ≡ Some life → IsLife (on operations) life
     begun o in_o (Enq v) is same =
         let made : ◌≡◌ {A = Life} (record { enqueue = o; dequeue = find (is_dequeue_of v) operations }) life = cc in
-        subst (IsLife operations) made (v, (in_o, is), found_dequeue operations v (find (is_dequeue_of v) operations) refl)
+        subst (IsLife (on operations)) made (v, (in_o, is), found_dequeue operations v (find (is_dequeue_of v) operations) refl)
     begun o in_o _ is same = cc
 
 -- dequeues of one value are one, where the value was enqueued
-pub same_dequeue : (operations : List Operation) (enq x y : Operation) (v : ℕ) → IsClear operations → Did operations enq (Enq v)
+pub same_dequeue : (operations : List Operation) (enq x y : Operation) (v : ℕ) → IsClear (on operations) → Did operations enq (Enq v)
     → Did operations x (Deq v) → Did operations y (Deq v) → x ≡ y
 same_dequeue operations enq x y v clear did did_x did_y =
     let same = same_return operations x y clear.complete did_x.0 did_y.0 in
@@ -53,7 +53,7 @@ same_dequeue operations enq x y v clear did did_x did_y =
     grind (arith, cases_order x.ret y.ret)
 
 -- what is found where the value was enqueued is one answer
-pub same_found : (operations : List Operation) (enq : Operation) (v : ℕ) (a b : Option Operation) → IsClear operations → Did operations enq (Enq v)
+pub same_found : (operations : List Operation) (enq : Operation) (v : ℕ) (a b : Option Operation) → IsClear (on operations) → Did operations enq (Enq v)
     → MatchOption a (NoneDid operations (Deq v)) (λ d. Did operations d (Deq v))
     → MatchOption b (NoneDid operations (Deq v)) (λ d. Did operations d (Deq v)) → a ≡ b
 same_found operations enq v None None clear did x y = refl
@@ -62,7 +62,7 @@ same_found operations enq v (Some d) None clear did x y = absurd (y d x.0 x.1)
 same_found operations enq v (Some d) (Some e) clear did x y = ap (λ o. Some o) (same_dequeue operations enq d e v clear did x y)
 
 -- a life is listed
-pub life_is_contained : (operations : List Operation) (life : Life) → IsClear operations → IsLife operations life → Contains (lives_of operations) life
+pub life_is_contained : (operations : List Operation) (life : Life) → IsClear (on operations) → IsLife (on operations) life → Contains (lives_of operations) life
 life_is_contained operations life clear is =
     let v = is.0 in
     let dequeue = same_found operations (enqueue_of life) v (find (is_dequeue_of v) operations) (dequeue_of life) clear is.1
@@ -70,7 +70,7 @@ life_is_contained operations life clear is =
     keeps (λ o. life_from operations o o.kind) operations (enqueue_of life) life is.1.0 (rw (is.1.1, dequeue) refl)
 
 -- lives of one enqueue are one, and so are lives of one dequeue
-pub one_life_of_enqueue : (operations : List Operation) (x y : Life) → IsClear operations → IsLife operations x → IsLife operations y
+pub one_life_of_enqueue : (operations : List Operation) (x y : Life) → IsClear (on operations) → IsLife (on operations) x → IsLife (on operations) y
     → enqueue_of x ≡ enqueue_of y → x ≡ y
 one_life_of_enqueue operations x y clear is_x is_y same =
     let values : is_x.0 ≡ is_y.0 = cc in
@@ -79,7 +79,7 @@ one_life_of_enqueue operations x y clear is_x is_y same =
     λ i. record { enqueue = same i; dequeue = dequeues i }
 
 -- a dequeue ends one life
-pub one_life_of_dequeue : (operations : List Operation) (x y : Life) (d : Operation) → IsClear operations → IsLife operations x → IsLife operations y
+pub one_life_of_dequeue : (operations : List Operation) (x y : Life) (d : Operation) → IsClear (on operations) → IsLife (on operations) x → IsLife (on operations) y
     → dequeue_of x ≡ Some d → dequeue_of y ≡ Some d → x ≡ y
 one_life_of_dequeue operations x y d clear is_x is_y same_x same_y =
     let did_x : Did operations d (Deq is_x.0) = rw same_x at is_x.2 in
@@ -97,19 +97,13 @@ dequeued_if_called life less = go (dequeue_of life) refl less
     go (Some d) same less = (d, same)
 
 -- each value that is held is a life, and each life is that of a value
-pub value_is_life : (operations : List Operation) (values : List MatchedValue) (value : MatchedValue) → HoldsLives operations values
-    → Contains values value → IsLife operations value.life
+pub value_is_life : (operations : List Operation) (values : List PlacedLife) (value : PlacedLife) → HoldsLives operations values
+    → Contains values value → IsLife (on operations) value.life
 value_is_life operations values value holds among =
     life_of_contained operations value.life (subst (λ lives. Contains lives value.life) holds.0 (mapped_to (λ m. m.life) values value among))
 
--- a life has its matched value
-pub value_of_life : (operations : List Operation) (values : List MatchedValue) (life : Life) → IsClear operations → HoldsLives operations values
-    → IsLife operations life → (value : MatchedValue) × Contains values value × (value.life ≡ life)
-value_of_life operations values life clear holds is =
-    mapped_from (λ m. m.life) values life (subst (λ lives. Contains lives life) (sym holds.0) (life_is_contained operations life clear is))
-
 -- its places are those of its operations
-pub places_of_value : (operations : List Operation) (values : List MatchedValue) (value : MatchedValue) → HoldsLives operations values → Contains values value
+pub places_of_value : (operations : List Operation) (values : List PlacedLife) (value : PlacedLife) → HoldsLives operations values → Contains values value
     → HasPlaces operations value
 places_of_value operations values value holds among =
     All-contains (HasPlaces operations) values value holds.1 among

@@ -1,14 +1,12 @@
 -- The one dequeue of each source and of each accepted value, or the chosen pair of one source, met by walks over the operations.
 use Rattle.value_match.proofs.Common.{AllPairs, ap, AreChosenRepeat, AreComplete, arith, cases_eq, cases_order}
-use Rattle.value_match.proofs.Common.{contains_at, Deq, Did, Enq, enqueued_value, find}
-use Rattle.value_match.proofs.Common.{get_or, get_or-set_other, get_or-set_same, HasTakersTo}
-use Rattle.value_match.proofs.Common.{HoldsDequeues, inl, inr, is_dequeue_of, IsAt}
-use Rattle.value_match.proofs.Common.{IsClear, IsDequeuePlace, IsMaybeAt, IsSourceOf, length}
-use Rattle.value_match.proofs.Common.{length-replicate, length-set, List, MatchOption, NoFreshViolation, None, NoneDid}
-use Rattle.value_match.proofs.Common.{one_at, Operation, OpKind, Option, pairs_at, place_of, refl, RepeatPlaces}
-use Rattle.value_match.proofs.Common.{replicate, return_at, same_return, same_value_call, set}
-use Rattle.value_match.proofs.Common.{slice_get_within, Some, subst, suc, sym, TakesFrom, zero}
-use Rattle.value_match.proofs.Common.{ℕ, ⊤, ◌+◌, ◌<◌, ◌∙◌, ◌≡◌, ◌≢◌, ◌≤◌, ◌⊎◌}
+use Rattle.value_match.proofs.Common.{contains_at, Deq, Did, Enq, enqueued_value, find, get_or, get_or-set_other}
+use Rattle.value_match.proofs.Common.{get_or-set_same, HasTakersTo, HoldsDequeues, inl, inr, is_dequeue_of, IsAt}
+use Rattle.value_match.proofs.Common.{IsClear, IsDequeuePlace, IsMaybeAt, IsSourceOf, length, length-replicate}
+use Rattle.value_match.proofs.Common.{length-set, List, MatchOption, NoFreshViolation, None, NoneDid, on, one_at}
+use Rattle.value_match.proofs.Common.{Operation, OpKind, Option, pairs_at, place_of, refl, RepeatPlaces, replicate}
+use Rattle.value_match.proofs.Common.{return_at, same_return, same_value_call, set, slice_get_within, Some, subst, suc}
+use Rattle.value_match.proofs.Common.{sym, TakesFrom, zero, ℕ, ⊤, ◌+◌, ◌<◌, ◌∙◌, ◌≡◌, ◌≢◌, ◌≤◌, ◌⊎◌}
 use Rattle.value_match.proofs.FreshDequeues.{calls_for}
 use Rattle.value_match.proofs.Lives.{found_dequeue, same_found}
 
@@ -73,7 +71,7 @@ takes_from_enqueue operations i p o enq v here is there accepted =
     record { value = v; dequeue = o; at = here; dequeues = is; from_call = (enq, there, ap enqueued_value accepted) }
 
 -- where each dequeued value was there, it takes from a successful enqueue
-pub accepted_call : (operations : List Operation) (i p : ℕ) → NoFreshViolation operations → (t : TakesFrom operations i p)
+pub accepted_call : (operations : List Operation) (i p : ℕ) → NoFreshViolation (on operations) → (t : TakesFrom operations i p)
     → (t.from_call.0).kind ≡ Enq t.value
 accepted_call operations i p no_fresh t = elim (calls_for (t.from_call.0).kind t.value t.from_call.2) [
   | inl accepted ↦ accepted
@@ -365,7 +363,7 @@ found_inside operations n None met = tt
 found_inside operations n (Some f) met = slice_get_within operations f.second met.second_from.dequeue met.second_from.at
 
 -- the soonest pair of all operations is chosen
-pub repeat_chosen : (operations : List Operation) (n : ℕ) (pair : RepeatPlaces) → NoFreshViolation operations → length operations ≤ n
+pub repeat_chosen : (operations : List Operation) (n : ℕ) (pair : RepeatPlaces) → NoFreshViolation (on operations) → length operations ≤ n
     → IsSoonest operations n pair → AreChosenRepeat operations pair
 repeat_chosen operations n pair no_fresh all is =
     let one = is.first_from in
@@ -422,7 +420,7 @@ once_taken operations firsts n all known once = record {
 -- ---- the dequeues by their enqueues
 
 -- the taker of each enqueue is the dequeue of its value
-pub dequeues_by_enqueues : (operations : List Operation) (takers : List (Option ℕ)) → NoFreshViolation operations
+pub dequeues_by_enqueues : (operations : List Operation) (takers : List (Option ℕ)) → NoFreshViolation (on operations)
     → HasTakersTo operations (length operations) takers → HoldsDequeues operations takers
 dequeues_by_enqueues operations takers no_fresh taken = record {
   one_each = taken.one_each;
@@ -444,7 +442,7 @@ dequeues_by_enqueues operations takers no_fresh taken = record {
         (t.dequeue, t.at, t.dequeues ∙ ap Deq value)
 
 -- the dequeue at the place is the one that is found
-pub found_at_place : (operations : List Operation) (enq : Operation) (v : ℕ) (place : Option ℕ) (dequeue : Option Operation) → IsClear operations
+pub found_at_place : (operations : List Operation) (enq : Operation) (v : ℕ) (place : Option ℕ) (dequeue : Option Operation) → IsClear (on operations)
     → Did operations enq (Enq v) → IsDequeuePlace operations v place
     → IsMaybeAt operations place dequeue → dequeue ≡ find (is_dequeue_of v) operations
 found_at_place operations enq v place dequeue clear did is at =
@@ -458,8 +456,8 @@ found_at_place operations enq v place dequeue clear did is at =
     named _ _ is there = absurd there
 
 -- then no value is dequeued that was not there, and none twice
-pub clear_from_takers : (operations : List Operation) (takers : List (Option ℕ)) → AreComplete operations → NoFreshViolation operations
-    → HasTakersTo operations (length operations) takers → IsClear operations
+pub clear_from_takers : (operations : List Operation) (takers : List (Option ℕ)) → AreComplete operations → NoFreshViolation (on operations)
+    → HasTakersTo operations (length operations) takers → IsClear (on operations)
 clear_from_takers operations takers complete no_fresh taken = record {
   complete = complete;
   no_fresh = no_fresh;

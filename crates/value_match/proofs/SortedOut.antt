@@ -1,17 +1,17 @@
 -- The operations sorted out by what they did, met by a walk over them.
-use Rattle.value_match.proofs.Common.{[], ◌++◌, ◌+◌, ◌<◌, ◌∙◌, ◌∷◌, ◌≡◌, All, All-get_or, All-push, ap, append-nil}
-use Rattle.value_match.proofs.Common.{Bool, cases_Bool, cond, cons_option, contains_at, dequeue_of, Enq, enqueue_of}
-use Rattle.value_match.proofs.Common.{filter, filter-append, filter_map, filter_map-append, find, get_or}
-use Rattle.value_match.proofs.Common.{get_or-map, get_or_from_slice_get, HasPlaces, IfSome, inl, inr, is_dequeue_of}
-use Rattle.value_match.proofs.Common.{is_empty_answer, is_refused, IsAt, IsClear, IsDequeuePlace, IsMaybeAt, length}
-use Rattle.value_match.proofs.Common.{length-map, Life, life_from, List, map, map-append, MatchedValue}
-use Rattle.value_match.proofs.Common.{maybe_operation_at, None, one_at, Operation, operation_at, Option, Pair, refl}
-use Rattle.value_match.proofs.Common.{slice_get, slice_get_within, Some, subst, sym, take, value_at, ℕ}
+use Rattle.value_match.proofs.Common.{[], All, All-get_or, All-push, ap, append-nil, Bool, cases_Bool, cond}
+use Rattle.value_match.proofs.Common.{cons_option, contains_at, dequeue_of, Enq, enqueue_of, filter, filter-append}
+use Rattle.value_match.proofs.Common.{filter_map, filter_map-append, find, get_or, get_or-map, get_or_from_slice_get}
+use Rattle.value_match.proofs.Common.{HasPlaces, IfSome, inl, inr, is_dequeue_of, is_empty_answer, is_refused, IsAt}
+use Rattle.value_match.proofs.Common.{IsClear, IsDequeuePlace, IsMaybeAt, length, length-map, Life, life_from, List}
+use Rattle.value_match.proofs.Common.{map, map-append, maybe_operation_at, None, on, one_at, Operation, operation_at}
+use Rattle.value_match.proofs.Common.{Option, Pair, PlacedLife, refl, slice_get, slice_get_within, Some, subst, sym}
+use Rattle.value_match.proofs.Common.{take, value_at, ℕ, ◌++◌, ◌+◌, ◌<◌, ◌∙◌, ◌∷◌, ◌≡◌}
 use Rattle.value_match.proofs.RepeatedDequeues.{found_at_place}
 use Rattle.value_match.proofs.Lists.{one_more}
 
 -- what the first n operations did
-pub record IsSortedOut (operations : List Operation) (n : ℕ) (values : List MatchedValue) (empties refused : List ℕ) : Type 0 where
+pub record IsSortedOut (operations : List Operation) (n : ℕ) (values : List PlacedLife) (empties refused : List ℕ) : Type 0 where
   pub lives : map (λ m. m.life) values ≡ filter_map (λ o. life_from operations o o.kind) (take n operations)
   pub places : All (HasPlaces operations) values
   pub empty_answers : map (slice_get operations) empties ≡ map Some (filter is_empty_answer (take n operations))
@@ -29,7 +29,7 @@ lives_more : (operations : List Operation) (i : ℕ) (o : Operation) (life : Opt
 lives_more operations i o life lives here is known =
     rw (known, taken_more operations i o here, filter_map-append, is) refl
 
-module _ (operations : List Operation) (i : ℕ) (o : Operation) (values : List MatchedValue) (empties refused : List ℕ) (here : IsAt operations i o)
+module _ (operations : List Operation) (i : ℕ) (o : Operation) (values : List PlacedLife) (empties refused : List ℕ) (here : IsAt operations i o)
     (known : IsSortedOut operations i values empties refused) where
   -- the places of those that pass a test, with this one if it passes
   places_more : (test : Operation → Bool) (places : List ℕ) → map (slice_get operations) places ≡ map Some (filter test (take i operations))
@@ -40,9 +40,9 @@ module _ (operations : List Operation) (i : ℕ) (o : Operation) (values : List 
   ])
 
   -- one more, a successful enqueue, is sorted out with its dequeue
-  pub sorted_enqueue : (v : ℕ) (m : MatchedValue) (place : Option ℕ) → o.kind ≡ Enq v → IsAt operations i (enqueue_of m.life)
+  pub sorted_enqueue : (v : ℕ) (m : PlacedLife) (place : Option ℕ) → o.kind ≡ Enq v → IsAt operations i (enqueue_of m.life)
       → IsMaybeAt operations place (dequeue_of m.life) → (m.enqueue ≡ i) × (m.dequeue ≡ place)
-      → IsClear operations → IsDequeuePlace operations v place → IsSortedOut operations (i + 1) (values ++ m ∷ []) empties refused
+      → IsClear (on operations) → IsDequeuePlace operations v place → IsSortedOut operations (i + 1) (values ++ m ∷ []) empties refused
   sorted_enqueue v m place is enqueue dequeue named clear from = record {
     lives = map-append (λ m. m.life) values (m ∷ []) ∙ lives_more operations i o (Some m.life) (map (λ m. m.life) values) here life known.lives;
     places = All-push (HasPlaces operations) values m known.places (

@@ -1,19 +1,28 @@
 -- What is found at places of a timeline, told by places of the history.
 use Rattle.value_match.proofs.Common.{[], ap, ap₂, AreChosenFresh, AreChosenRepeat, AreComplete, ArePlacesOf, arith}
 use Rattle.value_match.proofs.Common.{behind, Bool, cases_Bool, cases_lt, cond, cons_option, Contains}
-use Rattle.value_match.proofs.Common.{Contains-append_cases, Contains-append_right, contains_at, CoversFrom, Deq}
-use Rattle.value_match.proofs.Common.{dequeue_call, dequeue_of, Did, Empty, Enq, enqueue_at, enqueue_of, enqueues_from, false}
-use Rattle.value_match.proofs.Common.{filter, filter-append, filter_map, FreshPlaces, HasPlaces, HoldsPlaces}
-use Rattle.value_match.proofs.Common.{initial_enqueue, initial_enqueues, initial_time, inl, inr, is_empty_answer}
-use Rattle.value_match.proofs.Common.{is_refused, IsAt, IsFreshViolation, IsLife, IsMaybeAt, IsMaybeOperation}
-use Rattle.value_match.proofs.Common.{IsOperation, IsSource, later_by, le-ltb, length, length_enqueues, Life, List}
+use Rattle.value_match.proofs.Common.{Contains-append_cases, Contains-append_left, Contains-append_right, contains_at}
+use Rattle.value_match.proofs.Common.{course, CoversFrom, Deq, dequeue_call, dequeue_of, Did, Empty, Enq, enqueue_at}
+use Rattle.value_match.proofs.Common.{enqueue_of, enqueues_from, false, filter, filter-append, filter_map}
+use Rattle.value_match.proofs.Common.{filter_map-append, find, fresh, FreshPlaces, get_or, HasPlaces, HoldsLives}
+use Rattle.value_match.proofs.Common.{HoldsPlaces, HoldsValues, initial_enqueue, initial_enqueues, initial_time, inl}
+use Rattle.value_match.proofs.Common.{inr, is_dequeue_of, is_empty_answer, is_refused, IsAt, IsClear, IsFreshViolation}
+use Rattle.value_match.proofs.Common.{IsLife, IsMaybeAt, IsMaybeOperation, IsNamed, IsOperation, IsSource, later_by}
+use Rattle.value_match.proofs.Common.{le-ltb, length, length_enqueues, Life, life_from, List, lives_of}
 use Rattle.value_match.proofs.Common.{lt-ltb, ltb-false, ltb-true, map, MatchedValue, MatchOption, MAX_INITIAL}
-use Rattle.value_match.proofs.Common.{NamesChosenFresh, NamesChosenRepeat, NamesStep, nat_lt, None, NoneDid, Not}
-use Rattle.value_match.proofs.Common.{Operation, Option, option_map, ORIGIN, place_behind, place_of, refl}
-use Rattle.value_match.proofs.Common.{RepeatPlaces, slice_get, slice_get-map, slice_get_within, Some, subst, suc, sym}
-use Rattle.value_match.proofs.Common.{timeline, told_place, told_source, zero, ℕ, ⊤, ◌++◌, ◌+◌, ◌-◌, ◌<◌, ◌↔◌, ◌∙◌}
-use Rattle.value_match.proofs.Common.{◌∷◌, ◌≡◌, ◌≤◌, ◌⊎◌}
+use Rattle.value_match.proofs.Common.{NamesChosenFresh, NamesChosenRepeat, nat_lt, None, NoneDid, Not, on, Operation}
+use Rattle.value_match.proofs.Common.{OpKind, Option, option_map, ORIGIN, Pair, place_of, PlacedLife}
+use Rattle.value_match.proofs.Common.{refl, repeat, RepeatPlaces, slice_get, slice_get-map, slice_get_within, Some}
+use Rattle.value_match.proofs.Common.{subst, suc, sym, timed, timeline, told_at, told_place, told_source, value_at}
+use Rattle.value_match.proofs.Common.{zero, ℕ, ⊤, ◌++◌, ◌+◌, ◌-◌, ◌<◌, ◌↔◌, ◌∙◌, ◌∷◌, ◌≡◌, ◌≢◌, ◌≤◌, ◌⊎◌}
+use Rattle.history_merge.proofs.Timelines.{timeline_is_complete}
+use Rattle.value_match.proofs.Agreeing.{Agree, agree_back, chosen_of, life_of, no_fresh_of, no_repeat_of}
+use Rattle.value_match.proofs.Lives.{life_is_contained, life_of_contained, places_of_value, value_is_life}
+use Rattle.std.proofs.lemmas.List.Elements.{Contains-get_or}
 use Rattle.value_match.proofs.Lists.{mapped_from, mapped_to}
+use Rattle.value_match.specs.Lives.{ComesIn, initial_lives, IsOfHistory}
+use Rattle.value_match.specs.declared.life.Source.{Source}
+use Rattle.value_match.specs.declared.life.Source.TheVariants as source
 use Rattle.value_match.specs.declared.violation.Violation.TheVariants as violation
 
 -- ---- the lives of a cover
@@ -30,7 +39,7 @@ dequeues operations v None none = tt
 dequeues operations v (Some d) did = (v, did.1)
 
 -- the lives of a cover
-pub covers_are_lives : (operations : List Operation) (empty : Operation) (frontier : ℕ) (cover : List Life) → CoversFrom operations empty frontier cover
+pub covers_are_lives : (operations : List Operation) (empty : Operation) (frontier : ℕ) (cover : List Life) → CoversFrom (on operations) empty frontier cover
     → AreLives cover
 covers_are_lives operations empty frontier [] covers = absurd covers
 covers_are_lives operations empty frontier (life ∷ []) covers =
@@ -204,63 +213,198 @@ few_initial (v ∷ rest) operations complete =
 -- ---- what stands at a place of the timeline
 
 -- the dequeue of a value that was not there is a dequeue
-pub fresh_dequeues : (operations : List Operation) (deq : Operation) (enq : Option Operation) → IsFreshViolation operations deq enq
+pub fresh_dequeues : (operations : List Operation) (deq : Operation) (enq : Option Operation) → IsFreshViolation (on operations) deq enq
     → (v : ℕ) × (deq.kind ≡ Deq v)
 fresh_dequeues operations deq None is = (is.value, is.dequeues.1)
 fresh_dequeues operations deq (Some enq) is = (is.value, is.dequeues.1)
 
-module _ (initial : List ℕ) (operations : List Operation) (few : length initial ≤ MAX_INITIAL) where
+-- those that pass a test which doesn't look at times, at their times
+pub filter_timed : (test : Operation → Bool) → ((o : Operation) → test (later_by ORIGIN o) ≡ test o) → (os : List Operation)
+    → filter test (timed os) ≡ timed (filter test os)
+filter_timed test same [] = refl
+filter_timed test same (o ∷ os) = elim (cases_Bool (test o)) [
+  | inl is ↦ rw (same o, is) (ap (λ xs. later_by ORIGIN o ∷ xs) (filter_timed test same os))
+  | inr is ↦ rw (same o, is) (filter_timed test same os)
+]
+
+-- operations at places, at their times
+pub places_timed : (operations : List Operation) (places : List ℕ) (listed : List Operation) → ArePlacesOf operations places listed
+    → ArePlacesOf (timed operations) places (timed listed)
+places_timed operations [] [] at = refl
+places_timed operations (p ∷ places) (o ∷ listed) at =
+    let here : slice_get operations p ≡ Some o = cc in
+    let rest : map (slice_get operations) places ≡ map (λ o. Some o) listed = cc in
+    ap₂ (λ (x : Option Operation) (xs : List (Option Operation)). x ∷ xs) (slice_get-map (later_by ORIGIN) operations p ∙ ap (option_map (later_by ORIGIN)) here)
+    (places_timed operations places listed rest)
+places_timed operations _ _ at = absurd (cc)
+
+module _ (initial : List ℕ) (operations : List Operation) where
   abbrev k : ℕ
   k = length initial
 
   abbrev all : List Operation
   all = timeline initial operations
 
+  -- what stands at a place of the history stands behind the initial values
+  pub operation_on : (p : ℕ) (o : Operation) → IsOperation operations p o → IsAt all (behind k p) o
+  operation_on p o at =
+      get_behind (initial_enqueues initial) (timed operations) k (k + p)
+      (sym (length_enqueues (ORIGIN - k) initial)) (omega arith)
+      ∙ ap (slice_get (timed operations)) (omega arith) ∙ at
+
+  -- the same where there is one
+  pub maybe_on : (p : Option ℕ) (o : Option Operation) → IsMaybeOperation operations p o → IsMaybeAt all (option_map (behind k) p) o
+  maybe_on None None at = tt
+  maybe_on (Some p) (Some o) at = operation_on p o at
+  maybe_on _ _ at = absurd assumption
+
+  -- the enqueue of an initial value stands at its place
+  early_at : (p : ℕ) → p < k → slice_get all p ≡ option_map (initial_enqueue k p) (slice_get initial p)
+  early_at p within = let many = length_enqueues (ORIGIN - k) initial in
+      get_before (initial_enqueues initial) (timed operations) p (omega (arith, many)) ∙ at_enqueue initial p
+
+  -- the place of a source
+  abbrev pub source_place : Source → ℕ
+  source_place (source.Enq p) = behind k p
+  source_place (source.Initial p) = p
+
+  -- what comes from a source stands there
+  pub source_on : (s : Source) (o : Operation) → IsSource initial operations s o → IsAt all (source_place s) o
+  source_on (source.Enq p) o at = operation_on p o at
+  source_on (source.Initial p) o at =
+      let value = mapped_option (initial_enqueue k p) (slice_get initial p) o at in
+      early_at p (slice_get_within initial p value.0 value.1) ∙ at
+
+  -- ---- the course of a history is that of its timeline
+
+  initial_kind : (j v : ℕ) (o : Operation) → initial_enqueue k j v ≡ o → o.kind ≡ Enq v
+  initial_kind j v o is = sym (ap (λ (x : Operation). x.kind) is)
+
+  enters_on : (enq : Operation) (v : ℕ) → ComesIn initial operations enq v → Did all enq (Enq v)
+  enters_on enq v (inl (j, stands, is)) = (
+    Contains-append_left (initial_enqueues initial) (timed operations) enq
+        (subst (Contains (initial_enqueues initial)) is (enqueue_stands initial j v stands)),
+    initial_kind j v enq is,
+  )
+  enters_on enq v (inr did) = (Contains-append_right (initial_enqueues initial) (timed operations) enq did.0, did.1)
+
+  enters_back : (enq : Operation) (v : ℕ) → Did all enq (Enq v) → ComesIn initial operations enq v
+  enters_back enq v (among, is) = elim (Contains-append_cases (initial_enqueues initial) (timed operations) enq among) [
+    | inl here ↦
+        let found = enqueue_place initial enq here in
+        let kinds : Enq found.1 ≡ Enq v = sym (initial_kind found.0 found.1 enq found.3) ∙ is in
+        let same : found.1 ≡ v = cc in
+        inl (found.0, found.2 ∙ ap (λ w. Some w) same, ap (initial_enqueue k found.0) (sym same) ∙ found.3)
+    | inr there ↦ inr (there, is)
+  ]
+
+  did_back : (o : Operation) (kind : OpKind) → ((v : ℕ) → kind ≢ Enq v) → Did all o kind → Did (timed operations) o kind
+  did_back o kind other (among, is) = elim (Contains-append_cases (initial_enqueues initial) (timed operations) o among) [
+    | inl here ↦
+        let found = enqueue_place initial o here in
+        absurd (other found.1 (sym is ∙ initial_kind found.0 found.1 o found.3))
+    | inr there ↦ (there, is)
+  ]
+
+  -- the same happens in both
+  pub course_on : Agree (course initial operations) (on all)
+  course_on = record {
+    there = record { enters = enters_on; did = λ o kind other did. (Contains-append_right (initial_enqueues initial) (timed operations) o did.0, did.1) };
+    back = record { enters = enters_back; did = did_back };
+  }
+
+  pub course_back : Agree (on all) (course initial operations)
+  course_back = agree_back (course initial operations) (on all) course_on
+
+  -- a history without the first two kinds of violation
+  pub clear_told : IsOfHistory initial operations → IsClear (on all) → IsClear (course initial operations)
+  clear_told complete clear = record {
+    complete = complete;
+    no_fresh = no_fresh_of (on all) (course initial operations) course_back clear.no_fresh;
+    no_repeat = no_repeat_of (on all) (course initial operations) course_back clear.no_repeat;
+  }
+
+  -- ---- the lives of a history are those of its timeline
+
+  find_behind : (v time : ℕ) (values : List ℕ) (later : List Operation)
+      → find (is_dequeue_of v) (enqueues_from time values ++ later) ≡ find (is_dequeue_of v) later
+  find_behind v time [] later = refl
+  find_behind v time (w ∷ values) later = find_behind v (time + 1) values later
+
+  life_on : (o : Operation) (kind : OpKind) → life_from all o kind ≡ life_from (timed operations) o kind
+  life_on o (Enq v) = ap (λ d. Some (record { enqueue = o; dequeue = d })) (find_behind v (ORIGIN - k) initial (timed operations))
+  life_on o _ = refl
+
+  early_lives : (time : ℕ) (values : List ℕ)
+      → filter_map (λ o. life_from all o o.kind) (enqueues_from time values) ≡ initial_lives (timed operations) time values
+  early_lives time [] = refl
+  early_lives time (v ∷ values) =
+      ap₂ (λ (d : Option Operation) (lives : List Life). record { enqueue = enqueue_at time v; dequeue = d } ∷ lives)
+      (find_behind v (ORIGIN - k) initial (timed operations)) (early_lives (time + 1) values)
+
+  later_lives : (later : List Operation)
+      → filter_map (λ o. life_from all o o.kind) later ≡ filter_map (λ o. life_from (timed operations) o o.kind) later
+  later_lives [] = refl
+  later_lives (o ∷ later) =
+      ap₂ (λ (life : Option Life) (lives : List Life). cons_option life lives) (life_on o o.kind) (later_lives later)
+
+  pub same_lives : lives_of all ≡ (course initial operations).lives
+  same_lives = filter_map-append (λ o. life_from all o o.kind) (initial_enqueues initial) (timed operations)
+      ∙ ap₂ (λ (xs ys : List Life). xs ++ ys) (early_lives (ORIGIN - k) initial) (later_lives (timed operations))
+
+module _ (initial : List ℕ) (operations : List Operation) (few : length initial ≤ MAX_INITIAL) where
   -- what isn't the enqueue of an initial value stands behind these
-  pub stands_behind : (p : ℕ) (o : Operation) → IsAt all p o → ((v : ℕ) → o.kind ≡ Enq v → o.call < ORIGIN → ⊥) → k ≤ p
+  pub stands_behind : (p : ℕ) (o : Operation) → IsAt (timeline initial operations) p o
+      → ((v : ℕ) → o.kind ≡ Enq v → o.call < ORIGIN → ⊥) → (length initial) ≤ p
   stands_behind p o at other = elim (timeline_at initial operations p o at) [
     | inl early ↦
-        let call : initial_time k p ≡ o.call = ap (λ (x : Operation). x.call) early.is in
+        let call : initial_time (length initial) p ≡ o.call = ap (λ (x : Operation). x.call) early.is in
         let within = early.within in
         absurd (other early.value (sym (ap (λ (x : Operation). x.kind) early.is)) (omega arith))
     | inr late ↦ late.behind
   ]
 
   -- the operation at a place of the timeline, where it stands behind the initial values
-  operation_told : (p : ℕ) (o : Operation) → IsAt all p o → k ≤ p → IsOperation initial operations (told_place k p) o
-  operation_told p o at after = let back : p ≡ behind k (told_place k p) = omega arith in subst (λ q. IsAt all q o) back at
+  operation_told : (p : ℕ) (o : Operation) → IsAt (timeline initial operations) p o → (length initial) ≤ p → IsOperation operations (told_place (length initial) p) o
+  operation_told p o at after =
+      sym (get_behind (initial_enqueues initial) (timed operations) (length initial) p (sym (length_enqueues (ORIGIN - (length initial)) initial)) after) ∙ at
 
   -- an empty answer
-  pub empty_told : (p : ℕ) (o : Operation) → IsAt all p o → o.kind ≡ Empty → IsOperation initial operations (told_place k p) o
+  pub empty_told : (p : ℕ) (o : Operation) → IsAt (timeline initial operations) p o → o.kind ≡ Empty → IsOperation operations (told_place (length initial) p) o
   empty_told p o at is = operation_told p o at (stands_behind p o at (λ v enq early. let clash : Empty ≡ Enq v = sym is ∙ enq in cc))
 
   -- a dequeue
-  pub dequeue_told : (p : ℕ) (o : Operation) (v : ℕ) → IsAt all p o → o.kind ≡ Deq v → IsOperation initial operations (told_place k p) o
+  pub dequeue_told : (p : ℕ) (o : Operation) (v : ℕ) → IsAt (timeline initial operations) p o → o.kind ≡ Deq v
+      → IsOperation operations (told_place (length initial) p) o
   dequeue_told p o v at is = operation_told p o at (stands_behind p o at (λ w enq early. let clash : Deq v ≡ Enq w = sym is ∙ enq in cc))
 
   -- a dequeue, where there is one
-  pub maybe_told : (p : Option ℕ) (o : Option Operation) → IsMaybeAt all p o → MatchOption o ⊤ (λ d. (v : ℕ) × (d.kind ≡ Deq v))
-      → IsMaybeOperation initial operations (option_map (told_place k) p) o
+  pub maybe_told : (p : Option ℕ) (o : Option Operation) → IsMaybeAt (timeline initial operations) p o → MatchOption o ⊤ (λ d. (v : ℕ) × (d.kind ≡ Deq v))
+      → IsMaybeOperation operations (option_map (told_place (length initial)) p) o
   maybe_told None None at is = tt
   maybe_told (Some p) (Some o) at is = dequeue_told p o is.0 at is.1
   maybe_told _ _ at is = absurd at
 
   -- the enqueue of a value
-  pub source_told : (p : ℕ) (o : Operation) → IsAt all p o → IsSource initial operations (told_source k p) o
-  source_told p o at = elim (cases_Bool (nat_lt p k)) [
-    | inl is ↦ rw is (ltb-true p k is, at)
-    | inr is ↦ rw is (operation_told p o at (ltb-false p k is))
+  pub source_told : (p : ℕ) (o : Operation) → IsAt (timeline initial operations) p o → IsSource initial operations (told_source (length initial) p) o
+  source_told p o at = elim (cases_Bool (nat_lt p (length initial))) [
+    | inl is ↦ rw is (sym (early_at initial operations p (ltb-true p (length initial) is)) ∙ at)
+    | inr is ↦ rw is (operation_told p o at (ltb-false p (length initial) is))
   ]
 
   -- the operations of a value
-  pub value_told : (value : MatchedValue) → HasPlaces all value → IsLife all value.life
-      → NamesStep initial operations (record { source = told_source k value.enqueue; dequeue = option_map (told_place k) value.dequeue }) value.life
-  value_told value at is =
-      (source_told value.enqueue (enqueue_of value.life) at.0, maybe_told value.dequeue (dequeue_of value.life) at.1 (dequeues all is.0 (dequeue_of value.life) is.2))
+  value_told : (value : PlacedLife) → HasPlaces (timeline initial operations) value → IsLife (on (timeline initial operations)) value.life
+      → IsNamed initial operations (told_source (length initial) value.enqueue) (option_map (told_place (length initial)) value.dequeue) value.life
+  value_told value at is = (
+    source_told value.enqueue (enqueue_of value.life) at.0,
+    maybe_told value.dequeue (dequeue_of value.life) at.1 (dequeues (timeline initial operations) is.0 (dequeue_of value.life) is.2),
+  )
 
   -- the enqueue that the dequeue returned before, or that was refused, is none of an initial value
-  pub call_told : (deq : ℕ) (d : Operation) (enq : Option ℕ) (e : Option Operation) → IsAt all deq d → IsMaybeAt all enq e → IsFreshViolation all d e
-      → IsMaybeOperation initial operations (option_map (told_place k) enq) e
+  pub call_told : (deq : ℕ) (d : Operation) (enq : Option ℕ) (e : Option Operation) → IsAt (timeline initial operations) deq d
+      → IsMaybeAt (timeline initial operations) enq e
+      → IsFreshViolation (on (timeline initial operations)) d e
+      → IsMaybeOperation operations (option_map (told_place (length initial)) enq) e
   call_told deq d None None at_d at_e is = tt
   call_told deq d (Some p) (Some e) at_d at_e is = operation_told p e at_e (stands_behind p e at_e too_late)
     where
@@ -278,22 +422,23 @@ module _ (initial : List ℕ) (operations : List Operation) (few : length initia
   call_told _ _ _ _ _ at_e _ = absurd at_e
 
   -- the chosen dequeue of a value that was not there
-  pub fresh_told : (found : FreshPlaces) → AreChosenFresh all found
-      → NamesChosenFresh initial operations (violation.Fresh (told_place k found.deq) (option_map (told_place k) found.enq))
+  pub fresh_told : (found : FreshPlaces) → AreChosenFresh (timeline initial operations) found
+      → NamesChosenFresh initial operations (violation.Fresh (told_place (length initial) found.deq) (option_map (told_place (length initial)) found.enq))
   fresh_told found (deq, enq, at_deq, at_enq, chosen) = (
     deq,
     enq,
     (
-      dequeue_told found.deq deq (fresh_dequeues all deq enq chosen.violates).0 at_deq (fresh_dequeues all deq enq chosen.violates).1,
+      dequeue_told found.deq deq (fresh_dequeues (timeline initial operations) deq enq chosen.violates).0 at_deq
+          (fresh_dequeues (timeline initial operations) deq enq chosen.violates).1,
       call_told found.deq deq found.enq enq at_deq at_enq chosen.violates,
     ),
-    chosen,
+    chosen_of (on (timeline initial operations)) (course initial operations) (course_back initial operations) (fresh deq enq) chosen,
   )
 
   -- the chosen value that is dequeued twice
-  pub repeat_told : (found : RepeatPlaces) → AreChosenRepeat all found
+  pub repeat_told : (found : RepeatPlaces) → AreChosenRepeat (timeline initial operations) found
       → NamesChosenRepeat initial operations
-      (violation.Repeat (told_source k found.enq) (told_place k found.first) (told_place k found.second))
+      (violation.Repeat (told_source (length initial) found.enq) (told_place (length initial) found.first) (told_place (length initial) found.second))
   repeat_told found (enq, first, second, at_enq, at_first, at_second, none, chosen) =
       let is = chosen.violates in (
         enq,
@@ -304,21 +449,42 @@ module _ (initial : List ℕ) (operations : List Operation) (few : length initia
           dequeue_told found.first first is.value at_first is.dequeues.1,
           dequeue_told found.second second is.value at_second is.dequeues_again.1,
         ),
-        (none, chosen),
+        chosen_of (on (timeline initial operations)) (course initial operations) (course_back initial operations) (repeat enq first second) (none, chosen),
       )
+
+  told_lives : (pairs : List Pair) → map (λ m. m.life) (map (told_at (length initial) (timeline initial operations)) pairs)
+      ≡ map (λ m. m.life) (map (value_at (timeline initial operations)) pairs)
+  told_lives [] = refl
+  told_lives (pair ∷ pairs) = ap (λ lives. (value_at (timeline initial operations) pair).life ∷ lives) (told_lives pairs)
+
+  -- the values of a matching are those of its history
+  pub values_told : (pairs : List Pair) → HoldsLives (timeline initial operations) (map (value_at (timeline initial operations)) pairs)
+      → HoldsValues (record { initial = initial; operations = operations }) (map (told_at (length initial) (timeline initial operations)) pairs)
+  values_told pairs holds = record {
+    lives = told_lives pairs ∙ holds.0 ∙ same_lives initial operations;
+    named = λ i d within.
+        let (pair, among, is) = mapped_from (told_at (length initial) (timeline initial operations)) pairs
+        (get_or (map (told_at (length initial) (timeline initial operations)) pairs) i d) (Contains-get_or _ i d within) in
+        let placed = mapped_to (value_at (timeline initial operations)) pairs pair among in
+        subst (λ m. IsNamed initial operations m.source m.dequeue m.life) is
+        (value_told (value_at (timeline initial operations) pair)
+        (places_of_value (timeline initial operations) (map (value_at (timeline initial operations)) pairs)
+        (value_at (timeline initial operations) pair) holds placed)
+        (value_is_life (timeline initial operations) (map (value_at (timeline initial operations)) pairs) (value_at (timeline initial operations) pair) holds placed));
+  }
 
   -- ---- lists of places
 
   -- what stands at places of the timeline, and was called at a ticket of the history, stands at the places told
-  places_told : (places : List ℕ) (listed : List Operation) → ArePlacesOf all places (map (later_by ORIGIN) listed)
-      → ArePlacesOf operations (map (told_place k) places) listed
+  places_told : (places : List ℕ) (listed : List Operation) → ArePlacesOf (timeline initial operations) places (map (later_by ORIGIN) listed)
+      → ArePlacesOf operations (map (told_place (length initial)) places) listed
   places_told [] [] at = refl
   places_told (p ∷ places) (o ∷ listed) at =
-      let first : slice_get all p ≡ Some (later_by ORIGIN o) = cc in
-      let later : map (slice_get all) places ≡ map (λ o. Some o) (map (later_by ORIGIN) listed) = cc in
-      let here : slice_get operations (p - k) ≡ Some o = elim (timeline_at initial operations p (later_by ORIGIN o) first) [
+      let first : slice_get (timeline initial operations) p ≡ Some (later_by ORIGIN o) = cc in
+      let later : map (slice_get (timeline initial operations)) places ≡ map (λ o. Some o) (map (later_by ORIGIN) listed) = cc in
+      let here : slice_get operations (p - (length initial)) ≡ Some o = elim (timeline_at initial operations p (later_by ORIGIN o) first) [
         | inl early ↦
-            let call : initial_time k p ≡ o.call + ORIGIN = ap (λ (x : Operation). x.call) early.is in
+            let call : initial_time (length initial) p ≡ o.call + ORIGIN = ap (λ (x : Operation). x.call) early.is in
             let within = early.within in
             absurd (omega arith)
         | inr late ↦ late.stands ∙ ap (λ x. Some x) (one_later ORIGIN late.operation o late.is)
@@ -329,63 +495,64 @@ module _ (initial : List ℕ) (operations : List Operation) (few : length initia
   -- an operation that no enqueue is, by a test, is one of the history, later
   filter_timeline : (test : Operation → Bool) → ((o : Operation) (v : ℕ) → o.kind ≡ Enq v → test o ≡ false)
       → ((o : Operation) → test (later_by ORIGIN o) ≡ test o)
-      → filter test all ≡ map (later_by ORIGIN) (filter test operations)
+      → filter test (timeline initial operations) ≡ map (later_by ORIGIN) (filter test operations)
   filter_timeline test none same =
       filter-append test (initial_enqueues initial) (map (later_by ORIGIN) operations)
       ∙ ap (λ xs. xs ++ filter test (map (later_by ORIGIN) operations)) (no_enqueue (ORIGIN - length initial) initial)
-      ∙ later_passes operations
+      ∙ filter_timed test same operations
     where
       no_enqueue : (time : ℕ) (values : List ℕ) → filter test (enqueues_from time values) ≡ []
       no_enqueue time [] = refl
       no_enqueue time (v ∷ values) = rw (none (enqueue_at time v) v refl) (no_enqueue (time + 1) values)
 
-      later_passes : (os : List Operation) → filter test (map (later_by ORIGIN) os) ≡ map (later_by ORIGIN) (filter test os)
-      later_passes [] = refl
-      later_passes (o ∷ os) = elim (cases_Bool (test o)) [
-        | inl is ↦ rw (same o, is) (ap (λ xs. later_by ORIGIN o ∷ xs) (later_passes os))
-        | inr is ↦ rw (same o, is) (later_passes os)
-      ]
-
   -- the places of the empty answers and of the refused enqueues
-  pub empties_told : (places : List ℕ) → HoldsPlaces all is_empty_answer places
-      → HoldsPlaces operations is_empty_answer (map (told_place k) places)
+  pub empties_told : (places : List ℕ) → HoldsPlaces (timeline initial operations) is_empty_answer places
+      → HoldsPlaces operations is_empty_answer (map (told_place (length initial)) places)
   empties_told places holds = places_told places (filter is_empty_answer operations)
-      (subst (ArePlacesOf all places) (filter_timeline is_empty_answer (λ o v is. rw is refl) (λ o. refl)) holds)
+      (subst (ArePlacesOf (timeline initial operations) places) (filter_timeline is_empty_answer (λ o v is. rw is refl) (λ o. refl)) holds)
 
   -- the places of failed enqueues are the history's
-  pub refused_told : (places : List ℕ) → HoldsPlaces all is_refused places → HoldsPlaces operations is_refused (map (told_place k) places)
+  pub refused_told : (places : List ℕ) → HoldsPlaces (timeline initial operations) is_refused places
+      → HoldsPlaces operations is_refused (map (told_place (length initial)) places)
   refused_told places holds = places_told places (filter is_refused operations)
-      (subst (ArePlacesOf all places) (filter_timeline is_refused (λ o v is. rw is refl) (λ o. refl)) holds)
+      (subst (ArePlacesOf (timeline initial operations) places) (filter_timeline is_refused (λ o v is. rw is refl) (λ o. refl)) holds)
 
-  -- ---- the places of a `YES`
+-- ---- a history's course is complete where its timeline is, and has the timeline's lives
 
-  places_back : (places : List ℕ) (listed : List Operation) → ArePlacesOf all places listed
-      → ArePlacesOf operations (filter_map (place_behind k) places) (filter_map (earlier ORIGIN) listed)
-  places_back [] [] at = refl
-  places_back (p ∷ places) (o ∷ listed) at =
-      let first : slice_get all p ≡ Some o = cc in
-      let later : map (slice_get all) places ≡ map (λ o. Some o) listed = cc in
-      let rest = places_back places listed later in
-      elim (timeline_at initial operations p o first) [
-        | inl early ↦
-            let call : initial_time k p ≡ o.call = ap (λ (x : Operation). x.call) early.is in
-            let within = early.within in
-            rw (lt-ltb p k within, earlier_none ORIGIN o (omega arith)) rest
-        | inr late ↦
-            let was : earlier ORIGIN o ≡ Some late.operation = ap (earlier ORIGIN) (sym late.is) ∙ earlier_later ORIGIN late.operation in
-            rw (le-ltb p k late.behind, was) (ap₂ (λ (x : Option Operation) (xs : List (Option Operation)). x ∷ xs) late.stands rest)
-      ]
-  places_back _ _ at = absurd (cc)
+-- the timeline of a history is complete
+pub timeline_of_history : (initial : List ℕ) (operations : List Operation) → IsOfHistory initial operations
+    → (length initial ≤ MAX_INITIAL) × AreComplete (timeline initial operations)
+timeline_of_history initial operations (events, is, complete, few) =
+    (few, subst (λ os. AreComplete (timeline initial os)) (sym is) (timeline_is_complete initial events complete few))
 
-  -- the order of a `YES`, after the enqueues of the initial values
-  pub order_back : (places : List ℕ) (listed : List Operation) → ArePlacesOf all places (timeline initial listed)
-      → ArePlacesOf operations (filter_map (place_behind k) places) listed
-  order_back places listed at = subst (ArePlacesOf operations (filter_map (place_behind k) places)) (timeline_earlier initial listed few)
-      (places_back places (timeline initial listed) at)
+module _ (initial : List ℕ) (operations : List Operation) (clear : IsClear (course initial operations)) where
+  -- the same happens on the timeline
+  pub clear_course : Agree (course initial operations) (on (timeline initial operations))
+  clear_course = course_on initial operations
 
--- ---- with no initial values it is so as it stands
+  -- which has neither of the first two kinds of violation
+  pub clear_on : IsClear (on (timeline initial operations))
+  clear_on = record {
+    complete = (timeline_of_history initial operations clear.complete).1;
+    no_fresh = no_fresh_of (course initial operations) (on (timeline initial operations)) clear_course clear.no_fresh;
+    no_repeat = no_repeat_of (course initial operations) (on (timeline initial operations)) clear_course clear.no_repeat;
+  }
 
--- an order stays as it is
-pub order_with_none : (places : List ℕ) → filter_map (place_behind 0) places ≡ places
-order_with_none [] = refl
-order_with_none (p ∷ places) = rw (le-ltb p 0 (omega arith)) (ap₂ (λ (q : ℕ) (ps : List ℕ). q ∷ ps) (omega arith) (order_with_none places))
+  -- a life of the history is one of the timeline
+  pub clear_life : (life : Life) → IsLife (course initial operations) life → IsLife (on (timeline initial operations)) life
+  clear_life = life_of (course initial operations) (on (timeline initial operations)) clear_course
+
+  module _ (values : List MatchedValue) (holds : HoldsValues (record { initial = initial; operations = operations }) values) where
+    -- each value is a life
+    pub value_lives : (value : MatchedValue) → Contains values value → IsLife (course initial operations) value.life
+    value_lives value among =
+        let listed = subst (λ lives. Contains lives value.life) (holds.lives ∙ sym (same_lives initial operations))
+        (mapped_to (λ m. m.life) values value among) in
+        life_of (on (timeline initial operations)) (course initial operations)
+        (agree_back _ _ clear_course) value.life (life_of_contained (timeline initial operations) value.life listed)
+
+    -- and each life is that of a value
+    pub life_value : (life : Life) → IsLife (course initial operations) life → (value : MatchedValue) × Contains values value × (value.life ≡ life)
+    life_value life is = mapped_from (λ m. m.life) values life
+        (subst (λ lives. Contains lives life) (same_lives initial operations ∙ sym holds.lives)
+        (life_is_contained (timeline initial operations) life clear_on (clear_life life is)))

@@ -1,9 +1,9 @@
 ghost use Rattle.std.specs.Prelude.{◌≡◌, ◌<◌, ◌≤◌, All, IfSome, drop, length, map, slice_index_or, take};
-ghost use Rattle.value_match.specs.Accepted.{maybe_operation_at, value_at};
-ghost use Rattle.value_match.specs.Lives.{HasPlaces};
+ghost use Rattle.value_match.specs.Inner.Accepted.{HasPlaces, maybe_operation_at, told_at, value_at};
 
 use crate::life::{Life, MatchedValue};
 use crate::maybe_place::MaybePlace;
+use crate::told::{told_maybe, told_source};
 use history_merge::{OpId, Operation, PackedOperation};
 use std::marker::Model;
 
@@ -16,32 +16,41 @@ pub(crate) struct Pair {
 
 /// Accepted values, seen as the list of them.
 ///
-/// It borrows the operations, and a word for each value.
+/// It borrows the timeline, and a word for each value.
 #[derive(Drop)]
 pub struct Values<'a> {
-    operations: &'a [PackedOperation],
+    initial_count: usize,
+    timeline: &'a [PackedOperation],
     pairs: &'a [Pair],
 }
 
 impl<'a> Model for Values<'a> {
     ghost use Rattle.std.specs.Prelude.{List, All, map};
     ghost use Rattle.value_match.specs.declared.life.MatchedValue.{MatchedValue};
-    ghost use Rattle.value_match.specs.Accepted.{value_at};
-    ghost use Rattle.value_match.specs.Lives.{HasPlaces};
+    ghost use Rattle.value_match.specs.Inner.Accepted.{HasPlaces, told_at, value_at};
 
     ghost Value = { List MatchedValue };
 
-    ghost view = { λ v. map (value_at v.operations.now) v.pairs.now };
+    ghost view = { λ v. map (told_at v.initial_count v.timeline.now) v.pairs.now };
 
-    ghost invariant = { λ v. All (HasPlaces v.operations.now) (map (value_at v.operations.now) v.pairs.now) };
+    ghost invariant = { λ v. All (HasPlaces v.timeline.now) (map (value_at v.timeline.now) v.pairs.now) };
 }
 
 impl<'a> Values<'a> {
-    pub(crate) fn new(operations: &'a [PackedOperation], pairs: &'a [Pair]) -> Values<'a>
-        requires { All (HasPlaces operations.now) (map (value_at operations.now) pairs.now) }
-        ensures { result ≡ map (value_at operations.now) pairs.now }
+    /// Makes the values whose operations stand at these places of a timeline, on which this many initial values come first.
+    pub(crate) fn new(
+        initial_count: usize,
+        timeline: &'a [PackedOperation],
+        pairs: &'a [Pair],
+    ) -> Values<'a>
+        requires { All (HasPlaces timeline.now) (map (value_at timeline.now) pairs.now) }
+        ensures { result ≡ map (told_at initial_count timeline.now) pairs.now }
     {
-        Values { operations, pairs }
+        Values {
+            initial_count,
+            timeline,
+            pairs,
+        }
     }
 
     /// How many there are.
@@ -62,7 +71,7 @@ impl<'a> Values<'a> {
         if place >= pairs.len() {
             unreachable!("a place of a value is that of a pair");
         }
-        value_of(self.operations, pairs[place])
+        value_of(self.initial_count, self.timeline, pairs[place])
     }
 
     /// The values before this place, and the others.
@@ -77,26 +86,26 @@ impl<'a> Values<'a> {
         }
         let (before, others) = pairs.split_at(place);
         (
-            Values::new(self.operations, before),
-            Values::new(self.operations, others),
+            Values::new(self.initial_count, self.timeline, before),
+            Values::new(self.initial_count, self.timeline, others),
         )
     }
 }
 
-/// The value whose operations stand at these places.
+/// The value whose operations stand at these places of a timeline.
 #[inline(always)]
-fn value_of(operations: &[PackedOperation], pair: Pair) -> MatchedValue
-    requires enqueue { pair.enqueue < length operations.now }
-    requires dequeue { IfSome pair.dequeue (λ p. p < length operations.now) }
-    ensures { result ≡ value_at operations.now pair }
+fn value_of(initial_count: usize, timeline: &[PackedOperation], pair: Pair) -> MatchedValue
+    requires enqueue { pair.enqueue < length timeline.now }
+    requires dequeue { IfSome pair.dequeue (λ p. p < length timeline.now) }
+    ensures { result ≡ told_at initial_count timeline.now pair }
 {
     MatchedValue {
         life: Life {
-            enqueue: operations[pair.enqueue as usize].unpack(),
-            dequeue: maybe_operation(operations, pair.dequeue),
+            enqueue: timeline[pair.enqueue as usize].unpack(),
+            dequeue: maybe_operation(timeline, pair.dequeue),
         },
-        enqueue: OpId::new(pair.enqueue),
-        dequeue: pair.dequeue.id(),
+        source: told_source(initial_count, OpId::new(pair.enqueue)),
+        dequeue: told_maybe(initial_count, pair.dequeue.id()),
     }
 }
 

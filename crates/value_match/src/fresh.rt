@@ -2,6 +2,7 @@ ghost use Rattle.std.specs.Prelude.{◌≡◌, ◌||◌, ◌↔◌, ◌<◌, ◌
 ghost use Rattle.history_merge.specs.declared.operation.Operation.{Operation};
 ghost use Rattle.history_merge.specs.Complete.{AreComplete};
 ghost use Rattle.history_merge.specs.Operations.{IsAt};
+ghost use Rattle.value_match.specs.Inner.Courses.{on};
 ghost use Rattle.value_match.specs.Lives.{is_refused};
 ghost use Rattle.value_match.specs.Inner.MatchOutcome.{AreChosenFresh};
 ghost use Rattle.value_match.specs.Inner.Sources.{HoldsSources, IsFreshFrom, IsSourceOf, NoneFresh, return_at};
@@ -30,7 +31,7 @@ pub(crate) fn first_fresh(
     requires few { length operations.now ≤ MAX_MATCHED }
     requires sources { HoldsSources operations.now settled sources.now }
     requires in_time { NoneFresh operations.now settled }
-    ensures { MatchOption result (NoFreshViolation operations.now) (AreChosenFresh operations.now) }
+    ensures { MatchOption result (NoFreshViolation (on operations.now)) (AreChosenFresh operations.now) }
 {
     let mut first = None;
     for place in settled..operations.len() {

@@ -18,11 +18,10 @@ mod values;
 mod violation;
 
 pub use accepted::Values;
-pub use life::{Life, MatchedValue, NEVER, ticket_of};
+pub use life::{Life, MatchedValue, NEVER, Source, ticket_of};
 pub use matching::{MAX_MATCHED, Matched, Matching};
 pub use places::Places;
 pub use presorting::presort;
 pub use table::{Front, LongestTable, fronts_of};
-pub use told::{told_maybe, told_place, told_source};
 pub use values::match_values;
-pub use violation::{Cover, CoverStep, Source, Violation};
+pub use violation::{Cover, CoverStep, Violation};

@@ -1,6 +1,6 @@
 ghost use Rattle.std.specs.Prelude.{◌≡◌, ◌≤◌, ◌↔◌, IsTrue};
 ghost use Rattle.value_match.specs.declared.life.TheConstants.{NEVER};
-ghost use Rattle.value_match.specs.Timeline.{ticket_of};
+ghost use Rattle.value_match.specs.Times.{ticket_of};
 ghost use Rattle.value_match.specs.Choice.{StaysAtLeast};
 ghost use Rattle.value_match.specs.Lives.{enqueue_call, enqueue_return, dequeue_call, dequeue_return, entered_by, leaves_from};
 ghost use Rattle.value_match.specs.Fronts.{IsLongerOf};
@@ -17,6 +17,15 @@ pub fn ticket_of(time: u64) -> i64
     ensures { result ≡ ticket_of time }
 {
     time as i64 - ORIGIN as i64
+}
+
+/// Where an accepted value comes from.
+#[derive(Clone, Copy, Debug, PartialEq, Eq)]
+pub enum Source {
+    /// The successful enqueue at this place among the operations.
+    Enq(OpId),
+    /// The value that the queue held first, at this place among these, the front one at 0.
+    Initial(usize),
 }
 
 /// The life of a value in the queue: its successful enqueue, and its dequeue if there is one.
@@ -79,13 +88,11 @@ impl Life {
     }
 }
 
-/// A life, with the places of its two operations among those of the history.
+/// A life, with the source of the value and the place of its dequeue, where it is dequeued.
 #[derive(Clone, Copy, Debug, PartialEq, Eq)]
 pub struct MatchedValue {
     pub life: Life,
-    /// The place of the enqueue.
-    pub enqueue: OpId,
-    /// The place of the dequeue, where the value is dequeued.
+    pub source: Source,
     pub dequeue: Option<OpId>,
 }
 

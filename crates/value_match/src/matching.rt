@@ -1,9 +1,10 @@
-ghost use Rattle.std.specs.Prelude.{◌≡◌, ◌≤◌, length};
+ghost use Rattle.std.specs.Prelude.{◌≡◌, ◌+◌, ◌≤◌, length};
+ghost use Rattle.value_match.specs.Inner.Courses.{on};
 ghost use Rattle.value_match.specs.declared.matching.TheConstants.{MAX_MATCHED};
-ghost use Rattle.history_merge.specs.Initial.{timeline};
+ghost use Rattle.history_merge.specs.Inner.Timeline.{timeline};
 ghost use Rattle.history_merge.specs.Operations.{operations_of};
-ghost use Rattle.value_match.specs.Lives.{HoldsLives, HoldsPlaces, is_empty_answer, is_refused};
-ghost use Rattle.value_match.specs.Timeline.{timeline_of};
+ghost use Rattle.value_match.specs.Lives.{course_of, HoldsPlaces, is_empty_answer, is_refused};
+ghost use Rattle.value_match.specs.Outcome.{HoldsValues};
 ghost use Rattle.value_match.specs.Violations.{IsClear};
 ghost use Rattle.value_match.specs.Inner.SortedOut.{IsSortedOutOf};
 
@@ -28,9 +29,8 @@ pub(crate) struct SortedOut {
 /// A complete history in which no dequeue is of a value that was not there, and no value is dequeued twice; seen as its initial
 /// values and its operations.
 ///
-/// Places are the history's own, or those of its timeline, where the enqueues of the initial values come first. Times are
-/// those of the timeline: what has ticket c has the time `ORIGIN + c`, and the j-th of k initial values is enqueued at the
-/// time `ORIGIN + j - k`.
+/// A life speaks of times: what has ticket c has the time `ORIGIN + c`, and the j-th of k initial values comes in at the time
+/// `ORIGIN + j - k`.
 ///
 /// It borrows the history, and holds a word for each accepted value.
 #[derive(Drop)]
@@ -40,7 +40,8 @@ pub struct Matching<'a> {
 }
 
 impl<'a> Model for Matching<'a> {
-    ghost use Rattle.history_merge.specs.Initial.{Contents, timeline};
+    ghost use Rattle.history_merge.specs.Initial.{Contents};
+    ghost use Rattle.history_merge.specs.Inner.Timeline.{timeline};
     ghost use Rattle.history_merge.specs.Operations.{operations_of};
     ghost use Rattle.value_match.specs.Inner.SortedOut.{IsSortedOutOf};
 
@@ -63,7 +64,7 @@ impl<'a> Matching<'a> {
     /// What the queue held first, front first.
     pub fn initial(&self) -> &[u64]
         ensures initial { result.now ≡ self.now.initial }
-        ensures clear { IsClear (timeline_of self.now) }
+        ensures clear { IsClear (course_of self.now) }
     {
         let _sorted = &self.sorted;
         self.history.initial()
@@ -71,7 +72,9 @@ impl<'a> Matching<'a> {
 
     /// The operations, in the order of their calls.
     pub fn operations(&self) -> Operations<'_>
-        ensures { result ≡ self.now.operations }
+        ensures operations { result ≡ self.now.operations }
+        ensures clear { IsClear (course_of self.now) }
+        ensures few { length self.now.initial + length self.now.operations ≤ MAX_MATCHED }
     {
         self.history.operations()
     }
@@ -80,46 +83,26 @@ impl<'a> Matching<'a> {
     pub fn empties(&self) -> Places<'_>
         ensures { HoldsPlaces self.now.operations is_empty_answer result }
     {
-        Places::new(self.history.initial().len(), self.timeline_empties())
+        Places::new(self.history.initial().len(), self.sorted.empties.as_slice())
     }
 
     /// The enqueues that were refused, in the order of their calls.
     pub fn refused(&self) -> Places<'_>
         ensures { HoldsPlaces self.now.operations is_refused result }
     {
-        Places::new(self.history.initial().len(), self.timeline_refused())
+        Places::new(self.history.initial().len(), self.sorted.refused.as_slice())
     }
 
-    /// The timeline: the enqueues of the initial values, and then the operations.
-    pub fn timeline(&self) -> &[PackedOperation]
-        ensures timeline { result.now ≡ timeline_of self.now }
-        ensures few { length (timeline_of self.now) ≤ MAX_MATCHED }
-        ensures clear { IsClear (timeline_of self.now) }
-    {
-        let _sorted = &self.sorted;
-        self.history.timeline()
-    }
-
-    /// The accepted values, in the order of their enqueues' calls, by their places on the timeline.
+    /// The accepted values: the initial values, front first, and then the others in the order of their enqueues' calls.
     pub fn values(&self) -> Values<'_>
-        ensures values { HoldsLives (timeline_of self.now) result }
-        ensures clear { IsClear (timeline_of self.now) }
+        ensures values { HoldsValues self.now result }
+        ensures clear { IsClear (course_of self.now) }
     {
-        Values::new(self.timeline(), self.sorted.values.as_slice())
-    }
-
-    /// The dequeues that answered empty, by their places on the timeline, in the order of their calls.
-    pub fn timeline_empties(&self) -> &[OpId]
-        ensures { HoldsPlaces (timeline_of self.now) is_empty_answer result.now }
-    {
-        self.sorted.empties.as_slice()
-    }
-
-    /// The enqueues that were refused, by their places on the timeline, in the order of their calls.
-    pub fn timeline_refused(&self) -> &[OpId]
-        ensures { HoldsPlaces (timeline_of self.now) is_refused result.now }
-    {
-        self.sorted.refused.as_slice()
+        Values::new(
+            self.initial().len(),
+            self.history.timeline(),
+            self.sorted.values.as_slice(),
+        )
     }
 }
 

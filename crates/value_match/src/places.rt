@@ -1,5 +1,5 @@
-ghost use Rattle.std.specs.Prelude.{◌≡◌, ◌<◌, length, map, slice_index_or};
-ghost use Rattle.value_match.specs.Timeline.{told_place};
+ghost use Rattle.std.specs.Prelude.{◌≡◌, ◌<◌, ◌≤◌, drop, length, map, slice_index_or, take};
+ghost use Rattle.value_match.specs.Inner.Told.{told_place};
 
 use crate::told::told_place;
 use history_merge::OpId;
@@ -16,7 +16,7 @@ pub struct Places<'a> {
 
 impl<'a> Model for Places<'a> {
     ghost use Rattle.std.specs.Prelude.{ℕ, List, map};
-    ghost use Rattle.value_match.specs.Timeline.{told_place};
+    ghost use Rattle.value_match.specs.Inner.Told.{told_place};
 
     ghost Value = { List ℕ };
 
@@ -35,6 +35,7 @@ impl<'a> Places<'a> {
     }
 
     /// How many there are.
+    #[inline(always)]
     pub fn len(&self) -> usize
         ensures { result ≡ length self.now }
     {
@@ -42,10 +43,24 @@ impl<'a> Places<'a> {
     }
 
     /// The one at this place of the list.
+    #[inline(always)]
     pub fn get(&self, place: usize) -> OpId
         requires { place < length self.now }
         ensures { result ≡ slice_index_or self.now place result }
     {
         told_place(self.initial_count, self.timeline[place])
+    }
+
+    /// Those before this place of the list, and the others.
+    pub fn split_at(&self, place: usize) -> (Places<'a>, Places<'a>)
+        requires { place ≤ length self.now }
+        ensures before { result.0 ≡ take place self.now }
+        ensures others { result.1 ≡ drop place self.now }
+    {
+        let (before, others) = self.timeline.split_at(place);
+        (
+            Places::new(self.initial_count, before),
+            Places::new(self.initial_count, others),
+        )
     }
 }

@@ -1,5 +1,6 @@
 ghost use Rattle.std.specs.Prelude.{◌≡◌, ◌⊎◌, ◌<◌, ◌≤◌, ⊤, MatchOption, length};
 ghost use Rattle.history_merge.specs.Complete.{AreComplete};
+ghost use Rattle.value_match.specs.Inner.Courses.{on};
 ghost use Rattle.value_match.specs.Inner.MatchOutcome.{AreTakers};
 ghost use Rattle.value_match.specs.Inner.Sources.{AreSources, HoldsSources, HasTakersTo, return_at};
 ghost use Rattle.value_match.specs.Violations.{NoFreshViolation};
@@ -33,7 +34,7 @@ pub(crate) fn takers_of(operations: &[PackedOperation], sources: Sources) -> Tak
     requires complete { AreComplete operations.now }
     requires few { length operations.now ≤ MAX_MATCHED }
     requires sources { AreSources operations.now sources }
-    requires no_fresh { NoFreshViolation operations.now }
+    requires no_fresh { NoFreshViolation (on operations.now) }
     ensures { AreTakers operations.now result }
 {
     let Sources {
@@ -55,7 +56,7 @@ fn find_takers(
     requires few { length operations.now ≤ MAX_MATCHED }
     requires sources { HoldsSources operations.now settled sources.now }
     requires takers { HasTakersTo operations.now settled takers.items }
-    requires no_fresh { NoFreshViolation operations.now }
+    requires no_fresh { NoFreshViolation (on operations.now) }
     ensures { AreTakers operations.now result }
 {
     // For each source the dequeue that returns first, of those so far.

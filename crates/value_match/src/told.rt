@@ -1,16 +1,17 @@
 //! Places of a history, told by those of its timeline, in which the enqueues of its initial values come first.
 ghost use Rattle.std.specs.Prelude.{◌≡◌, option_map};
 ghost use Rattle.value_match.specs.declared.violation.Violation.TheVariants.{Fresh, Repeat};
-ghost use Rattle.value_match.specs.Timeline.{told_place, told_source};
+ghost use Rattle.value_match.specs.Inner.Told.{told_place, told_source};
 
 use crate::fresh::FreshPlaces;
+use crate::life::Source;
 use crate::takers::RepeatPlaces;
-use crate::violation::{Source, Violation};
+use crate::violation::Violation;
 use history_merge::OpId;
 
 /// Returns the place of an operation of a history with this many initial values.
 #[inline(always)]
-pub fn told_place(initial_count: usize, place: OpId) -> OpId
+pub(crate) fn told_place(initial_count: usize, place: OpId) -> OpId
     ensures { result ≡ told_place initial_count place }
 {
     let place = place.number() as usize;
@@ -19,7 +20,7 @@ pub fn told_place(initial_count: usize, place: OpId) -> OpId
 
 /// Returns the place of the operation that there may be.
 #[inline(always)]
-pub fn told_maybe(initial_count: usize, place: Option<OpId>) -> Option<OpId>
+pub(crate) fn told_maybe(initial_count: usize, place: Option<OpId>) -> Option<OpId>
     ensures { result ≡ option_map (told_place initial_count) place }
 {
     place.map(|place| told_place(initial_count, place))
@@ -27,7 +28,7 @@ pub fn told_maybe(initial_count: usize, place: Option<OpId>) -> Option<OpId>
 
 /// Returns where the value comes from whose enqueue stands at this place.
 #[inline(always)]
-pub fn told_source(initial_count: usize, enqueue: OpId) -> Source
+pub(crate) fn told_source(initial_count: usize, enqueue: OpId) -> Source
     ensures { result ≡ told_source initial_count enqueue }
 {
     if enqueue.place() < initial_count {

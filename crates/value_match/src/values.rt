@@ -2,8 +2,10 @@ ghost use Rattle.std.specs.Prelude.{◌≡◌, ◌≢◌, ◌<◌, ◌≤◌, �
 ghost use Rattle.std.specs.Vec.{vec_capacity};
 ghost use Rattle.history_merge.specs.declared.operation.OpKind.TheVariants.{Enq};
 ghost use Rattle.history_merge.specs.Complete.{AreComplete};
-ghost use Rattle.history_merge.specs.Initial.{timeline};
+ghost use Rattle.history_merge.specs.Inner.Timeline.{timeline};
 ghost use Rattle.history_merge.specs.Operations.{operations_of};
+ghost use Rattle.value_match.specs.Inner.Courses.{on};
+ghost use Rattle.value_match.specs.Lives.{IsOfHistory};
 ghost use Rattle.value_match.specs.Outcome.{IsMatched};
 ghost use Rattle.value_match.specs.Inner.MatchOutcome.{IsMatchOutcomeOf};
 ghost use Rattle.value_match.specs.Inner.SortedOut.{IsSortedOutOf};
@@ -34,8 +36,7 @@ pub(crate) enum MatchOutcome {
 /// where a value was dequeued twice: the value whose second dequeue returns first, with its first two dequeues by
 /// return. Otherwise `Clear`. The only error is out of memory.
 ///
-/// Initial values count as enqueued before all else: what is matched is the history's timeline. A violation names the
-/// history's own operations and initial values.
+/// Initial values count as enqueued before all else. A violation names operations and initial values by their places.
 ///
 /// Time O(n) for n operations if the values leave nearly in the order of their calls or, with recorder's names, soon after these;
 /// else the calls of the others are sorted by value, O(n log n). The answer borrows the history and takes a word for each
@@ -43,7 +44,7 @@ pub(crate) enum MatchOutcome {
 /// once, and a few more for each call or dequeue that is sorted.
 pub fn match_values(alloc: Global, history: &History) -> Result<Matched<'_>, AllocError>
     ensures matched { IfOk result (IsMatched history.now.initial (operations_of history.now.events)) }
-    ensures complete { AreComplete (timeline history.now.initial (operations_of history.now.events)) }
+    ensures complete { IsOfHistory history.now.initial (operations_of history.now.events) }
 {
     let initial_count = history.initial().len();
     match find(alloc, history.timeline())? {
@@ -78,7 +79,7 @@ fn sorted_out(
     dequeues: &[MaybePlace],
 ) -> Result<SortedOut, AllocError>
     requires few { length operations.now ≤ MAX_MATCHED }
-    requires clear { IsClear operations.now }
+    requires clear { IsClear (on operations.now) }
     requires dequeues { HoldsDequeues operations.now dequeues.now }
     ensures { IfOk result (IsSortedOutOf operations.now) }
 {

@@ -1,14 +1,6 @@
+use crate::life::Source;
 use event_records::OwnedSlice;
 use history_merge::OpId;
-
-/// Where an accepted value comes from.
-#[derive(Clone, Copy, Debug, PartialEq, Eq)]
-pub enum Source {
-    /// The successful enqueue at this place among the operations.
-    Enq(OpId),
-    /// The value that the queue held first, at this place among these, the front one at 0.
-    Initial(usize),
-}
 
 /// A value of a cover: its source, and the place of its dequeue, if there is one.
 #[derive(Clone, Copy, Debug, PartialEq, Eq)]

@@ -6,24 +6,24 @@ use Rattle.verdicts.proofs.Common.{FullViolation, inl, inr, IsChosenCoverFrom, I
 use Rattle.verdicts.proofs.Common.{IsChosenOrderViolation, IsChosenRepeat, IsChosenWitness, IsClear, IsEnqueuedTooLate}
 use Rattle.verdicts.proofs.Common.{IsFreshViolation, IsLife, IsNeverEnqueued, IsNextOfCover, IsOrderViolation}
 use Rattle.verdicts.proofs.Common.{IsRepeatViolation, IsViolationOf, Life, List, MatchBool, MatchOption, nat_lt, NEVER}
-use Rattle.verdicts.proofs.Common.{NoFreshViolation, None, NoneDid, NoRepeatViolation, Not}
-use Rattle.verdicts.proofs.Common.{Operation, Option, order, refl, repeat, return_or_never, same_call}
-use Rattle.verdicts.proofs.Common.{same_enqueue, same_return, same_value_call, Some, StaysAtLeast, subst, sym, true}
-use Rattle.verdicts.proofs.Common.{witness, ℕ, ◌<◌, ◌∙◌, ◌∷◌, ◌≡◌, ◌≤◌}
+use Rattle.verdicts.proofs.Common.{NoFreshViolation, None, NoneDid, NoRepeatViolation, Not, on, Operation, Option}
+use Rattle.verdicts.proofs.Common.{order, refl, repeat, return_or_never, same_call, same_enqueue, same_return}
+use Rattle.verdicts.proofs.Common.{same_value_call, Some, StaysAtLeast, subst, sym, true, witness, ℕ, ◌<◌, ◌∙◌, ◌∷◌}
+use Rattle.verdicts.proofs.Common.{◌≡◌, ◌≤◌}
 
-are_clear : (operations : List Operation) → AreComplete operations → NoFreshViolation operations → NoRepeatViolation operations → IsClear operations
+are_clear : (operations : List Operation) → AreComplete operations → NoFreshViolation (on operations) → NoRepeatViolation (on operations) → IsClear (on operations)
 are_clear operations complete no_fresh no_repeat = record { complete = complete; no_fresh = no_fresh; no_repeat = no_repeat }
 
 -- the chosen violation is one
-pub chosen_is_violation : (operations : List Operation) (full : FullViolation) → AreComplete operations → IsChosenFullViolation operations full
-    → IsViolationOf operations full
+pub chosen_is_violation : (operations : List Operation) (full : FullViolation) → AreComplete operations → IsChosenFullViolation (on operations) full
+    → IsViolationOf (on operations) full
 chosen_is_violation operations (fresh deq enq) complete chosen = chosen.violates
 chosen_is_violation operations (repeat enq first second) complete chosen = chosen.1.violates
 chosen_is_violation operations (order a b) complete chosen = chosen.2.violates
 chosen_is_violation operations (witness empty cover) complete chosen =
     chosen_cover_violates operations empty cover (are_clear operations complete chosen.0 chosen.1) chosen.3.answers_empty chosen.3.cover_is_chosen
 
-dequeued_value : (operations : List Operation) (deq : Operation) (enq : Option Operation) → IsFreshViolation operations deq enq
+dequeued_value : (operations : List Operation) (deq : Operation) (enq : Option Operation) → IsFreshViolation (on operations) deq enq
     → (v : ℕ) × Did operations deq (Deq v)
 dequeued_value operations deq None violation = (violation.value, violation.dequeues)
 dequeued_value operations deq (Some e) violation = (violation.value, violation.dequeues)
@@ -31,20 +31,20 @@ dequeued_value operations deq (Some e) violation = (violation.value, violation.d
 one_kind : (o : Operation) (v w : ℕ) → o.kind ≡ Deq v → o.kind ≡ Deq w → v ≡ w
 one_kind o v w is_v is_w = let kinds : Deq v ≡ Deq w = sym is_v ∙ is_w in cc
 
-late_call : (operations : List Operation) (deq enq : Operation) (late : IsEnqueuedTooLate operations deq enq)
+late_call : (operations : List Operation) (deq enq : Operation) (late : IsEnqueuedTooLate (on operations) deq enq)
     → Contains operations enq × CallsFor enq late.value
 late_call operations deq enq late = elim late.enqueues [ inl refused ↦ (refused.0, inr refused.1) | inr accepted ↦ (accepted.0.0, inl accepted.0.1) ]
 
-not_never : (operations : List Operation) (deq enq : Operation) → IsNeverEnqueued operations deq → IsEnqueuedTooLate operations deq enq → ⊥
+not_never : (operations : List Operation) (deq enq : Operation) → IsNeverEnqueued (on operations) deq → IsEnqueuedTooLate (on operations) deq enq → ⊥
 not_never operations deq enq never late =
     let values : late.value ≡ never.value = one_kind deq late.value never.value late.dequeues.1 never.dequeues.1 in
     elim late.enqueues [
       | inl refused ↦ never.not_refused enq refused.0 (refused.1 ∙ ap (λ v. Not v) values)
-      | inr accepted ↦ never.not_accepted enq accepted.0.0 (accepted.0.1 ∙ ap (λ v. Enq v) values)
+      | inr accepted ↦ never.not_accepted enq (accepted.0.0, accepted.0.1 ∙ ap (λ v. Enq v) values)
     ]
 
 one_enqueue : (operations : List Operation) (deq : Operation) (enq enq' : Option Operation) → AreComplete operations
-    → IsFreshViolation operations deq enq → IsFreshViolation operations deq enq' → enq ≡ enq'
+    → IsFreshViolation (on operations) deq enq → IsFreshViolation (on operations) deq enq' → enq ≡ enq'
 one_enqueue operations deq None None complete x y = refl
 one_enqueue operations deq None (Some e) complete x y = absurd (not_never operations deq e x y)
 one_enqueue operations deq (Some e) None complete x y = absurd (not_never operations deq e y x)
@@ -55,21 +55,21 @@ one_enqueue operations deq (Some e) (Some e') complete x y =
     ap (λ o. Some o) (same_value_call operations e e' x.value complete call.0 call'.0 call.1 (subst (CallsFor e') values call'.1))
 
 one_fresh : (operations : List Operation) (deq deq' : Operation) (enq enq' : Option Operation) → AreComplete operations
-    → IsChosenFresh operations deq enq → IsChosenFresh operations deq' enq' → fresh deq enq ≡ fresh deq' enq'
+    → IsChosenFresh (on operations) deq enq → IsChosenFresh (on operations) deq' enq' → fresh deq enq ≡ fresh deq' enq'
 one_fresh operations deq deq' enq enq' complete x y =
     let le = x.first deq' enq' y.violates in
     let ge = y.first deq enq x.violates in
     let one = same_return operations deq deq' complete (dequeued_value operations deq enq x.violates).1.0
     (dequeued_value operations deq' enq' y.violates).1.0 (omega arith) in
-    let enqs = one_enqueue operations deq enq enq' complete x.violates (subst (λ d. IsFreshViolation operations d enq') (sym one) y.violates) in
+    let enqs = one_enqueue operations deq enq enq' complete x.violates (subst (λ d. IsFreshViolation (on operations) d enq') (sym one) y.violates) in
     cc
 
 -- no other dequeue of the value returned before the first of the chosen two
-no_sooner : (operations : List Operation) (enq first second other : Operation) (v : ℕ) → IsChosenRepeat operations enq first second
+no_sooner : (operations : List Operation) (enq first second other : Operation) (v : ℕ) → IsChosenRepeat (on operations) enq first second
     → Did operations enq (Enq v) → Did operations first (Deq v) → Did operations other (Deq v) → first.ret ≤ other.ret
 no_sooner operations enq first second other v chosen enqueues dequeues dequeues' = elim (cases_lt other.ret first.ret) [
   | inl less ↦
-      let repeats : IsRepeatViolation operations enq other first =
+      let repeats : IsRepeatViolation (on operations) enq other first =
       record { value = v; enqueues = enqueues; dequeues = dequeues'; dequeues_again = dequeues; in_order = less } in
       let soonest = chosen.soonest enq other first repeats in
       let in_order = chosen.violates.in_order in
@@ -78,7 +78,7 @@ no_sooner operations enq first second other v chosen enqueues dequeues dequeues'
 ]
 
 one_repeat : (operations : List Operation) (enq enq' first first' second second' : Operation) → AreComplete operations
-    → IsChosenRepeat operations enq first second → IsChosenRepeat operations enq' first' second' → repeat enq first second ≡ repeat enq' first' second'
+    → IsChosenRepeat (on operations) enq first second → IsChosenRepeat (on operations) enq' first' second' → repeat enq first second ≡ repeat enq' first' second'
 one_repeat operations enq enq' first first' second second' complete x y =
     let le = x.soonest enq' first' second' y.violates in
     let ge = y.soonest enq first second x.violates in
@@ -108,7 +108,7 @@ one_dequeue operations v w (Some d) None complete values x y calls = absurd (y d
 one_dequeue operations v w (Some d) (Some d') complete values x y calls = ap (λ o. Some o) (same_call operations d d' complete x.0 y.0 calls)
 
 -- lives that begin and end at the same times are one
-one_life : (operations : List Operation) (x y : Life) → AreComplete operations → IsLife operations x → IsLife operations y
+one_life : (operations : List Operation) (x y : Life) → AreComplete operations → IsLife (on operations) x → IsLife (on operations) y
     → enqueue_return x ≡ enqueue_return y → dequeue_call x ≡ dequeue_call y → x ≡ y
 one_life operations x y complete is_x is_y returns calls =
     let enqueues = same_return operations (enqueue_of x) (enqueue_of y) complete is_x.1.0 is_y.1.0 returns in
@@ -117,7 +117,7 @@ one_life operations x y complete is_x is_y returns calls =
     λ i. record { enqueue = enqueues i; dequeue = dequeues i }
 
 -- so are lives of one dequeue
-one_left : (operations : List Operation) (x y : Life) → AreComplete operations → IsLife operations x → IsLife operations y
+one_left : (operations : List Operation) (x y : Life) → AreComplete operations → IsLife (on operations) x → IsLife (on operations) y
     → dequeue_call x < NEVER → dequeue_call y < NEVER → dequeue_return x ≡ dequeue_return y → x ≡ y
 one_left operations x y complete is_x is_y called_x called_y returns =
     let (d, at_x) = dequeued_if_called x called_x in
@@ -132,54 +132,54 @@ one_left operations x y complete is_x is_y called_x called_y returns =
 
 -- one order violation is chosen
 pub one_order : (operations : List Operation) (a b a' b' : Life) → AreComplete operations
-    → IsChosenOrderViolation operations a b → IsChosenOrderViolation operations a' b' → order a b ≡ order a' b'
+    → IsChosenOrderViolation (on operations) a b → IsChosenOrderViolation (on operations) a' b' → order a b ≡ order a' b'
 one_order operations a b a' b' complete x y =
     let le = x.first a' b' y.violates in
     let ge = y.first a b x.violates in
     let bs = one_left operations b b' complete x.violates.is_b y.violates.is_b x.violates.is_dequeued y.violates.is_dequeued (omega arith) in
-    let both = both_stay a a' (x.longest a' (subst (IsOrderViolation operations a') (sym bs) y.violates))
-    (y.longest a (subst (IsOrderViolation operations a) bs x.violates)) in
+    let both = both_stay a a' (x.longest a' (subst (IsOrderViolation (on operations) a') (sym bs) y.violates))
+    (y.longest a (subst (IsOrderViolation (on operations) a) bs x.violates)) in
     let firsts = one_life operations a a' complete x.violates.is_a y.violates.is_a both.1 both.0 in
     cc
 
-one_next : (operations : List Operation) (frontier : ℕ) (x y : Life) → IsClear operations → IsNextOfCover operations frontier x
-    → IsNextOfCover operations frontier y → x ≡ y
+one_next : (operations : List Operation) (frontier : ℕ) (x y : Life) → IsClear (on operations) → IsNextOfCover (on operations) frontier x
+    → IsNextOfCover (on operations) frontier y → x ≡ y
 one_next operations frontier x y clear next_x next_y =
     let both = both_stay x y (next_x.longest y next_y.is_life next_y.before_frontier) (next_y.longest x next_x.is_life next_x.before_frontier) in
     one_life operations x y clear.complete next_x.is_life next_y.is_life both.1 both.0
 
 -- one cover is chosen
-pub one_cover : (operations : List Operation) (empty : Operation) (frontier : ℕ) (xs ys : List Life) → IsClear operations
-    → IsChosenCoverFrom operations empty frontier xs → IsChosenCoverFrom operations empty frontier ys → xs ≡ ys
+pub one_cover : (operations : List Operation) (empty : Operation) (frontier : ℕ) (xs ys : List Life) → IsClear (on operations)
+    → IsChosenCoverFrom (on operations) empty frontier xs → IsChosenCoverFrom (on operations) empty frontier ys → xs ≡ ys
 one_cover operations empty frontier [] ys clear chosen chosen' = absurd chosen
 one_cover operations empty frontier (x ∷ xs) [] clear chosen chosen' = absurd chosen'
 one_cover operations empty frontier (x ∷ xs) (y ∷ ys) clear chosen chosen' =
     let heads = one_next operations frontier x y clear chosen.0 chosen'.0 in
-    let tail' = subst (λ l. MatchBool (nat_lt empty.ret (dequeue_call l)) (ys ≡ []) (IsChosenCoverFrom operations empty (dequeue_call l) ys))
+    let tail' = subst (λ l. MatchBool (nat_lt empty.ret (dequeue_call l)) (ys ≡ []) (IsChosenCoverFrom (on operations) empty (dequeue_call l) ys))
     (sym heads) chosen'.1 in
     let tails = go (nat_lt empty.ret (dequeue_call x)) chosen.1 tail' (λ more more'. one_cover operations empty (dequeue_call x) xs ys clear more more') in
     cc
   where
-    go : (b : Bool) → MatchBool b (xs ≡ []) (IsChosenCoverFrom operations empty (dequeue_call x) xs)
-        → MatchBool b (ys ≡ []) (IsChosenCoverFrom operations empty (dequeue_call x) ys)
-        → (IsChosenCoverFrom operations empty (dequeue_call x) xs → IsChosenCoverFrom operations empty (dequeue_call x) ys → xs ≡ ys) → xs ≡ ys
+    go : (b : Bool) → MatchBool b (xs ≡ []) (IsChosenCoverFrom (on operations) empty (dequeue_call x) xs)
+        → MatchBool b (ys ≡ []) (IsChosenCoverFrom (on operations) empty (dequeue_call x) ys)
+        → (IsChosenCoverFrom (on operations) empty (dequeue_call x) xs → IsChosenCoverFrom (on operations) empty (dequeue_call x) ys → xs ≡ ys) → xs ≡ ys
     go true ends ends' more = ends ∙ sym ends'
     go false further further' more = more further further'
 
 -- one witness violation is chosen
-pub one_witness : (operations : List Operation) (empty empty' : Operation) (cover cover' : List Life) → IsClear operations
-    → IsChosenWitness operations empty cover → IsChosenWitness operations empty' cover' → witness empty cover ≡ witness empty' cover'
+pub one_witness : (operations : List Operation) (empty empty' : Operation) (cover cover' : List Life) → IsClear (on operations)
+    → IsChosenWitness (on operations) empty cover → IsChosenWitness (on operations) empty' cover' → witness empty cover ≡ witness empty' cover'
 one_witness operations empty empty' cover cover' clear x y =
     let le = x.first empty' y.answers_empty y.is_covered in
     let ge = y.first empty x.answers_empty x.is_covered in
     let one = same_return operations empty empty' clear.complete x.answers_empty.0 y.answers_empty.0 (omega arith) in
     let covers = one_cover operations empty empty.call cover cover' clear x.cover_is_chosen
-    (subst (λ o. IsChosenCoverFrom operations o o.call cover') (sym one) y.cover_is_chosen) in
+    (subst (λ o. IsChosenCoverFrom (on operations) o o.call cover') (sym one) y.cover_is_chosen) in
     cc
 
 -- a history has one chosen violation
-pub one_chosen_violation : (operations : List Operation) (x y : FullViolation) → AreComplete operations → IsChosenFullViolation operations x
-    → IsChosenFullViolation operations y → x ≡ y
+pub one_chosen_violation : (operations : List Operation) (x y : FullViolation) → AreComplete operations → IsChosenFullViolation (on operations) x
+    → IsChosenFullViolation (on operations) y → x ≡ y
 one_chosen_violation operations (fresh deq enq) (fresh deq' enq') complete x y = one_fresh operations deq deq' enq enq' complete x y
 one_chosen_violation operations (fresh deq enq) _ complete x y = absurd (y.0 deq enq x.violates)
 one_chosen_violation operations _ (fresh deq enq) complete x y = absurd (x.0 deq enq y.violates)

@@ -1,18 +1,16 @@
 -- A violation's kind and lines tell which one it is. Which lines show a violation of each kind and which a cover, by the operations that
 -- they stand for; when lines are a linearization.
-use Rattle.verdicts.proofs.Common.{[], AllWithin, ap, AreLives, arith, Bool, CallsRise, cases_lt}
-use Rattle.verdicts.proofs.Common.{ClaimLine, Contains, contains_at, covers_are_lives, Deq, dequeue_call}
-use Rattle.verdicts.proofs.Common.{dequeue_of, dequeued_if_called, drop, Enq, enqueue_of}
-use Rattle.verdicts.proofs.Common.{EnqueuedBefore, Err, false, flat_map, fresh, get_or}
-use Rattle.verdicts.proofs.Common.{get_or_default, HoldsAt, inl, inr, IsBinarySearchResult}
-use Rattle.verdicts.proofs.Common.{IsNonDecreasingBy, IsSearchInRange, IsTrue}
-use Rattle.verdicts.proofs.Common.{length, Life, LineDid, lines_of, LinesCover, List}
-use Rattle.verdicts.proofs.Common.{MatchBool, MatchOption, MatchResult, max, nat_cmp, nat_tests, NEVER}
-use Rattle.verdicts.proofs.Common.{None, NoneDid, Ok, Operation, operations_of_life, OpKind, Option}
-use Rattle.verdicts.proofs.Common.{option_to_list, order, place_of, Precedes, refl, repeat, Result}
-use Rattle.verdicts.proofs.Common.{slice_get, Some, suc, sym, true}
-use Rattle.verdicts.proofs.Common.{witness, zero, ℕ, ⊤, ◌++◌, ◌+◌, ◌-◌}
-use Rattle.verdicts.proofs.Common.{◌<◌, ◌↔◌, ◌∙◌, ◌∷◌, ◌≡◌, ◌≢◌, ◌≤◌, ◌⊎◌}
+use Rattle.verdicts.proofs.Common.{[], AllWithin, ap, AreLives, arith, Bool, CallsRise, cases_lt, ClaimLine, Contains}
+use Rattle.verdicts.proofs.Common.{contains_at, Contents, course_of, course_on, covers_are_lives, CoversFrom, Deq}
+use Rattle.verdicts.proofs.Common.{dequeue_call, dequeue_of, dequeued_if_called, drop, Enq, enqueue_of, EnqueuedBefore}
+use Rattle.verdicts.proofs.Common.{Err, false, flat_map, fresh, get_or, get_or_default, HoldsAt, inl, inr}
+use Rattle.verdicts.proofs.Common.{IsBinarySearchResult, IsNonDecreasingBy, IsSearchInRange, IsTrue, length, Life}
+use Rattle.verdicts.proofs.Common.{LineDid, lines_of, LinesCover, List, MatchBool, MatchOption, MatchResult, max}
+use Rattle.verdicts.proofs.Common.{nat_cmp, nat_tests, NEVER, None, NoneDid, Ok, on, Operation, operations_of_life}
+use Rattle.verdicts.proofs.Common.{OpKind, Option, option_to_list, order, place_of, Precedes, refl, repeat, Result}
+use Rattle.verdicts.proofs.Common.{slice_get, Some, suc, sym, timeline, true, witness, zero, ℕ, ⊤, ◌++◌, ◌+◌, ◌-◌, ◌<◌}
+use Rattle.verdicts.proofs.Common.{◌↔◌, ◌∙◌, ◌∷◌, ◌≡◌, ◌≢◌, ◌≤◌, ◌⊎◌}
+use Rattle.value_match.proofs.Agreeing.{covers_of}
 use Rattle.std.proofs.lemmas.Cmp.{ranked}
 use Rattle.std.specs.Ordering.{ordering_index}
 use Rattle.verdicts.specs.Laws.{LinesTellViolation}
@@ -117,18 +115,21 @@ one_pair a b a' b' called called' lines =
     let last = one_maybe (dequeue_of a) (dequeue_of a') (cc) in
     λ i. order (record { enqueue = first i; dequeue = last i }) (record { enqueue = second i; dequeue = one i })
 
+cover_lives : (history : Contents) (empty : Operation) (cover : List Life) → CoversFrom (course_of history) empty empty.call cover → AreLives cover
+cover_lives history empty cover covers = covers_are_lives (timeline history.initial history.operations) empty empty.call cover
+    (covers_of (course_of history) (on (timeline history.initial history.operations)) (course_on history.initial history.operations) empty empty.call cover covers)
+
 -- two violations of one kind with the same lines are one
 pub lines_tell_violation : LinesTellViolation
-lines_tell_violation operations others (fresh deq enq) (fresh deq' enq') is is' kinds lines = let last = one_maybe enq enq' (cc) in cc
-lines_tell_violation operations others (repeat enq first second) (repeat enq' first' second') is is' kinds lines = cc
-lines_tell_violation operations others (order a b) (order a' b') is is' kinds lines = one_pair a b a' b' is.is_dequeued is'.is_dequeued lines
-lines_tell_violation operations others (witness empty cover) (witness empty' cover') is is' kinds lines =
+lines_tell_violation history other (fresh deq enq) (fresh deq' enq') is is' kinds lines = let last = one_maybe enq enq' (cc) in cc
+lines_tell_violation history other (repeat enq first second) (repeat enq' first' second') is is' kinds lines = cc
+lines_tell_violation history other (order a b) (order a' b') is is' kinds lines = one_pair a b a' b' is.is_dequeued is'.is_dequeued lines
+lines_tell_violation history other (witness empty cover) (witness empty' cover') is is' kinds lines =
     let one : empty ≡ empty' = cc in
     let later : flat_map operations_of_life cover ≡ flat_map operations_of_life cover' = cc in
-    let covers = one_cover cover cover' (covers_are_lives operations empty empty.call cover is.covers)
-    (covers_are_lives others empty' empty'.call cover' is'.covers) later in
+    let covers = one_cover cover cover' (cover_lives history empty cover is.covers) (cover_lives other empty' cover' is'.covers) later in
     cc
-lines_tell_violation operations others _ _ is is' kinds lines = cc
+lines_tell_violation history other _ _ is is' kinds lines = cc
 
 -- two equivalences, one after the other
 pub through : {P Q R : Type 0} → P ↔ Q → Q ↔ R → P ↔ R

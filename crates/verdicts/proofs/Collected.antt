@@ -1,9 +1,9 @@
 -- What loops and `collect` gather: what is found at places, a set of numbers, the tickets of selected operations.
-use Rattle.verdicts.proofs.Common.{[], ◌++◌, ◌+◌, ◌<◌, ◌∙◌, ◌∷◌, ◌≡◌, ap, append-nil, cons_option, filter_map}
-use Rattle.verdicts.proofs.Common.{filter_map-append, get_or, length, List, None, Option, Some, sym, take, take_more}
-use Rattle.verdicts.proofs.Common.{ℕ, ◌↔◌, BTreeSet, Contains, contains, IfOk, IfOk-weaker, IsFromIterResult, IsTrue}
-use Rattle.verdicts.proofs.Common.{nat_cmp, Result, arith, ◌||◌, Bool, cond, false, filter, is_eq}
-use Rattle.verdicts.proofs.Common.{list_any-append, nat_eq, true, holds_ticket, Operation}
+use Rattle.verdicts.proofs.Common.{[], ap, append-nil, arith, Bool, BTreeSet, cond, cons_option, Contains, contains}
+use Rattle.verdicts.proofs.Common.{false, filter, filter_map, filter_map-append, get_or, holds_ticket, IfOk}
+use Rattle.verdicts.proofs.Common.{IfOk-weaker, is_eq, IsFromIterResult, IsTrue, length, List, list_any-append}
+use Rattle.verdicts.proofs.Common.{nat_cmp, nat_eq, None, Operation, Option, Result, Some, sym, take, take_more, true}
+use Rattle.verdicts.proofs.Common.{ℕ, ◌++◌, ◌+◌, ◌<◌, ◌||◌, ◌↔◌, ◌∙◌, ◌∷◌, ◌≡◌}
 use Rattle.std.proofs.lemmas.Cmp.{nat_cmp_total}
 use Rattle.std.proofs.lemmas.Map.Lookups.{exact_unsigned}
 use Rattle.std.proofs.lemmas.Map.Views.{btree_set_contains_from_list}

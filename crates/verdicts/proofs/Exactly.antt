@@ -7,13 +7,11 @@ use Rattle.verdicts.proofs.Common.{Empty, Enq, enqueue_of, eq-eqb, few_initial, 
 use Rattle.verdicts.proofs.Common.{is_empty_answer, IsAccepted, IsClear, IsEnqueuedTooLate, IsLeastFreeGap}
 use Rattle.verdicts.proofs.Common.{IsLegalOrder, IsLife, IsLinearizable, IsNeverEnqueued, IsOrderViolation}
 use Rattle.verdicts.proofs.Common.{IsPermutation-sym, IsRepeatViolation, IsSome, IsViolationOf, Life}
-use Rattle.verdicts.proofs.Common.{linearizable_from_exactly, List, map, MatchOption, no_enqueue, None, NoneDid}
-use Rattle.verdicts.proofs.Common.{NoOrderViolation, Not, NoWitnessViolation, one_deeper, Operation, OpKind, Option}
-use Rattle.verdicts.proofs.Common.{option_map, order, pairs_at, Precedes, refl, repeat, return_or_never, rules}
-use Rattle.verdicts.proofs.Common.{slice_get, Some, sym, take, timeline, witness, zero, ℕ, ◌++◌, ◌<◌, ◌∙◌, ◌∷◌, ◌≡◌}
-use Rattle.verdicts.proofs.Common.{◌≤◌, ◌⊎◌}
-use Rattle.std.proofs.lemmas.Option.{slice_get-map}
-use Rattle.value_match.proofs.ToldPlaces.{mapped_option}
+use Rattle.verdicts.proofs.Common.{linearizable_from_exactly, List, map, mapped_option, MatchOption, no_enqueue, None}
+use Rattle.verdicts.proofs.Common.{NoneDid, NoOrderViolation, Not, NoWitnessViolation, on, one_deeper, Operation}
+use Rattle.verdicts.proofs.Common.{OpKind, Option, option_map, order, pairs_at, Precedes, refl, repeat}
+use Rattle.verdicts.proofs.Common.{return_or_never, rules, slice_get, slice_get-map, Some, sym, take, timeline}
+use Rattle.verdicts.proofs.Common.{witness, zero, ℕ, ◌++◌, ◌<◌, ◌∙◌, ◌∷◌, ◌≡◌, ◌≤◌, ◌⊎◌}
 use Rattle.history_merge.proofs.Distinct.{calls-IsPermutation, calls_of_kind, count, count-append, count-le-calls}
 use Rattle.history_merge.proofs.Distinct.{count_here, dequeue_of_member, dequeued, enqueue_of_member, enqueued}
 use Rattle.history_merge.proofs.Distinct.{enqueued_is_dequeued, IsQueueBefore, Member, Member-right, one_calls}
@@ -125,13 +123,13 @@ module _ (operations listed : List Operation) (complete : AreComplete operations
   stands_there i v o d at is did =
       let there = place_of d did.0 in ap (slice_get listed) (dequeue_has_one_place i there.0 v o d at there.1 is did.1) ∙ there.1
 
-  excludes_never : (deq : Operation) → IsNeverEnqueued operations deq → ⊥
+  excludes_never : (deq : Operation) → IsNeverEnqueued (on operations) deq → ⊥
   excludes_never deq violation =
       let place = place_of deq violation.dequeues.0 in
       let enq = enqueue_before place.0 violation.value deq place.1 violation.dequeues.1 in
-      violation.not_accepted enq.1 (is_operation enq.0 enq.1 enq.3) enq.4
+      violation.not_accepted enq.1 (is_operation enq.0 enq.1 enq.3, enq.4)
 
-  excludes_late : (deq enq : Operation) → IsEnqueuedTooLate operations deq enq → ⊥
+  excludes_late : (deq enq : Operation) → IsEnqueuedTooLate (on operations) deq enq → ⊥
   excludes_late deq enq violation =
       let v = violation.value in
       let place = place_of deq violation.dequeues.0 in
@@ -151,7 +149,7 @@ module _ (operations listed : List Operation) (complete : AreComplete operations
             not_later there.0 place.0 enq deq there.1 place.1 (omega (arith, first.2)) late.1
       ]
 
-  excludes_repeat : (enq first second : Operation) → IsRepeatViolation operations enq first second → ⊥
+  excludes_repeat : (enq first second : Operation) → IsRepeatViolation (on operations) enq first second → ⊥
   excludes_repeat enq first second violation =
       let v = violation.value in
       let x = place_of first violation.dequeues.0 in
@@ -198,7 +196,7 @@ module _ (operations listed : List Operation) (complete : AreComplete operations
   not_left_later v time prior (Some d) did same later i k o below at is at_k =
       not_later i k d prior (stands_there i v o d at is did) at_k below (omega arith)
 
-  excludes_order : (a b : Life) → IsOrderViolation operations a b → ⊥
+  excludes_order : (a b : Life) → IsOrderViolation (on operations) a b → ⊥
   excludes_order a b violation =
       let v = violation.is_a.0 in
       let w = violation.is_b.0 in
@@ -231,7 +229,7 @@ module _ (operations listed : List Operation) (complete : AreComplete operations
       dequeue_of_member (kinds_of listed) j v member
 
   -- a value of a cover that is in before an operation that doesn't stand behind the empty answer is dequeued before the answer
-  dequeued_first : (j : ℕ) (empty : Operation) → slice_get listed j ≡ Some empty → empty.kind ≡ Empty → (life : Life) (is : IsLife operations life)
+  dequeued_first : (j : ℕ) (empty : Operation) → slice_get listed j ≡ Some empty → empty.kind ≡ Empty → (life : Life) (is : IsLife (on operations) life)
       (p : ℕ) (prior : Operation) → slice_get listed p ≡ Some prior → p ≤ j → Precedes (enqueue_of life) prior
       → (i : ℕ) × (x : Operation) × (i < j) × (slice_get listed i ≡ Some x) × (x.kind ≡ Deq is.0)
   dequeued_first j empty at answers life is p prior at_p near before =
@@ -242,7 +240,7 @@ module _ (operations listed : List Operation) (complete : AreComplete operations
       (stands.0, found.0, stands.1, found.1, found.2)
 
   excludes_cover : (j : ℕ) (empty : Operation) → slice_get listed j ≡ Some empty → empty.kind ≡ Empty → (cover : List Life) (p : ℕ) (prior : Operation)
-      → slice_get listed p ≡ Some prior → p ≤ j → (frontier : ℕ) → prior.call ≡ frontier → CoversFrom operations empty frontier cover → ⊥
+      → slice_get listed p ≡ Some prior → p ≤ j → (frontier : ℕ) → prior.call ≡ frontier → CoversFrom (on operations) empty frontier cover → ⊥
   excludes_cover j empty at is [] p prior at_p near frontier same covers = covers
   excludes_cover j empty at is (life ∷ []) p prior at_p near frontier same covers =
       let gone = dequeued_first j empty at is life covers.0 p prior at_p near (omega (arith, covers.1)) in
@@ -254,7 +252,7 @@ module _ (operations listed : List Operation) (complete : AreComplete operations
       excludes_cover j empty at is (next ∷ rest) gone.0 dequeue.0 (stands_there gone.0 covers.0.0 gone.1 dequeue.0 gone.3 gone.4 did) (omega (arith, gone.2))
       (dequeue_call life) (sym (ap call_or_never dequeue.1)) covers.3
 
-  excludes_violation : (full : FullViolation) → IsViolationOf operations full → ⊥
+  excludes_violation : (full : FullViolation) → IsViolationOf (on operations) full → ⊥
   excludes_violation (fresh deq None) violation = excludes_never deq violation
   excludes_violation (fresh deq (Some enq)) violation = excludes_late deq enq violation
   excludes_violation (repeat enq first second) violation = excludes_repeat enq first second violation
@@ -265,13 +263,13 @@ module _ (operations listed : List Operation) (complete : AreComplete operations
 
 -- a violation excludes each linearization
 pub violation_excludes_order : (initial : List ℕ) (operations : List Operation) (full : FullViolation) → AreComplete (timeline initial operations)
-    → IsViolationOf (timeline initial operations) full → ¬ (IsLinearizable initial operations)
+    → IsViolationOf (on (timeline initial operations)) full → ¬ (IsLinearizable initial operations)
 violation_excludes_order initial operations full complete violation exists =
     let linear = (linearizable_from_exactly initial operations (few_initial initial operations complete)).0 exists in
     excludes_violation (timeline initial operations) linear.0 complete linear.1 full violation
 
-gaps_of : (operations answers : List Operation) → IsClear operations → NoWitnessViolation operations
-    → ((o : Operation) → Contains answers o → Did operations o Empty) → (gaps : List ℕ) × AllZip (λ o c. IsLeastFreeGap operations o c) answers gaps
+gaps_of : (operations answers : List Operation) → IsClear (on operations) → NoWitnessViolation (on operations)
+    → ((o : Operation) → Contains answers o → Did operations o Empty) → (gaps : List ℕ) × AllZip (λ o c. IsLeastFreeGap (on operations) o c) answers gaps
 gaps_of operations [] clear none each = ([], search rules)
 gaps_of operations (o ∷ answers) clear none each =
     let did = each o (zero, omega arith, refl) in
@@ -282,13 +280,14 @@ gaps_of operations (o ∷ answers) clear none each =
     ]
 
 -- without a witness violation each empty answer has a free gap
-pub free_gaps_exist : (operations : List Operation) → IsClear operations → NoWitnessViolation operations → (gaps : List ℕ) × AreLeastFreeGaps operations gaps
+pub free_gaps_exist : (operations : List Operation) → IsClear (on operations) → NoWitnessViolation (on operations)
+    → (gaps : List ℕ) × AreLeastFreeGaps (on operations) gaps
 free_gaps_exist operations clear none =
     gaps_of operations (filter is_empty_answer operations) clear none
     (λ o among. is_empty_did operations o among)
 
 -- without a violation there is a linearization
-pub linearizable_without_violations : (operations : List Operation) → IsClear operations → NoOrderViolation operations → NoWitnessViolation operations
+pub linearizable_without_violations : (operations : List Operation) → IsClear (on operations) → NoOrderViolation (on operations) → NoWitnessViolation (on operations)
     → IsLinearizable [] operations
 linearizable_without_violations operations clear no_order no_witness =
     let gaps = free_gaps_exist operations clear no_witness in
@@ -297,7 +296,7 @@ linearizable_without_violations operations clear no_order no_witness =
 
 -- a history without violations is linearizable from its initial values
 pub linearizable_without : (initial : List ℕ) (operations : List Operation) → AreComplete (timeline initial operations)
-    → ((full : FullViolation) → ¬ (IsViolationOf (timeline initial operations) full)) → IsLinearizable initial operations
+    → ((full : FullViolation) → ¬ (IsViolationOf (on (timeline initial operations)) full)) → IsLinearizable initial operations
 linearizable_without initial operations complete none =
     (linearizable_from_exactly initial operations (few_initial initial operations complete)).1
     (linearizable_without_violations (timeline initial operations)

@@ -1,12 +1,12 @@
 -- What the lines of a violation name, and what a selection by them holds.
-use Rattle.verdicts.proofs.Common.{[], AllByRecursion, ap, arith, Bool, Contains, Contains-append_cases, Contains-append_left}
-use Rattle.verdicts.proofs.Common.{Contains-append_right, contains_cons, CoversFrom, Deq, dequeue_call, dequeue_of, one_deeper, zero, ◌++◌}
-use Rattle.verdicts.proofs.Common.{Did, Enq, enqueue_of, flat_map, fresh, FullViolation, inl, inr, IsFreshViolation}
-use Rattle.verdicts.proofs.Common.{IsLife, IsOrderViolation, IsRepeatViolation, IsViolationOf, Life, lines_of, List}
-use Rattle.verdicts.proofs.Common.{MatchOption, None, NoneDid, Not, not_in_none, Operation, operations_of_life, OpKind}
-use Rattle.verdicts.proofs.Common.{Option, option_map_or, option_to_list, order, Precedes, refl, repeat, selects, Some}
-use Rattle.verdicts.proofs.Common.{subst, value_of, witness, ℕ, ◌∙◌, ◌∷◌, ◌≡◌, ◌⊎◌}
-use Rattle.std.proofs.lemmas.List.Elements.{All-contains, All-from_recursion}
+use Rattle.verdicts.proofs.Common.{[], All-contains, All-from_recursion, AllByRecursion, ap, arith, Bool, Contains}
+use Rattle.verdicts.proofs.Common.{Contains-append_cases, Contains-append_left, Contains-append_right, contains_cons}
+use Rattle.verdicts.proofs.Common.{CoversFrom, Deq, dequeue_call, dequeue_of, Did, Enq, enqueue_of, flat_map, fresh}
+use Rattle.verdicts.proofs.Common.{FullViolation, inl, inr, IsFreshViolation, IsLife, IsOrderViolation}
+use Rattle.verdicts.proofs.Common.{IsRepeatViolation, IsViolationOf, Life, lines_of, List, MatchOption, None, NoneDid}
+use Rattle.verdicts.proofs.Common.{Not, not_in_none, on, one_deeper, Operation, operations_of_life, OpKind, Option}
+use Rattle.verdicts.proofs.Common.{option_map_or, option_to_list, order, Precedes, refl, repeat, selects, Some, subst}
+use Rattle.verdicts.proofs.Common.{value_of, witness, zero, ℕ, ◌++◌, ◌∙◌, ◌∷◌, ◌≡◌, ◌⊎◌}
 use Rattle.linearizer.proofs.Elements.{from_flat_map}
 
 -- the operation has this value
@@ -26,7 +26,7 @@ pub each_of : (P : Operation → Type 0) (xs : List Operation) → AllByRecursio
 each_of P xs all o among = All-contains P xs o (All-from_recursion P xs all) among
 
 -- the lines of a fresh-value violation are of its value
-pub fresh_lines : (operations : List Operation) (deq : Operation) (enq : Option Operation) → IsFreshViolation operations deq enq
+pub fresh_lines : (operations : List Operation) (deq : Operation) (enq : Option Operation) → IsFreshViolation (on operations) deq enq
     → (v : ℕ) × ((o : Operation) → Contains (deq ∷ option_to_list enq) o → IsOpOf operations v o)
 fresh_lines operations deq None is =
     (is.value, each_of (IsOpOf operations is.value) (deq ∷ []) (op_of operations deq (Deq is.value) is.value is.dequeues refl, tt))
@@ -41,7 +41,7 @@ fresh_lines operations deq (Some enq) is = (
     by_call (inr late) = op_of operations enq (Enq is.value) is.value late.0 refl
 
 -- the lines of a repeated-value violation are of its value
-pub repeat_lines : (operations : List Operation) (enq first second : Operation) (is : IsRepeatViolation operations enq first second) → (o : Operation)
+pub repeat_lines : (operations : List Operation) (enq first second : Operation) (is : IsRepeatViolation (on operations) enq first second) → (o : Operation)
     → Contains (enq ∷ first ∷ second ∷ []) o → IsOpOf operations is.value o
 repeat_lines operations enq first second is = each_of (IsOpOf operations is.value) (enq ∷ first ∷ second ∷ []) (
   op_of operations enq (Enq is.value) is.value is.enqueues refl,
@@ -59,11 +59,11 @@ IsOpOfTwo operations a b o = IsOpOf operations a o ⊎ IsOpOf operations b o
 pub record IsOpOfLife (operations : List Operation) (cover : List Life) (o : Operation) : Type 0 where
   pub life : Life
   pub among : Contains cover life
-  pub is_life : IsLife operations life
+  pub is_life : IsLife (on operations) life
   pub is_of : IsOpOf operations is_life.0 o
 
 -- the lines of a life are of its value
-pub life_lines : (operations : List Operation) (life : Life) (is : IsLife operations life) (o : Operation) → Contains (operations_of_life life) o
+pub life_lines : (operations : List Operation) (life : Life) (is : IsLife (on operations) life) (o : Operation) → Contains (operations_of_life life) o
     → IsOpOf operations is.0 o
 life_lines operations life is = each_of (IsOpOf operations is.0) (enqueue_of life ∷ option_to_list (dequeue_of life))
     (op_of operations (enqueue_of life) (Enq is.0) is.0 is.1 refl, dequeue (dequeue_of life) is.2)
@@ -86,7 +86,7 @@ line_of_b a b o at = one_deeper (enqueue_of a) (operations_of_life b ++ option_t
     (Contains-append_left (operations_of_life b) (option_to_list (dequeue_of a)) o at)
 
 -- so they are of its two values
-pub order_lines : (operations : List Operation) (a b : Life) (is : IsOrderViolation operations a b) (o : Operation) → Contains (lines_of (order a b)) o
+pub order_lines : (operations : List Operation) (a b : Life) (is : IsOrderViolation (on operations) a b) (o : Operation) → Contains (lines_of (order a b)) o
     → IsOpOfTwo operations is.is_a.0 is.is_b.0 o
 order_lines operations a b is o at = elim (contains_cons (enqueue_of a) (operations_of_life b ++ option_to_list (dequeue_of a)) o at) [
   | inl same ↦ inl (life_lines operations a is.is_a o (zero, omega arith, same))
@@ -97,7 +97,7 @@ order_lines operations a b is o at = elim (contains_cons (enqueue_of a) (operati
 ]
 
 -- the lines of a cover are of its values
-pub cover_lines : (operations : List Operation) (cover : List Life) → ((life : Life) → Contains cover life → IsLife operations life)
+pub cover_lines : (operations : List Operation) (cover : List Life) → ((life : Life) → Contains cover life → IsLife (on operations) life)
     → (o : Operation) → Contains (flat_map operations_of_life cover) o → IsOpOfLife operations cover o
 cover_lines operations cover lives o at =
     let found = from_flat_map operations_of_life cover o at in
@@ -105,20 +105,20 @@ cover_lines operations cover lives o at =
     record { life = found.0; among = found.1; is_life = is; is_of = life_lines operations found.0 is o found.2 }
 
 -- the values of a cover are lives
-pub covered_lives : (operations : List Operation) (empty : Operation) (frontier : ℕ) (cover : List Life) → CoversFrom operations empty frontier cover
-    → (life : Life) → Contains cover life → IsLife operations life
+pub covered_lives : (operations : List Operation) (empty : Operation) (frontier : ℕ) (cover : List Life) → CoversFrom (on operations) empty frontier cover
+    → (life : Life) → Contains cover life → IsLife (on operations) life
 covered_lives operations empty frontier [] covers life among = absurd covers
 covered_lives operations empty frontier (x ∷ []) covers life among = elim (contains_cons x [] life among) [
-  | inl same ↦ subst (IsLife operations) same covers.0
+  | inl same ↦ subst (IsLife (on operations)) same covers.0
   | inr later ↦ absurd (not_in_none life later)
 ]
 covered_lives operations empty frontier (x ∷ next ∷ rest) covers life among = elim (contains_cons x (next ∷ rest) life among) [
-  | inl same ↦ subst (IsLife operations) same covers.0
+  | inl same ↦ subst (IsLife (on operations)) same covers.0
   | inr later ↦ covered_lives operations empty (dequeue_call x) (next ∷ rest) covers.3 life later
 ]
 
 -- the lines of a violation are operations
-pub lines_are_operations : (operations : List Operation) (full : FullViolation) → IsViolationOf operations full → (o : Operation)
+pub lines_are_operations : (operations : List Operation) (full : FullViolation) → IsViolationOf (on operations) full → (o : Operation)
     → Contains (lines_of full) o → Contains operations o
 lines_are_operations operations (fresh deq enq) is o at = ((fresh_lines operations deq enq is).1 o at).0
 lines_are_operations operations (repeat enq first second) is o at = (repeat_lines operations enq first second is o at).0

@@ -1,54 +1,54 @@
 -- The lines of a violation of a timeline as they are shown, at the places of a history that it names; the places of a violation whose
 -- lines are operations.
-use Rattle.verdicts.proofs.Common.{[], All, All-cons, All-map, All-nil, AllZip, ap, AreComplete, AreLives, ArePartOf}
-use Rattle.verdicts.proofs.Common.{ArePlacesOf, arith, Bool, call_before_return, call_in, cases_lt, ClaimLine, cond}
-use Rattle.verdicts.proofs.Common.{cons_option, Contains, Contains-append_cases, Contains-append_left}
-use Rattle.verdicts.proofs.Common.{Contains-append_right, Contains-permutation, contains_at, contains_cons}
-use Rattle.verdicts.proofs.Common.{covers_are_lives, CoverStep, Deq, dequeue_call, dequeue_of, dequeued_if_called, Did}
-use Rattle.verdicts.proofs.Common.{Empty, Enq, enqueue_of, enqueue_place, Event, false, few_initial, filter, flat_map}
-use Rattle.verdicts.proofs.Common.{fresh, FullViolation, initial_enqueues, initial_time, inl, inr, is_operation, IsAt}
-use Rattle.verdicts.proofs.Common.{IsChosenCoverFrom, IsChosenFullViolation, IsChosenViolation, IsClear}
-use Rattle.verdicts.proofs.Common.{IsCompleteHistory, IsCovered, IsDecided, IsMaybeAt, IsMaybeOperation}
-use Rattle.verdicts.proofs.Common.{IsOperation, IsPlaceWithin, IsSource, IsVerdict, IsViolationOf, IsWitnessAnswer}
-use Rattle.verdicts.proofs.Common.{later_by, le-ltb, length, length-map, length_permutation, Life, line_at, LinePlace}
-use Rattle.verdicts.proofs.Common.{lines_at, lines_of, lines_of_history, List, lt-ltb, ltb-false, map, mapped_to}
+use Rattle.verdicts.proofs.Common.{[], All, All-cons, All-map, All-nil, all_formed, AllZip, AllZip-long, ap}
+use Rattle.verdicts.proofs.Common.{AreComplete, AreLives, ArePartOf, ArePlacesOf, arith, Bool, call_before_return}
+use Rattle.verdicts.proofs.Common.{call_in, cases_lt, chosen_of, ClaimLine, cond, cons_option, Contains}
+use Rattle.verdicts.proofs.Common.{Contains-append_cases, Contains-append_left, Contains-append_right}
+use Rattle.verdicts.proofs.Common.{Contains-permutation, contains_at, contains_cons, course, course_on}
+use Rattle.verdicts.proofs.Common.{covers_are_lives, CoverStep, Deq, dequeue_call, dequeue_of, dequeued_if_called}
+use Rattle.verdicts.proofs.Common.{dequeues, Did, Empty, Enq, enqueue_of, enqueue_place, Event, false, few_initial}
+use Rattle.verdicts.proofs.Common.{filter, flat_map, fresh, FullViolation, initial_enqueue, initial_enqueues}
+use Rattle.verdicts.proofs.Common.{initial_time, inl, inr, is_operation, IsChosenCoverFrom}
+use Rattle.verdicts.proofs.Common.{IsChosenFullViolation, IsChosenViolation, IsClear, IsCompleteHistory, IsCovered}
+use Rattle.verdicts.proofs.Common.{IsDecided, IsMaybeAt, IsMaybeOperation, IsNamed, IsOperation, IsPlaceWithin}
+use Rattle.verdicts.proofs.Common.{IsSource, IsVerdict, IsViolationOf, IsWitnessAnswer, later_by, le-ltb, length}
+use Rattle.verdicts.proofs.Common.{length-map, length_permutation, Life, line_at, LinePlace, lines_at, lines_of}
+use Rattle.verdicts.proofs.Common.{lines_of_history, List, lt-ltb, ltb-false, map, mapped_option, mapped_to}
 use Rattle.verdicts.proofs.Common.{MatchOption, MAX_INITIAL, MAX_OPERATIONS, MAX_TICKET, maybe_place, Names}
-use Rattle.verdicts.proofs.Common.{NamesCover, NamesStep, nat_lt, nat_tests, NEVER, No, no_enqueue, None}
-use Rattle.verdicts.proofs.Common.{NoOrderViolation, not, not-true, not_in_none, one_deeper, Operation}
-use Rattle.verdicts.proofs.Common.{operations_named, operations_of, operations_of_life, OpKind, Option, option_map}
-use Rattle.verdicts.proofs.Common.{option_to_list, order, OrderPair, ORIGIN, passed_filter, place_of, place_of_source}
-use Rattle.verdicts.proofs.Common.{places_of_step, refl, repeat, same_operation, slice_get, slice_get_within}
-use Rattle.verdicts.proofs.Common.{Some, Source, subst, sym, timeline, timeline_at, timeline_is_complete, true}
-use Rattle.verdicts.proofs.Common.{value_in, value_of, verdict_places, Violation, violation_places, witness, Yes, zero}
-use Rattle.verdicts.proofs.Common.{ℕ, ⊤, ◌+◌, ◌-◌, ◌<◌, ◌∙◌, ◌∷◌, ◌≡◌, ◌≤◌, ◌⊎◌}
-use Rattle.std.proofs.Common.{count_by, ◌++◌}
+use Rattle.verdicts.proofs.Common.{NamesCover, nat_lt, nat_tests, NEVER, No, no_enqueue, None, NoOrderViolation, not}
+use Rattle.verdicts.proofs.Common.{not-true, not_in_none, on, one_deeper, Operation, operation_on, operations_named}
+use Rattle.verdicts.proofs.Common.{operations_of, operations_of_life, OpKind, Option, option_map, option_to_list}
+use Rattle.verdicts.proofs.Common.{order, OrderPair, ORIGIN, passed_filter, place_of, place_of_source, places_of_step}
+use Rattle.verdicts.proofs.Common.{refl, repeat, same_operation, slice_get, slice_get-map, slice_get_within, Some}
+use Rattle.verdicts.proofs.Common.{Source, source_on, subst, sym, timed, timeline, timeline_is_complete}
+use Rattle.verdicts.proofs.Common.{true, value_in, value_of, verdict_places, Violation, violation_places, witness, Yes}
+use Rattle.verdicts.proofs.Common.{zero, ℕ, ⊤, ◌++◌, ◌+◌, ◌<◌, ◌∙◌, ◌∷◌, ◌≡◌, ◌≤◌, ◌⊎◌}
+use Rattle.std.proofs.Common.{count_by}
 use Rattle.verdicts.proofs.Retiming.{lifted, lifted_late, lifted_rises, retimed, start}
 use Rattle.history_merge.specs.Inner.Timeline.{earlier_by}
 use Rattle.linearizer.proofs.Elements.{none_twice-filter, NoneTwice, zip_joined}
 use Rattle.verdicts.specs.declared.shown.LinePlace.TheVariants.{Initial, Op}
-use Rattle.value_match.proofs.ToldPlaces.{call_told, dequeue_told, dequeues, empty_told, fresh_dequeues, mapped_option}
-use Rattle.value_match.proofs.ToldPlaces.{maybe_told, source_told}
-use Rattle.value_match.specs.Timeline.{told_place, told_source}
+use Rattle.value_match.proofs.ToldPlaces.{call_told, dequeue_told, empty_told, fresh_dequeues, maybe_told, source_told}
+use Rattle.value_match.specs.Inner.Told.{told_place, told_source}
 use Rattle.order_violation.specs.Pairs.{IsChosenPair}
 use Rattle.linearizer.specs.Order.{AreChosenAndLegal}
 use Rattle.verdicts.specs.Laws.{VerdictHasFewLines}
 use Rattle.verdicts.proofs.Chosen.{chosen_is_violation}
 use Rattle.history_merge.specs.Events.{events_of}
-use Rattle.history_merge.proofs.Formed.{all_formed, run_of_complete}
+use Rattle.history_merge.proofs.Formed.{run_of_complete}
 use Rattle.history_merge.proofs.TheirEvents.{has_returned, length-events_of, told_of_run}
 use Rattle.std.specs.List.{remove}
 use Rattle.std.proofs.lemmas.List.Elements.{All-head, All-tail}
 use Rattle.std.proofs.lemmas.List.Sorted.{IsPermutation-remove}
 use Rattle.std.proofs.lemmas.List.Sums.{sum_by-cons}
 use Rattle.history_merge.proofs.Distinct.{each_timed}
-use Rattle.std.proofs.lemmas.Slice.Zip.{AllZip-long}
 use Rattle.verdicts.specs.declared.verdict.Verdict.{Verdict}
 use Rattle.verdicts.proofs.CoverGaps.{all_stay, chosen_are_lives, handover, IsCalledInside}
 use Rattle.history_merge.proofs.Timelines.{length_timeline}
 use Rattle.verdicts.proofs.NamedLines.{cover_lines, line_of_a, line_of_b, lines_are_operations}
 use Rattle.verdicts.proofs.Selections.{no_longer}
 use Rattle.linearizer.proofs.OneOrder.{none_twice_in_lives}
-use Rattle.value_match.specs.declared.violation.Source.TheVariants as source
+use Rattle.value_match.specs.declared.life.Source.TheVariants as source
 use Rattle.value_match.specs.declared.violation.Violation.TheVariants as violation
 use Rattle.verdicts.specs.declared.verifying.ClaimLine.TheVariants as line
 use Rattle.empty_witness.specs.declared.answer.WitnessAnswer.TheVariants as found
@@ -125,32 +125,23 @@ module _ (initial : List ℕ) (operations : List Operation) (few : length initia
   abbrev all : List Operation
   all = timeline initial operations
 
-  shown_at : (p : ℕ) (o : Operation) → IsOperation initial operations p o → IsShownAt initial operations (Op p) o
-  shown_at p o at = elim (timeline_at initial operations (k + p) o at) [
-    | inl early ↦ let within = early.within in absurd (omega arith)
-    | inr late ↦
-        let place : k + p - k ≡ p = omega arith in
-        let stands : slice_get operations p ≡ Some late.operation = ap (slice_get operations) (sym place) ∙ late.stands in
-        let same : line_of o ≡ line.Op late.operation = ap line_of (sym late.is) ∙ later_line late.operation in
-        (ap (option_map line.Op) stands ∙ ap (λ l. Some l) (sym same), contains_at all (k + p) o at)
-  ]
-
-  -- the place of an initial value
-  initial_shown : (p : ℕ) (o : Operation) → p < k → IsAt all p o → IsShownAt initial operations (Initial p) o
-  initial_shown p o within at = elim (timeline_at initial operations p o at) [
-    | inl early ↦
-        let call : initial_time k p ≡ o.call = ap (λ (x : Operation). x.call) early.is in
-        let value : early.value ≡ accepted_value o.kind = ap (λ (x : Operation). accepted_value x.kind) early.is in
-        let same : line_of o ≡ line.Initial early.value = early_line o (omega (arith, call, within)) ∙ ap line.Initial (sym value) in
-        (ap (option_map line.Initial) early.stands ∙ ap (λ l. Some l) (sym same), contains_at all p o at)
-    | inr late ↦ let behind = late.behind in absurd (omega arith)
-  ]
+  shown_at : (p : ℕ) (o : Operation) → IsOperation operations p o → IsShownAt initial operations (Op p) o
+  shown_at p o at =
+      let (x, stands, is) = mapped_option (later_by ORIGIN) (slice_get operations p) o (sym (slice_get-map (later_by ORIGIN) operations p) ∙ at) in
+      let same : line_of o ≡ line.Op x = ap line_of (sym is) ∙ later_line x in
+      (ap (option_map line.Op) stands ∙ ap (λ l. Some l) (sym same), contains_at all (k + p) o (operation_on initial operations p o at))
 
   source_shown : (s : Source) (o : Operation) → IsSource initial operations s o → IsShownAt initial operations (place_of_source s) o
   source_shown (source.Enq p) o at = shown_at p o at
-  source_shown (source.Initial p) o at = initial_shown p o at.0 at.1
+  source_shown (source.Initial p) o at =
+      let (v, stands, is) = mapped_option (initial_enqueue k p) (slice_get initial p) o at in
+      let within = slice_get_within initial p v stands in
+      let call : initial_time k p ≡ o.call = ap (λ (x : Operation). x.call) is in
+      let value : v ≡ accepted_value o.kind = ap (λ (x : Operation). accepted_value x.kind) is in
+      let same : line_of o ≡ line.Initial v = early_line o (omega arith) ∙ ap line.Initial (sym value) in
+      (ap (option_map line.Initial) stands ∙ ap (λ l. Some l) (sym same), contains_at all p o (source_on initial operations (source.Initial p) o at))
 
-  maybe_shown : (p : Option ℕ) (o : Option Operation) → IsMaybeOperation initial operations p o → AllZip (IsShownAt initial operations) (maybe_place p) (option_to_list o)
+  maybe_shown : (p : Option ℕ) (o : Option Operation) → IsMaybeOperation operations p o → AllZip (IsShownAt initial operations) (maybe_place p) (option_to_list o)
   maybe_shown None None at = tt
   maybe_shown (Some p) (Some o) at = (shown_at p o at, tt)
   maybe_shown _ _ at = absurd at
@@ -224,7 +215,7 @@ module _ (initial : List ℕ) (operations : List Operation) (few : length initia
   maybe_at (Some d) among = let at = place_of all d (among d (zero, omega arith, refl)) in (Some at.0, at.1)
 
   life_at : (life : Life) → MatchOption (dequeue_of life) ⊤ (λ d. (v : ℕ) × (d.kind ≡ Deq v)) → AreAmong (operations_of_life life)
-      → (step : CoverStep) × NamesStep initial operations step life
+      → (step : CoverStep) × IsNamed initial operations step.source step.dequeue life
   life_at life ends among =
       let enqueue = place_of all (enqueue_of life) (among (enqueue_of life) (zero, omega arith, refl)) in
       let dequeue = maybe_at (dequeue_of life) (λ o at. among o (one_deeper (enqueue_of life) (option_to_list (dequeue_of life)) o at)) in (
@@ -244,21 +235,21 @@ module _ (initial : List ℕ) (operations : List Operation) (few : length initia
       (first.0 ∷ rest.0, (first.1, rest.1))
 
   -- a value that is dequeued has a place of its dequeue
-  dequeued_at : (step : CoverStep) (life : Life) → NamesStep initial operations step life → dequeue_call life < NEVER
-      → (p : ℕ) × NamesStep initial operations (record { source = step.source; dequeue = Some p }) life
+  dequeued_at : (step : CoverStep) (life : Life) → IsNamed initial operations step.source step.dequeue life → dequeue_call life < NEVER
+      → (p : ℕ) × IsNamed initial operations step.source (Some p) life
   dequeued_at step life names called =
       let d = dequeued_if_called life called in
       let found = place_there step.dequeue (dequeue_of life) d.0 names.1 d.1 in
-      (found.0, (names.0, subst (λ p. IsMaybeOperation initial operations p (dequeue_of life)) found.1 names.1))
+      (found.0, (names.0, subst (λ p. IsMaybeOperation operations p (dequeue_of life)) found.1 names.1))
     where
-      place_there : (place : Option ℕ) (o : Option Operation) (d : Operation) → IsMaybeOperation initial operations place o → o ≡ Some d
+      place_there : (place : Option ℕ) (o : Option Operation) (d : Operation) → IsMaybeOperation operations place o → o ≡ Some d
           → (p : ℕ) × (place ≡ Some p)
       place_there (Some p) o d at is = (p, refl)
       place_there None None d at is = cc
       place_there None (Some e) d at is = absurd at
 
   -- a violation has places
-  pub violation_at : (full : FullViolation) → IsViolationOf (timeline initial operations) full → AreAmong (lines_of full)
+  pub violation_at : (full : FullViolation) → IsViolationOf (on (timeline initial operations)) full → AreAmong (lines_of full)
       → (found : Violation) × Names initial operations found full
   violation_at (fresh deq enq) is among =
       let d = place_of all deq (among deq (zero, omega arith, refl)) in
@@ -302,14 +293,14 @@ yes_is_decided initial operations places chosen = record {
 }
 
 -- the chosen pair is the chosen violation where the first two kinds are absent
-pub pair_is_chosen : (initial : List ℕ) (operations : List Operation) (pair : OrderPair) → IsClear (timeline initial operations)
+pub pair_is_chosen : (initial : List ℕ) (operations : List Operation) (pair : OrderPair) → IsClear (course initial operations)
     → IsChosenPair initial operations pair → IsChosenViolation initial operations (violation.Order pair.enq_a pair.enq_b pair.deq_b pair.deq_a)
 pair_is_chosen initial operations pair clear is =
     (order is.a is.b, is.names, (clear.no_fresh, clear.no_repeat, is.is_chosen))
 
 -- the chosen empty answer with its cover is the chosen violation where the first three kinds are absent
-pub witness_is_chosen : (initial : List ℕ) (operations : List Operation) (empty : ℕ) (cover : List CoverStep) → IsClear (timeline initial operations)
-    → NoOrderViolation (timeline initial operations) → IsWitnessAnswer initial operations (found.Covered empty cover)
+pub witness_is_chosen : (initial : List ℕ) (operations : List Operation) (empty : ℕ) (cover : List CoverStep) → IsClear (course initial operations)
+    → NoOrderViolation (course initial operations) → IsWitnessAnswer initial operations (found.Covered empty cover)
     → IsChosenViolation initial operations (violation.Witness empty cover)
 witness_is_chosen initial operations empty cover clear none is = (witness is.0 is.1, (is.2, is.3), (clear.no_fresh, clear.no_repeat, none, is.4))
 
@@ -362,11 +353,11 @@ two_events events complete =
 
 -- ---- the lines of a violation
 
-module _ (operations : List Operation) (empty : Operation) (clear : IsClear operations) (did : Did operations empty Empty)
-    (covered : IsCovered operations empty) where
+module _ (operations : List Operation) (empty : Operation) (clear : IsClear (on operations)) (did : Did operations empty Empty)
+    (covered : IsCovered (on operations) empty) where
   -- no value of a chosen cover stands in it twice, as each leaves before the later ones
   cover_once : (cover : List Life) (before : Operation) → IsCalledInside operations empty clear did covered before
-      → IsChosenCoverFrom operations empty before.call cover → NoneTwice cover
+      → IsChosenCoverFrom (on operations) empty before.call cover → NoneTwice cover
   cover_once [] before inside chosen = absurd chosen
   cover_once (life ∷ []) before inside chosen = (not_in_none life, tt)
   cover_once (life ∷ next ∷ rest) before inside chosen =
@@ -377,7 +368,7 @@ module _ (operations : List Operation) (empty : Operation) (clear : IsClear oper
       )
 
 -- a chosen violation has up to four lines, or each operation of its lines stands once
-few_or_once : (operations : List Operation) (full : FullViolation) → AreComplete operations → IsChosenFullViolation operations full
+few_or_once : (operations : List Operation) (full : FullViolation) → AreComplete operations → IsChosenFullViolation (on operations) full
     → (length (lines_of full) ≤ 4) ⊎ NoneTwice (lines_of full)
 few_or_once operations (fresh deq None) complete chosen = inl (omega arith)
 few_or_once operations (fresh deq (Some enq)) complete chosen = inl (omega arith)
@@ -390,7 +381,7 @@ few_or_once operations (order a b) complete chosen = inl (two_lives (dequeue_of 
     two_lives (Some d) None = omega arith
     two_lives (Some d) (Some e) = omega arith
 few_or_once operations (witness empty cover) complete chosen =
-    let clear : IsClear operations = record { complete = complete; no_fresh = chosen.0; no_repeat = chosen.1 } in
+    let clear : IsClear (on operations) = record { complete = complete; no_fresh = chosen.0; no_repeat = chosen.1 } in
     let did = chosen.3.answers_empty in
     let other = no_enqueue empty Empty did.1 refl in
     let window = call_before_return operations empty complete did.0 other in inr (
@@ -464,12 +455,12 @@ verdict_has_few_lines initial events verdict whole few_initial few_events chosen
     by_verdict : (verdict : Verdict) → IsVerdict initial operations verdict
         → (length (operations_named verdict) ≤ MAX_OPERATIONS) × (length (verdict_places verdict) ≤ MAX_OPERATIONS + length initial)
     by_verdict (Yes places) is =
-        let moved = length_permutation all (timeline initial is.0) is.2.holds_each_once in
+        let moved = length_permutation (timed operations) (timed is.0) is.2.holds_each_once in
+        let long = length-map operations (later_by ORIGIN) in
+        let long' = length-map is.0 (later_by ORIGIN) in
         let many : length places ≡ length is.0 = simp length-map at (ap length is.1) in
         let shown : length (map (λ p. place.Op p) places) ≡ length places = simp length-map in
         let named = no_longer is_operation (map (λ p. place.Op p) places) in
-        let long = length_timeline initial operations in
-        let long' = length_timeline initial is.0 in
         (omega (arith, few, moved), omega (arith, few, moved))
     by_verdict (No violation) is =
         let shown = each_shown initial operations few_initial violation is.0 is.1 in
@@ -479,11 +470,14 @@ verdict_has_few_lines initial events verdict whole few_initial few_events chosen
         let lines = few_shown in
         (omega (arith, named, own), omega (arith, many, lines))
       where
+        chosen' : IsChosenFullViolation (on all) is.0
+        chosen' = chosen_of (course initial operations) (on all) (course_on initial operations) is.0 is.2
+
         among : (o : Operation) → Contains (lines_of is.0) o → Contains all o
-        among = lines_are_operations all is.0 (chosen_is_violation all is.0 complete is.2)
+        among = lines_are_operations all is.0 (chosen_is_violation all is.0 complete chosen')
 
         few_shown : length (lines_of is.0) ≤ MAX_OPERATIONS + length initial
-        few_shown = elim (few_or_once all is.0 complete is.2) [
+        few_shown = elim (few_or_once all is.0 complete chosen') [
           | inl short ↦ omega arith
           | inr once ↦
               let each = no_more (lines_of is.0) all once among in
@@ -492,7 +486,7 @@ verdict_has_few_lines initial events verdict whole few_initial few_events chosen
         ]
 
         few_own : length (filter is_own (lines_of is.0)) ≤ MAX_OPERATIONS
-        few_own = elim (few_or_once all is.0 complete is.2) [
+        few_own = elim (few_or_once all is.0 complete chosen') [
           | inl short ↦ let less = no_longer is_own (lines_of is.0) in omega arith
           | inr once ↦
               let each = no_more (filter is_own (lines_of is.0)) (map (later_by ORIGIN) operations) (none_twice-filter is_own (lines_of is.0) once)

@@ -1,19 +1,22 @@
 -- What is found of a history is the only thing that can be found of it.
-use Rattle.verdicts.proofs.Common.{[], AllPairs, AllZip, ap, append_cancel_left, ap₂, AreComplete, ArePlacesOf, arith}
-use Rattle.verdicts.proofs.Common.{behind, cases_lt, chosen_order_is_one, Contains, Contains-permutation, CoverStep}
-use Rattle.verdicts.proofs.Common.{dequeue_of, Did, Empty, enqueue_of, Event, filter, fresh, FullViolation, get_or}
-use Rattle.verdicts.proofs.Common.{initial_enqueues, inl, inr, is_empty_answer, IsAt, IsChosenCover, IsChosenViolation}
-use Rattle.verdicts.proofs.Common.{IsClear, IsCompleteFrom, IsCovered, IsGapAnswer, IsLeastFreeGap, IsMaybeOperation}
-use Rattle.verdicts.proofs.Common.{IsNonDecreasingBy, IsOperation, IsPermutation, IsPermutation-sym}
-use Rattle.verdicts.proofs.Common.{IsPermutation-trans, IsSource, IsViolationOf, later_by, later_injective, length}
-use Rattle.verdicts.proofs.Common.{Life, List, map, MAX_INITIAL, Names, NamesCover}
-use Rattle.verdicts.proofs.Common.{NamesStep, No, None, one_at, Operation, operations_are_complete}
-use Rattle.verdicts.proofs.Common.{operations_of, operations_rise, Option, order, OrderPair, ORIGIN, passes_filter}
-use Rattle.verdicts.proofs.Common.{place_of, refl, repeat, slice_get-get_or, Some, Source, subst, sym, time_of}
-use Rattle.verdicts.proofs.Common.{timeline, timeline_is_complete, true, Violation, witness, Yes, ℕ, ◌<◌, ◌↔◌, ◌∙◌}
-use Rattle.verdicts.proofs.Common.{◌∷◌, ◌≡◌, ◌≤◌}
+use Rattle.verdicts.proofs.Common.{[], AllPairs, AllZip, ap, ap₂, AreComplete, ArePlacesOf, arith}
+use Rattle.verdicts.proofs.Common.{behind, cases_lt, chosen_of, Contains, Contains-permutation}
+use Rattle.verdicts.proofs.Common.{Course, course, course_on, CoverStep, dequeue_of, Did, Empty, enqueue_of, Event}
+use Rattle.verdicts.proofs.Common.{filter, fresh, FullViolation, get_or, initial_enqueue, inl, inr}
+use Rattle.verdicts.proofs.Common.{is_empty_answer, IsAt, IsChosenCover, IsChosenViolation, IsClear, IsCompleteFrom}
+use Rattle.verdicts.proofs.Common.{IsCovered, IsGapAnswer, IsLeastFreeGap, IsMaybeOperation, IsNamed}
+use Rattle.verdicts.proofs.Common.{IsNonDecreasingBy, IsOfHistory, IsOperation, IsPermutation, IsPermutation-sym}
+use Rattle.verdicts.proofs.Common.{IsPermutation-trans, IsSource, IsViolationOf, length}
+use Rattle.verdicts.proofs.Common.{Life, List, map, mapped_option, MAX_INITIAL, Names, NamesCover, No, None, on}
+use Rattle.verdicts.proofs.Common.{one_at, Operation, operation_on, operations_are_complete, operations_of}
+use Rattle.verdicts.proofs.Common.{operations_rise, Option, order, OrderPair, passes_filter, place_of, refl}
+use Rattle.verdicts.proofs.Common.{repeat, slice_get, slice_get-get_or, slice_get_within, Some, Source, source_on}
+use Rattle.verdicts.proofs.Common.{subst, sym, time_of, timed, timeline, timeline_is_complete, timeline_of_history}
+use Rattle.verdicts.proofs.Common.{true, Violation, witness, Yes, ℕ, ◌<◌, ◌↔◌, ◌∙◌, ◌∷◌, ◌≡◌, ◌≤◌}
+use Rattle.value_match.proofs.Agreeing.{chosen_order_of, chosen_witness_of, cover_of}
+use Rattle.value_match.proofs.ToldPlaces.{clear_on, clear_told, source_place}
+use Rattle.linearizer.proofs.OneOrder.{one_chosen_order, one_list}
 use Rattle.order_violation.specs.Pairs.{violation_of}
-use Rattle.linearizer.proofs.OneOrder.{one_list}
 use Rattle.empty_witness.specs.declared.answer.GapAnswer.{GapAnswer}
 use Rattle.linearizer.proofs.Elements.{beside_first, one_place as one_place_of_key}
 use Rattle.verdicts.specs.Laws.{GapIsOne, MatchedIsOne, PairIsOne, VerdictIsOne, WitnessIsOne}
@@ -21,7 +24,7 @@ use Rattle.verdicts.proofs.Chosen.{one_chosen_violation, one_cover, one_order, o
 use Rattle.std.proofs.lemmas.List.Sorted.{IsPermutation-refl}
 use Rattle.verdicts.proofs.Exactly.{violation_excludes_order}
 use Rattle.value_match.specs.declared.matching.Matched.TheVariants as matched
-use Rattle.value_match.specs.declared.violation.Source.TheVariants as source
+use Rattle.value_match.specs.declared.life.Source.TheVariants as source
 use Rattle.value_match.specs.declared.violation.Violation.TheVariants as violation
 use Rattle.empty_witness.specs.declared.answer.GapAnswer.TheVariants as gap
 use Rattle.empty_witness.specs.declared.answer.WitnessAnswer.TheVariants as found
@@ -81,31 +84,43 @@ one_list_of_places operations (p ∷ ps) (q ∷ qs) (o ∷ listed) complete at_p
     grind (arith, one_place_at operations p q o complete, one_list_of_places operations ps qs listed complete)
 one_list_of_places operations _ _ _ complete at_ps at_qs = cc
 
-module _ (initial : List ℕ) (operations : List Operation) (complete : AreComplete (timeline initial operations)) where
+module _ (initial : List ℕ) (operations : List Operation) (is_history : IsOfHistory initial operations) where
   abbrev k : ℕ
   k = length initial
 
   abbrev all : List Operation
   all = timeline initial operations
 
-  one_place : (p q : ℕ) (o : Operation) → IsOperation initial operations p o → IsOperation initial operations q o → p ≡ q
-  one_place p q o at_p at_q = let same = one_place_at all (behind k p) (behind k q) o complete at_p at_q in omega (arith, same)
+  complete : AreComplete all
+  complete = (timeline_of_history initial operations is_history).1
 
-  maybe_one_place : (o : Option Operation) (p q : Option ℕ) → IsMaybeOperation initial operations p o → IsMaybeOperation initial operations q o → p ≡ q
+  one_place : (p q : ℕ) (o : Operation) → IsOperation operations p o → IsOperation operations q o → p ≡ q
+  one_place p q o at_p at_q =
+      let same = one_place_at all (behind k p) (behind k q) o complete (operation_on initial operations p o at_p) (operation_on initial operations q o at_q) in
+      omega (arith, same)
+
+  maybe_one_place : (o : Option Operation) (p q : Option ℕ) → IsMaybeOperation operations p o → IsMaybeOperation operations q o → p ≡ q
   maybe_one_place (Some o) (Some p) (Some q) at_p at_q = ap (λ place. Some place) (one_place p q o at_p at_q)
   maybe_one_place None None None at_p at_q = refl
   maybe_one_place _ _ _ at_p at_q = absurd assumption
 
+  initial_within : (p : ℕ) (o : Operation) → IsSource initial operations (source.Initial p) o → p < k
+  initial_within p o at = let (v, stands, is) = mapped_option (initial_enqueue k p) (slice_get initial p) o at in slice_get_within initial p v stands
+
   -- an enqueue has one source
   one_source : (s t : Source) (o : Operation) → IsSource initial operations s o → IsSource initial operations t o → s ≡ t
-  one_source (source.Enq p) (source.Enq q) o at_p at_q = ap source.Enq (one_place p q o at_p at_q)
-  one_source (source.Enq p) (source.Initial q) o at_p at_q =
-      let same = one_place_at all (behind k p) q o complete at_p at_q.1 in absurd (omega (arith, same, at_q.0))
-  one_source (source.Initial p) (source.Enq q) o at_p at_q =
-      let same = one_place_at all p (behind k q) o complete at_p.1 at_q in absurd (omega (arith, same, at_p.0))
-  one_source (source.Initial p) (source.Initial q) o at_p at_q = ap source.Initial (one_place_at all p q o complete at_p.1 at_q.1)
+  one_source s t o at_s at_t = by_place s t at_s at_t
+      (one_place_at all (source_place initial operations s) (source_place initial operations t) o complete (source_on initial operations s o at_s)
+      (source_on initial operations t o at_t))
+    where
+      by_place : (s t : Source) → IsSource initial operations s o → IsSource initial operations t o
+          → source_place initial operations s ≡ source_place initial operations t → s ≡ t
+      by_place (source.Enq p) (source.Enq q) at_p at_q same = let one : p ≡ q = omega (arith, same) in ap source.Enq one
+      by_place (source.Enq p) (source.Initial q) at_p at_q same = let within = initial_within q o at_q in absurd (omega (arith, same, within))
+      by_place (source.Initial p) (source.Enq q) at_p at_q same = let within = initial_within p o at_p in absurd (omega (arith, same, within))
+      by_place (source.Initial p) (source.Initial q) at_p at_q same = ap source.Initial same
 
-  one_step : (p q : CoverStep) (life : Life) → NamesStep initial operations p life → NamesStep initial operations q life → p ≡ q
+  one_step : (p q : CoverStep) (life : Life) → IsNamed initial operations p.source p.dequeue life → IsNamed initial operations q.source q.dequeue life → p ≡ q
   one_step p q life at_p at_q =
       let step : Source → Option ℕ → CoverStep = λ s d. record { source = s; dequeue = d } in
       ap₂ step (one_source p.source q.source (enqueue_of life) at_p.0 at_q.0)
@@ -144,18 +159,14 @@ module _ (initial : List ℕ) (operations : List Operation) (complete : AreCompl
   -- one violation is chosen
   one_chosen : (x y : Violation) → IsChosenViolation initial operations x → IsChosenViolation initial operations y → x ≡ y
   one_chosen x y (b, names_x, chosen_x) (c, names_y, chosen_y) =
-      one_violation x y b c (one_chosen_violation all b c complete chosen_x chosen_y) names_x names_y
+      let there = chosen_of (course initial operations) (on all) (course_on initial operations) in
+      one_violation x y b c (one_chosen_violation all b c complete (there b chosen_x) (there c chosen_y)) names_x names_y
 
 -- a history has one chosen violation
 pub chosen_violation_is_one : (initial : List ℕ) (events : List Event) (x y : Violation) → IsCompleteFrom initial events → length initial ≤ MAX_INITIAL
     → IsChosenViolation initial (operations_of events) x → IsChosenViolation initial (operations_of events) y → x ≡ y
 chosen_violation_is_one initial events x y complete few =
-    one_chosen initial (operations_of events) (timeline_is_complete initial events complete few) x y
-
--- what stands behind the same enqueues is the same
-one_behind : (initial : List ℕ) (xs ys : List Operation) → timeline initial xs ≡ timeline initial ys → xs ≡ ys
-one_behind initial xs ys same =
-    later_injective ORIGIN xs ys (append_cancel_left (initial_enqueues initial) (map (later_by ORIGIN) xs) (map (later_by ORIGIN) ys) same)
+    one_chosen initial (operations_of events) (events, refl, complete, few) x y
 
 -- a history has one verdict
 pub verdict_is_one : VerdictIsOne
@@ -163,15 +174,14 @@ verdict_is_one initial events (Yes ps) (Yes qs) complete few x exact_x y exact_y
     let operations = operations_of events in
     let all = timeline initial operations in
     let all_complete = timeline_is_complete initial events complete few in
-    let none = λ (b : FullViolation) (violates : IsViolationOf all b). violation_excludes_order initial operations b all_complete violates exact_x in
-    let clear : IsClear all = record {
+    let none = λ (b : FullViolation) (violates : IsViolationOf (on all) b). violation_excludes_order initial operations b all_complete violates exact_x in
+    let clear : IsClear (on all) = record {
       complete = all_complete;
       no_fresh = λ deq enq. none (fresh deq enq);
       no_repeat =
           λ enq first second. none (repeat enq first second);
     } in
-    let timeline_orders = chosen_order_is_one all (timeline initial x.0) (timeline initial y.0) clear x.2 y.2 in
-    let orders = one_behind initial x.0 y.0 timeline_orders in
+    let orders = one_chosen_order initial operations x.0 y.0 (clear_told initial operations (events, refl, complete, few) clear) x.2 y.2 in
     ap (λ places. Yes places) (one_list_of_places operations ps qs y.0 (operations_are_complete events complete.complete)
     (subst (ArePlacesOf operations ps) orders x.1) y.1)
 verdict_is_one initial events (Yes ps) (No v) complete few x exact_x y exact_y = absurd (exact_y exact_x)
@@ -204,16 +214,18 @@ pair_is_one initial operations None None complete x y = refl
 pair_is_one initial operations None (Some q) complete x y = absurd (x y.a y.b y.is_chosen.violates)
 pair_is_one initial operations (Some p) None complete x y = absurd (y x.a x.b x.is_chosen.violates)
 pair_is_one initial operations (Some p) (Some q) complete x y =
-    let violations = one_order (timeline initial operations) x.a x.b y.a y.b complete x.is_chosen y.is_chosen in
+    let there = chosen_order_of (course initial operations) (on (timeline initial operations)) (course_on initial operations) in
+    let violations = one_order (timeline initial operations) x.a x.b y.a y.b (timeline_of_history initial operations complete).1
+    (there x.a x.b x.is_chosen) (there y.a y.b y.is_chosen) in
     let named = one_violation initial operations complete (violation_of p) (violation_of q) (order x.a x.b) (order y.a y.b) violations x.names y.names in
     ap (λ pair. Some pair) (ap pair_of named)
 
-one_least_gap : (operations : List Operation) (o : Operation) (c d : ℕ) → IsLeastFreeGap operations o c → IsLeastFreeGap operations o d → c ≡ d
-one_least_gap operations o c d x y = let le = x.least d y.in_window y.is_free in let ge = y.least c x.in_window x.is_free in omega arith
+one_least_gap : (h : Course) (o : Operation) (c d : ℕ) → IsLeastFreeGap h o c → IsLeastFreeGap h o d → c ≡ d
+one_least_gap h o c d x y = let le = x.least d y.in_window y.is_free in let ge = y.least c x.in_window x.is_free in omega arith
 
 -- a window that is covered has no free gap
-free_or_covered : (operations : List Operation) (o : Operation) (c : ℕ) → IsLeastFreeGap operations o c → IsCovered operations o → ⊥
-free_or_covered operations o c free covered = let stays = covered c free.in_window in free.is_free stays.0 stays.1 stays.2
+free_or_covered : (h : Course) (o : Operation) (c : ℕ) → IsLeastFreeGap h o c → IsCovered h o → ⊥
+free_or_covered h o c free covered = let stays = covered c free.in_window in free.is_free stays.0 stays.1 stays.2
 
 -- gaps at one time are one
 gap_told : (c d : ℕ) → time_of c ≡ time_of d → c ≡ d
@@ -223,26 +235,25 @@ gap_told c d same = omega (arith, same)
 pub gap_is_one : GapIsOne
 gap_is_one initial operations place = one
   where
-    k : ℕ
-    k = length initial
+    h : Course
+    h = course initial operations
 
-    all : List Operation
-    all = timeline initial operations
-
-    one : (x y : GapAnswer) → IsClear all → IsGapAnswer initial operations place x → IsGapAnswer initial operations place y → x ≡ y
+    one : (x y : GapAnswer) → IsClear h → IsGapAnswer initial operations place x → IsGapAnswer initial operations place y → x ≡ y
     one (gap.Free c) (gap.Free d) clear x y =
-        let same = one_at all (behind k place) x.0 y.0 x.1 y.1 in
-        let gaps = one_least_gap all y.0 (time_of c) (time_of d) (subst (λ o. IsLeastFreeGap all o (time_of c)) same x.2) y.2 in
+        let same = one_at (timed operations) place x.0 y.0 x.1 y.1 in
+        let gaps = one_least_gap h y.0 (time_of c) (time_of d) (subst (λ o. IsLeastFreeGap h o (time_of c)) same x.2) y.2 in
         ap (λ c. gap.Free c) (gap_told c d gaps)
     one (gap.Free c) (gap.Covered cover) clear x y =
-        let same = one_at all (behind k place) x.0 y.0 x.1 y.2 in
-        absurd (free_or_covered all y.0 (time_of c) (subst (λ o. IsLeastFreeGap all o (time_of c)) same x.2) y.4)
+        let same = one_at (timed operations) place x.0 y.0 x.1 y.2 in
+        absurd (free_or_covered h y.0 (time_of c) (subst (λ o. IsLeastFreeGap h o (time_of c)) same x.2) y.4)
     one (gap.Covered cover) (gap.Free c) clear x y =
-        let same = one_at all (behind k place) y.0 x.0 y.1 x.2 in
-        absurd (free_or_covered all x.0 (time_of c) (subst (λ o. IsLeastFreeGap all o (time_of c)) same y.2) x.4)
+        let same = one_at (timed operations) place y.0 x.0 y.1 x.2 in
+        absurd (free_or_covered h x.0 (time_of c) (subst (λ o. IsLeastFreeGap h o (time_of c)) same y.2) x.4)
     one (gap.Covered steps) (gap.Covered steps') clear x y =
-        let same = one_at all (behind k place) x.0 y.0 x.2 y.2 in
-        let lives = one_cover all y.0 y.0.call x.1 y.1 clear (subst (λ o. IsChosenCover all o x.1) same x.5) y.5 in
+        let same = one_at (timed operations) place x.0 y.0 x.2 y.2 in
+        let there = cover_of h (on (timeline initial operations)) (course_on initial operations) y.0 y.0.call in
+        let lives = one_cover (timeline initial operations) y.0 y.0.call x.1 y.1 (clear_on initial operations clear)
+        (there x.1 (subst (λ o. IsChosenCover h o x.1) same x.5)) (there y.1 y.5) in
         ap (λ steps. gap.Covered steps) (one_named_cover initial operations clear.complete y.1 steps steps'
         (subst (NamesCover initial operations steps) lives x.3) y.3)
 
@@ -252,26 +263,28 @@ gaps_told (c ∷ cs) (d ∷ ds) same = grind (arith, gaps_told cs ds)
 gaps_told _ _ same = cc
 
 -- where each empty answer has a free gap, none is covered
-none_covered : (operations : List Operation) (gaps : List ℕ) (o : Operation)
-    → AllZip (λ o c. IsLeastFreeGap operations o c) (filter is_empty_answer operations) gaps → Did operations o Empty → IsCovered operations o → ⊥
-none_covered operations gaps o each did covered =
+none_covered : (h : Course) (gaps : List ℕ) (o : Operation)
+    → AllZip (λ o c. IsLeastFreeGap h o c) (filter is_empty_answer h.operations) gaps → Did h.operations o Empty → IsCovered h o → ⊥
+none_covered h gaps o each did covered =
     let passes : is_empty_answer o ≡ true = rw did.1 refl in
-    let place = place_of (filter is_empty_answer operations) o (passes_filter is_empty_answer operations o passes did.0) in
-    let free = beside_first (λ o c. IsLeastFreeGap operations o c) (filter is_empty_answer operations) gaps place.0 o each place.1 in
-    free_or_covered operations o free.0 free.2 covered
+    let place = place_of (filter is_empty_answer h.operations) o (passes_filter is_empty_answer h.operations o passes did.0) in
+    let free = beside_first (λ o c. IsLeastFreeGap h o c) (filter is_empty_answer h.operations) gaps place.0 o each place.1 in
+    free_or_covered h o free.0 free.2 covered
 
 -- one answer of the search for covered windows is found
 pub witness_is_one : WitnessIsOne
 witness_is_one initial operations (found.Gaps cs) (found.Gaps ds) clear x y =
-    let all = timeline initial operations in
-    let times = one_beside (λ o c. IsLeastFreeGap all o c) (one_least_gap all) (filter is_empty_answer all) (map time_of cs)
+    let h = course initial operations in
+    let times = one_beside (λ o c. IsLeastFreeGap h o c) (one_least_gap h) (filter is_empty_answer h.operations) (map time_of cs)
     (map time_of ds) x y in
     ap (λ gaps. found.Gaps gaps) (gaps_told cs ds times)
 witness_is_one initial operations (found.Gaps cs) (found.Covered place cover) clear x y =
-    absurd (none_covered (timeline initial operations) (map time_of cs) y.0 x y.4.answers_empty y.4.is_covered)
+    absurd (none_covered (course initial operations) (map time_of cs) y.0 x y.4.answers_empty y.4.is_covered)
 witness_is_one initial operations (found.Covered place cover) (found.Gaps cs) clear x y =
-    absurd (none_covered (timeline initial operations) (map time_of cs) x.0 y x.4.answers_empty x.4.is_covered)
+    absurd (none_covered (course initial operations) (map time_of cs) x.0 y x.4.answers_empty x.4.is_covered)
 witness_is_one initial operations (found.Covered p steps) (found.Covered q steps') clear x y =
+    let there = chosen_witness_of (course initial operations) (on (timeline initial operations)) (course_on initial operations) in
     let same : violation.Witness p steps ≡ violation.Witness q steps' = one_violation initial operations clear.complete _ _ (witness x.0 x.1)
-    (witness y.0 y.1) (one_witness (timeline initial operations) x.0 y.0 x.1 y.1 clear x.4 y.4) (x.2, x.3) (y.2, y.3) in
+    (witness y.0 y.1) (one_witness (timeline initial operations) x.0 y.0 x.1 y.1 (clear_on initial operations clear) (there x.0 x.1 x.4)
+    (there y.0 y.1 y.4)) (x.2, x.3) (y.2, y.3) in
     cc

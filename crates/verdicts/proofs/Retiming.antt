@@ -10,14 +10,13 @@ use Rattle.verdicts.proofs.Common.{filter, flat_map, fresh, FullViolation, initi
 use Rattle.verdicts.proofs.Common.{IsChosenCoverFrom, IsChosenFullViolation, IsChosenWitness, IsClear, IsCovered}
 use Rattle.verdicts.proofs.Common.{IsLife, IsOrderViolation, IsViolationOf, IsWitnessViolation, later_by, le-ltb}
 use Rattle.verdicts.proofs.Common.{length, Life, lines_of, List, lt-ltb, ltb-true, map, map_fixed, mapped_from}
-use Rattle.verdicts.proofs.Common.{mapped_to, MatchBool, MAX_INITIAL, nat_eq, nat_lt, nat_tests, no_enqueue}
-use Rattle.verdicts.proofs.Common.{NoFreshViolation, None, NoOrderViolation, NoRepeatViolation, not_in_none}
+use Rattle.verdicts.proofs.Common.{mapped_to, MatchBool, MAX_INITIAL, nat_eq, nat_lt, nat_tests, NEVER, no_enqueue}
+use Rattle.verdicts.proofs.Common.{NoFreshViolation, None, NoOrderViolation, NoRepeatViolation, not_in_none, on}
 use Rattle.verdicts.proofs.Common.{one_deeper, one_life_of_enqueue, Operation, operations_of_life, Option, option_map}
 use Rattle.verdicts.proofs.Common.{option_to_list, order, ORIGIN, passed_filter, passes_filter, refl, repeat}
 use Rattle.verdicts.proofs.Common.{return_in_range, return_or_never, same_call, same_enqueue, same_operation, selects}
 use Rattle.verdicts.proofs.Common.{Some, StaysAtLeast, subst, suc, sym, timeline, true, value_of, violation_covers}
 use Rattle.verdicts.proofs.Common.{witness, zero, ℕ, ◌++◌, ◌+◌, ◌-◌, ◌<◌, ◌∙◌, ◌∷◌, ◌≡◌, ◌≤◌, ◌⊎◌}
-use Rattle.value_match.specs.declared.life.TheConstants.{NEVER}
 use Rattle.history_merge.specs.Operations.{IsInWindow}
 use Rattle.verdicts.proofs.NamedLines.{AreFor, cover_lines, fresh_lines, HasValue, IsOpOfLife, life_lines, line_of_a}
 use Rattle.verdicts.proofs.NamedLines.{line_of_b, lines_are_operations, order_lines, repeat_lines, selects_as_value}
@@ -142,24 +141,24 @@ module _ {values calls : ℕ → Bool} {h : ℕ → ℕ} {low : ℕ} {xs ys : Li
   }
 
   -- a life of these is one of the list
-  pub life_there : (life : Life) → IsLife xs life → IsLife ys (retimed_life h life)
+  pub life_there : (life : Life) → IsLife (on xs) life → IsLife (on ys) (retimed_life h life)
   life_there life is = life_carried carries_there life (λ o at. (life_lines xs life is o at).0) is
 
   -- a violation of these is one of the list
-  pub violation_there : (full : FullViolation) → IsViolationOf xs full → IsViolationOf ys (mapped_violation (retimed h) full)
+  pub violation_there : (full : FullViolation) → IsViolationOf (on xs) full → IsViolationOf (on ys) (mapped_violation (retimed h) full)
   violation_there full is = violation_carried carries_there full (lines_are_operations xs full is) is
 
   -- and one of the list whose lines are selected is one of these
-  pub violation_back : (full : FullViolation) → AreSelected (lines_of full) → IsViolationOf ys full → IsViolationOf xs (mapped_violation stands.back full)
+  pub violation_back : (full : FullViolation) → AreSelected (lines_of full) → IsViolationOf (on ys) full → IsViolationOf (on xs) (mapped_violation stands.back full)
   violation_back = violation_carried carries_back
 
-  pub no_fresh_back : NoFreshViolation ys → NoFreshViolation xs
+  pub no_fresh_back : NoFreshViolation (on ys) → NoFreshViolation (on xs)
   no_fresh_back none deq enq is = none (retimed h deq) (option_map (retimed h) enq) (violation_there (fresh deq enq) is)
 
-  pub no_repeat_back : NoRepeatViolation ys → NoRepeatViolation xs
+  pub no_repeat_back : NoRepeatViolation (on ys) → NoRepeatViolation (on xs)
   no_repeat_back none enq first second is = none (retimed h enq) (retimed h first) (retimed h second) (violation_there (repeat enq first second) is)
 
-  pub no_order_back : NoOrderViolation ys → NoOrderViolation xs
+  pub no_order_back : NoOrderViolation (on ys) → NoOrderViolation (on xs)
   no_order_back none a b is = none (retimed_life h a) (retimed_life h b) (violation_there (order a b) is)
 
   -- ---- the choice
@@ -188,7 +187,7 @@ module _ {values calls : ℕ → Bool} {h : ℕ → ℕ} {low : ℕ} {xs ys : Li
       )
 
   -- a value that is dequeued no later there is dequeued no later here
-  sooner_back : (x y : Life) → AreSelected (operations_of_life x) → dequeue_call x < NEVER → IsLife xs y → dequeue_call y < NEVER
+  sooner_back : (x y : Life) → AreSelected (operations_of_life x) → dequeue_call x < NEVER → IsLife (on xs) y → dequeue_call y < NEVER
       → dequeue_return x ≤ dequeue_return (retimed_life h y) → dequeue_return (mapped_life stands.back x) ≤ dequeue_return y
   sooner_back x y are called_x is_y called_y le =
       let (d, at_x) = dequeued_if_called x called_x in
@@ -214,8 +213,8 @@ module _ {values calls : ℕ → Bool} {h : ℕ → ℕ} {low : ℕ} {xs ys : Li
       brought (Some d) are = let is = are d (zero, omega arith, refl) in ap (λ o. Some o) (stands.brings d is.0 is.1).1
 
   -- at each gap of a covered window some life of these is definitely in the queue
-  pub covered_by : (o : Operation) → Contains xs o → IsCovered xs o → (c : ℕ) → IsInWindow (retimed h o) c
-      → (z : Life) × IsLife xs z × Covers (retimed_life h z) c
+  pub covered_by : (o : Operation) → Contains xs o → IsCovered (on xs) o → (c : ℕ) → IsInWindow (retimed h o) c
+      → (z : Life) × IsLife (on xs) z × Covers (retimed_life h z) c
   covered_by o among covered c window =
       let by = call_by_return xs o stands.part_complete among in
       let gap = floor_by stands.rises (o.ret - o.call) o.call o.ret c (omega arith) window.0 window.1 in
@@ -226,8 +225,8 @@ module _ {values calls : ℕ → Bool} {h : ℕ → ℕ} {low : ℕ} {xs ys : Li
       (z.0, z.1, (omega (arith, gap.3), omega (arith, gap.4, calls_there (dequeue_of z.0))))
 
   chosen_cover_back : (empty : Operation) → IsSelected empty → (cover : List Life) (frontier time : ℕ) → h time ≡ frontier → low ≤ time
-      → AreSelected (flat_map operations_of_life cover) → IsChosenCoverFrom ys empty frontier cover
-      → IsChosenCoverFrom xs (stands.back empty) time (map (mapped_life stands.back) cover)
+      → AreSelected (flat_map operations_of_life cover) → IsChosenCoverFrom (on ys) empty frontier cover
+      → IsChosenCoverFrom (on xs) (stands.back empty) time (map (mapped_life stands.back) cover)
   chosen_cover_back empty is [] frontier time same from are chosen = chosen
   chosen_cover_back empty is (life ∷ rest) frontier time same from are chosen = (
     record {
@@ -238,7 +237,7 @@ module _ {values calls : ℕ → Bool} {h : ℕ → ℕ} {low : ℕ} {xs ys : Li
           (omega (arith, same, stands.rises (enqueue_return other) time (stands.late (enqueue_of other) is_other.1.0).1 before)));
     },
     match_then (nat_lt (stands.back empty).ret (dequeue_call (mapped_life stands.back life)))
-        (subst (λ test. MatchBool test (rest ≡ []) (IsChosenCoverFrom ys empty (dequeue_call life) rest))
+        (subst (λ test. MatchBool test (rest ≡ []) (IsChosenCoverFrom (on ys) empty (dequeue_call life) rest))
         (same_test stands.rises (stands.back empty).ret (dequeue_call (mapped_life stands.back life)) empty.ret (dequeue_call life)
         (stands.late (stands.back empty) (in_part empty is)).1 dequeue.1 (returned empty is) dequeue.0) chosen.1)
         (ap (map (mapped_life stands.back)))
@@ -253,8 +252,8 @@ module _ {values calls : ℕ → Bool} {h : ℕ → ℕ} {low : ℕ} {xs ys : Li
       dequeue = calls_back (dequeue_of life) (λ o at. own o (one_deeper (enqueue_of life) (option_to_list (dequeue_of life)) o at))
 
   -- the chosen violation of the list is the chosen one of these, if its lines are selected
-  pub chosen_back : (full : FullViolation) → AreSelected (lines_of full) → IsChosenFullViolation ys full
-      → IsChosenFullViolation xs (mapped_violation stands.back full)
+  pub chosen_back : (full : FullViolation) → AreSelected (lines_of full) → IsChosenFullViolation (on ys) full
+      → IsChosenFullViolation (on xs) (mapped_violation stands.back full)
   chosen_back (fresh deq enq) are chosen = record {
     violates = violation_back (fresh deq enq) are chosen.violates;
     first = λ deq' enq' is. no_later deq deq' (are deq (0, omega arith, refl)) (lines_are_operations xs (fresh deq' enq') is deq' (0, omega arith, refl))
@@ -276,7 +275,7 @@ module _ {values calls : ℕ → Bool} {h : ℕ → ℕ} {low : ℕ} {xs ys : Li
       first = λ x y is. sooner_back b y (λ o at. are o (line_of_b a b o at)) chosen.2.violates.is_dequeued is.is_b is.is_dequeued
           (chosen.2.first (retimed_life h x) (retimed_life h y) (violation_there (order x y) is));
       longest = λ x is. stays_back a x (λ o at. are o (line_of_a a b o at)) is.is_a.1.0 (chosen.2.longest (retimed_life h x)
-          (subst (IsOrderViolation ys (retimed_life h x)) (brought_life b (λ o at. are o (line_of_b a b o at)))
+          (subst (IsOrderViolation (on ys) (retimed_life h x)) (brought_life b (λ o at. are o (line_of_b a b o at)))
           (violation_there (order x (mapped_life stands.back b)) is)));
     },
   )
@@ -286,7 +285,7 @@ module _ {values calls : ℕ → Bool} {h : ℕ → ℕ} {low : ℕ} {xs ys : Li
     no_order_back chosen.2,
     record {
       answers_empty = is.answers_empty;
-      is_covered = violation_covers xs (stands.back empty) (map (mapped_life stands.back) cover) is;
+      is_covered = violation_covers (on xs) (stands.back empty) (map (mapped_life stands.back) cover) is;
       first = λ empty' did covered. no_later empty empty' own did.0 (chosen.3.first (retimed h empty') ((stands.there empty' did.0).0, did.1)
           (λ c window. let z = covered_by empty' did.0 covered c window in (retimed_life h z.0, life_there z.0 z.1, z.2)));
       cover_is_chosen = chosen_cover_back empty own cover empty.call (stands.back empty).call (called empty own)
@@ -298,7 +297,7 @@ module _ {values calls : ℕ → Bool} {h : ℕ → ℕ} {low : ℕ} {xs ys : Li
       own : IsSelected empty
       own = are empty (0, omega arith, refl)
 
-      is : IsWitnessViolation xs (stands.back empty) (map (mapped_life stands.back) cover)
+      is : IsWitnessViolation (on xs) (stands.back empty) (map (mapped_life stands.back) cover)
       is = violation_back (witness empty cover) are (chosen_is_violation ys (witness empty cover) stands.complete chosen)
 
 -- ---- operations by their images
@@ -478,7 +477,7 @@ first_line (order a b) = (enqueue_of a, (zero, omega arith, refl))
 first_line (witness empty cover) = (empty, (zero, omega arith, refl))
 
 -- two different values are out of order
-not_itself : (operations : List Operation) (a b : Life) (is : IsOrderViolation operations a b) → AreComplete operations → is.is_a.0 ≡ is.is_b.0 → ⊥
+not_itself : (operations : List Operation) (a b : Life) (is : IsOrderViolation (on operations) a b) → AreComplete operations → is.is_a.0 ≡ is.is_b.0 → ⊥
 not_itself operations a b is complete same =
     let one = same_enqueue operations (enqueue_of a) (enqueue_of b) is.is_b.0 complete (subst (λ v. Did operations (enqueue_of a) (Enq v)) same is.is_a.1)
     is.is_b.1 in
@@ -496,7 +495,7 @@ module _ {values calls : ℕ → Bool} {h : ℕ → ℕ} {low : ℕ} {xs ys : Li
       cc
 
   -- where all are of one value, nothing is left
-  nothing_left : (v : ℕ) → ((o : Operation) → Contains ys o → HasValue o v) → (full : FullViolation) → IsViolationOf xs full → ⊥
+  nothing_left : (v : ℕ) → ((o : Operation) → Contains ys o → HasValue o v) → (full : FullViolation) → IsViolationOf (on xs) full → ⊥
   nothing_left v all full is =
       let first = first_line full in
       let among = lines_are_operations xs full is first.0 first.1 in
@@ -504,7 +503,7 @@ module _ {values calls : ℕ → Bool} {h : ℕ → ℕ} {low : ℕ} {xs ys : Li
 
   -- where all are of two values, one is left, which isn't out of order with itself
   no_order : (m n : ℕ) → HasValue missing m → ((o : Operation) → Contains ys o → HasValue o m ⊎ HasValue o n)
-      → (a b : Life) → IsOrderViolation xs a b → ⊥
+      → (a b : Life) → IsOrderViolation (on xs) a b → ⊥
   no_order m n is_missing of_two a b is =
       let both : Some is.is_a.0 ≡ Some is.is_b.0 = sym (ap value_of is.is_a.1.1) ∙ other (enqueue_of a) is.is_a.1.0
       ∙ sym (other (enqueue_of b) is.is_b.1.0) ∙ ap value_of is.is_b.1.1 in
@@ -516,7 +515,7 @@ module _ {values calls : ℕ → Bool} {h : ℕ → ℕ} {low : ℕ} {xs ys : Li
         | inr another ↦ another
       ]
 
-  module _ (empty : Operation) (cover : List Life) (clear : IsClear ys) (chosen : IsChosenWitness ys empty cover)
+  module _ (empty : Operation) (cover : List Life) (clear : IsClear (on ys)) (chosen : IsChosenWitness (on ys) empty cover)
       (are : AreFor (lines_of (witness empty cover)) ys) where
     line_is : (l : Operation) → Contains (lines_of (witness empty cover)) l → (empty ≡ l) ⊎ IsOpOfLife ys cover l
     line_is l at = elim (contains_cons empty (flat_map operations_of_life cover) l at) [
@@ -547,7 +546,7 @@ module _ {values calls : ℕ → Bool} {h : ℕ → ℕ} {low : ℕ} {xs ys : Li
         ]
 
     -- the value that is left out was the only one at some gap
-    not_covered_without : (v : ℕ) → HasValue missing v → (o : Operation) → Contains xs o → retimed h o ≡ empty → IsCovered xs o → ⊥
+    not_covered_without : (v : ℕ) → HasValue missing v → (o : Operation) → Contains xs o → retimed h o ≡ empty → IsCovered (on xs) o → ⊥
     not_covered_without v is_missing o among same covered =
         let x = has_value_of_cover missing v was is_missing in
         let other = no_enqueue empty Empty chosen.answers_empty.1 refl in
@@ -563,7 +562,7 @@ module _ {values calls : ℕ → Bool} {h : ℕ → ℕ} {low : ℕ} {xs ys : Li
         let only : life ≡ x.0 = one ∙ gap.1.no_other y.0 y.1 (subst (λ w. Covers w gap.0) one z.2) in
         none_of_its_value (enqueue_of z.0) v is_missing (ap (λ w. value_of (enqueue_of w).kind) only ∙ ap value_of x.2.1) z.1.1.0
 
-    no_cover : (o : Operation) (lives : List Life) → IsWitnessViolation xs o lives → ⊥
+    no_cover : (o : Operation) (lives : List Life) → IsWitnessViolation (on xs) o lives → ⊥
     no_cover o lives is = by_value (value_of missing.kind) refl
       where
         at : Contains ys (retimed h o) × (selects values calls (retimed h o) ≡ true)
@@ -574,15 +573,15 @@ module _ {values calls : ℕ → Bool} {h : ℕ → ℕ} {low : ℕ} {xs ys : Li
 
         by_value : (w : Option ℕ) → value_of missing.kind ≡ w → ⊥
         by_value (Some v) is_missing = not_covered_without v is_missing o is.answers_empty.0 same
-            (violation_covers xs o lives is)
+            (violation_covers (on xs) o lives is)
         by_value None none =
             let one : retimed h o ≡ missing = same ∙ sym (is_the_empty_answer missing was none) in
             let clash : true ≡ false = sym at.1 ∙ ap (selects values calls) one ∙ left_out in
             cc
 
   -- so what is left has no violation
-  pub none_is_left : (full : FullViolation) → IsChosenFullViolation ys full → AreFor (lines_of full) ys → (other : FullViolation)
-      → IsViolationOf xs other → ⊥
+  pub none_is_left : (full : FullViolation) → IsChosenFullViolation (on ys) full → AreFor (lines_of full) ys → (other : FullViolation)
+      → IsViolationOf (on xs) other → ⊥
   none_is_left (fresh deq enq) chosen are other is = let lines = fresh_lines ys deq enq chosen.violates in
       nothing_left lines.0 (λ o among. let line = are o among in sym line.1.same_value ∙ (lines.1 line.0 line.1.among).1) other is
   none_is_left (repeat enq first second) chosen are other is = nothing_left chosen.1.violates.value (λ o among. let line = are o among in
@@ -601,7 +600,7 @@ module _ {values calls : ℕ → Bool} {h : ℕ → ℕ} {low : ℕ} {xs ys : Li
         | inr of_b ↦ inr (sym line.1.same_value ∙ of_b.1)
       ]
 
-      left : (other : FullViolation) → IsViolationOf xs other → ⊥
+      left : (other : FullViolation) → IsViolationOf (on xs) other → ⊥
       left (fresh deq enq) is = no_fresh_back stands chosen.0 deq enq is
       left (repeat enq first second) is = no_repeat_back stands chosen.1 enq first second is
       left (order z w) is = elim (of_two missing was) [
@@ -614,7 +613,7 @@ module _ {values calls : ℕ → Bool} {h : ℕ → ℕ} {low : ℕ} {xs ys : Li
       ]
   none_is_left (witness empty cover) chosen are other is = left other is
     where
-      left : (other : FullViolation) → IsViolationOf xs other → ⊥
+      left : (other : FullViolation) → IsViolationOf (on xs) other → ⊥
       left (fresh deq enq) is = no_fresh_back stands chosen.0 deq enq is
       left (repeat enq first second) is = no_repeat_back stands chosen.1 enq first second is
       left (order x y) is = no_order_back stands chosen.2 x y is

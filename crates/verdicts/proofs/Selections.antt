@@ -1,30 +1,27 @@
 -- What is carried from one list of operations to another, each operation by its image: lives, covers and violations. A chosen cover
 -- is a shortest one.
-use Rattle.verdicts.proofs.Common.{[], All, All-filter, AllPairs, AllPairs-cons, AllPairs-filter, AllPairs-tail}
-use Rattle.verdicts.proofs.Common.{answers, Any-from_list_any, ap, ap₂, AreComplete, AreDistinct, arith, behind, Bool}
-use Rattle.verdicts.proofs.Common.{call_or_never, called_value, called_values, chosen_cover_is_shortest, cond}
-use Rattle.verdicts.proofs.Common.{cons_option, Contains, Contains-append_cases, Contains-append_left}
-use Rattle.verdicts.proofs.Common.{Contains-append_right, Contains-get_or, contains_cons, CoversFrom, Deq, dequeue_of}
-use Rattle.verdicts.proofs.Common.{Did, Empty, Enq, enqueue_of, eqb-true, Event, false, filter, filter_map, find}
-use Rattle.verdicts.proofs.Common.{flat_map, fresh, FullViolation, get_or, holds_ticket, inl, inr, is_call}
-use Rattle.verdicts.proofs.Common.{IsChosenViolation, IsCompleteFrom, IsCompleteHistory, IsLife, IsShortestCover}
-use Rattle.verdicts.proofs.Common.{IsTrue, IsViolationOf, IsWitnessViolation, keeps, kept, length, Life, lines_of}
+use Rattle.verdicts.proofs.Common.{[], All, All-contains, All-filter, all_formed, AllPairs, AllPairs-cons}
+use Rattle.verdicts.proofs.Common.{AllPairs-filter, AllPairs-tail, AllZip-long, answers, Any-from_list_any, ap, ap₂}
+use Rattle.verdicts.proofs.Common.{AreComplete, AreDistinct, arith, Bool, call_or_never, called_value}
+use Rattle.verdicts.proofs.Common.{called_values, chosen_cover_is_shortest, cond, cons_option, Contains}
+use Rattle.verdicts.proofs.Common.{Contains-append_cases, Contains-append_left, Contains-append_right, Contains-get_or}
+use Rattle.verdicts.proofs.Common.{contains_cons, course, CoversFrom, CoverStep, Deq, dequeue_of, Did, Empty, Enq}
+use Rattle.verdicts.proofs.Common.{enqueue_of, eqb-true, Event, false, filter, filter_map, find, flat_map, fresh}
+use Rattle.verdicts.proofs.Common.{FullViolation, get_or, holds_ticket, inl, inr, is_call, IsChosenViolation}
+use Rattle.verdicts.proofs.Common.{IsCompleteFrom, IsCompleteHistory, IsLife, IsNamed, IsShortestCover, IsTrue}
+use Rattle.verdicts.proofs.Common.{IsViolationOf, IsWitnessViolation, keeps, kept, kind_of, length, Life, lines_of}
 use Rattle.verdicts.proofs.Common.{List, list_any-from_Any, map, map-append, MatchOption, MAX_INITIAL, MAX_THREAD}
-use Rattle.verdicts.proofs.Common.{MAX_TICKET, Names, NamesStep, nat_eq, nat_tests, NEVER, None, NoneDid, Not, not}
-use Rattle.verdicts.proofs.Common.{not_in_none, one_at, one_deeper, Operation, operations_are_complete, operations_of}
+use Rattle.verdicts.proofs.Common.{MAX_TICKET, Names, nat_eq, nat_tests, NEVER, None, NoneDid, Not, not, not_in_none}
+use Rattle.verdicts.proofs.Common.{on, one_at, one_deeper, Operation, operations_are_complete, operations_of}
 use Rattle.verdicts.proofs.Common.{operations_of_life, OpKind, Option, option_map, option_to_list, order}
 use Rattle.verdicts.proofs.Common.{passed_filter, passes_filter, Precedes, projection, refl, repeat, return_or_never}
 use Rattle.verdicts.proofs.Common.{returns_at_call, same_call, same_return, slice_get, Some, subst, suc, sym}
-use Rattle.verdicts.proofs.Common.{TakesTurns, timeline, timeline_is_complete, true, value_of, Violation, witness}
-use Rattle.verdicts.proofs.Common.{zero, ℕ, ◌++◌, ◌<◌, ◌||◌, ◌∙◌, ◌∷◌, ◌≡◌, ◌≢◌, ◌≤◌, ◌⊎◌}
-use Rattle.std.proofs.lemmas.Slice.Zip.{AllZip-long}
-use Rattle.verdicts.specs.Claims.{kind_of}
+use Rattle.verdicts.proofs.Common.{TakesTurns, timed, timeline, timeline_is_complete, true, value_of, Violation}
+use Rattle.verdicts.proofs.Common.{witness, zero, ℕ, ◌++◌, ◌<◌, ◌||◌, ◌∙◌, ◌∷◌, ◌≡◌, ◌≢◌, ◌≤◌, ◌⊎◌}
 use Rattle.verdicts.proofs.NamedLines.{line_of_a, line_of_b}
-use Rattle.std.proofs.lemmas.List.Elements.{All-contains}
 use Rattle.history_merge.proofs.TheirEvents.{next_is_first}
 use Rattle.history_merge.specs.Forming.{operation_so_far, operations_so_far}
 use Rattle.history_merge.specs.Inner.History.{next_of}
-use Rattle.history_merge.proofs.Formed.{all_formed}
 use Rattle.history_merge.proofs.Turns.{answered_is_call}
 use Rattle.std.proofs.lemmas.Bool.Decides.{same_from_decides}
 use Rattle.std.proofs.lemmas.List.Filters.{length-filter_both}
@@ -91,7 +88,7 @@ module _ {from to : List Operation} {g : Operation → Operation} {IsTaken : Ope
   AreTaken listed = (o : Operation) → Contains listed o → IsTaken o
 
   -- a life is one there
-  pub life_carried : (life : Life) → AreTaken (operations_of_life life) → IsLife from life → IsLife to (mapped_life g life)
+  pub life_carried : (life : Life) → AreTaken (operations_of_life life) → IsLife (on from) life → IsLife (on to) (mapped_life g life)
   life_carried life taken is = (
     is.0,
     c.did (enqueue_of life) (Enq is.0) (taken (enqueue_of life) (zero, omega arith, refl)) is.1,
@@ -116,8 +113,8 @@ module _ {from to : List Operation} {g : Operation → Operation} {IsTaken : Ope
   called_there (Some x) are called = (c.in_range x (are x (zero, omega arith, refl))).0
 
   cover_carried : (empty : Operation) (before : Option Operation) (cover : List Life) → IsTaken empty → AreTaken (option_to_list before)
-      → AreTaken (flat_map operations_of_life cover) → CoversFrom from empty (call_or_never before) cover
-      → CoversFrom to (g empty) (call_or_never (option_map g before)) (map (mapped_life g) cover)
+      → AreTaken (flat_map operations_of_life cover) → CoversFrom (on from) empty (call_or_never before) cover
+      → CoversFrom (on to) (g empty) (call_or_never (option_map g before)) (map (mapped_life g) cover)
   cover_carried empty before [] is_empty are_before taken covers = covers
   cover_carried empty before (life ∷ []) is_empty are_before taken covers =
       let own : AreTaken (operations_of_life life) = λ o at. taken o (Contains-append_left (operations_of_life life) [] o at) in (
@@ -137,14 +134,15 @@ module _ {from to : List Operation} {g : Operation → Operation} {IsTaken : Ope
       )
 
   -- a violation is one there
-  pub violation_carried : (full : FullViolation) → AreTaken (lines_of full) → IsViolationOf from full → IsViolationOf to (mapped_violation g full)
+  pub violation_carried : (full : FullViolation) → AreTaken (lines_of full) → IsViolationOf (on from) full → IsViolationOf (on to) (mapped_violation g full)
   violation_carried (fresh deq enq) taken is =
       let first = taken deq (zero, omega arith, refl) in
       mapped_then _ _ g enq is
       (λ never. record {
         value = never.value;
         dequeues = c.did deq (Deq never.value) first never.dequeues;
-        not_accepted = c.none_did deq never.value (Deq never.value) (Enq never.value) never.dequeues refl refl never.not_accepted;
+        not_accepted = λ enq did. c.none_did deq never.value (Deq never.value) (Enq never.value) never.dequeues refl refl
+            (λ o among is. never.not_accepted o (among, is)) enq did.0 did.1;
         not_refused = c.none_did deq never.value (Deq never.value) (Not never.value) never.dequeues refl refl never.not_refused;
       })
       (λ e at late.
@@ -187,23 +185,23 @@ module _ {from to : List Operation} {g : Operation → Operation} {IsTaken : Ope
       }
 
 -- the chosen violation has a shortest cover
-pub has_shortest_cover : (initial : List ℕ) (operations : List Operation) (named : Violation) → AreComplete (timeline initial operations)
+pub has_shortest_cover : (initial : List ℕ) (operations : List Operation) (named : Violation)
     → IsChosenViolation initial operations named
-    → (full : FullViolation) → Names initial operations named full → IsShortestCover (timeline initial operations) full
-has_shortest_cover initial operations named complete chosen (fresh deq enq) names = tt
-has_shortest_cover initial operations named complete chosen (repeat enq first second) names = tt
-has_shortest_cover initial operations named complete chosen (order a b) names = tt
-has_shortest_cover initial operations (violation.Witness place steps) complete (witness empty' cover', names', chosen) (witness empty cover) names =
+    → (full : FullViolation) → Names initial operations named full → IsShortestCover (course initial operations) full
+has_shortest_cover initial operations named chosen (fresh deq enq) names = tt
+has_shortest_cover initial operations named chosen (repeat enq first second) names = tt
+has_shortest_cover initial operations named chosen (order a b) names = tt
+has_shortest_cover initial operations (violation.Witness place steps) (witness empty' cover', names', chosen) (witness empty cover) names =
     λ other is.
-    let same = one_at (timeline initial operations) (behind (length initial) place) empty empty' names.0 names'.0 in
-    let shortest = chosen_cover_is_shortest (timeline initial operations) empty' cover' other
+    let same = one_at (timed operations) place empty empty' names.0 names'.0 in
+    let shortest = chosen_cover_is_shortest (course initial operations) empty' cover' other
     chosen.3.cover_is_chosen
-    (subst (λ o. IsWitnessViolation (timeline initial operations) o other) same is) in
-    let long = AllZip-long (NamesStep initial operations) steps cover names.1 in
-    let long' = AllZip-long (NamesStep initial operations) steps cover' names'.1 in
+    (subst (λ o. IsWitnessViolation (course initial operations) o other) same is) in
+    let long = AllZip-long (λ (step : CoverStep) life. IsNamed initial operations step.source step.dequeue life) steps cover names.1 in
+    let long' = AllZip-long (λ (step : CoverStep) life. IsNamed initial operations step.source step.dequeue life) steps cover' names'.1 in
     omega arith
-has_shortest_cover initial operations (violation.Witness place steps) complete (_, names', chosen) (witness empty cover) names = absurd names'
-has_shortest_cover initial operations _ complete chosen (witness empty cover) names = absurd names
+has_shortest_cover initial operations (violation.Witness place steps) (_, names', chosen) (witness empty cover) names = absurd names'
+has_shortest_cover initial operations _ chosen (witness empty cover) names = absurd names
 
 -- two filters may change places
 pub filters_swap : {X : Type 0} (p q : X → Bool) (xs : List X) → filter p (filter q xs) ≡ filter q (filter p xs)

@@ -1,22 +1,19 @@
 -- Lines of a history stand for operations of its timeline, and show a violation if and only if these are one.
-use Rattle.verdicts.proofs.Common.{[], All-contains, AllByRecursion, AllZip, answers, ap, AreComplete, arith}
-use Rattle.verdicts.proofs.Common.{call_or_never, ClaimLine, Contains, Contains-append_left, Contains-append_right}
-use Rattle.verdicts.proofs.Common.{contains_at, CoversFrom, Deq, dequeue_call, dequeue_of, dequeued_if_called, Did}
-use Rattle.verdicts.proofs.Common.{did_dequeue, Empty, Enq, enqueue_of, enqueue_return, flat_map, fresh, FullViolation}
-use Rattle.verdicts.proofs.Common.{initial_enqueue, initial_enqueues, initial_time, inl, inr, IsLife, IsOrderViolation}
-use Rattle.verdicts.proofs.Common.{IsViolationOf, later_by, length, Life, lines_of, lines_of_history, List, map}
-use Rattle.verdicts.proofs.Common.{mapped_to, MatchOption, MAX_INITIAL, NEVER, None, NoneDid, Not, Operation}
-use Rattle.verdicts.proofs.Common.{operations_of_life, OpKind, Option, option_to_list, order, ORIGIN, place_of, refl}
-use Rattle.verdicts.proofs.Common.{repeat, return_or_never, slice_get, slice_get_within, Some, subst, sym, timeline}
-use Rattle.verdicts.proofs.Common.{VFresh, ViolationKind, VOrd, VRepeat, VWit, witness, ℕ, ◌++◌, ◌+◌, ◌-◌, ◌<◌, ◌↔◌}
-use Rattle.verdicts.proofs.Common.{◌∙◌, ◌∷◌, ◌≡◌, ◌≤◌, ◌⊎◌}
-use Rattle.history_merge.proofs.Distinct.{same_enqueue}
-use Rattle.std.proofs.lemmas.List.Elements.{All-from_recursion}
-use Rattle.value_match.proofs.ToldPlaces.{dequeues, enqueue_stands, timeline_at}
+use Rattle.verdicts.proofs.Common.{[], All-contains, All-from_recursion, AllByRecursion, AllZip, answers, ap}
+use Rattle.verdicts.proofs.Common.{AreComplete, arith, call_or_never, ClaimLine, Contains, Contains-append_left}
+use Rattle.verdicts.proofs.Common.{Contains-append_right, contains_at, CoversFrom, Deq, dequeue_call, dequeue_of}
+use Rattle.verdicts.proofs.Common.{dequeued_if_called, dequeues, Did, did_dequeue, Empty, Enq, enqueue_of}
+use Rattle.verdicts.proofs.Common.{enqueue_return, enqueue_stands, flat_map, fresh, FullViolation, initial_enqueue}
+use Rattle.verdicts.proofs.Common.{initial_enqueues, initial_time, inl, inr, IsLife, IsOrderViolation, IsViolationOf}
+use Rattle.verdicts.proofs.Common.{kind_of, later_by, LeavesAfter, length, Life, LineDid, LinePrecedes, lines_of}
+use Rattle.verdicts.proofs.Common.{lines_of_history, LinesCover, List, map, mapped_to, MatchOption, MAX_INITIAL, NEVER}
+use Rattle.verdicts.proofs.Common.{NoLineDid, None, NoneDid, Not, on, Operation, operations_of_life, OpKind, Option}
+use Rattle.verdicts.proofs.Common.{option_to_list, order, ORIGIN, place_of, refl, repeat, return_or_never}
+use Rattle.verdicts.proofs.Common.{ReturnsFirst, same_enqueue, Shows, slice_get, slice_get_within, Some, subst, sym}
+use Rattle.verdicts.proofs.Common.{timeline, timeline_at, VFresh, ViolationKind, VOrd, VRepeat, VWit, witness, ℕ, ◌++◌}
+use Rattle.verdicts.proofs.Common.{◌+◌, ◌-◌, ◌<◌, ◌↔◌, ◌∙◌, ◌∷◌, ◌≡◌, ◌≤◌, ◌⊎◌}
 use Rattle.verdicts.proofs.NamedPlaces.{accepted_value, early_line, later_line, line_of}
 use Rattle.verdicts.proofs.Retiming.{times_in_range}
-use Rattle.verdicts.specs.Claims.{kind_of}
-use Rattle.verdicts.specs.Showing.{LeavesAfter, LineDid, LinePrecedes, LinesCover, NoLineDid, ReturnsFirst, Shows}
 use Rattle.verdicts.specs.declared.verifying.ClaimLine.TheVariants.{Initial, Op}
 
 -- the line is that of this operation of the timeline
@@ -155,7 +152,7 @@ module _ (initial : List ℕ) (operations : List Operation) (few : length initia
   leaves_after line o v (Some d) [] at did later each = absurd each
   leaves_after line o v (Some d) (l ∷ m ∷ lines) at did later each = absurd each.1
 
-  order_shows : (a b : Life) (lines : List ClaimLine) → AreFor lines (lines_of (order a b)) → IsOrderViolation all a b
+  order_shows : (a b : Life) (lines : List ClaimLine) → AreFor lines (lines_of (order a b)) → IsOrderViolation (on all) a b
       → Shows initial operations VOrd lines
   order_shows a b lines each is =
       let (d, dequeues) = dequeued_if_called b is.is_dequeued in
@@ -179,7 +176,7 @@ module _ (initial : List ℕ) (operations : List Operation) (few : length initia
 
   cover_shows : (empty line : ClaimLine) (o before : Operation) (frontier : ℕ) (cover : List Life) (lines : List ClaimLine)
       → StandsFor initial operations empty o → StandsFor initial operations line before → before.call ≡ frontier
-      → AreFor lines (flat_map operations_of_life cover) → CoversFrom all o frontier cover → LinesCover initial operations empty line lines
+      → AreFor lines (flat_map operations_of_life cover) → CoversFrom (on all) o frontier cover → LinesCover initial operations empty line lines
   cover_shows empty line o before frontier [] lines at_o at same each covers = absurd covers
   cover_shows empty line o before frontier (life ∷ []) lines at_o at same each covers = ends (dequeue_of life) covers.0.2 covers.2 lines each
     where
@@ -221,12 +218,12 @@ module _ (initial : List ℕ) (operations : List Operation) (few : length initia
       goes_on d kind (l ∷ m ∷ []) each more = absurd each.1.1
 
   -- the lines of a violation show it
-  pub violation_shows : (full : FullViolation) (lines : List ClaimLine) → AreFor lines (lines_of full) → IsViolationOf all full
+  pub violation_shows : (full : FullViolation) (lines : List ClaimLine) → AreFor lines (lines_of full) → IsViolationOf (on all) full
       → Shows initial operations (kind_of full) lines
   violation_shows (fresh d None) (l ∷ []) each is = (
     is.value,
     line_did l d (Deq is.value) each.0 is.dequeues.1,
-    (none_exactly (Enq is.value)).0 is.not_accepted,
+    (none_exactly (Enq is.value)).0 (λ o among did. is.not_accepted o (among, did)),
     (none_exactly (Not is.value)).0 is.not_refused,
   )
   violation_shows (fresh d (Some e)) (l ∷ m ∷ []) each is = (
@@ -300,7 +297,7 @@ module _ (initial : List ℕ) (operations : List Operation) (few : length initia
       pub full : FullViolation
       pub same_kind : kind_of full ≡ kind
       pub each : AreFor lines (lines_of full)
-      pub violates : IsViolationOf all full
+      pub violates : IsViolationOf (on all) full
 
     -- the dequeue of a value, or none
     dequeue_shown : (line : ClaimLine) (o : Operation) (v : ℕ) (lines : List ClaimLine) → StandsFor initial operations line o
@@ -314,7 +311,7 @@ module _ (initial : List ℕ) (operations : List Operation) (few : length initia
 
     cover_shown : (empty line : ClaimLine) (o before : Operation) (frontier : ℕ) (lines : List ClaimLine) → StandsFor initial operations empty o
         → StandsFor initial operations line before → before.call ≡ frontier → LinesCover initial operations empty line lines
-        → (cover : List Life) × AreFor lines (flat_map operations_of_life cover) × CoversFrom all o frontier cover
+        → (cover : List Life) × AreFor lines (flat_map operations_of_life cover) × CoversFrom (on all) o frontier cover
     cover_shown empty line o before frontier [] at_o at same covers = absurd covers
     cover_shown empty line o before frontier (l ∷ []) at_o at same (v, enters, leaves) =
         let (e, at_e, is) = stood_for l (Enq v) enters.0 in (
@@ -339,8 +336,8 @@ module _ (initial : List ℕ) (operations : List Operation) (few : length initia
               (omega (arith, precedes_line l line e before at_e at enters.1)) (times_in_range all d complete at_d.0).0 cover rest,
         )
       where
-        with_first : (life : Life) → IsLife all life → enqueue_return life < frontier → dequeue_call life < NEVER → (cover : List Life)
-            → CoversFrom all o (dequeue_call life) cover → CoversFrom all o frontier (life ∷ cover)
+        with_first : (life : Life) → IsLife (on all) life → enqueue_return life < frontier → dequeue_call life < NEVER → (cover : List Life)
+            → CoversFrom (on all) o (dequeue_call life) cover → CoversFrom (on all) o frontier (life ∷ cover)
         with_first life is enters called [] covers = absurd covers
         with_first life is enters called (next ∷ rest) covers = (is, enters, called, covers)
 
@@ -354,7 +351,7 @@ module _ (initial : List ℕ) (operations : List Operation) (few : length initia
           violates = record {
             value = v;
             dequeues = (at.0, is);
-            not_accepted = (none_exactly (Enq v)).1 not_accepted;
+            not_accepted = λ o did. (none_exactly (Enq v)).1 not_accepted o did.0 did.1;
             not_refused = (none_exactly (Not v)).1 not_refused;
           };
         }

@@ -1,21 +1,21 @@
 -- The selection by the lines of the chosen violation of a history: the same violation is its chosen one, and nothing can be left out.
 use Rattle.verdicts.proofs.Common.{ap, AreComplete, AreLinearizable, ArePartOf, arith, Bool, call_by_return, call_in}
-use Rattle.verdicts.proofs.Common.{cases_lt, ClaimLine, Contains, Contains-append_cases, Contains-append_left}
-use Rattle.verdicts.proofs.Common.{Contains-append_right, Contents, contents_of, Enq, enqueue_place, enqueue_stands}
-use Rattle.verdicts.proofs.Common.{Event, false, filter, filter_agree, FullViolation, HistoryView}
-use Rattle.verdicts.proofs.Common.{holds_ticket, initial_enqueue, initial_enqueues, inl, inr, IsChosenFullViolation}
-use Rattle.verdicts.proofs.Common.{IsChosenViolation, IsCompleteFrom, IsMinimal, IsViolationOf, keeps, KeepsViolation}
-use Rattle.verdicts.proofs.Common.{kept, later_by, length, line_at, lines_of}
+use Rattle.verdicts.proofs.Common.{cases_lt, chosen_of, ClaimLine, Contains, Contains-append_cases}
+use Rattle.verdicts.proofs.Common.{Contains-append_left, Contains-append_right, Contents, contents_of, Course, course}
+use Rattle.verdicts.proofs.Common.{course_on, Enq, enqueue_place, enqueue_stands, Event, false, filter, filter_agree}
+use Rattle.verdicts.proofs.Common.{FullViolation, HistoryView, holds_ticket, initial_enqueue, initial_enqueues, inl}
+use Rattle.verdicts.proofs.Common.{inr, IsChosenFullViolation, IsChosenViolation, IsCompleteFrom, IsMinimal}
+use Rattle.verdicts.proofs.Common.{IsViolationOf, keeps, KeepsViolation, kept, later_by, length, line_at, lines_of}
 use Rattle.verdicts.proofs.Common.{lines_of_history, List, map, map_map, mapped_from, mapped_to, MAX_INITIAL, Names}
-use Rattle.verdicts.proofs.Common.{None, Operation, operations_of, Option, option_map_or, ORIGIN, passed_filter}
-use Rattle.verdicts.proofs.Common.{place_of, refl, same_call, select, selects, SelectsNamed, Some, StaysChosen, subst}
-use Rattle.verdicts.proofs.Common.{sym, timeline, timeline_is_complete, timeline_of_history, true, value_in, value_of}
+use Rattle.verdicts.proofs.Common.{NEVER, None, on, Operation, operations_of, Option, option_map_or, ORIGIN}
+use Rattle.verdicts.proofs.Common.{passed_filter, place_of, refl, same_call, select, selects, SelectsNamed, Some}
+use Rattle.verdicts.proofs.Common.{StaysChosen, subst, sym, timeline, timeline_is_complete, true, value_in, value_of}
 use Rattle.verdicts.proofs.Common.{Violation, violation_lines, violation_places, ViolationKind, ℕ, ◌+◌, ◌-◌, ◌<◌, ◌∙◌}
 use Rattle.verdicts.proofs.Common.{◌≡◌, ◌≢◌, ◌≤◌, ◌⊎◌}
+use Rattle.value_match.proofs.ToldPlaces.{course_back}
 use Rattle.verdicts.proofs.Chosen.{chosen_is_violation}
 use Rattle.verdicts.proofs.Selections.{filters_swap, kept_is_complete_from, kept_timeline_are_complete, mapped_kind}
 use Rattle.verdicts.proofs.Selections.{mapped_lines, mapped_violation, no_longer, operations_kept}
-use Rattle.value_match.specs.declared.life.TheConstants.{NEVER}
 use Rattle.verdicts.proofs.Exactly.{linearizable_without, violation_excludes_order}
 use Rattle.verdicts.proofs.Retiming.{all_or_one, back_there, chosen_back, lifted, lifted_late, lifted_rises, map_agree}
 use Rattle.verdicts.proofs.Retiming.{none_is_left, retimed, selected_of_timeline, selected_stands, StandsAs, start}
@@ -35,6 +35,14 @@ calls_behind empties call = empties (call - ORIGIN)
 pub record IsWhole (history : HistoryView) : Type 0 where
   pub complete : IsCompleteFrom history.initial history.events
   pub few : length history.initial ≤ MAX_INITIAL
+
+-- the operations of a history's timeline
+abbrev pub timeline_of_history : HistoryView → List Operation
+timeline_of_history history = timeline history.initial (operations_of history.events)
+
+-- the course of a history
+abbrev pub course_of_history : HistoryView → Course
+course_of_history history = course history.initial (operations_of history.events)
 
 -- the timeline of a complete one is complete
 pub timeline_is_whole : (history : HistoryView) → IsWhole history → AreComplete (timeline_of_history history)
@@ -98,11 +106,14 @@ module _ (whole : HistoryView) (values empties : ℕ → Bool) where
 -- ---- the small history: that of the selected values and calls
 
 module _ (whole : HistoryView) (violation : Violation) (is_whole : IsWhole whole)
-    (chosen : IsChosenViolation whole.initial (operations_of whole.events) violation)
+    (is_chosen : IsChosenViolation whole.initial (operations_of whole.events) violation)
     (values calls : ℕ → Bool) (named : SelectsNamed (violation_lines whole violation) values calls)
     (small : HistoryView) (is_small : IsWhole small) (selected : contents_of small ≡ select values calls (contents_of whole)) where
   abbrev full : FullViolation
-  full = chosen.0
+  full = is_chosen.0
+
+  chosen : IsChosenFullViolation (on (timeline_of_history whole)) full
+  chosen = chosen_of (course_of_history whole) (on (timeline_of_history whole)) (course_on whole.initial (operations_of whole.events)) full is_chosen.2
 
   abbrev lines : List ClaimLine
   lines = violation_lines whole violation
@@ -114,13 +125,13 @@ module _ (whole : HistoryView) (violation : Violation) (is_whole : IsWhole whole
   complete = timeline_is_whole whole is_whole
 
   in_whole : (o : Operation) → Contains (lines_of full) o → Contains (timeline_of_history whole) o
-  in_whole = lines_are_operations (timeline_of_history whole) full (chosen_is_violation (timeline_of_history whole) full complete chosen.2)
+  in_whole = lines_are_operations (timeline_of_history whole) full (chosen_is_violation (timeline_of_history whole) full complete chosen)
 
   -- ---- the lines of the violation
 
   lines_shown : lines ≡ map line_of (lines_of full)
   lines_shown = shown_lines whole.initial (operations_of whole.events) is_whole.few (violation_places violation) (lines_of full)
-      (each_shown whole.initial (operations_of whole.events) is_whole.few violation full chosen.1)
+      (each_shown whole.initial (operations_of whole.events) is_whole.few violation full is_chosen.1)
 
   line_shown : (o : Operation) → Contains (lines_of full) o → Contains lines (line_of o)
   line_shown o among = subst (λ ls. Contains ls (line_of o)) (sym lines_shown) (mapped_to line_of (lines_of full) o among)
@@ -195,10 +206,10 @@ module _ (whole : HistoryView) (violation : Violation) (is_whole : IsWhole whole
   abbrev small_full : FullViolation
   small_full = mapped_violation stands.back full
 
-  small_chosen : IsChosenFullViolation (timeline_of_history small) small_full
-  small_chosen = chosen_back stands full line_selected chosen.2
+  small_chosen : IsChosenFullViolation (on (timeline_of_history small)) small_full
+  small_chosen = chosen_back stands full line_selected chosen
 
-  is_violation : IsViolationOf (timeline_of_history small) small_full
+  is_violation : IsViolationOf (on (timeline_of_history small)) small_full
   is_violation = chosen_is_violation (timeline_of_history small) small_full stands.part_complete small_chosen
 
   -- each operation belongs to a line there
@@ -239,10 +250,14 @@ module _ (whole : HistoryView) (violation : Violation) (is_whole : IsWhole whole
   pub stays : StaysChosen whole violation small
   stays = (
     small_named.0,
-    (small_full, small_named.1, small_chosen),
+    (
+      small_full,
+      small_named.1,
+      chosen_of (on (timeline_of_history small)) (course_of_history small) (course_back small.initial (operations_of small.events)) small_full small_chosen,
+    ),
     λ i. claimed.No
         ((same_kind small.initial (operations_of small.events) small_named.0 small_full small_named.1 ∙ mapped_kind stands.back full
-        ∙ sym (same_kind whole.initial (operations_of whole.events) violation full chosen.1)) i)
+        ∙ sym (same_kind whole.initial (operations_of whole.events) violation full is_chosen.1)) i)
         (same_lines i),
   )
 
@@ -374,8 +389,9 @@ module _ (whole x : HistoryView) (violation : Violation) (is_x : IsWhole x) (sta
       (timeline_of_history x)
   stands_in_x = part_stands x values empties part refl is_x
 
-  violates_x : IsViolationOf (timeline_of_history x) full_of_x
-  violates_x = chosen_is_violation (timeline_of_history x) full_of_x stands_in_x.complete stays.1.2
+  violates_x : IsViolationOf (on (timeline_of_history x)) full_of_x
+  violates_x = chosen_is_violation (timeline_of_history x) full_of_x stands_in_x.complete
+      (chosen_of (course_of_history x) (on (timeline_of_history x)) (course_on x.initial (operations_of x.events)) full_of_x stays.1.2)
 
   in_x : (o : Operation) → Contains (lines_of full_of_x) o → Contains (timeline_of_history x) o
   in_x = lines_are_operations (timeline_of_history x) full_of_x violates_x

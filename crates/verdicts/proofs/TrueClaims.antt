@@ -1,25 +1,20 @@
 -- The claim of a verdict lists the operations and the initial values that the verdict names.
-use Rattle.verdicts.proofs.Common.{[], AllZip, ap, AreComplete, ArePlacesOf, arith}
-use Rattle.verdicts.proofs.Common.{ClaimLine, cons_option, Contains, contains_cons}
-use Rattle.verdicts.proofs.Common.{few_initial, fresh, FullViolation}
-use Rattle.verdicts.proofs.Common.{inl, inr, IsChosenViolation, IsDecided, IsLegalOrder}
-use Rattle.verdicts.proofs.Common.{IsLinearizable, IsMatched, IsViolationOf, length}
-use Rattle.verdicts.proofs.Common.{LinePlace, lines_at, lines_of, List, map, MAX_INITIAL, Names}
-use Rattle.verdicts.proofs.Common.{No, not_in_none, one_deeper, Operation}
-use Rattle.verdicts.proofs.Common.{operations_at, operations_of, Option, order}
-use Rattle.verdicts.proofs.Common.{refl, repeat, Shows, slice_get, Some, subst}
-use Rattle.verdicts.proofs.Common.{sym, timeline, timeline_is_complete, Violation, violation_kind}
-use Rattle.verdicts.proofs.Common.{violation_places, ViolationKind, witness, Yes, zero, ℕ, ◌∙◌, ◌∷◌, ◌≡◌}
-use Rattle.verdicts.proofs.Common.{◌≤◌, ◌⊎◌}
+use Rattle.verdicts.proofs.Common.{[], AllZip, ap, AreComplete, ArePlacesOf, arith, chosen_of, ClaimLine, cons_option}
+use Rattle.verdicts.proofs.Common.{Contains, contains_cons, Contents, course, course_of, course_on, few_initial, fresh}
+use Rattle.verdicts.proofs.Common.{FullViolation, inl, inr, IsChosenViolation, IsClear, IsDecided, IsLegalOrder}
+use Rattle.verdicts.proofs.Common.{IsLinearizable, IsMatched, IsOfHistory, IsViolationOf, kind_of, length, LinePlace}
+use Rattle.verdicts.proofs.Common.{lines_at, lines_of, List, map, MAX_INITIAL, Names, No, not_in_none, on, one_deeper}
+use Rattle.verdicts.proofs.Common.{Operation, operations_at, operations_of, Option, order, refl, repeat, Shows}
+use Rattle.verdicts.proofs.Common.{slice_get, Some, subst, sym, timeline, timeline_is_complete, timeline_of_history}
+use Rattle.verdicts.proofs.Common.{Violation, violation_kind, violation_places, ViolationKind, witness, Yes, zero, ℕ}
+use Rattle.verdicts.proofs.Common.{◌∙◌, ◌∷◌, ◌≡◌, ◌≤◌, ◌⊎◌}
 use Rattle.value_match.specs.declared.matching.Matched.{Matched}
 use Rattle.value_match.specs.declared.violation.Violation.TheVariants.{Fresh, Order, Repeat, Witness}
 use Rattle.verdicts.proofs.Chosen.{chosen_is_violation}
 use Rattle.verdicts.proofs.Exactly.{linearizable_without, violation_excludes_order}
 use Rattle.verdicts.proofs.ShownLines.{shown_violation, StandsFor, violation_shows}
 use Rattle.verdicts.proofs.NamedLines.{lines_are_operations}
-use Rattle.verdicts.proofs.NamedPlaces.{all_within, each_shown, IsShownAt, line_of}
-use Rattle.verdicts.proofs.NamedPlaces.{shown_lines, violation_at}
-use Rattle.verdicts.specs.Claims.{kind_of}
+use Rattle.verdicts.proofs.NamedPlaces.{all_within, each_shown, IsShownAt, line_of, shown_lines, violation_at}
 use Rattle.verdicts.specs.Laws.{EvidenceIsTrueClaim, LinearizableExactly, TrueClaimDecides, ViolationExcludesOrder}
 use Rattle.verdicts.specs.Verdicts.{IsEvidence}
 use Rattle.verdicts.specs.declared.verifying.Claimed.TheVariants as claimed
@@ -67,7 +62,7 @@ each_stands initial operations (o ∷ listed) among =
 
 -- a violation of the timeline is evidence by the places that name it
 pub named_is_evidence : (initial : List ℕ) (operations : List Operation) (violation : Violation) (full : FullViolation) → length initial ≤ MAX_INITIAL
-    → Names initial operations violation full → IsViolationOf (timeline initial operations) full → IsEvidence initial operations (found.No violation)
+    → Names initial operations violation full → IsViolationOf (on (timeline initial operations)) full → IsEvidence initial operations (found.No violation)
 named_is_evidence initial operations violation full few names is =
     let each = each_shown initial operations few violation full names in
     let shows = violation_shows initial operations few full (map line_of (lines_of full)) (each_stands initial operations (lines_of full)
@@ -115,11 +110,13 @@ true_claim_decides initial events (claimed.No kind lines) complete few claim =
     shown_excludes_order initial (operations_of events) kind lines (timeline_is_complete initial events complete few) claim
 
 -- a chosen violation decides
-pub no_is_decided : (initial : List ℕ) (operations : List Operation) (violation : Violation) → AreComplete (timeline initial operations)
+pub no_is_decided : (initial : List ℕ) (operations : List Operation) (violation : Violation) → IsOfHistory initial operations
     → IsChosenViolation initial operations violation → IsDecided initial operations (found.No violation)
-no_is_decided initial operations violation complete chosen =
-    let full = chosen_is_violation (timeline initial operations) chosen.0 complete chosen.2 in
-    let evidence = named_is_evidence initial operations violation chosen.0 (few_initial initial operations complete) chosen.1 full in record {
+no_is_decided initial operations violation is_history chosen =
+    let (few, complete) = timeline_of_history initial operations is_history in
+    let there = chosen_of (course initial operations) (on (timeline initial operations)) (course_on initial operations) chosen.0 chosen.2 in
+    let full = chosen_is_violation (timeline initial operations) chosen.0 complete there in
+    let evidence = named_is_evidence initial operations violation chosen.0 few chosen.1 full in record {
       chosen = chosen;
       evidence = evidence;
       exact = violation_excludes_order initial operations chosen.0 complete full;
@@ -128,9 +125,15 @@ no_is_decided initial operations violation complete chosen =
 
 -- what matching answers where it refuses is the chosen violation, so the `NO` is decided
 pub refused_is_decided : (initial : List ℕ) (operations : List Operation) (answer : Matched) (violation : Violation)
-    → AreComplete (timeline initial operations) → IsMatched initial operations answer
+    → IsOfHistory initial operations → IsMatched initial operations answer
     → (answer ≡ matched.Fresh violation) ⊎ (answer ≡ matched.Repeat violation) → IsDecided initial operations (found.No violation)
-refused_is_decided initial operations answer violation complete is refused = no_is_decided initial operations violation complete (elim refused [
+refused_is_decided initial operations answer violation is_history is refused = no_is_decided initial operations violation is_history (elim refused [
   | inl same ↦ let h = subst (IsMatched initial operations) same is in (fresh h.0 h.1, h.2, h.3)
   | inr same ↦ let h = subst (IsMatched initial operations) same is in (repeat h.0 h.1 h.2, h.3, h.4)
 ])
+
+-- where it finds a matching, that has neither of the first two kinds of violation
+pub matching_is_clear : (initial : List ℕ) (operations : List Operation) (answer : Matched) (matching : Contents) → IsMatched initial operations answer
+    → answer ≡ matched.Clear matching → IsClear (course_of matching)
+matching_is_clear initial operations answer matching is same =
+    let found = subst (IsMatched initial operations) same is in subst (λ m. IsClear (course_of m)) (sym found.0) found.1

@@ -9,13 +9,13 @@ use Rattle.history_merge.specs.Legal.{IsLinearizable}
 use Rattle.history_merge.specs.Operations.{operations_of}
 use Rattle.value_match.specs.declared.life.Life.{Life}
 use Rattle.value_match.specs.declared.violation.Violation.{Violation}
+use Rattle.value_match.specs.Lives.{Course, course}
 use Rattle.value_match.specs.Violations.{FullViolation, witness, IsWitnessViolation}
 use Rattle.value_match.specs.Outcome.{IsChosenViolation, Names}
 use Rattle.verdicts.specs.declared.verdict.Verdict.TheVariants.{No}
 use Rattle.verdicts.specs.declared.verifying.ClaimLine.{ClaimLine}
 use Rattle.verdicts.specs.Claiming.{claim_of, lines_at, lines_of_history}
 use Rattle.verdicts.specs.Shown.{violation_places}
-use Rattle.verdicts.specs.Verdicts.{timeline_of_history}
 
 -- the value of an operation; an empty answer has none
 abbrev pub value_of : OpKind → Option ℕ
@@ -67,11 +67,11 @@ abbrev pub ArePartOf : {X : Type 0} → List X → List X → Type 0
 ArePartOf {X} whole part = (keeps : X → Bool) × (part ≡ filter keeps whole)
 
 -- no cover of the same empty answer has fewer values
-abbrev pub IsShortestCover : List Operation → FullViolation → Type 0
-IsShortestCover operations (witness empty cover) = (other : List Life) → IsWitnessViolation operations empty other → length cover ≤ length other
-IsShortestCover operations _ = ⊤
+abbrev pub IsShortestCover : Course → FullViolation → Type 0
+IsShortestCover c (witness empty cover) = (other : List Life) → IsWitnessViolation c empty other → length cover ≤ length other
+IsShortestCover c _ = ⊤
 
 -- the same of the violation that the places name
 abbrev pub HasShortestCover : HistoryView → Violation → Type 0
 HasShortestCover history violation = (full : FullViolation) → Names history.initial (operations_of history.events) violation full
-    → IsShortestCover (timeline_of_history history) full
+    → IsShortestCover (course history.initial (operations_of history.events)) full

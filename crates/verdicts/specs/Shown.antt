@@ -1,8 +1,8 @@
 -- What a violation names, in the order in which it is shown.
 use Rattle.std.specs.Prelude.{ℕ, List, [], ◌∷◌, Option, flat_map, option_map, option_to_list}
 use Rattle.value_match.specs.declared.violation.CoverStep.{CoverStep}
-use Rattle.value_match.specs.declared.violation.Source.{Source}
-use Rattle.value_match.specs.declared.violation.Source.TheVariants as source
+use Rattle.value_match.specs.declared.life.Source.{Source}
+use Rattle.value_match.specs.declared.life.Source.TheVariants as source
 use Rattle.value_match.specs.declared.violation.Violation.{Violation}
 use Rattle.value_match.specs.declared.violation.Violation.TheVariants.{Fresh, Repeat, Order, Witness}
 use Rattle.verdicts.specs.declared.shown.LinePlace.{LinePlace}

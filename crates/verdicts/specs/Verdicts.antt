@@ -2,8 +2,7 @@
 use Rattle.std.specs.Prelude.{ℕ, List}
 use Rattle.history_merge.specs.declared.operation.Operation.{Operation}
 use Rattle.history_merge.specs.Legal.{IsLegalOrder, IsLinearizable, ArePlacesOf}
-use Rattle.history_merge.specs.Initial.{HistoryView, timeline}
-use Rattle.history_merge.specs.Operations.{operations_of}
+use Rattle.value_match.specs.Lives.{course, timed}
 use Rattle.value_match.specs.Outcome.{IsChosenViolation}
 use Rattle.linearizer.specs.Order.{IsChosenOrder}
 use Rattle.verdicts.specs.declared.verdict.Verdict.{Verdict}
@@ -12,11 +11,10 @@ use Rattle.verdicts.specs.Claiming.{IsWithin, lines_at, violation_kind}
 use Rattle.verdicts.specs.Showing.{Shows}
 use Rattle.verdicts.specs.Shown.{violation_places}
 
--- yes with the order that, behind the enqueues of the initial values, is the chosen one of the timeline; or no with the
--- chosen violation
+-- yes with the chosen order, or no with the chosen violation
 abbrev pub IsVerdict : List ℕ → List Operation → Verdict → Type 0
 IsVerdict initial operations (Yes places) =
-    (order : List Operation) × ArePlacesOf operations places order × IsChosenOrder (timeline initial operations) (timeline initial order)
+    (order : List Operation) × ArePlacesOf operations places order × IsChosenOrder (course initial operations) (timed order)
 IsVerdict initial operations (No violation) = IsChosenViolation initial operations violation
 
 -- a `YES` lists a linearization for a queue that holds these values first; the lines at the places of a `NO` show a violation
@@ -29,7 +27,3 @@ IsEvidence initial operations (No violation) = IsWithin initial operations (No v
 abbrev pub IsExact : List ℕ → List Operation → Verdict → Type 0
 IsExact initial operations (Yes places) = IsLinearizable initial operations
 IsExact initial operations (No violation) = ¬ (IsLinearizable initial operations)
-
--- the operations of a history's timeline
-abbrev pub timeline_of_history : HistoryView → List Operation
-timeline_of_history history = timeline history.initial (operations_of history.events)

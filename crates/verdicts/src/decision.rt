@@ -1,6 +1,6 @@
 ghost use Rattle.std.specs.Prelude.{◌≡◌, ◌≤◌, IfOk};
 ghost use Rattle.history_merge.specs.Operations.{operations_of};
-ghost use Rattle.value_match.specs.Timeline.{timeline_of};
+ghost use Rattle.value_match.specs.Lives.{course_of};
 ghost use Rattle.value_match.specs.Violations.{IsClear, NoOrderViolation};
 ghost use Rattle.order_violation.specs.Pairs.{IsOrderAnswer};
 ghost use Rattle.empty_witness.specs.Answers.{IsWitnessAnswer};
@@ -63,7 +63,7 @@ pub fn decide_par<R: Threads + Sync>(
 /// The verdict where each dequeue is of a value that was there, and no value is dequeued twice. Ordering the values finds the one
 /// that is dequeued first against the order of the enqueues, if there is one.
 fn decide_matching(alloc: Global, matching: &Matching) -> Result<Verdict, AllocError>
-    requires { IsClear (timeline_of matching.now) }
+    requires { IsClear (course_of matching.now) }
     ensures { IfOk result (IsDecided matching.now.initial matching.now.operations) }
 {
     match order_values(alloc, matching)? {
@@ -82,7 +82,7 @@ fn decide_matching_par<R: Threads + Sync>(
     matching: &Matching,
     pieces: usize,
 ) -> Result<Verdict, AllocError>
-    requires clear { IsClear (timeline_of matching.now) }
+    requires clear { IsClear (course_of matching.now) }
     requires pieces { (1 ≤ pieces) × (pieces ≤ MAX_PIECES) }
     ensures { IfOk result (IsDecided matching.now.initial matching.now.operations) }
 {
@@ -102,9 +102,9 @@ fn decide_in_order(
     values: &OrderedValues,
     answer: WitnessAnswer,
 ) -> Result<Verdict, AllocError>
-    requires values { values.now ≡ timeline_of matching.now }
-    requires clear { IsClear (timeline_of matching.now) }
-    requires in_order { NoOrderViolation (timeline_of matching.now) }
+    requires values { values.now ≡ matching.now }
+    requires clear { IsClear (course_of matching.now) }
+    requires in_order { NoOrderViolation (course_of matching.now) }
     requires answer { IsWitnessAnswer matching.now.initial matching.now.operations answer }
     ensures { IfOk result (IsDecided matching.now.initial matching.now.operations) }
 {
@@ -121,8 +121,8 @@ fn decide_in_order(
 
 /// The verdict where a pair of values is dequeued against the order of their enqueues: the pair that was found.
 fn overtaken(matching: &Matching, pair: Option<OrderPair>) -> Verdict
-    requires clear { IsClear (timeline_of matching.now) }
-    requires overtaken { ¬ (NoOrderViolation (timeline_of matching.now)) }
+    requires clear { IsClear (course_of matching.now) }
+    requires overtaken { ¬ (NoOrderViolation (course_of matching.now)) }
     requires answer { IsOrderAnswer matching.now.initial matching.now.operations pair }
     ensures { IsDecided matching.now.initial matching.now.operations result }
 {

@@ -1,17 +1,15 @@
-//! The answers about one history beside those of plain scans of its timeline, told by the history's own places.
+//! The answers about one history beside those of plain scans.
 
-use crate::tests::plain_gaps::{PlainWitness, operation_at, plain_cover, plain_gap, plain_witness};
+use crate::tests::plain_gaps::{PlainWitness, plain_cover, plain_gap, plain_witness};
 use crate::tests::plain_order::plain_linearization;
 use crate::tests::plain_pairs::plain_pair;
+use crate::tests::plain_values::plain_values;
 use empty_witness::{GapAnswer, WitnessAnswer, find_witness, gap_for};
-use event_records::ORIGIN;
 use history_merge::{History, OpId};
 use order_violation::{OrderPair, find_order};
-use std::alloc::{AllocError, Global};
+use std::alloc::Global;
 use std::test::Fail;
-use value_match::{
-    CoverStep, Matched, MatchedValue, Matching, Source, Values, Violation, match_values,
-};
+use value_match::{CoverStep, Matched, MatchedValue, Matching, Values, Violation, match_values};
 use verdicts::{Claimed, Verdict, ViolationKind, claim, decide};
 
 /// The kind of a history's violation, and which answer differs.
@@ -57,18 +55,20 @@ fn difference_of_clear(
     matching: &Matching,
     verdict: &Verdict,
 ) -> Result<Option<&'static str>, Fail> {
-    let values = listed(rt.alloc(), matching)?;
+    let values = plain_values(rt.alloc(), matching)?;
     difference_among(rt, matching, &values, verdict)
 }
 
-/// The same, of a matching of these values.
+/// The same, by the values that a plain scan finds.
 fn difference_among(
     rt: &impl AllocGlobal,
     matching: &Matching,
     values: &[MatchedValue],
     verdict: &Verdict,
 ) -> Result<Option<&'static str>, Fail> {
-    Ok(if !is_same_pair(rt, matching, values)? {
+    Ok(if !are_same_values(&matching.values(), values) {
+        Some("values")
+    } else if find_order(rt.alloc(), matching)? != plain_pair(values) {
         Some("pair")
     } else if !are_same_windows(rt.alloc(), matching, values)? {
         Some("windows")
@@ -81,114 +81,17 @@ fn difference_among(
     })
 }
 
-/// Returns the operation at a place of the timeline, which begins with this many enqueues of initial values.
-fn told_id(first: usize, id: OpId) -> OpId {
-    OpId::new((id.place().saturating_sub(first) & 0xffff_ffff) as u32)
-}
-
-/// The initial value or the enqueue at a place of the timeline.
-fn told_enqueue(first: usize, id: OpId) -> Source {
-    if id.place() < first {
-        Source::Initial(id.place())
-    } else {
-        Source::Enq(told_id(first, id))
-    }
-}
-
-/// The source of a value of the timeline, in which all are enqueues.
-fn told_source(first: usize, source: Source) -> Source {
-    match source {
-        Source::Enq(id) => told_enqueue(first, id),
-        Source::Initial(place) => Source::Initial(place),
-    }
-}
-
-/// The pair of a timeline.
-fn told_pair(first: usize, pair: OrderPair) -> OrderPair {
-    OrderPair {
-        enq_a: told_source(first, pair.enq_a),
-        enq_b: told_source(first, pair.enq_b),
-        deq_b: told_id(first, pair.deq_b),
-        deq_a: pair.deq_a.map(|id| told_id(first, id)),
-    }
-}
-
-/// The pair that a plain scan finds among the values of a timeline.
-fn told_pair_of(first: usize, values: &[MatchedValue]) -> Option<OrderPair> {
-    match plain_pair(values) {
-        Some(pair) => Some(told_pair(first, pair)),
-        None => None,
-    }
-}
-
-/// Whether the cover is that of a timeline.
-fn is_told_cover(first: usize, cover: &[CoverStep], plain: &[CoverStep]) -> bool {
-    if cover.len() != plain.len() {
+/// Whether these are the values that a plain scan finds.
+fn are_same_values(values: &Values, plain: &[MatchedValue]) -> bool {
+    if values.len() != plain.len() {
         return false;
     }
-    for (found, step) in cover.iter().zip(plain) {
-        let dequeue = step.dequeue.map(|id| told_id(first, id));
-        if found.source != told_source(first, step.source) || found.dequeue != dequeue {
+    for (place, value) in plain.iter().enumerate() {
+        if values.get(place) != *value {
             return false;
         }
     }
     true
-}
-
-/// Whether a ticket is that of a time.
-fn is_told_gap(gap: u64, time: u64) -> bool {
-    gap.checked_add(ORIGIN) == Some(time)
-}
-
-/// Whether the gaps are those of a timeline.
-fn are_told_gaps(gaps: &[u64], plain: &[u64]) -> bool {
-    if gaps.len() != plain.len() {
-        return false;
-    }
-    for (found, gap) in gaps.iter().zip(plain) {
-        if !is_told_gap(*found, *gap) {
-            return false;
-        }
-    }
-    true
-}
-
-/// Whether the order is that of a timeline without the enqueues of initial values.
-fn is_told_order(first: usize, order: &[OpId], plain: &[OpId]) -> bool {
-    let mut left = order.iter();
-    for id in plain {
-        if id.place() >= first && left.next().copied() != Some(told_id(first, *id)) {
-            return false;
-        }
-    }
-    left.next().is_none()
-}
-
-/// The value at this place, if there is one.
-fn value_at(values: &Values, place: usize) -> Option<MatchedValue> {
-    if place < values.len() {
-        Some(values.get(place))
-    } else {
-        None
-    }
-}
-
-/// The accepted values.
-fn listed(alloc: Global, matching: &Matching) -> Result<Vec<MatchedValue>, AllocError> {
-    let values = matching.values();
-    (0..values.len())
-        .filter_map(|place| value_at(&values, place))
-        .collect(alloc)
-}
-
-/// Whether the pair that is found is that of a plain scan.
-fn is_same_pair(
-    rt: &impl AllocGlobal,
-    matching: &Matching,
-    values: &[MatchedValue],
-) -> Result<bool, AllocError> {
-    let plain = told_pair_of(matching.initial().len(), values);
-    Ok(find_order(rt.alloc(), matching)? == plain)
 }
 
 /// Whether what is found of all empty answers is what plain scans find.
@@ -197,18 +100,18 @@ fn are_same_windows(
     matching: &Matching,
     values: &[MatchedValue],
 ) -> Result<bool, Fail> {
-    let plain = plain_witness(alloc, matching, values)?;
+    let plain = plain_witness(alloc, &matching.operations(), values)?;
     let found = find_witness(alloc, matching)?;
-    Ok(is_same_witness(matching.initial().len(), &found, &plain))
+    Ok(is_same_witness(&found, &plain))
 }
 
-fn is_same_witness(first: usize, found: &WitnessAnswer, plain: &PlainWitness) -> bool {
+fn is_same_witness(found: &WitnessAnswer, plain: &PlainWitness) -> bool {
     match (found, plain) {
         (WitnessAnswer::Gaps(gaps), PlainWitness::Gaps(plain_gaps)) => {
-            are_told_gaps(gaps.as_slice(), plain_gaps)
+            gaps.as_slice() == plain_gaps.as_slice()
         }
         (WitnessAnswer::Covered { empty, cover }, PlainWitness::Covered(plain_empty, steps)) => {
-            *empty == told_id(first, *plain_empty) && is_told_cover(first, cover.as_slice(), steps)
+            empty == plain_empty && cover.as_slice() == steps.as_slice()
         }
         _ => false,
     }
@@ -239,15 +142,13 @@ fn is_same_gap(
     empty: OpId,
     found: &GapAnswer,
 ) -> Result<bool, Fail> {
-    let first = matching.initial().len();
-    let timeline = matching.timeline();
-    let place = first.saturating_add(empty.place()) & 0xffff_ffff;
-    let answer = operation_at(timeline, OpId::new(place as u32))?;
-    match (found, plain_gap(timeline, values, &answer)) {
-        (GapAnswer::Free(gap), Some(time)) => Ok(is_told_gap(*gap, time)),
+    let operations = matching.operations();
+    let answer = operations.get(empty).ok_or("no operation")?;
+    match (found, plain_gap(&operations, values, &answer)) {
+        (GapAnswer::Free(gap), Some(free)) => Ok(*gap == free),
         (GapAnswer::Covered(cover), None) => {
             let steps = plain_cover(alloc, values, &answer)?.ok_or("no cover")?;
-            Ok(is_told_cover(first, cover.as_slice(), &steps))
+            Ok(cover.as_slice() == steps.as_slice())
         }
         _ => Ok(false),
     }
@@ -260,7 +161,7 @@ fn is_same_verdict(
     values: &[MatchedValue],
     verdict: &Verdict,
 ) -> Result<bool, Fail> {
-    match told_pair_of(matching.initial().len(), values) {
+    match plain_pair(values) {
         Some(pair) => Ok(shows_pair(verdict, pair)),
         None => is_same_without_pair(alloc, matching, values, verdict),
     }
@@ -273,14 +174,12 @@ fn is_same_without_pair(
     values: &[MatchedValue],
     verdict: &Verdict,
 ) -> Result<bool, Fail> {
-    let first = matching.initial().len();
-    match plain_witness(alloc, matching, values)? {
-        PlainWitness::Covered(empty, steps) => {
-            Ok(shows_cover(verdict, first, empty, steps.as_slice()))
-        }
+    let operations = matching.operations();
+    match plain_witness(alloc, &operations, values)? {
+        PlainWitness::Covered(empty, steps) => Ok(shows_cover(verdict, empty, steps.as_slice())),
         PlainWitness::Gaps(gaps) => {
-            let order = plain_linearization(alloc, matching, values, &gaps)?;
-            Ok(shows_order(verdict, first, &order))
+            let order = plain_linearization(alloc, &operations, values, &gaps)?;
+            Ok(shows_order(verdict, &order))
         }
     }
 }
@@ -304,18 +203,18 @@ fn shows_pair(verdict: &Verdict, pair: OrderPair) -> bool {
     }
 }
 
-fn shows_cover(verdict: &Verdict, first: usize, plain_empty: OpId, steps: &[CoverStep]) -> bool {
+fn shows_cover(verdict: &Verdict, plain_empty: OpId, steps: &[CoverStep]) -> bool {
     match verdict {
         Verdict::No(Violation::Witness { empty, cover }) => {
-            *empty == told_id(first, plain_empty) && is_told_cover(first, cover.as_slice(), steps)
+            *empty == plain_empty && cover.as_slice() == steps
         }
         _ => false,
     }
 }
 
-fn shows_order(verdict: &Verdict, first: usize, plain: &[OpId]) -> bool {
+fn shows_order(verdict: &Verdict, plain: &[OpId]) -> bool {
     match verdict {
-        Verdict::Yes(order) => is_told_order(first, order.as_slice(), plain),
+        Verdict::Yes(order) => order.as_slice() == plain,
         Verdict::No(_) => false,
     }
 }

@@ -1,29 +1,29 @@
 //! Free gaps and covers, by scans of all values.
 
-use history_merge::{OpId, Operation, PackedOperation};
+use crate::tests::plain_values::time_of;
+use history_merge::{OpId, OpKind, Operation, Operations};
 use std::alloc::{AllocError, Global};
 use std::test::Fail;
-use value_match::{CoverStep, Life, MatchedValue, Matching, Source};
+use value_match::{CoverStep, Life, MatchedValue};
 
-/// Whether the value is definitely in the queue at this gap.
-fn covers(life: &Life, gap: u64) -> bool {
-    life.enqueue_return() <= gap && gap < life.dequeue_call()
+/// Whether the value is definitely in the queue at this time.
+fn covers(life: &Life, time: u64) -> bool {
+    life.enqueue_return() <= time && time < life.dequeue_call()
 }
 
 /// Whether no value is definitely in the queue at this gap.
 fn is_free(values: &[MatchedValue], gap: u64) -> bool {
-    !values.iter().any(|value| covers(&value.life, gap))
+    !values.iter().any(|value| covers(&value.life, time_of(gap)))
 }
 
-/// The least free gap of a window, looked for at its call and at each time of the timeline in it.
+/// The least free gap of a window, looked for at its call and at each ticket of an operation in it.
 pub(crate) fn plain_gap(
-    timeline: &[PackedOperation],
+    operations: &Operations,
     values: &[MatchedValue],
     answer: &Operation,
 ) -> Option<u64> {
     let mut least: Option<u64> = None;
-    for operation in timeline {
-        let operation = operation.unpack();
+    for operation in operations.iter() {
         for gap in [answer.call, operation.call, operation.ret] {
             let is_in = answer.call <= gap && gap < answer.ret;
             if is_in && is_free(values, gap) && least.is_none_or(|least| gap < least) {
@@ -74,17 +74,17 @@ pub(crate) fn plain_cover(
     answer: &Operation,
 ) -> Result<Option<Vec<CoverStep>>, AllocError> {
     let mut steps = Vec::new(alloc);
-    let mut frontier = answer.call;
+    let mut frontier = time_of(answer.call);
     for _ in values {
         let Some(value) = longest_before(values, frontier) else {
             return Ok(None);
         };
         steps.push(CoverStep {
-            source: Source::Enq(value.enqueue),
+            source: value.source,
             dequeue: value.dequeue,
         })?;
         frontier = value.life.dequeue_call();
-        if frontier > answer.ret {
+        if frontier > time_of(answer.ret) {
             return Ok(Some(steps));
         }
     }
@@ -100,53 +100,47 @@ pub enum PlainWitness {
     Covered(OpId, Vec<CoverStep>),
 }
 
-/// The operation at a place of a timeline.
-pub(crate) fn operation_at(timeline: &[PackedOperation], id: OpId) -> Result<Operation, Fail> {
-    let operation = timeline.get(id.place()).ok_or("no operation")?;
-    Ok(operation.unpack())
-}
-
-/// The least free gap of each empty answer on the timeline that has one.
+/// The least free gap of each empty answer that has one.
 fn free_gaps(
     alloc: Global,
-    matching: &Matching,
+    operations: &Operations,
     values: &[MatchedValue],
-) -> Result<Vec<u64>, Fail> {
-    let timeline = matching.timeline();
+) -> Result<Vec<u64>, AllocError> {
     let mut gaps = Vec::new(alloc);
-    for empty in matching.timeline_empties() {
-        if let Some(gap) = plain_gap(timeline, values, &operation_at(timeline, *empty)?) {
+    for answer in operations.iter() {
+        if answer.kind != OpKind::Empty {
+            continue;
+        }
+        if let Some(gap) = plain_gap(operations, values, &answer) {
             gaps.push(gap)?;
         }
     }
     Ok(gaps)
 }
 
-/// The covered empty answer that returned first, if one is covered.
-fn first_covered(matching: &Matching, values: &[MatchedValue]) -> Result<Option<OpId>, Fail> {
-    let timeline = matching.timeline();
+/// The covered empty answer that returned first, with its place, if one is covered.
+fn first_covered(operations: &Operations, values: &[MatchedValue]) -> Option<(OpId, Operation)> {
     let mut first = None;
     let mut least = u64::MAX;
-    for empty in matching.timeline_empties() {
-        let answer = operation_at(timeline, *empty)?;
-        if answer.ret < least && plain_gap(timeline, values, &answer).is_none() {
-            first = Some(*empty);
+    for (place, answer) in (0..u32::MAX).zip(operations.iter()) {
+        let is_sooner = answer.kind == OpKind::Empty && answer.ret < least;
+        if is_sooner && plain_gap(operations, values, &answer).is_none() {
+            first = Some((OpId::new(place), answer));
             least = answer.ret;
         }
     }
-    Ok(first)
+    first
 }
 
-/// The least free gap of each empty answer on the timeline, or the covered one that returned first with its cover.
+/// The least free gap of each empty answer, or the covered one that returned first with its cover.
 pub(crate) fn plain_witness(
     alloc: Global,
-    matching: &Matching,
+    operations: &Operations,
     values: &[MatchedValue],
 ) -> Result<PlainWitness, Fail> {
-    match first_covered(matching, values)? {
-        None => Ok(PlainWitness::Gaps(free_gaps(alloc, matching, values)?)),
-        Some(empty) => {
-            let answer = operation_at(matching.timeline(), empty)?;
+    match first_covered(operations, values) {
+        None => Ok(PlainWitness::Gaps(free_gaps(alloc, operations, values)?)),
+        Some((empty, answer)) => {
             let cover = plain_cover(alloc, values, &answer)?.ok_or("no cover")?;
             Ok(PlainWitness::Covered(empty, cover))
         }

@@ -1,8 +1,9 @@
 //! The chosen order of all operations: the choice among all remaining values at each step, and a sort by position.
 
-use history_merge::OpId;
+use crate::tests::plain_values::time_of;
+use history_merge::{OpId, OpKind, Operations};
 use std::alloc::{AllocError, Global};
-use value_match::{Life, MatchedValue, Matching};
+use value_match::{Life, MatchedValue, Source};
 
 /// Where an operation stands: its gap, the class within the gap, and the rank within the class.
 type Position = (u64, u8, u64);
@@ -89,6 +90,14 @@ fn entry_gap(rest: &[MatchedValue]) -> u64 {
     least.saturating_sub(1)
 }
 
+/// The enqueue that a value comes from, if it comes from one.
+fn enqueue_of(source: Source) -> Option<OpId> {
+    match source {
+        Source::Enq(id) => Some(id),
+        Source::Initial(_) => None,
+    }
+}
+
 /// The positions of the operations of the accepted values.
 fn value_positions(
     alloc: Global,
@@ -99,7 +108,9 @@ fn value_positions(
     for rank in 0..order.len() {
         let value = order[rank];
         let enqueue_gap = entry_gap(&order[rank..]);
-        placed.push(((enqueue_gap, 2, rank as u64), value.enqueue))?;
+        if let Some(enqueue) = enqueue_of(value.source) {
+            placed.push(((enqueue_gap, 2, rank as u64), enqueue))?;
+        }
         left = leaves_from(&value.life).max(left);
         let gap = left.max(enqueue_gap);
         let class = if enqueue_gap < gap { 0 } else { 3 };
@@ -110,47 +121,36 @@ fn value_positions(
     Ok(placed)
 }
 
-/// Places each empty dequeue at its gap.
-fn place_empties(
-    matching: &Matching,
+/// Places each empty dequeue at its gap, and each failed enqueue at its call.
+fn place_others(
+    operations: &Operations,
     gaps: &[u64],
     placed: &mut Vec<(Position, OpId)>,
 ) -> Result<(), AllocError> {
-    let timeline = matching.timeline();
-    for (id, gap) in matching.timeline_empties().iter().zip(gaps) {
-        if let Some(operation) = timeline.get(id.place()) {
-            placed.push(((*gap, 1, operation.unpack().call), *id))?;
+    let mut gaps = gaps.iter();
+    for (place, operation) in (0..u32::MAX).zip(operations.iter()) {
+        let gap = match operation.kind {
+            OpKind::Empty => gaps.next().copied(),
+            OpKind::Not(_) => Some(operation.call),
+            OpKind::Enq(_) | OpKind::Deq(_) => None,
+        };
+        if let Some(gap) = gap {
+            placed.push(((time_of(gap), 1, operation.call), OpId::new(place)))?;
         }
     }
     Ok(())
 }
 
-/// Places each failed enqueue at its call.
-fn place_refused(
-    matching: &Matching,
-    placed: &mut Vec<(Position, OpId)>,
-) -> Result<(), AllocError> {
-    let timeline = matching.timeline();
-    for id in matching.timeline_refused() {
-        if let Some(operation) = timeline.get(id.place()) {
-            let call = operation.unpack().call;
-            placed.push(((call, 1, call), *id))?;
-        }
-    }
-    Ok(())
-}
-
-/// The chosen order of all operations on the timeline, if each empty dequeue has its gap.
+/// The chosen order of all operations, if each empty dequeue has its gap.
 pub(crate) fn plain_linearization(
     alloc: Global,
-    matching: &Matching,
+    operations: &Operations,
     values: &[MatchedValue],
     gaps: &[u64],
 ) -> Result<Vec<OpId>, AllocError> {
     let order = ordered(alloc, values)?;
     let mut placed = value_positions(alloc, &order)?;
-    place_empties(matching, gaps, &mut placed)?;
-    place_refused(matching, &mut placed)?;
+    place_others(operations, gaps, &mut placed)?;
     placed.sort_by_key(|placed| placed.0)?;
     placed.iter().map(|placed| placed.1).collect(alloc)
 }

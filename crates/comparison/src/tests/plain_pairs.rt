@@ -1,7 +1,10 @@
 //! Values dequeued against the order of their enqueues, by a scan of all pairs.
 
 use order_violation::OrderPair;
-use value_match::{MatchedValue, Source};
+use value_match::MatchedValue;
+
+/// Two values, of which the second may overtake the first.
+type Pair = (MatchedValue, MatchedValue);
 
 /// Whether b overtakes a.
 fn overtakes(a: &MatchedValue, b: &MatchedValue) -> bool {
@@ -11,7 +14,7 @@ fn overtakes(a: &MatchedValue, b: &MatchedValue) -> bool {
 }
 
 /// Whether one pair is chosen before the other: by the dequeue of b, then by that of a, then by the enqueue of a.
-fn is_before(pair: &(MatchedValue, MatchedValue), other: &(MatchedValue, MatchedValue)) -> bool {
+fn is_before(pair: &Pair, other: &Pair) -> bool {
     let left = pair.1.life.dequeue_return();
     let other_left = other.1.life.dequeue_return();
     let stays = pair.0.life.dequeue_call();
@@ -23,21 +26,28 @@ fn is_before(pair: &(MatchedValue, MatchedValue), other: &(MatchedValue, Matched
                     && pair.0.life.enqueue_return() < other.0.life.enqueue_return())))
 }
 
+/// The one of two pairs that is chosen.
+fn chosen_of(so_far: Option<Pair>, pair: Pair) -> Pair {
+    match so_far {
+        Some(other) if !is_before(&pair, &other) => other,
+        _ => pair,
+    }
+}
+
 /// The chosen pair, by a scan of all pairs.
 pub(crate) fn plain_pair(values: &[MatchedValue]) -> Option<OrderPair> {
-    let mut chosen: Option<(MatchedValue, MatchedValue)> = None;
+    let mut chosen: Option<Pair> = None;
     for a in values {
         for b in values {
-            let pair = (*a, *b);
-            if overtakes(a, b) && chosen.is_none_or(|so_far| is_before(&pair, &so_far)) {
-                chosen = Some(pair);
+            if overtakes(a, b) {
+                chosen = Some(chosen_of(chosen, (*a, *b)));
             }
         }
     }
     let (a, b) = chosen?;
     Some(OrderPair {
-        enq_a: Source::Enq(a.enqueue),
-        enq_b: Source::Enq(b.enqueue),
+        enq_a: a.source,
+        enq_b: b.source,
         deq_b: b.dequeue?,
         deq_a: a.dequeue,
     })

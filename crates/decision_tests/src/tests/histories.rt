@@ -1,9 +1,9 @@
 //! Histories that are made of events, and what they show.
 ghost use Rattle.std.specs.Prelude.{◌≤◌, length, vec_len};
 
-use super::small_histories::{HIDDEN, OVERLAPPING, Row, are_rows, at, events_of, is_timeline};
+use super::small_histories::{HIDDEN, OF_THREE, OF_TWO, OVERLAPPING, Row, are_rows, at, events_of};
 use event_records::{Event, Lists, MAX_EVENTS, MAX_INITIAL, What};
-use history_merge::OpKind::{Deq, Empty, Enq, Not};
+use history_merge::OpKind::{Empty, Not};
 use history_merge::{History, HistoryBuilder, HistoryFault, history, history_from, merge};
 use std::alloc::{AllocError, Global};
 use std::test::Fail;
@@ -137,31 +137,16 @@ const GREATEST: &[Row] = &[
     (999_999_999_997, 999_999_999_999, 0, Empty),
 ];
 
-/// Two operations after three initial values.
-const OF_THREE: &[Row] = &[(3, 5, 2, Deq(u64::MAX)), (4, 6, 0, Not(6))];
+type Shown<'a> = (&'a [u64], &'a [Row]);
 
-/// Four operations after the initial values 5 and 6, of which the first two overlap.
-const OF_TWO: &[Row] = &[
-    (0, 4, 1, Deq(5)),
-    (3, 7, 2, Enq(8)),
-    (9, 10, 1, Not(9)),
-    (20, 999_999_999_999, 63, Empty),
-];
-
-type Shown<'a> = (&'a [u64], &'a [(i64, u64)], &'a [Row]);
-
-/// Initial values, the tickets at which they enter the queue, and operations.
+/// Initial values, and operations.
 static SHOWN: [Shown<'static>; 6] = [
-    (&[], &[], &[]),
-    (&[], &[], OVERLAPPING),
-    (&[], &[], HIDDEN),
-    (&[], &[], GREATEST),
-    (
-        &[u64::MAX, 5, 0],
-        &[(-3, u64::MAX), (-2, 5), (-1, 0)],
-        OF_THREE,
-    ),
-    (&[5, 6], &[(-2, 5), (-1, 6)], OF_TWO),
+    (&[], &[]),
+    (&[], OVERLAPPING),
+    (&[], HIDDEN),
+    (&[], GREATEST),
+    (&[u64::MAX, 5, 0], OF_THREE),
+    (&[5, 6], OF_TWO),
 ];
 
 /// Whether the history has these events.
@@ -177,7 +162,7 @@ fn are_events(history: &History, events: &[Event]) -> bool {
 
 /// What of the history that is made isn't as it should be; none if all is.
 fn wrong_part(alloc: Global, maker: Maker, shown: &Shown) -> Result<Option<&'static str>, Fail> {
-    let (initial, entered, rows) = *shown;
+    let (initial, rows) = *shown;
     let events = events_of(alloc, rows)?;
     if initial.len() > MAX_INITIAL || events.len() > MAX_EVENTS {
         return Err("too many values or events")?;
@@ -189,8 +174,6 @@ fn wrong_part(alloc: Global, maker: Maker, shown: &Shown) -> Result<Option<&'sta
         Some("events")
     } else if !are_rows(&history.operations(), rows) {
         Some("operations")
-    } else if !is_timeline(history.timeline(), entered, rows) {
-        Some("timeline")
     } else {
         None
     })

@@ -1,11 +1,15 @@
-use super::small_histories::{HIDDEN, Row, are_rows, history_behind, is_timeline, matching_of};
+use super::small_histories::{
+    HIDDEN, INITIAL, OF_THREE, OF_TWO, Row, are_rows, history_behind, is_row, matching_of,
+    number_of,
+};
 use event_records::ORIGIN;
+use history_merge::OpId;
 use history_merge::OpKind::{Deq, Empty, Enq, Not};
-use history_merge::{OpId, Operation, PackedOperation};
 use std::alloc::Global;
 use std::test::Fail;
 use value_match::{
-    LongestTable, Matched, Matching, Places, Source, Values, Violation, match_values,
+    LongestTable, Matched, MatchedValue, Matching, NEVER, Places, Source, Values, Violation,
+    match_values, ticket_of,
 };
 
 /// The operations that a violation of the first two kinds names, by their places: the enqueue, and the dequeues.
@@ -73,20 +77,23 @@ fn names_a_value_that_was_not_there_or_came_twice(rt: HostRuntime) -> Result<(),
     Ok(())
 }
 
+/// An accepted value by its numbers: its source, and its dequeue if there is one.
+type Accepted = (usize, Option<usize>);
+
 /// What the matching of a history shows.
 struct Shown {
     initial: &'static [u64],
     rows: &'static [Row],
-    /// The tickets at which the initial values enter the queue.
-    entered: &'static [(i64, u64)],
-    /// The accepted values, by the places of their enqueues and dequeues on the timeline.
-    values: &'static [(usize, Option<usize>)],
+    /// The enqueues of the initial values, at their times.
+    entered: &'static [Row],
+    /// The accepted values, by the numbers of their sources and the places of their dequeues.
+    values: &'static [Accepted],
     /// The empty dequeues and the failed enqueues, by their places among the operations.
     empties: &'static [usize],
     refused: &'static [usize],
 }
 
-static SHOWN: [Shown; 3] = [
+static SHOWN: [Shown; 4] = [
     Shown {
         initial: &[],
         rows: &[
@@ -104,59 +111,95 @@ static SHOWN: [Shown; 3] = [
     Shown {
         initial: &[5],
         rows: &[(0, 1, 0, Deq(5)), (2, 3, 0, Empty), (4, 5, 0, Not(8))],
-        entered: &[(-1, 5)],
-        values: &[(0, Some(1))],
+        entered: &[(ORIGIN - 1, ORIGIN - 1, 0, Enq(5))],
+        values: &[(INITIAL, Some(0))],
         empties: &[1],
         refused: &[2],
     },
     Shown {
         initial: &[5, 6],
-        rows: &[(0, 1, 0, Deq(5))],
-        entered: &[(-2, 5), (-1, 6)],
-        values: &[(0, Some(2)), (1, None)],
+        rows: OF_TWO,
+        entered: &[
+            (ORIGIN - 2, ORIGIN - 2, 0, Enq(5)),
+            (ORIGIN - 1, ORIGIN - 1, 0, Enq(6)),
+        ],
+        values: &[(INITIAL, Some(0)), (INITIAL + 1, None), (1, None)],
+        empties: &[3],
+        refused: &[2],
+    },
+    Shown {
+        initial: &[u64::MAX, 5, 0],
+        rows: OF_THREE,
+        entered: &[
+            (ORIGIN - 3, ORIGIN - 3, 0, Enq(u64::MAX)),
+            (ORIGIN - 2, ORIGIN - 2, 0, Enq(5)),
+            (ORIGIN - 1, ORIGIN - 1, 0, Enq(0)),
+        ],
+        values: &[(INITIAL, Some(0)), (INITIAL + 1, None), (INITIAL + 2, None)],
         empties: &[],
-        refused: &[],
+        refused: &[1],
     },
 ];
 
-/// Whether the operation of a value stands at this place of the timeline, or there is none.
-fn is_part(
-    id: Option<OpId>,
-    operation: Option<Operation>,
-    timeline: &[PackedOperation],
-    place: Option<usize>,
-) -> bool {
-    let wanted = place.and_then(|place| timeline.get(place));
-    place_of(id) == place && operation == wanted.map(|packed| packed.unpack())
+/// The row at the times of its tickets.
+fn timed(row: &Row) -> Row {
+    let (call, ret, thread, kind) = *row;
+    (
+        call.saturating_add(ORIGIN),
+        ret.saturating_add(ORIGIN),
+        thread,
+        kind,
+    )
+}
+
+/// The ticket at which the enqueue from this source is called; the initial values come in before ticket 0.
+fn called_at(shown: &Shown, source: Source) -> Option<i64> {
+    match source {
+        Source::Enq(id) => i64::try_from(shown.rows.get(id.place())?.0).ok(),
+        Source::Initial(place) => {
+            let left = shown.initial.len().checked_sub(place)?;
+            Some(-i64::from(u32::try_from(left).ok()?))
+        }
+    }
+}
+
+/// Whether this is the accepted value of these numbers, with its operations at their times.
+fn is_value(value: &MatchedValue, shown: &Shown, wanted: Accepted) -> bool {
+    let (source, place) = wanted;
+    let enqueue = match value.source {
+        Source::Enq(id) => shown.rows.get(id.place()).map(timed),
+        Source::Initial(place) => shown.entered.get(place).copied(),
+    };
+    let dequeue = place.and_then(|place| shown.rows.get(place)).map(timed);
+    let call = value.life.enqueue_call();
+    number_of(value.source) == source
+        && call <= NEVER
+        && Some(ticket_of(call)) == called_at(shown, value.source)
+        && place_of(value.dequeue) == place
+        && is_row(Some(value.life.enqueue), enqueue.as_ref())
+        && is_row(value.life.dequeue, dequeue.as_ref())
 }
 
 /// Whether these are the accepted values.
-fn are_values(values: &Values, timeline: &[PackedOperation], shown: &Shown) -> bool {
+fn are_values(values: &Values, shown: &Shown) -> bool {
     if values.len() != shown.values.len() {
         return false;
     }
-    for place in 0..values.len() {
-        let value = values.get(place);
-        let (enqueue, dequeue) = shown.values[place];
-        let (entered, left) = (Some(value.life.enqueue), value.life.dequeue);
-        if !is_part(Some(value.enqueue), entered, timeline, Some(enqueue))
-            || !is_part(value.dequeue, left, timeline, dequeue)
-        {
+    for (place, wanted) in shown.values.iter().enumerate() {
+        if !is_value(&values.get(place), shown, *wanted) {
             return false;
         }
     }
     true
 }
 
-/// Whether these are the places of operations after this many initial values, also on the timeline.
-fn are_places(timeline: &[OpId], places: &Places, first: usize, wanted: &[usize]) -> bool {
-    if timeline.len() != wanted.len() || places.len() != wanted.len() {
+/// Whether these are the places.
+fn are_places(places: &Places, wanted: &[usize]) -> bool {
+    if places.len() != wanted.len() {
         return false;
     }
     for (index, place) in wanted.iter().enumerate() {
-        if timeline[index].place() != first.saturating_add(*place)
-            || places.get(index).place() != *place
-        {
+        if places.get(index).place() != *place {
             return false;
         }
     }
@@ -165,28 +208,15 @@ fn are_places(timeline: &[OpId], places: &Places, first: usize, wanted: &[usize]
 
 /// What of the matching isn't as it should be; none if all is.
 fn wrong_part(matching: &Matching, shown: &Shown) -> Option<&'static str> {
-    let first = shown.initial.len();
     if matching.initial() != shown.initial {
         Some("initial values")
     } else if !are_rows(&matching.operations(), shown.rows) {
         Some("operations")
-    } else if !is_timeline(matching.timeline(), shown.entered, shown.rows) {
-        Some("timeline")
-    } else if !are_values(&matching.values(), matching.timeline(), shown) {
+    } else if !are_values(&matching.values(), shown) {
         Some("values")
-    } else if !are_places(
-        matching.timeline_empties(),
-        &matching.empties(),
-        first,
-        shown.empties,
-    ) {
+    } else if !are_places(&matching.empties(), shown.empties) {
         Some("empty dequeues")
-    } else if !are_places(
-        matching.timeline_refused(),
-        &matching.refused(),
-        first,
-        shown.refused,
-    ) {
+    } else if !are_places(&matching.refused(), shown.refused) {
         Some("failed enqueues")
     } else {
         None

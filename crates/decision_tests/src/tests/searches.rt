@@ -1,7 +1,7 @@
 //! What is searched for: values dequeued against the order of their enqueues, and empty dequeues that values cover.
 use super::small_histories::{
-    DEQUEUED_LATER, HIDDEN, NEVER_EMPTY, ONCE_EMPTY, OVERLAPPING, OVERTAKEN, Row, history_behind,
-    matching_of,
+    DEQUEUED_LATER, HIDDEN, INITIAL, NEVER_EMPTY, ONCE_EMPTY, OVERLAPPING, OVERTAKEN, Row,
+    history_behind, matching_of, number_of,
 };
 use empty_witness::{GapAnswer, WitnessAnswer, find_witness, gap_for};
 use history_merge::OpKind::{Deq, Empty, Enq};
@@ -12,10 +12,7 @@ use parallel_finders::{
 use std::alloc::{AllocError, Global};
 use std::test::Fail;
 use std::thread::Threads;
-use value_match::{CoverStep, Matching, Source};
-
-/// The number of the first initial value; the numbers below are places of operations.
-const INITIAL: usize = 1_000_000;
+use value_match::{CoverStep, Matching};
 
 /// A pair by its numbers: the enqueues of a and b, the dequeue of b, and that of a if there is one.
 type Pair = (usize, usize, usize, Option<usize>);
@@ -25,13 +22,6 @@ type Step = (usize, Option<usize>);
 
 /// The gaps of all empty dequeues, or the place of one and the values that cover it.
 type Windows<'a> = Result<&'a [u64], (usize, &'a [Step])>;
-
-fn number_of(source: Source) -> usize {
-    match source {
-        Source::Enq(id) => id.place(),
-        Source::Initial(place) => INITIAL.saturating_add(place),
-    }
-}
 
 fn is_pair(found: Option<OrderPair>, wanted: Option<Pair>) -> bool {
     match found {

@@ -2,10 +2,10 @@
 
 use event_records::{Event, MAX_EVENTS, MAX_INITIAL, What};
 use history_merge::OpKind::{Deq, Empty, Enq, Not};
-use history_merge::{History, OpId, OpKind, Operation, Operations, PackedOperation, history_from};
+use history_merge::{History, OpId, OpKind, Operation, Operations, history_from};
 use std::alloc::{AllocError, Global};
 use std::test::Fail;
-use value_match::{Matched, Matching, NEVER, match_values, ticket_of};
+use value_match::{Matched, Matching, Source, match_values};
 
 /// An operation: the tickets of its call and its return, its thread, and what it did.
 pub(crate) type Row = (u64, u64, u8, OpKind);
@@ -55,12 +55,34 @@ pub(crate) const ONCE_EMPTY: &[Row] = &[
     (10, 11, 0, Deq(9)),
 ];
 
+/// Two operations after three initial values.
+pub(crate) const OF_THREE: &[Row] = &[(3, 5, 2, Deq(u64::MAX)), (4, 6, 0, Not(6))];
+
+/// Four operations after the initial values 5 and 6, of which the first two overlap.
+pub(crate) const OF_TWO: &[Row] = &[
+    (0, 4, 1, Deq(5)),
+    (3, 7, 2, Enq(8)),
+    (9, 10, 1, Not(9)),
+    (20, 999_999_999_999, 63, Empty),
+];
+
 /// An event.
 pub(crate) fn at(ticket: u64, thread: u8, what: What) -> Event {
     Event {
         ticket,
         thread,
         what,
+    }
+}
+
+/// The number of the first initial value, where the lower ones are places of operations.
+pub(crate) const INITIAL: usize = 1_000_000;
+
+/// The number of what a value comes from.
+pub(crate) fn number_of(source: Source) -> usize {
+    match source {
+        Source::Enq(id) => id.place(),
+        Source::Initial(place) => INITIAL.saturating_add(place),
     }
 }
 
@@ -140,51 +162,4 @@ pub(crate) fn are_rows(operations: &Operations, rows: &[Row]) -> bool {
         }
     }
     left.next().is_none() && are_at_places(operations, rows)
-}
-
-/// Whether an operation of a timeline has these tickets, and did this.
-fn is_told(operation: &Operation, call: i64, ret: i64, kind: OpKind) -> bool {
-    let is_timed = operation.call <= NEVER && operation.ret <= NEVER;
-    is_timed
-        && ticket_of(operation.call) == call
-        && ticket_of(operation.ret) == ret
-        && operation.kind == kind
-}
-
-/// Whether the timeline is of initial values that enter at these tickets, and then of these operations.
-pub(crate) fn is_timeline(
-    timeline: &[PackedOperation],
-    entered: &[(i64, u64)],
-    rows: &[Row],
-) -> bool {
-    let mut left = timeline.iter();
-    for (ticket, value) in entered {
-        let operation = left.next().map(|packed| packed.unpack());
-        if !operation.is_some_and(|operation| is_told(&operation, *ticket, *ticket, Enq(*value))) {
-            return false;
-        }
-    }
-    are_told_rows(left.as_slice(), rows)
-}
-
-/// Whether an operation of a timeline is that of the row.
-fn is_told_row(operation: &Operation, row: &Row) -> bool {
-    let (call, ret, thread, kind) = *row;
-    match (i64::try_from(call), i64::try_from(ret)) {
-        (Ok(call), Ok(ret)) => operation.thread == thread && is_told(operation, call, ret, kind),
-        _ => false,
-    }
-}
-
-/// Whether these operations of a timeline are those of the rows.
-fn are_told_rows(timeline: &[PackedOperation], rows: &[Row]) -> bool {
-    if timeline.len() != rows.len() {
-        return false;
-    }
-    for (packed, row) in timeline.iter().zip(rows) {
-        if !is_told_row(&packed.unpack(), row) {
-            return false;
-        }
-    }
-    true
 }

@@ -3,7 +3,7 @@ use Rattle.std.specs.Prelude.{All, List, max, min, ℕ, ◌<◌, ◌↔◌, ◌�
 use Rattle.empty_witness.specs.declared.spans.Span.{Span}
 use Rattle.empty_witness.specs.Spans.{AreApart, Holds, LiesIn}
 use Rattle.history_merge.specs.declared.operation.Operation.{Operation}
-use Rattle.history_merge.specs.Initial.{timeline}
+use Rattle.value_match.specs.Lives.{course}
 use Rattle.value_match.specs.declared.life.Life.{Life}
 use Rattle.value_match.specs.declared.violation.CoverStep.{CoverStep}
 use Rattle.value_match.specs.Violations.{IsWitnessViolation}
@@ -32,4 +32,4 @@ pub record IsFirstOutside (spans : List Span) (from c : ℕ) : Type 0 where
 -- the steps name the chosen cover of the operation's window, which is a violation
 abbrev pub NamesChosenCover : List ℕ → List Operation → Operation → List CoverStep → Type 0
 NamesChosenCover initial operations o steps = (lives : List Life) × NamesCover initial operations steps lives
-    × IsChosenCover (timeline initial operations) o lives × IsWitnessViolation (timeline initial operations) o lives
+    × IsChosenCover (course initial operations) o lives × IsWitnessViolation (course initial operations) o lives

@@ -1,12 +1,11 @@
 -- The enqueues, the dequeues and the no-ops, merged by their positions.
-use Rattle.std.specs.Prelude.{[], ◌≡◌, ℕ, ◌<◌, ◌≤◌, ◌⊎◌, ◌++◌, List, All, IsPermutation, IsSomeAnd, Option, Some, length, map, slice_get, take}
-use Rattle.history_merge.specs.declared.operation.Operation.{Operation}
-use Rattle.history_merge.specs.Legal.{ArePlacesOf, IsLegalOrder}
+use Rattle.std.specs.Prelude.{All, filter_map, IsPermutation, IsSomeAnd, length, List, Option, slice_get, Some, take}
+use Rattle.std.specs.Prelude.{ℕ, ◌++◌, ◌<◌, ◌≡◌, ◌≤◌, ◌⊎◌}
+use Rattle.history_merge.specs.Initial.{Contents}
 use Rattle.value_match.specs.declared.life.Life.{Life}
 use Rattle.linearizer.specs.declared.position.Position.{Position as Stored}
-use Rattle.linearizer.specs.declared.position.Placed.{Placed}
-use Rattle.linearizer.specs.Order.{IsChosenOrder, Position, StandsBefore, dequeue_position, enqueue_position}
-use Rattle.linearizer.specs.Inner.Placement.{AreByPosition, HoldsUpTo, HoldsValues, NeverFall, position_of}
+use Rattle.linearizer.specs.Order.{Position, StandsBefore, dequeue_position, enqueue_position}
+use Rattle.linearizer.specs.Inner.Placement.{AreByPosition, HoldsUpTo, PlacesValues, NeverFall, Placed, position_of}
 
 -- where the enqueue of the i-th value or of a later one stands
 abbrev pub IsEnqueueFrom : List Life → ℕ → Position → Type 0
@@ -34,20 +33,15 @@ NoneBelow Is limit = (p : Position) → Is p → IsSomeAnd limit (λ q. ¬ (Stan
 
 -- the places of the enqueues of the first i values, the dequeues of the first j and the first k no-ops, by rising
 -- position; none of those that are left stands before one of these
-pub record IsMergedUpTo (operations : List Operation) (lives : List Life) (noops : List Placed) (i j left k : ℕ) (places : List ℕ) : Type 0 where
+pub record IsMergedUpTo (history : Contents) (lives : List Life) (noops : List Placed) (i j left k : ℕ) (places : List ℕ) : Type 0 where
   pub values : List Placed
-  pub held : HoldsUpTo operations lives i j left values
+  pub held : HoldsUpTo history lives i j left values
   pub sorted : List Placed
   pub each_once : IsPermutation (values ++ take k noops) sorted
   pub never_fall : NeverFall sorted
   pub none_below : All (λ x. NoneBelow (IsAhead lives noops i j k) (Some x.position)) sorted
-  pub places_are : places ≡ map (λ p. p.operation) sorted
+  pub places_are : places ≡ filter_map (λ p. p.place) sorted
 
 -- the places of the operations of the values and of the no-ops, by rising position
-abbrev pub IsMerge : List Operation → List Placed → List ℕ → Type 0
-IsMerge operations noops places = (values : List Placed) × HoldsValues operations values × AreByPosition (values ++ noops) places
-
--- the places are those of the chosen order of these operations, which is legal for a queue that is empty at first
-abbrev pub IsWholeOrder : List Operation → List ℕ → Type 0
-IsWholeOrder operations places =
-    (order : List Operation) × ArePlacesOf operations places order × IsChosenOrder operations order × IsLegalOrder [] operations order
+abbrev pub IsMerge : Contents → List Placed → List ℕ → Type 0
+IsMerge history noops places = (values : List Placed) × PlacesValues history values × AreByPosition (values ++ noops) places

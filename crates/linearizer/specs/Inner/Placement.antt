@@ -1,20 +1,28 @@
 -- What the steps on the way to the chosen order give.
-use Rattle.std.specs.Prelude.{◌≡◌, ℕ, ◌<◌, ◌≤◌, ◌++◌, List, All, AllPairs, IsPermutation, Some}
-use Rattle.std.specs.Prelude.{drop, length, map, filter, filter_map, slice_get, slice_index, take}
+use Rattle.std.specs.Prelude.{All, AllPairs, drop, filter, filter_map, IsPermutation, IsSomeAnd, length, List, map}
+use Rattle.std.specs.Prelude.{None, Option, slice_get, slice_index, Some, take, ℕ, ◌++◌, ◌+◌, ◌<◌, ◌≡◌, ◌≤◌}
 use Rattle.std.specs.List.{AllZip}
 use Rattle.history_merge.specs.declared.operation.Operation.{Operation}
-use Rattle.history_merge.specs.Operations.{IsAt}
+use Rattle.history_merge.specs.Initial.{Contents, later_by}
+use Rattle.history_merge.specs.declared.packed.TheConstants.{PACKED_LIMIT}
+use Rattle.event_records.specs.declared.limits.TheConstants.{ORIGIN}
 use Rattle.value_match.specs.declared.life.Life.{Life}
 use Rattle.value_match.specs.declared.life.MatchedValue.{MatchedValue}
-use Rattle.value_match.specs.Accepted.{operation_at}
-use Rattle.value_match.specs.Lives.{is_empty_answer, is_refused, lives_of, dequeue_of, enqueue_call, enqueue_of}
+use Rattle.value_match.specs.declared.life.Source.{Source}
+use Rattle.value_match.specs.declared.life.Source.TheVariants as source
+use Rattle.value_match.specs.Inner.Accepted.{operation_at}
+use Rattle.value_match.specs.Inner.Courses.{on}
+use Rattle.value_match.specs.Outcome.{IsOperation}
+use Rattle.value_match.specs.Inner.Told.{timeline_of}
+use Rattle.value_match.specs.Lives.{course_of, dequeue_of, enqueue_call, enqueue_of, is_empty_answer, is_refused}
+use Rattle.value_match.specs.Lives.{timed}
 use Rattle.linearizer.specs.declared.position.Class.{Class}
 use Rattle.linearizer.specs.declared.position.Class.TheVariants.{EarlierDequeue, Noop, Enqueue, OtherDequeue}
 use Rattle.linearizer.specs.declared.position.Position.{Position as Stored}
-use Rattle.linearizer.specs.declared.position.Placed.{Placed}
 use Rattle.linearizer.specs.declared.timed.Timed.{Timed}
 use Rattle.linearizer.specs.Values.{IsValueOrder, enqueue_gap, greatest_leaves_from, least_entered_by}
-use Rattle.linearizer.specs.Order.{Position, StandsBefore, IsPositionOf, earlier_dequeues, noop_answers, noop_position, enqueues, other_dequeues}
+use Rattle.linearizer.specs.Order.{earlier_dequeues, enqueues, IsPositionOf, noop_answers, noop_position}
+use Rattle.linearizer.specs.Order.{other_dequeues, Position, StandsBefore}
 
 -- the values without their places
 abbrev pub lives_in : List MatchedValue → List Life
@@ -24,10 +32,6 @@ lives_in values = map (λ m. m.life) values
 abbrev pub elements_at : {X : Type 0} → List X → List ℕ → List X
 elements_at xs places = filter_map (slice_get xs) places
 
--- the lives of the accepted values at these places
-abbrev pub lives_at : List Operation → List ℕ → List Life
-lives_at operations places = elements_at (lives_of operations) places
-
 -- the places of values that stand in an order with their gaps
 abbrev pub places_in : List Timed → List ℕ
 places_in order = map (λ timed. timed.place) order
@@ -36,15 +40,20 @@ places_in order = map (λ timed. timed.place) order
 abbrev pub gaps_in : List Timed → List ℕ
 gaps_in order = map (λ timed. timed.time) order
 
--- the places of the accepted values, in their chosen order
-pub record IsOrderOfPlaces (operations : List Operation) (places : List ℕ) : Type 0 where
-  pub within : All (λ place. place < length (lives_of operations)) places
-  pub in_order : IsValueOrder operations (lives_at operations places)
-
 -- the gaps are those of the enqueues of the values, one by one
 pub record AreEnqueueGaps (lives : List Life) (gaps : List ℕ) : Type 0 where
   pub one_each : length gaps ≡ length lives
   pub at_each : (i : ℕ) → i < length lives → slice_index gaps i ≡ enqueue_gap lives i
+
+-- the lives of a history by these places among them
+abbrev pub ordered_lives : Contents → List Timed → List Life
+ordered_lives history order = elements_at (course_of history).lives (places_in order)
+
+-- the places of a history's lives in the chosen order, each with the gap of its enqueue
+pub record IsOrderOf (history : Contents) (order : List Timed) : Type 0 where
+  pub within : All (λ place. place < length (course_of history).lives) (places_in order)
+  pub in_order : IsValueOrder (course_of history) (ordered_lives history order)
+  pub gaps : AreEnqueueGaps (ordered_lives history order) (gaps_in order)
 
 -- no enqueue is called after its value or a later one has entered
 abbrev pub AreCalledInTime : List Life → Type 0
@@ -61,9 +70,30 @@ class_number OtherDequeue = other_dequeues
 abbrev pub position_of : Stored → Position
 position_of p = record { gap = p.gap; class = class_number p.class; rank = p.rank }
 
--- o is the operation, and stands at its position
-abbrev pub IsPlaced : List Operation → List Life → Operation → Placed → Type 0
-IsPlaced operations lives o placed = IsAt operations placed.operation o × IsPositionOf operations lives o (position_of placed.position)
+-- an operation, its place in the history, unless it enqueues an initial value, and where it stands
+pub record Placed : Type 0 where
+  pub operation : Operation
+  pub place : Option ℕ
+  pub position : Stored
+
+-- this is the operation's place, if it is called at a ticket
+abbrev pub IsToldAt : List Operation → Option ℕ → Operation → Type 0
+IsToldAt operations None o = o.call < ORIGIN
+IsToldAt operations (Some place) o = IsOperation operations place o
+
+-- the place of the enqueue that a value comes from, if it comes from one
+abbrev pub place_of : Source → Option ℕ
+place_of (source.Enq place) = Some place
+place_of (source.Initial place) = None
+
+-- the operation has this place, and stands at its position
+abbrev pub IsPlaced : Contents → List Life → Placed → Type 0
+IsPlaced history lives placed = IsToldAt history.operations placed.place placed.operation
+    × IsPositionOf (on (timeline_of history)) lives placed.operation (position_of placed.position)
+
+-- the operations alone
+abbrev pub placed_in : List Placed → List Operation
+placed_in placed = map (λ p. p.operation) placed
 
 -- the enqueues of the values
 abbrev pub enqueues_of : List Life → List Operation
@@ -75,47 +105,53 @@ dequeues_of lives = filter_map dequeue_of lives
 
 -- the enqueues of the first i values and the dequeues of the first j, each once and at its position, and the time from
 -- which these j can have left
-pub record HoldsUpTo (operations : List Operation) (lives : List Life) (i j left : ℕ) (placed : List Placed) : Type 0 where
+pub record HoldsUpTo (history : Contents) (lives : List Life) (i j left : ℕ) (placed : List Placed) : Type 0 where
   pub left_is : left ≡ greatest_leaves_from (take j lives)
-  pub listed : List Operation
-  pub each_once : IsPermutation (enqueues_of (take i lives) ++ dequeues_of (take j lives)) listed
-  pub each_placed : AllZip (IsPlaced operations lives) listed placed
+  pub each_once : IsPermutation (enqueues_of (take i lives) ++ dequeues_of (take j lives)) (placed_in placed)
+  pub each_placed : All (IsPlaced history lives) placed
 
 -- the operations of the accepted values, each once and at its position in the order of the values
-pub record HoldsValues (operations : List Operation) (placed : List Placed) : Type 0 where
+pub record PlacesValues (history : Contents) (placed : List Placed) : Type 0 where
   pub lives : List Life
-  pub in_order : IsValueOrder operations lives
-  pub listed : List Operation
-  pub each_once : IsPermutation (enqueues_of lives ++ dequeues_of lives) listed
-  pub each_placed : AllZip (IsPlaced operations lives) listed placed
+  pub in_order : IsValueOrder (course_of history) lives
+  pub each_once : IsPermutation (enqueues_of lives ++ dequeues_of lives) (placed_in placed)
+  pub each_placed : All (IsPlaced history lives) placed
 
--- an operation that changes nothing stands at this gap, whatever the order of the values
-pub record IsNoopAt (operations : List Operation) (o : Operation) (timed : Timed) : Type 0 where
-  pub at : IsAt operations timed.place o
-  pub stands : (lives : List Life) → IsPositionOf operations lives o (noop_position o timed.time)
+-- an operation that changes nothing stands at this place and this gap, whatever the order of the values
+pub record IsNoopAt (history : Contents) (o : Operation) (timed : Timed) : Type 0 where
+  pub at : IsOperation history.operations timed.place o
+  pub stands : (lives : List Life) → IsPositionOf (on (timeline_of history)) lives o (noop_position o timed.time)
 
 -- the listed operations are added, each with its gap
-pub record Adds (operations listed : List Operation) (old new : List Timed) : Type 0 where
+pub record Adds (history : Contents) (listed : List Operation) (old new : List Timed) : Type 0 where
   pub added : List Timed
   pub after : new ≡ old ++ added
-  pub each_stands : AllZip (IsNoopAt operations) listed added
+  pub each_stands : AllZip (IsNoopAt history) listed added
+
+-- the operation at the place is called in range
+abbrev pub IsCalledInRange : List Operation → ℕ → Type 0
+IsCalledInRange operations place = IsSomeAnd (slice_get operations place) (λ o. o.call + ORIGIN < PACKED_LIMIT)
 
 -- the operation at the place, as one that changes nothing, at its position
 abbrev pub noop_at : List Operation → Timed → Placed
 noop_at operations timed = record {
-  operation = timed.place;
-  position = record { gap = timed.time; class = Noop; rank = (operation_at operations timed.place).call };
+  operation = later_by ORIGIN (operation_at operations timed.place);
+  place = Some timed.place;
+  position = record { gap = timed.time; class = Noop; rank = (operation_at operations timed.place).call + ORIGIN };
 }
 
 -- no operation stands before an earlier one
 abbrev pub NeverFall : List Placed → Type 0
 NeverFall placed = AllPairs (λ p q. ¬ (StandsBefore (position_of q.position) (position_of p.position))) placed
 
--- the empty answers and the refused enqueues, each once and at its position whatever the order of the values, by rising position
-pub record HoldsNoops (operations : List Operation) (noops : List Placed) : Type 0 where
-  pub added : List Placed
-  pub each_placed : (lives : List Life) → AllZip (IsPlaced operations lives) (filter is_empty_answer operations ++ filter is_refused operations) added
-  pub each_once : IsPermutation added noops
+-- the empty answers and the refused enqueues
+abbrev pub noops_in : Contents → List Operation
+noops_in history = filter is_empty_answer (timed history.operations) ++ filter is_refused (timed history.operations)
+
+-- the same, each once and at its position whatever the order of the values, by rising position
+pub record HoldsNoops (history : Contents) (noops : List Placed) : Type 0 where
+  pub each_placed : (lives : List Life) → All (IsPlaced history lives) noops
+  pub each_once : IsPermutation (noops_in history) (placed_in noops)
   pub never_fall : NeverFall noops
 
 -- the places of what was listed, by positions that never fall
@@ -123,4 +159,4 @@ pub record AreByPosition (placed : List Placed) (places : List ℕ) : Type 0 whe
   pub sorted : List Placed
   pub holds_each_once : IsPermutation placed sorted
   pub never_falls : NeverFall sorted
-  pub places_are : places ≡ map (λ p. p.operation) sorted
+  pub places_are : places ≡ filter_map (λ p. p.place) sorted

@@ -1,6 +1,6 @@
 -- The values by their times, and those of them that are left.
-use Rattle.std.specs.Prelude.{◌≡◌, ℕ, ◌+◌, ◌*◌, ◌/◌, ◌%◌, ◌<◌, ◌≤◌, ◌⊎◌, Bool}
-use Rattle.std.specs.Prelude.{true, false, List, All, Contains, IsPermutation, IsSomeAnd, Some, length, slice_get, take}
+use Rattle.std.specs.Prelude.{All, Bool, Contains, false, IsPermutation, IsSomeAnd, length, List, slice_get, Some}
+use Rattle.std.specs.Prelude.{take, true, ℕ, ◌%◌, ◌*◌, ◌+◌, ◌/◌, ◌<◌, ◌≡◌, ◌≤◌, ◌⊎◌}
 use Rattle.std.specs.List.Sorted.{IsNonDecreasingBy}
 use Rattle.std.proofs.Math.Nat.{div-add-mod}
 use Rattle.value_match.specs.declared.life.Life.{Life}
@@ -8,7 +8,8 @@ use Rattle.value_match.specs.declared.life.MatchedValue.{MatchedValue}
 use Rattle.value_match.specs.declared.life.TheConstants.{NEVER}
 use Rattle.value_match.specs.Lives.{leaves_from}
 use Rattle.linearizer.specs.Values.{EachIsChoice}
-use Rattle.linearizer.specs.Inner.Placement.{AreCalledInTime, AreEnqueueGaps, elements_at, gaps_in, lives_in, places_in}
+use Rattle.linearizer.specs.Inner.Placement.{AreCalledInTime, AreEnqueueGaps, elements_at, gaps_in, lives_in}
+use Rattle.linearizer.specs.Inner.Placement.{places_in}
 use Rattle.linearizer.specs.declared.timed.Timed.{Timed}
 use Rattle.linearizer.specs.declared.timed.TheConstants.{PLACES}
 

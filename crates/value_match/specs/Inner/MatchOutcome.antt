@@ -2,6 +2,7 @@
 use Rattle.std.specs.Prelude.{List, Option, length}
 use Rattle.history_merge.specs.declared.operation.Operation.{Operation}
 use Rattle.history_merge.specs.Operations.{IsAt}
+use Rattle.value_match.specs.Inner.Courses.{on}
 use Rattle.value_match.specs.declared.fresh.FreshPlaces.{FreshPlaces}
 use Rattle.value_match.specs.declared.takers.RepeatPlaces.{RepeatPlaces}
 use Rattle.value_match.specs.declared.values.MatchOutcome.{MatchOutcome}
@@ -17,13 +18,13 @@ use Rattle.value_match.specs.Inner.SortedOut.{IsSortedOutOf}
 -- the places are those of the chosen dequeue of a value that was not there, and of the call for this value
 abbrev pub AreChosenFresh : List Operation → FreshPlaces → Type 0
 AreChosenFresh operations found =
-    (deq : Operation) × (enq : Option Operation) × IsAt operations found.deq deq × IsMaybeAt operations found.enq enq × IsChosenFresh operations deq enq
+    (deq : Operation) × (enq : Option Operation) × IsAt operations found.deq deq × IsMaybeAt operations found.enq enq × IsChosenFresh (on operations) deq enq
 
 -- the places are those of the chosen two dequeues of one value and of its enqueue, and no dequeue is of a value that was not there
 abbrev pub AreChosenRepeat : List Operation → RepeatPlaces → Type 0
 AreChosenRepeat operations found =
     (enq : Operation) × (first : Operation) × (second : Operation) × IsAt operations found.enq enq × IsAt operations found.first first
-    × IsAt operations found.second second × NoFreshViolation operations × IsChosenRepeat operations enq first second
+    × IsAt operations found.second second × NoFreshViolation (on operations) × IsChosenRepeat (on operations) enq first second
 
 -- at each place stands the one operation that takes from it, if there is one; otherwise the two dequeues are those of the chosen repeat
 -- violation

@@ -5,6 +5,7 @@ use Rattle.history_merge.specs.declared.operation.Operation.{Operation}
 use Rattle.history_merge.specs.declared.operation.OpKind.{OpKind}
 use Rattle.history_merge.specs.declared.operation.OpKind.TheVariants.{Enq, Deq}
 use Rattle.history_merge.specs.Operations.{IsAt, NoneDid, enqueued_value}
+use Rattle.value_match.specs.Inner.Courses.{on}
 use Rattle.value_match.specs.Lives.{IsMaybeAt}
 use Rattle.value_match.specs.Violations.{IsFreshViolation}
 use Rattle.value_match.specs.declared.sources.Sources.{Sources}
@@ -26,11 +27,11 @@ pub record HoldsSources (operations : List Operation) (from : ℕ) (sources : Li
 
 -- the operation is a dequeue of a value that was not there; the call for its value, if there is one, is at the place
 abbrev pub IsFreshFrom : List Operation → Option ℕ → Operation → Type 0
-IsFreshFrom operations source deq = (enq : Option Operation) × IsMaybeAt operations source enq × IsFreshViolation operations deq enq
+IsFreshFrom operations source deq = (enq : Option Operation) × IsMaybeAt operations source enq × IsFreshViolation (on operations) deq enq
 
 -- none of the first n operations is a dequeue of a value that was not there
 abbrev pub NoneFresh : List Operation → ℕ → Type 0
-NoneFresh operations n = (k : ℕ) (o : Operation) → k < n → IsAt operations k o → (enq : Option Operation) → ¬ (IsFreshViolation operations o enq)
+NoneFresh operations n = (k : ℕ) (o : Operation) → k < n → IsAt operations k o → (enq : Option Operation) → ¬ (IsFreshViolation (on operations) o enq)
 
 -- the operation at place i is a dequeue of the value that the one at place p called to enqueue
 pub record TakesFrom (operations : List Operation) (i p : ℕ) : Type 0 where

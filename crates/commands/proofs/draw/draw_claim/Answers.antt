@@ -1,5 +1,4 @@
-use Rattle.commands.proofs.Common.{ap, arith, claim_on, carries, inl, inr, length, refl, said_in}
-use Rattle.commands.specs.Judging.{IsSmall}
+use Rattle.commands.proofs.Common.{ap, arith, carries, claim_on, inl, inr, IsSmall, length, refl, said_in}
 use Rattle.commands.proofs.draw.draw_claim.Goals as goal
 
 pub returns-in_err-drawn-clause-found : goal.returns-in_err-drawn-clause-found

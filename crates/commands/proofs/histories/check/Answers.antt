@@ -11,8 +11,3 @@ pub returns-clause-found : goal.returns-clause-found
 returns-clause-found g c =
     of_value IsHistoryOf IsFaultOfHistoryInput Judges (g.S.TextSource.ahead c.args.reader) _ _ c.in_ok-_version.ensures.history
     (inl (inr (c.in_ok-_version.ensures.complete, record { verdict = c.in_ok-verdict.verdict; decided = c.in_ok-verdict.ensures; is = refl })))
-
-pub returns-in_err-verdict-clause-found : goal.returns-in_err-verdict-clause-found
-returns-in_err-verdict-clause-found g c = rw (carries c.from_residual-in_err-verdict.result _ c.from_residual-in_err-verdict.ensures.1)
-    (of_value IsHistoryOf IsFaultOfHistoryInput Judges (g.S.TextSource.ahead c.args.reader) _ _
-    c.in_ok-_version.ensures.history (inr refl))

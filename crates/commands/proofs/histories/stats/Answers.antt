@@ -1,5 +1,4 @@
-use Rattle.commands.proofs.Common.{answer_of, Counts, carries, IsFaultOfHistoryInput, IsHistoryOf, said_by}
-use Rattle.commands.specs.Judging.{IsCounted}
+use Rattle.commands.proofs.Common.{answer_of, carries, Counts, IsCounted, IsFaultOfHistoryInput, IsHistoryOf, said_by}
 use Rattle.commands.proofs.OneAnswer.{faults_answered, of_value}
 use Rattle.commands.proofs.histories.stats.Goals as goal
 

@@ -1,5 +1,5 @@
 use Rattle.commands.proofs.Common.{arith, carries}
-use Rattle.commands.proofs.Inputs.{claim_found, claim_history_fault, verdict_fault}
+use Rattle.commands.proofs.Inputs.{claim_history_fault, verdict_fault}
 use Rattle.commands.proofs.input.claimed_of.Goals as goal
 
 pub returns-in_err-gathered-clause-fault : goal.returns-in_err-gathered-clause-fault
@@ -10,12 +10,3 @@ pub returns-in_err-claimed-clause-fault : goal.returns-in_err-claimed-clause-fau
 returns-in_err-claimed-clause-fault g c = rw (carries c.from_residual-in_err-claimed.result _ c.from_residual-in_err-claimed.ensures.1)
     (let read = rw c.new-texts.ensures at c.in_ok-gathered.ensures.text in
     verdict_fault (g.S.TextSource.ahead c.args.reader) _ read.0 _ _ read.1 read.2 (omega (arith, read.3)) c.in_err-claimed.ensures.fault)
-
-pub returns-clause-claim : goal.returns-clause-claim
-returns-clause-claim g c =
-    let read = rw c.new-texts.ensures at c.in_ok-gathered.ensures.text in (
-      read.0,
-      read.1,
-      read.3.1,
-      claim_found (g.S.TextSource.ahead c.args.reader) _ _ read.0 c.in_ok-claimed.claimed read.1 read.2 c.in_ok-claimed.ensures.claim,
-    )

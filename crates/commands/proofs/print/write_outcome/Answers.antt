@@ -1,5 +1,4 @@
-use Rattle.commands.proofs.Common.{codes, longer_front, refused_text, writes_then}
-use Rattle.text_lines.specs.Lines.{line}
+use Rattle.commands.proofs.Common.{codes, line, longer_front, refused_text, writes_then}
 use Rattle.commands.proofs.print.write_outcome.Goals as goal
 
 pub returns-in_err-write_rejections-in-Ok-LeftOpen : goal.returns-in_err-write_rejections-in-Ok-LeftOpen

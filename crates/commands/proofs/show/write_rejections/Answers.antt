@@ -1,5 +1,4 @@
-use Rattle.commands.specs.Answers.{rejection_line}
-use Rattle.text_lines.proofs.Putting.{one_more_written, stops_in_next}
+use Rattle.commands.proofs.Common.{one_more_written, rejection_line, stops_in_next}
 use Rattle.commands.proofs.show.write_rejections.Goals as goal
 
 pub returns-in_err-write_piece : goal.returns-in_err-write_piece

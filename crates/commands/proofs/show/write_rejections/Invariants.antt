@@ -1,5 +1,4 @@
-use Rattle.commands.proofs.Common.{take}
-use Rattle.commands.specs.Answers.{rejection_lines}
+use Rattle.commands.proofs.Common.{rejection_lines, take}
 use Rattle.text_lines.specs.Writing.{TakesAll}
 use Rattle.commands.proofs.show.write_rejections.Given as goal
 

@@ -1,5 +1,4 @@
-use Rattle.commands.proofs.Common.{ap, inl, inr}
-use Rattle.commands.specs.Answers.{left_open}
+use Rattle.commands.proofs.Common.{ap, inl, inr, left_open}
 use Rattle.commands.proofs.OneAnswer.{few_events, from_nothing, merges_to_complete, played_found}
 use Rattle.commands.proofs.sim.play.Goals as goal
 

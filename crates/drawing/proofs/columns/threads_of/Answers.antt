@@ -1,5 +1,4 @@
 use Rattle.drawing.proofs.Common.{has_operations, refl, rules}
-use Rattle.std.proofs.iter.runs.Sources.{ranges}
 use Rattle.std.proofs.lemmas.Iterator.{YieldsList-from_range, items_from_collect}
 use Rattle.std.proofs.lemmas.Iterator.Consumers.{YieldsList-from_filter}
 use Rattle.drawing.specs.Layout.{threads_of}
@@ -10,6 +9,3 @@ unfolding threads_of
 returns-clause-threads c =
     items_from_collect _ c.collect.ensures.ran (YieldsList-from_filter _ (has_operations c.args.operations.now)
     (YieldsList-from_range 0 64 64 c.filter.ensures.source refl) c.filter.ensures.closure (λ x b q k. search rules))
-
-pub returns-clause-few : goal.returns-clause-few
-returns-clause-few c = search (rules, ranges)

@@ -1,7 +1,7 @@
-use Rattle.empty_witness.proofs.Common.{ap, arith, dequeue_call, EntersBefore, FindsLongest, IsLongestOf, length, List}
-use Rattle.empty_witness.proofs.Common.{NamesChosenCover, subst, sym, ℕ, ◌<◌, ◌∙◌}
-use Rattle.empty_witness.proofs.Covers.{longest_of_all, no_steps_yet, next_is_found, found_longest, frontier_rises}
-use Rattle.empty_witness.proofs.Covers.{one_more_step, cover_is_whole}
+use Rattle.empty_witness.proofs.Common.{arith, dequeue_call, EntersBefore, FindsLongest, IsLongestOf}
+use Rattle.empty_witness.proofs.Common.{NamesChosenCover, subst, sym, ◌<◌, ◌∙◌}
+use Rattle.empty_witness.proofs.Covers.{cover_is_whole, found_longest, frontier_rises, longest_of_all, next_is_found}
+use Rattle.empty_witness.proofs.Covers.{no_steps_yet, one_more_step}
 use Rattle.empty_witness.proofs.cover.cover_of.Goals.{After-longest_before, After-unwrap-value}
 use Rattle.empty_witness.proofs.cover.cover_of.Goals as goal
 
@@ -9,7 +9,7 @@ pub loop-frontier-init : goal.loop-frontier-init
 loop-frontier-init c =
     rw c.new-steps.ensures.items
     (no_steps_yet c.args.matching.now.initial c.args.matching.now.operations c.values-values.result c.args.answer.now
-    c.initial-initial_count.ensures.clear c.values-values.ensures.values c.requires.is_empty c.requires.covered)
+    c.values-values.ensures.clear c.values-values.ensures.values c.requires.is_empty c.requires.covered)
 
 -- the table has all that may be longest
 finds : (c : After-longest_before) → FindsLongest (EntersBefore c.loop-frontier.frontier) c.values-values.result c.longest_before.result
@@ -17,14 +17,14 @@ finds c =
     let others = subst (λ values. FindsLongest (EntersBefore c.loop-frontier.frontier) values c.longest_before.result)
     (c.in_ok-table.ensures ∙ c.split_at-gone.ensures.others) c.longest_before.ensures in
     longest_of_all c.args.matching.now.initial c.args.matching.now.operations c.values-values.result c.args.answer.now
-    c.initial-initial_count.ensures.clear c.values-values.ensures.values c.requires.is_empty c.requires.covered c.count_gone.result
+    c.values-values.ensures.clear c.values-values.ensures.values c.requires.is_empty c.requires.covered c.count_gone.result
     c.loop-frontier.steps.items c.loop-frontier.frontier c.longest_before.result c.count_gone.ensures.gone c.loop-frontier.invariant
     c.loop-frontier-test.true others
 
 pub unwrap-value-requires : goal.unwrap-value-requires
 unwrap-value-requires c =
     next_is_found c.args.matching.now.initial c.args.matching.now.operations c.values-values.result c.args.answer.now
-    c.initial-initial_count.ensures.clear c.values-values.ensures.values c.requires.is_empty c.requires.covered
+    c.values-values.ensures.clear c.values-values.ensures.values c.requires.is_empty c.requires.covered
     c.loop-frontier.steps.items c.loop-frontier.frontier c.longest_before.result c.loop-frontier.invariant c.loop-frontier-test.true
     (finds (goal.at.unwrap-value-requires c).After-longest_before)
 
@@ -39,16 +39,15 @@ loop-frontier-smaller c =
     let value = c.unwrap-value.result in
     let rises : c.loop-frontier.frontier < dequeue_call value.life =
     frontier_rises c.args.matching.now.initial c.args.matching.now.operations c.values-values.result c.args.answer.now
-    c.initial-initial_count.ensures.clear c.values-values.ensures.values c.requires.is_empty c.requires.covered
+    c.values-values.ensures.clear c.values-values.ensures.values c.requires.is_empty c.requires.covered
     c.loop-frontier.steps.items c.loop-frontier.frontier value c.loop-frontier.invariant c.loop-frontier-test.true
     (longest (goal.at.loop-frontier-smaller c).After-unwrap-value) in
     omega (arith, c.dequeue_call-frontier.ensures)
 
 pub loop-frontier-preserved : goal.loop-frontier-preserved
 loop-frontier-preserved c =
-    let count = ap (λ (l : List ℕ). length l) c.initial-initial_count.ensures.initial in
-    rw (c.in_ok-push.ensures.items, c.dequeue_call-frontier.ensures, c.told_source.ensures, c.told_maybe.ensures, count)
-    (one_more_step c.args.matching.now.initial c.args.matching.now.operations c.values-values.result c.args.answer.now c.initial-initial_count.ensures.clear
+    rw (c.in_ok-push.ensures.items, c.dequeue_call-frontier.ensures)
+    (one_more_step c.args.matching.now.initial c.args.matching.now.operations c.values-values.result c.args.answer.now c.values-values.ensures.clear
     c.values-values.ensures.values c.requires.is_empty c.requires.covered c.loop-frontier.steps.items
     c.loop-frontier.frontier c.unwrap-value.result c.loop-frontier.invariant c.loop-frontier-test.true
     (longest (goal.at.loop-frontier-preserved c).After-unwrap-value))
@@ -57,5 +56,5 @@ pub returns : goal.returns
 returns c =
     subst (NamesChosenCover c.args.matching.now.initial c.args.matching.now.operations c.args.answer.now) (sym c.from_vec.ensures)
     (cover_is_whole c.args.matching.now.initial c.args.matching.now.operations c.values-values.result c.args.answer.now
-    c.initial-initial_count.ensures.clear c.values-values.ensures.values c.requires.is_empty c.requires.covered
+    c.values-values.ensures.clear c.values-values.ensures.values c.requires.is_empty c.requires.covered
     c.loop-frontier.steps.items c.loop-frontier.frontier c.loop-frontier.invariant c.loop-frontier-test.false)

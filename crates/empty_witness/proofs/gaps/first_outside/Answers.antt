@@ -1,6 +1,6 @@
 use Rattle.empty_witness.proofs.Common.{leb, rules}
-use Rattle.std.proofs.lemmas.List.Sorted.{IsPartitionPoint-from_clause, IsPartitionedBy-leb}
-use Rattle.empty_witness.proofs.FreeGaps.{starts_rise, none_begun, after_last_begun}
+use Rattle.std.proofs.lemmas.List.Sorted.{IsPartitionedBy-leb, IsPartitionPoint-from_clause}
+use Rattle.empty_witness.proofs.FreeGaps.{after_last_begun, none_begun, starts_rise}
 use Rattle.empty_witness.proofs.gaps.first_outside.Goals as goal
 
 pub returns-then-begun-eq0 : goal.returns-then-begun-eq0

@@ -1,14 +1,26 @@
-use Rattle.empty_witness.proofs.Common.{ap, arith, get_or, List, Operation, timeline_of, ◌∙◌, ◌≡◌}
-use Rattle.std.proofs.lemmas.Option.{get_or_from_slice_get}
-use Rattle.empty_witness.proofs.Answers.{called_behind}
+use Rattle.empty_witness.proofs.Common.{ap, arith, Did, Empty, IsAt, later_by, NEVER, ORIGIN, slice_get}
+use Rattle.empty_witness.proofs.Common.{Some, sym, timed, ◌+◌, ◌<◌, ◌∙◌, ◌≡◌, ◌≤◌}
+use Rattle.empty_witness.proofs.Answers.{answer_timed}
+use Rattle.empty_witness.proofs.search.answer_at.Goals.{After-unwrap-operation}
 use Rattle.empty_witness.proofs.search.answer_at.Goals as goal
 
-pub returns-clause-late : goal.returns-clause-late
-returns-clause-late c =
+answer : (c : After-unwrap-operation) → IsAt (timed c.args.matching.now.operations) c.args.empty (later_by ORIGIN c.unwrap-operation.result)
+    × Did (timed c.args.matching.now.operations) (later_by ORIGIN c.unwrap-operation.result) Empty
+    × (c.unwrap-operation.result.call ≤ c.unwrap-operation.result.ret) × (c.unwrap-operation.result.ret + ORIGIN < NEVER)
+answer c =
     let matching = c.args.matching.now in
-    let read = c.index-timeline-place.result in
-    let same : c.unpack.result ≡ c.requires.0 = c.unpack.ensures.operation ∙ c.index-timeline-place.is
-    ∙ ap (λ (os : List Operation). get_or os c.place.result read) c.timeline.ensures.timeline
-    ∙ ap (λ p. get_or (timeline_of matching) p read) c.place.ensures
-    ∙ get_or_from_slice_get (timeline_of matching) c.args.empty c.requires.0 read c.requires.1 in
-    omega (arith, called_behind matching.initial matching.operations c.args.empty c.requires.0 c.requires.1 c.requires.2, ap (λ (o : Operation). o.call) same)
+    let stands : slice_get matching.operations c.args.empty ≡ Some c.unwrap-operation.result =
+    ap (λ os. slice_get os c.args.empty) (sym c.operations.ensures.operations) ∙ sym c.get.ensures ∙ c.unwrap-operation.ensures in
+    answer_timed matching c.args.empty c.unwrap-operation.result c.operations.ensures.clear c.requires stands
+
+pub overflow_add-result : goal.overflow_add-result
+overflow_add-result c = let is = answer ((goal.at.overflow_add-result c).After-unwrap-operation) in omega (arith, is.2, is.3)
+
+pub overflow_add-result-2 : goal.overflow_add-result-2
+overflow_add-result-2 c = let is = answer ((goal.at.overflow_add-result-2 c).After-unwrap-operation) in omega (arith, is.3)
+
+pub returns-clause-at : goal.returns-clause-at
+returns-clause-at c = (answer ((goal.at.returns-clause-at c).After-unwrap-operation)).0
+
+pub returns-clause-is_empty : goal.returns-clause-is_empty
+returns-clause-is_empty c = (answer ((goal.at.returns-clause-is_empty c).After-unwrap-operation)).1

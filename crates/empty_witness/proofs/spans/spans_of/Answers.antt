@@ -1,6 +1,6 @@
 use Rattle.empty_witness.proofs.Common.{arith, IsWithSpan, length, subst, ◌<◌}
 use Rattle.empty_witness.proofs.ValueSpans.{are_spans, no_spans, with_value, without_value}
-use Rattle.empty_witness.proofs.spans.spans_of.Goals.{then-stay+in_ok-add_stay, else-stay}
+use Rattle.empty_witness.proofs.spans.spans_of.Goals.{else-stay, then-stay+in_ok-add_stay}
 use Rattle.empty_witness.proofs.spans.spans_of.Goals as goal
 
 pub loop-place-init : goal.loop-place-init

@@ -1,5 +1,4 @@
-use Rattle.history_merge.proofs.Common.{◌&&◌, ◌||◌, ◌≡◌, contains, is_called_in, name_in, nat_cmp, nat_eq, take}
-use Rattle.std.proofs.Common.{ℕ}
+use Rattle.history_merge.proofs.Common.{contains, is_called_in, name_in, nat_cmp, nat_eq, take, ℕ, ◌&&◌, ◌||◌, ◌≡◌}
 use Rattle.history_merge.proofs.called.add_named.Given as goal
 
 abbrev pub invariant-loop-operation : goal.invariant-loop-operation

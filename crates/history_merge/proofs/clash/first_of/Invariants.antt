@@ -1,5 +1,4 @@
-use Rattle.history_merge.proofs.Common.{length, MAX_EVENTS}
-use Rattle.std.proofs.Common.{◌≤◌}
+use Rattle.history_merge.proofs.Common.{length, MAX_EVENTS, ◌≤◌}
 use Rattle.history_merge.proofs.Faults.{Searched}
 use Rattle.history_merge.proofs.clash.first_of.Given as goal
 

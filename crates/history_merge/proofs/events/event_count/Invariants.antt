@@ -1,5 +1,4 @@
-use Rattle.history_merge.proofs.Common.{◌+◌, ◌≡◌, count_by, length}
-use Rattle.std.proofs.Common.{◌≤◌}
+use Rattle.history_merge.proofs.Common.{count_by, length, ◌+◌, ◌≡◌, ◌≤◌}
 use Rattle.history_merge.proofs.TheirEvents.{has_returned}
 use Rattle.history_merge.proofs.events.event_count.Given as goal
 

@@ -1,7 +1,6 @@
-use Rattle.history_text.proofs.Common.{[], ap, append-nil, append_assoc, arith, common_steps, Event, event_line}
-use Rattle.history_text.proofs.Common.{flat_map, flat_map-append, HasValueInRange, List, nat_tests, rules, some_then}
-use Rattle.history_text.proofs.Common.{stops_inside, sym, ℕ, ◌++◌, ◌∙◌, ◌∷◌, ◌≡◌}
-use Rattle.std.proofs.lemmas.List.Elements.{All-push}
+use Rattle.history_text.proofs.Common.{[], All-push, ap, append-nil, append_assoc, Event, event_line, flat_map}
+use Rattle.history_text.proofs.Common.{flat_map-append, HasValueInRange, List, some_then, stops_inside, sym, ℕ, ◌++◌}
+use Rattle.history_text.proofs.Common.{◌∙◌, ◌∷◌, ◌≡◌}
 use Rattle.history_text.proofs.history_writer.put_events.Goals as goal
 
 -- the text of what was seen and of what is left is that of all
@@ -36,12 +35,3 @@ loop-event-preserved g c =
       put = rw (one_more seen e) (some_then _ _ _ _ _ _ _ _ _ _ _ old.put c.in_ok-put_one.ensures.text);
       fits = All-push (λ (x : Event). HasValueInRange x.what) seen e old.fits c.in_ok-put_one.ensures.fits;
     }
-
-pub returns-clause-text : goal.returns-clause-text
-returns-clause-text g c = grind (arith, nat_tests, common_steps, whole)
-
-pub returns-clause-fits : goal.returns-clause-fits
-returns-clause-fits g c = grind (arith, nat_tests, common_steps, whole)
-
-pub loop-event-init : goal.loop-event-init
-loop-event-init g c = record { all = c.into_iter-event-iterator.ensures.into_iter_gives; put = search rules; fits = search rules }

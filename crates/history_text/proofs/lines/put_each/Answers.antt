@@ -1,5 +1,4 @@
-use Rattle.history_text.proofs.Common.{one_more_put, stops_at_next}
-use Rattle.std.proofs.lemmas.List.Elements.{All-more}
+use Rattle.history_text.proofs.Common.{All-more, one_more_put, stops_at_next}
 use Rattle.history_text.proofs.lines.put_each.Goals as goal
 
 pub returns-in_err-put_one-clause-text : goal.returns-in_err-put_one-clause-text

@@ -1,8 +1,5 @@
-use Rattle.history_text.proofs.Common.{some_kept, stops_before, arith, nat_tests, common_steps}
+use Rattle.history_text.proofs.Common.{stops_before, arith, nat_tests, common_steps}
 use Rattle.history_text.proofs.lines.put_one.Goals as goal
 
 pub returns-in_err-make_room-clause-text : goal.returns-in_err-make_room-clause-text
 returns-in_err-make_room-clause-text g c = grind (arith, nat_tests, common_steps, stops_before)
-
-pub returns-clause-text : goal.returns-clause-text
-returns-clause-text g c = grind (arith, nat_tests, common_steps, some_kept)

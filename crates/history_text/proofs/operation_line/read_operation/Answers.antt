@@ -1,5 +1,5 @@
-use Rattle.history_text.proofs.Common.{arith, err_from_is_err_and, fields_of, sym}
-use Rattle.history_text.proofs.FormLines.{operation_spells, read_as, read_faulty, said_spelled}
+use Rattle.history_text.proofs.Common.{fields_of, sym}
+use Rattle.history_text.proofs.FormLines.{operation_spells, said_spelled}
 use Rattle.history_text.proofs.operation_line.read_operation.Goals as goal
 
 pub operation_of-requires : goal.operation_of-requires
@@ -8,9 +8,3 @@ operation_of-requires c =
 
 pub returns-clause-spelled : goal.returns-clause-spelled
 returns-clause-spelled c = rw c.operation_of.ensures (said_spelled operation_spells _ _ _ (sym c.in_ok-kind.ensures.value))
-
-pub returns-clause-value : goal.returns-clause-value
-returns-clause-value c = grind (arith, read_as)
-
-pub returns-in_err-kind-clause-value : goal.returns-in_err-kind-clause-value
-returns-in_err-kind-clause-value c = grind (arith, err_from_is_err_and, read_faulty)

@@ -3,9 +3,6 @@ use Rattle.verdicts.specs.declared.shown.LinePlace.TheVariants as place
 use Rattle.history_text.proofs.WrittenClaims.{first_stops, lines_for_each, others_then}
 use Rattle.history_text.proofs.verdict_writer.put_violation.Goals as goal
 
-pub returns-in-Repeat : goal.returns-in-Repeat
-returns-in-Repeat g c = rw c.in-Repeat.is (rw c.from.ensures at c.put_each.ensures.text)
-
 pub returns-in_err-put_each-in-Witness : goal.returns-in_err-put_each-in-Witness
 returns-in_err-put_each-in-Witness g c = rw c.in-Witness.is (first_stops _ _ _ (line_text c.args.lines.now.initial.now c.args.lines.now.operations.now) _
     c.from_residual.result (place.Op c.in-Witness.empty ∷ []) (flat_map places_of_step c.in-Witness.cover) _ _ _ _ c.from_residual.ensures.1

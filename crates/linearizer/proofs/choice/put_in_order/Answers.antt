@@ -1,12 +1,12 @@
 use Rattle.linearizer.proofs.Common.{All-contains, ap, arith, cases_lt, contains_at, dequeue_return, enqueue_call}
-use Rattle.linearizer.proofs.Common.{entered_by, false, get_or_from_slice_get, inl, inr, IsFirstLeft}
-use Rattle.linearizer.proofs.Common.{IsPassedOver, length, length-map}
-use Rattle.linearizer.proofs.Common.{NEVER, places_in, refl, replicate, rules, slice_get, slice_get_read}
-use Rattle.linearizer.proofs.Common.{slice_get_within, Some, subst, sym, true, ◌<◌, ◌∙◌, ◌≡◌, ◌≤◌}
+use Rattle.linearizer.proofs.Common.{entered_by, false, get_or_from_slice_get, inl, inr, IsFirstLeft, IsPassedOver}
+use Rattle.linearizer.proofs.Common.{length, length-map, NEVER, places_in, refl, replicate, rules, slice_get}
+use Rattle.linearizer.proofs.Common.{slice_get_read, slice_get_within, Some, subst, sym, true, ◌<◌, ◌∙◌, ◌≡◌, ◌≤◌}
 use Rattle.linearizer.proofs.Choosing.{IsLeastLeft, IsNext, least_left, next_at, not_past, all_swept, flags_within}
 use Rattle.linearizer.proofs.Choosing.{nothing_swept, met_passed_over, some_left, swept_next}
 use Rattle.linearizer.proofs.choice.put_in_order.Goals as goal
-use Rattle.linearizer.proofs.choice.put_in_order.Goals.{After-first_left-first_in, After-first_left-first_out, After-unpack-entry, After-choice-next}
+use Rattle.linearizer.proofs.choice.put_in_order.Goals.{After-choice-next, After-first_left-first_in}
+use Rattle.linearizer.proofs.choice.put_in_order.Goals.{After-first_left-first_out, After-unpack-entry}
 
 pub loop-entries-init : goal.loop-entries-init
 loop-entries-init c =

@@ -1,47 +1,47 @@
-use Rattle.linearizer.proofs.Common.{ap, arith, filter, get_or, is_empty_answer, length, length_push, refl, rules}
-use Rattle.linearizer.proofs.Common.{slice_get_read, Some, sym, time_of, timeline_of, zip_end, zip_turn, ℕ, ◌<◌, ◌∙◌}
-use Rattle.linearizer.proofs.Common.{◌≡◌}
-use Rattle.linearizer.proofs.Elements.{IsNamed, adds_all, adds_empty, gap_beside, named, named_early, named_few}
-use Rattle.linearizer.proofs.noops.add_empties.Goals.{After-place}
+use Rattle.linearizer.proofs.Common.{AllZip-long, arith, course_of, get_or, is_empty_kind, IsLeastFreeGap, length}
+use Rattle.linearizer.proofs.Common.{length-map, map, refl, slice_get_read, slice_get_within, time_of, ◌<◌}
 use Rattle.history_merge.specs.declared.packed.TheConstants.{PACKED_LIMIT}
+use Rattle.linearizer.proofs.Elements.{adds_empty, all_added, gap_beside, gap_fits, IsListed, listed_at, place_fits}
 use Rattle.linearizer.proofs.noops.add_empties.Goals as goal
+use Rattle.linearizer.proofs.noops.add_empties.Goals.{After-get}
 
--- the place and the gap of this turn
-pair : (c : After-place) → (length c.loop-id.yielded < length c.timeline_empties.result.now) × (length c.loop-id.yielded < length c.args.gaps.now)
-    × ((d : ℕ) → c.in-Some.id.now ≡ get_or c.timeline_empties.result.now (length c.loop-id.yielded) d)
-    × ((d : ℕ) → c.in-Some.gap.now ≡ get_or c.args.gaps.now (length c.loop-id.yielded) d)
-pair c = zip_turn c.timeline_empties.result.now c.args.gaps.now c.loop-id.yielded c.into_iter-id-iterator.result c.loop-id.id-iterator c.next.new.self
-    c.next.result (search rules) (search rules) c.loop-id.yielded_by (c.in-Some.id, c.in-Some.gap) c.in-Some.is c.next.ensures.steps
+-- the operation of this turn
+turn : (c : After-get) → IsListed c.args.matching.now is_empty_kind c.loop-at.at c.get.result
+turn c =
+    let within : c.loop-at.at < length c.empties-empties.result = omega (arith, c.loop-at-test.true, c.len-at-end.ensures) in
+    listed_at c.args.matching.now is_empty_kind c.empties-empties.result _ _ c.empties-empties.ensures (slice_get_read _ _ _ _ refl within c.get.ensures)
 
-turn : (c : After-place) → IsNamed (timeline_of c.args.matching.now) (filter is_empty_answer (timeline_of c.args.matching.now))
-    (length c.loop-id.yielded) c.place.result
-turn c = named _ _ c.timeline_empties.result.now _ _ c.timeline_empties.ensures
-    (slice_get_read _ _ _ _ refl (pair c).0 ((pair c).2 c.in-Some.id.now) ∙ ap Some (sym c.place.ensures))
+pub bounds-gaps-at : goal.bounds-gaps-at
+bounds-gaps-at c =
+    let here = turn (goal.at.bounds-gaps-at c).After-get in
+    let within = slice_get_within _ c.loop-at.at here.o here.is_listed in
+    let long = AllZip-long _ _ (map time_of c.args.gaps.now) c.requires.gaps in
+    omega (arith, within, long, length-map c.args.gaps.now time_of)
+
+-- its gap is its least free one
+free : (c : After-get) → IsLeastFreeGap (course_of c.args.matching.now) (turn c).o (time_of (get_or c.args.gaps.now c.loop-at.at 0))
+free c = gap_beside (course_of c.args.matching.now) _ c.args.gaps.now _ _ 0 (turn c).o c.requires.gaps (turn c).is_listed refl
 
 pub new-requires-clause-place : goal.new-requires-clause-place
-new-requires-clause-place c = named_few _ _ _ _ (turn (goal.at.new-requires-clause-place c).After-place) c.requires.few
+new-requires-clause-place c =
+    let here = turn (goal.at.new-requires-clause-place c).After-get in
+    rw c.place.ensures (place_fits c.args.matching.now.operations c.get.result here.o here.at c.requires.few)
 
--- the gap's time is in range
-early : (c : After-place) → time_of c.in-Some.gap.now < PACKED_LIMIT
-early c =
-    let free = gap_beside _ _ c.args.gaps.now _ c.in-Some.gap.now 0 _ c.requires.gaps (turn c).is_listed ((pair c).3 0) in
-    named_early _ _ _ _ _ (turn c) c.requires.clear free
-
-pub overflow_add-gap : goal.overflow_add-gap
-overflow_add-gap c = omega (arith, early (goal.at.overflow_add-gap c).After-place)
+early : (c : After-get) → time_of (get_or c.args.gaps.now c.loop-at.at 0) < PACKED_LIMIT
+early c = gap_fits c.args.matching.now c.requires.clear c.get.result _ (turn c).o (turn c).at (free c)
 
 pub new-requires-clause-time : goal.new-requires-clause-time
-new-requires-clause-time c = early (goal.at.new-requires-clause-time c).After-place
+new-requires-clause-time c = early (goal.at.new-requires-clause-time c).After-get
 
-pub loop-id-preserved : goal.loop-id-preserved
-loop-id-preserved c =
-    let of_place = (goal.at.loop-id-preserved c).After-place in
-    let free = gap_beside _ _ c.args.gaps.now _ c.in-Some.gap.now 0 _ c.requires.gaps (turn of_place).is_listed ((pair of_place).3 0) in
-    rw (length_push c.loop-id.yielded (c.in-Some.id, c.in-Some.gap), c.in_ok-push.ensures.items, c.new.ensures)
-    (adds_empty _ _ _ _ _ _ (turn of_place) c.loop-id.invariant free)
+pub overflow_add-gaps : goal.overflow_add-gaps
+overflow_add-gaps c = omega (arith, early (goal.at.overflow_add-gaps c).After-get)
+
+pub loop-at-preserved : goal.loop-at-preserved
+loop-at-preserved c =
+    let here = (goal.at.loop-at-preserved c).After-get in
+    rw (c.in_ok-push.ensures.items, c.new.ensures, c.place.ensures)
+    (adds_empty _ c.requires.clear _ _ _ _ _ (turn here) c.loop-at.invariant (free here))
 
 pub returns : goal.returns
-returns c =
-    let long = zip_end c.timeline_empties.result.now c.args.gaps.now c.loop-id.yielded c.into_iter-id-iterator.result c.loop-id.id-iterator c.next.new.self
-    c.next.result (search rules) (search rules) c.loop-id.yielded_by c.in-None.is c.next.ensures.steps in
-    adds_all _ _ _ _ _ _ _ c.timeline_empties.ensures c.requires.gaps long c.loop-id.invariant
+returns c = all_added c.args.matching.now is_empty_kind c.empties-empties.result _ _ _ c.empties-empties.ensures
+    (omega (arith, c.loop-at-test.false, c.len-at-end.ensures)) c.loop-at.invariant

@@ -1,25 +1,32 @@
-use Rattle.linearizer.proofs.Common.{ap, filter, is_refused, IsAt, refl, slice_get_read, Some, subst, sym, timeline_of}
-use Rattle.linearizer.proofs.Common.{◌∙◌}
-use Rattle.linearizer.proofs.Elements.{IsNamed, adds_refused, named, named_at, named_few, named_within}
+use Rattle.linearizer.proofs.Common.{ap, arith, is_refused_kind, IsCalledInRange, length, operation_at, ORIGIN, refl}
+use Rattle.linearizer.proofs.Common.{slice_get_read, subst, sym, ◌+◌, ◌<◌, ◌∙◌}
+use Rattle.linearizer.proofs.Elements.{adds_refused, all_added, called_in_range, IsListed, listed_at, place_fits}
 use Rattle.linearizer.proofs.noops.add_refused.Goals as goal
-use Rattle.linearizer.proofs.noops.add_refused.Goals.{After-place}
+use Rattle.linearizer.proofs.noops.add_refused.Goals.{After-get-id}
 
 -- the operation of this turn
-turn : (c : After-place) → IsNamed (timeline_of c.args.matching.now) (filter is_refused (timeline_of c.args.matching.now)) c.loop-id.id-index c.place.result
-turn c = named _ _ c.timeline_refused-id-items.result.now _ _ c.timeline_refused-id-items.ensures
-    (slice_get_read _ _ _ _ refl c.loop-id-test.true c.id-item.is ∙ ap Some (sym c.place.ensures))
+turn : (c : After-get-id) → IsListed c.args.matching.now is_refused_kind c.loop-at.at c.get-id.result
+turn c =
+    let within : c.loop-at.at < length c.refused-refused.result = omega (arith, c.loop-at-test.true, c.len-at-end.ensures) in
+    listed_at c.args.matching.now is_refused_kind c.refused-refused.result _ _ c.refused-refused.ensures (slice_get_read _ _ _ _ refl within c.get-id.ensures)
 
 pub call_at-requires : goal.call_at-requires
-call_at-requires c = named_within _ _ _ _ _ (named _ _ c.timeline_refused-id-items.result.now _ _ c.timeline_refused-id-items.ensures
-    (slice_get_read _ _ _ _ refl c.loop-id-test.true c.id-item.is)) c.timeline-operations.ensures.timeline
+call_at-requires c =
+    let here = turn (goal.at.call_at-requires c).After-get-id in
+    subst (λ os. IsCalledInRange os c.get-id.result) (sym c.operations-operations.ensures.operations)
+    (called_in_range c.args.matching.now c.requires c.get-id.result here.o here.at)
 
 pub new-requires-clause-place : goal.new-requires-clause-place
 new-requires-clause-place c =
-    named_few _ _ _ _ (turn (goal.at.new-requires-clause-place c).After-place) c.timeline-operations.ensures.few
+    let here = turn (goal.at.new-requires-clause-place c).After-get-id in
+    rw c.place.ensures (place_fits c.args.matching.now.operations c.get-id.result here.o here.at (omega (arith, c.operations-operations.ensures.few)))
 
-pub loop-id-preserved : goal.loop-id-preserved
-loop-id-preserved c =
-    let of_place = turn (goal.at.loop-id-preserved c).After-place in
-    let at = named_at _ _ _ _ _ of_place c.timeline-operations.ensures.timeline in
-    let calls = c.call_at.ensures.call of_place.o (subst (λ p. IsAt c.timeline-operations.result.now p of_place.o) c.place.ensures at) in
-    rw (c.in_ok-push.ensures.items, c.new.ensures) (adds_refused _ _ _ _ _ _ of_place c.loop-id.invariant calls)
+pub loop-at-preserved : goal.loop-at-preserved
+loop-at-preserved c =
+    let calls = c.call_at.ensures.call ∙ ap (λ os. (operation_at os c.get-id.result).call + ORIGIN) c.operations-operations.ensures.operations in
+    rw (c.in_ok-push.ensures.items, c.new.ensures, c.place.ensures)
+    (adds_refused _ _ _ _ _ _ (turn (goal.at.loop-at-preserved c).After-get-id) c.loop-at.invariant calls)
+
+pub returns : goal.returns
+returns c = all_added c.args.matching.now is_refused_kind c.refused-refused.result _ _ _ c.refused-refused.ensures
+    (omega (arith, c.loop-at-test.false, c.len-at-end.ensures)) c.loop-at.invariant

@@ -1,5 +1,5 @@
-use Rattle.linearizer.proofs.Common.{Adds, filter, is_refused, take, timeline_of}
+use Rattle.linearizer.proofs.Common.{Adds, filter, is_refused, take, timed}
 use Rattle.linearizer.proofs.noops.add_refused.Given as goal
 
-abbrev pub invariant-loop-id : goal.invariant-loop-id
-invariant-loop-id l = Adds (timeline_of l.matching) (take l.id-index (filter is_refused (timeline_of l.matching))) l.initial.noops.items l.noops.items
+abbrev pub invariant-loop-at : goal.invariant-loop-at
+invariant-loop-at l = Adds l.matching (take l.at (filter is_refused (timed l.matching.operations))) l.initial.noops.items l.noops.items

@@ -1,7 +1,7 @@
-use Rattle.order_violation.proofs.Common.{◌∙◌, arith, rules, subst, sym, EntersBefore, FindsFirst, FindsLongest}
-use Rattle.order_violation.proofs.Chosen.{first_stays, first_changes, overtaken_one, overtaken_none}
+use Rattle.order_violation.proofs.Common.{arith, EntersBefore, FindsFirst, FindsLongest, subst, sym, ◌∙◌}
+use Rattle.order_violation.proofs.Chosen.{first_changes, first_stays, overtaken_none, overtaken_one}
+use Rattle.order_violation.proofs.overtaking.first_overtaking.Goals.{else-is_some, then-is_some}
 use Rattle.order_violation.proofs.overtaking.first_overtaking.Goals as goal
-use Rattle.order_violation.proofs.overtaking.first_overtaking.Goals.{then-is_some, else-is_some}
 
 pub loop-place-preserved : goal.loop-place-preserved
 loop-place-preserved c =
@@ -16,8 +16,8 @@ loop-place-preserved c =
     elim c.if-is_some.branch [
       | then-is_some w ↦
           let one = overtaken_one values b.life longest finds (sym c.is_some.ensures ∙ w.if-is_some.true) in
-          subst (FindsFirst values _) (sym w.first-is) (first_changes values candidates _ b one.0 w.map_or.result first
-          (omega (arith, c.loop-place-test.true, c.len-place-end.ensures)) c.get-b.ensures c.loop-place.invariant one.1 one.2 (search rules))
+          subst (FindsFirst values _) (sym w.first-is) (first_changes values candidates _ b one.0 w.sooner_with.result first
+          (omega (arith, c.loop-place-test.true, c.len-place-end.ensures)) c.get-b.ensures c.loop-place.invariant one.1 one.2 w.sooner_with.ensures)
       | else-is_some w ↦
           let none = overtaken_none values b.life longest finds (sym c.is_some.ensures ∙ w.if-is_some.false) in
           subst (FindsFirst values _) (sym w.first-is) (first_stays values candidates _ b first

@@ -1,4 +1,4 @@
-use Rattle.order_violation.proofs.Common.{take, FindsFirst}
+use Rattle.order_violation.proofs.Common.{FindsFirst, take}
 use Rattle.order_violation.proofs.overtaking.first_overtaking.Given as goal
 
 abbrev pub invariant-loop-place : goal.invariant-loop-place

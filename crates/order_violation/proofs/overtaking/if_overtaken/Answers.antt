@@ -1,5 +1,5 @@
-use Rattle.order_violation.proofs.Common.{arith, subst, sym, enqueue_call, EntersBefore, FindsLongest, Overtakes}
-use Rattle.order_violation.proofs.Chosen.{none_overtaken, longest_is_overtaken, longest_is_not_overtaken}
+use Rattle.order_violation.proofs.Common.{arith, enqueue_call, EntersBefore, FindsLongest, Overtakes, subst, sym}
+use Rattle.order_violation.proofs.Chosen.{longest_is_not_overtaken, longest_is_overtaken, none_overtaken}
 use Rattle.order_violation.proofs.overtaking.if_overtaken.Goals as goal
 
 pub returns-in_err-a : goal.returns-in_err-a

@@ -1,4 +1,4 @@
-use Rattle.order_violation.proofs.Common.{take, FindsLongest, Overtakes}
+use Rattle.order_violation.proofs.Common.{FindsLongest, Overtakes, take}
 use Rattle.order_violation.proofs.search.longest_among.Given as goal
 
 abbrev pub invariant-loop-place : goal.invariant-loop-place

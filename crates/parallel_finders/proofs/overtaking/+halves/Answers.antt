@@ -1,4 +1,4 @@
-use Rattle.parallel_finders.proofs.Common.{subst, FindsFirst}
+use Rattle.parallel_finders.proofs.Common.{FindsFirst, subst}
 use Rattle.parallel_finders.proofs.Halves.{whole}
 use Rattle.parallel_finders.proofs.overtaking.+halves.Goals as goal
 

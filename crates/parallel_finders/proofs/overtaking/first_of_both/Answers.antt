@@ -1,5 +1,5 @@
-use Rattle.parallel_finders.proofs.Common.{subst, FindsFirst}
-use Rattle.order_violation.proofs.Chosen.{sooner_is_first, low_is_first, high_is_first}
+use Rattle.parallel_finders.proofs.Common.{FindsFirst, subst}
+use Rattle.order_violation.proofs.Chosen.{high_is_first, low_is_first, sooner_is_first}
 use Rattle.parallel_finders.proofs.overtaking.first_of_both.Goals as goal
 
 pub returns-in-None-default : goal.returns-in-None-default

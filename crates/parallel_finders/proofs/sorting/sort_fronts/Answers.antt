@@ -1,4 +1,4 @@
-use Rattle.parallel_finders.proofs.Common.{◌≡◌, always_returns_same, arith, IsNonDecreasingBy, rules, subst, sym}
+use Rattle.parallel_finders.proofs.Common.{always_returns_same, arith, IsNonDecreasingBy, rules, subst, sym, ◌≡◌}
 use Rattle.std.proofs.lemmas.List.Sorted.{IsNonDecreasingBy-from_sort}
 use Rattle.parallel_finders.proofs.InPlace.{in_place, moved_twice, rises_if_sorted}
 use Rattle.parallel_finders.proofs.sorting.sort_fronts.Goals as goal

@@ -1,9 +1,9 @@
-use Rattle.value_match.proofs.Common.{◌-◌, ◌<◌, ◌∙◌, arith, Enq, false≢true, get_or, get_or_read, IsAt, IsSourceOf, length, None, Operation}
-use Rattle.value_match.proofs.Common.{slice_get-get_or, subst, sym}
+use Rattle.value_match.proofs.Common.{arith, Enq, false≢true, get_or, get_or_read, IsAt, IsSourceOf, length, None}
+use Rattle.value_match.proofs.Common.{Operation, slice_get-get_or, subst, sym, ◌-◌, ◌<◌, ◌∙◌}
 use Rattle.value_match.proofs.CallPlaces.{source_at}
 use Rattle.value_match.proofs.FreshDequeues.{first_in_range, first_more, first_of_all, first_skip}
-use Rattle.value_match.proofs.fresh.first_fresh.Goals as goal
 use Rattle.value_match.proofs.fresh.first_fresh.Goals.{After-index-sources-place}
+use Rattle.value_match.proofs.fresh.first_fresh.Goals as goal
 
 -- the operation that the walk reads
 abbrev read : (c : After-index-sources-place) → Operation

@@ -1,8 +1,8 @@
-use Rattle.value_match.proofs.Common.{◌∙◌, ap, IsCallPlace, IsSourceOf, refl, slice_get_read, Some, subst, sym}
+use Rattle.value_match.proofs.Common.{ap, IsCallPlace, IsSourceOf, refl, slice_get_read, Some, subst, sym, ◌∙◌}
 use Rattle.value_match.proofs.CallPlaces.{call_within}
 use Rattle.value_match.proofs.FreshDequeues.{fresh_at_none, fresh_at_some}
-use Rattle.value_match.proofs.fresh.is_fresh.Goals as goal
 use Rattle.value_match.proofs.fresh.is_fresh.Goals.{In-Deq}
+use Rattle.value_match.proofs.fresh.is_fresh.Goals as goal
 
 -- the call is that for the value of the dequeue
 call : (c : In-Deq) → IsCallPlace c.args.operations.now c.in-Deq.field-0 c.args.source

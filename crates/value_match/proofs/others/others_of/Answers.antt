@@ -1,7 +1,7 @@
 use Rattle.value_match.proofs.Common.{IsNonDecreasingBy-from_sort_by_key, refl, rules, slice_get_read}
-use Rattle.value_match.proofs.CallPlaces.{others_unwanted, others_more, others_sorted}
-use Rattle.value_match.proofs.others.others_of.Goals as goal
+use Rattle.value_match.proofs.CallPlaces.{others_more, others_sorted, others_unwanted}
 use Rattle.value_match.proofs.others.others_of.Goals.{in-Some+in_ok-push, in_default}
+use Rattle.value_match.proofs.others.others_of.Goals as goal
 
 pub loop-place-preserved : goal.loop-place-preserved
 loop-place-preserved c =

@@ -1,5 +1,6 @@
-use Rattle.value_match.proofs.Common.{◌∙◌, ap, arith, Call, get_or_read, is_some, IsPartitionedBy-ltb}
+use Rattle.value_match.proofs.Common.{ap, arith, Call, get_or_read, is_some, IsPartitionedBy-ltb}
 use Rattle.value_match.proofs.Common.{IsPartitionPoint-from_clause, length, ltb, ltb-false, none_by_key, rules, sym}
+use Rattle.value_match.proofs.Common.{◌∙◌}
 use Rattle.value_match.proofs.others.place_among.Goals as goal
 
 pub returns-in_default : goal.returns-in_default

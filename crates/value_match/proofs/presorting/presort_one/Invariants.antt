@@ -1,4 +1,4 @@
-use Rattle.value_match.proofs.Common.{◌<◌, IsPermutation, length}
+use Rattle.value_match.proofs.Common.{IsPermutation, length, ◌<◌}
 use Rattle.value_match.proofs.presorting.presort_one.Given as goal
 
 abbrev pub invariant-loop-at : goal.invariant-loop-at

@@ -1,6 +1,7 @@
 use Rattle.value_match.proofs.Common.{IsPermutation-trans}
+use Rattle.value_match.proofs.presorting.presort_slice.Goals.{else-number-via-else-number}
+use Rattle.value_match.proofs.presorting.presort_slice.Goals.{else-number-via-then-number+else-not-presort_one}
 use Rattle.value_match.proofs.presorting.presort_slice.Goals as goal
-use Rattle.value_match.proofs.presorting.presort_slice.Goals.{else-number-via-then-number+else-not-presort_one, else-number-via-else-number}
 
 pub loop-place-preserved : goal.loop-place-preserved
 loop-place-preserved g c = elim c.else-number.branch [

@@ -1,7 +1,6 @@
 use Rattle.value_match.proofs.Common.{All-contains, ap, arith, Enq, false≢true, get_or, get_or_read, is_some, IsAt}
-use Rattle.value_match.proofs.Common.{IsCall, IsNearSource, IsSourceOf, None, Operation, refl}
-use Rattle.value_match.proofs.Common.{slice_get-get_or, slice_get_read, slice_get_within, Some, subst, sym, ◌-◌}
-use Rattle.value_match.proofs.Common.{◌∙◌, ◌≡◌}
+use Rattle.value_match.proofs.Common.{IsCall, IsNearSource, IsSourceOf, None, Operation, refl, slice_get-get_or}
+use Rattle.value_match.proofs.Common.{slice_get_read, slice_get_within, Some, subst, sym, ◌-◌, ◌∙◌, ◌≡◌}
 use Rattle.value_match.proofs.CallPlaces.{behind_at, call_within, found_all, found_here, found_more, found_nowhere}
 use Rattle.value_match.proofs.CallPlaces.{near_source, no_source, none_if}
 use Rattle.value_match.proofs.sources.find_others.Goals.{After-index-sources-place, in-Some, in_default-place_among}

@@ -1,4 +1,5 @@
-use Rattle.value_match.proofs.Common.{◌∙◌, ◌≡◌, ap, arith, HoldsNear, IsNearSource, length, None, refl, slice_get_read, Some, subst, sym}
+use Rattle.value_match.proofs.Common.{ap, arith, HoldsNear, IsNearSource, length, None, refl, slice_get_read, Some}
+use Rattle.value_match.proofs.Common.{subst, sym, ◌∙◌, ◌≡◌}
 use Rattle.value_match.proofs.CallPlaces.{call_within, is_wanted, near_push, no_near_source, wants_more}
 use Rattle.value_match.proofs.sources.near_sources.Goals as goal
 

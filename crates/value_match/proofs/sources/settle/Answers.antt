@@ -1,9 +1,10 @@
-use Rattle.value_match.proofs.Common.{◌<◌, ◌∙◌, ◌≡◌, ap, AreSettled, arith, get_or_read, length, None, refl, slice_get_read, Some, subst, sym, TakesFrom}
+use Rattle.value_match.proofs.Common.{ap, AreSettled, arith, get_or_read, length, None, refl, slice_get_read, Some}
+use Rattle.value_match.proofs.Common.{subst, sym, TakesFrom, ◌<◌, ◌∙◌, ◌≡◌}
 use Rattle.value_match.proofs.CallPlaces.{call_within, no_source, none_if}
 use Rattle.value_match.proofs.FreshDequeues.{in_time_more, no_dequeue}
 use Rattle.value_match.proofs.RepeatedDequeues.{takes_first, takes_no_source, takes_nothing}
-use Rattle.value_match.proofs.sources.settle.Goals as goal
 use Rattle.value_match.proofs.sources.settle.Goals.{In-Some}
+use Rattle.value_match.proofs.sources.settle.Goals as goal
 
 -- the call is one of the operations
 below : (c : In-Some) → c.in-Some.source < length c.loop-place.takers

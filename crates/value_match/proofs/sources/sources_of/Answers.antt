@@ -1,8 +1,8 @@
-use Rattle.value_match.proofs.Common.{◌-◌, ◌≡◌, arith, length, take-nil, with_items_is}
+use Rattle.value_match.proofs.Common.{arith, length, take-nil, with_items_is, ◌-◌, ◌≡◌}
 use Rattle.value_match.proofs.CallPlaces.{none_wanted}
 use Rattle.value_match.proofs.RepeatedDequeues.{no_takers}
+use Rattle.value_match.proofs.sources.sources_of.Goals.{else-not-is_empty, then-not-is_empty+in_ok-others}
 use Rattle.value_match.proofs.sources.sources_of.Goals as goal
-use Rattle.value_match.proofs.sources.sources_of.Goals.{then-not-is_empty+in_ok-others, else-not-is_empty}
 
 pub settle-settled-requires-clause-none : goal.settle-settled-requires-clause-none
 settle-settled-requires-clause-none c =

@@ -1,5 +1,5 @@
 use Rattle.value_match.proofs.Common.{arith}
-use Rattle.value_match.proofs.Fronts.{lists_more, all_listed}
+use Rattle.value_match.proofs.Fronts.{all_listed, lists_more}
 use Rattle.value_match.proofs.table.fronts_of.Goals as goal
 
 pub loop-place-preserved : goal.loop-place-preserved

@@ -1,5 +1,5 @@
-use Rattle.value_match.proofs.Common.{◌<◌, arith, get_or, get_or_default, length}
-use Rattle.value_match.proofs.Fronts.{nowhere, none_so_far, one_more_front, all_fronts}
+use Rattle.value_match.proofs.Common.{arith, get_or, get_or_default, length, ◌<◌}
+use Rattle.value_match.proofs.Fronts.{all_fronts, none_so_far, nowhere, one_more_front}
 use Rattle.value_match.proofs.table.name_longest.Goals as goal
 
 pub loop-front-init : goal.loop-front-init

@@ -1,10 +1,10 @@
-use Rattle.value_match.proofs.Common.{◌-◌, ◌<◌, ◌∙◌, ◌≡◌, arith, Enq, get_or, get_or_read, IsAt, IsSourceOf, length, None, Operation}
-use Rattle.value_match.proofs.Common.{slice_get-get_or, Some, subst, sym, TakesFrom}
+use Rattle.value_match.proofs.Common.{arith, Enq, get_or, get_or_read, IsAt, IsSourceOf, length, None, Operation}
+use Rattle.value_match.proofs.Common.{slice_get-get_or, Some, subst, sym, TakesFrom, ◌-◌, ◌<◌, ◌∙◌, ◌≡◌}
 use Rattle.value_match.proofs.CallPlaces.{source_at}
-use Rattle.value_match.proofs.RepeatedDequeues.{Twice, found_inside, met_again, met_first, met_once, met_skip, once_taken, repeat_chosen}
-use Rattle.value_match.proofs.RepeatedDequeues.{source_inside, takes_no_source, takes_source}
+use Rattle.value_match.proofs.RepeatedDequeues.{found_inside, met_again, met_first, met_once, met_skip, once_taken}
+use Rattle.value_match.proofs.RepeatedDequeues.{repeat_chosen, source_inside, takes_no_source, takes_source, Twice}
+use Rattle.value_match.proofs.takers.find_takers.Goals.{After-get, After-in_order-pair, In-Some, In-Some-get}
 use Rattle.value_match.proofs.takers.find_takers.Goals as goal
-use Rattle.value_match.proofs.takers.find_takers.Goals.{After-get, In-Some, In-Some-get, After-in_order-pair}
 
 -- the operation that the walk reads
 here : (c : After-get) → (o : Operation) × IsAt c.args.operations.now c.loop-place.place o × IsSourceOf c.args.operations.now o.kind c.get.result

@@ -1,5 +1,6 @@
-use Rattle.value_match.proofs.Common.{AreChosenFresh, AreChosenRepeat, IsMatchOutcomeOf, operations_of, subst}
-use Rattle.value_match.proofs.ToldPlaces.{fresh_told, repeat_told}
+use Rattle.value_match.proofs.Common.{AreChosenFresh, AreChosenRepeat, IsClear, IsMatchOutcomeOf, on, operations_of}
+use Rattle.value_match.proofs.Common.{refl, subst}
+use Rattle.value_match.proofs.ToldPlaces.{clear_told, fresh_told, repeat_told}
 use Rattle.value_match.proofs.values.match_values.Goals as goal
 
 pub returns-in-Fresh-clause-matched : goal.returns-in-Fresh-clause-matched
@@ -17,3 +18,11 @@ returns-in-Repeat-clause-matched c =
     let chosen = subst (λ all. AreChosenRepeat all c.in-Repeat.places) c.timeline.ensures.timeline found in
     rw (c.told_repeat.ensures, c.initial-initial_count.ensures.initial)
     (repeat_told history.initial (operations_of history.events) c.initial-initial_count.ensures.few c.in-Repeat.places chosen)
+
+pub returns-in-Clear-clause-matched : goal.returns-in-Clear-clause-matched
+returns-in-Clear-clause-matched c =
+    let history = c.args.history.now in
+    let is = c.initial-initial_count.ensures in
+    let found = subst (IsMatchOutcomeOf _) c.in-Clear.is c.in_ok-sorted.ensures in
+    let clear = subst (λ all. IsClear (on all)) c.timeline.ensures.timeline found.clear in
+    (c.new.ensures, clear_told history.initial (operations_of history.events) (history.events, refl, is.complete, is.few) clear)

@@ -1,8 +1,9 @@
-use Rattle.value_match.proofs.Common.{[], ◌∙◌, ◌∷◌, ap, arith, get_or_read, IsDequeuePlace, map-append, None, Pair, refl}
-use Rattle.value_match.proofs.Common.{slice_get_read, Some, subst, sym, value_at}
-use Rattle.value_match.proofs.SortedOut.{pair_enqueue, pair_dequeue, sorted_enqueue, sorted_other}
+use Rattle.value_match.proofs.Common.{[], ap, arith, get_or_read, IsDequeuePlace, map-append, None, Pair, refl}
+use Rattle.value_match.proofs.Common.{slice_get_read, Some, subst, sym, value_at, ◌∙◌, ◌∷◌}
+use Rattle.value_match.proofs.SortedOut.{pair_dequeue, pair_enqueue, sorted_enqueue, sorted_other}
+use Rattle.value_match.proofs.values.sorted_out.Goals.{in-Deq, in-Empty+in_ok-push-in-Empty, in-Enq}
+use Rattle.value_match.proofs.values.sorted_out.Goals.{in-Not+in_ok-push-in-Not}
 use Rattle.value_match.proofs.values.sorted_out.Goals as goal
-use Rattle.value_match.proofs.values.sorted_out.Goals.{in-Enq, in-Empty+in_ok-push-in-Empty, in-Not+in_ok-push-in-Not, in-Deq}
 
 pub loop-place-preserved : goal.loop-place-preserved
 loop-place-preserved c =

@@ -1,5 +1,5 @@
+use Rattle.value_match.proofs.Common.{length, map, value_at, ◌≤◌}
 use Rattle.std.proofs.Common.{vec_capacity, vec_len}
-use Rattle.value_match.proofs.Common.{◌≤◌, length, map, value_at}
 use Rattle.value_match.proofs.SortedOut.{IsSortedOut}
 use Rattle.value_match.proofs.values.sorted_out.Given as goal
 

@@ -1,4 +1,4 @@
-use Rattle.verdicts.proofs.Common.{◌≡◌, ◌++◌, take}
+use Rattle.verdicts.proofs.Common.{take, ◌++◌, ◌≡◌}
 use Rattle.verdicts.proofs.claimed_order.are_same.Given as goal
 
 abbrev pub invariant-loop-line : goal.invariant-loop-line

@@ -1,4 +1,5 @@
-use Rattle.verdicts.proofs.Common.{◌↔◌, ◌∙◌, ◌≡◌, IsNonDecreasingBy-from_sort_by_key, IsTrue, length_permutation, rules, sym}
+use Rattle.verdicts.proofs.Common.{IsNonDecreasingBy-from_sort_by_key, IsTrue, length_permutation, rules, sym, ◌↔◌}
+use Rattle.verdicts.proofs.Common.{◌∙◌, ◌≡◌}
 use Rattle.verdicts.proofs.ClaimedLines.{through}
 use Rattle.verdicts.proofs.OneVerdict.{sorted_tells}
 use Rattle.verdicts.proofs.claimed_order.holds_each_once.Goals as goal

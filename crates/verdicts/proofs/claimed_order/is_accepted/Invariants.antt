@@ -1,4 +1,4 @@
-use Rattle.verdicts.proofs.Common.{◌≡◌, drop, map, accept_all}
+use Rattle.verdicts.proofs.Common.{accept_all, drop, map, ◌≡◌}
 use Rattle.verdicts.proofs.claimed_order.is_accepted.Given as goal
 
 abbrev pub invariant-loop-line : goal.invariant-loop-line

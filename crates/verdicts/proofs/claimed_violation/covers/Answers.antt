@@ -1,5 +1,4 @@
-use Rattle.verdicts.proofs.Common.{take_rest}
-use Rattle.history_merge.specs.Operations.{operations_of}
+use Rattle.verdicts.proofs.Common.{operations_of, take_rest}
 use Rattle.verdicts.proofs.ClaimedLines.{more_lines_cover, through}
 use Rattle.verdicts.proofs.claimed_violation.covers.Goals as goal
 

@@ -1,5 +1,4 @@
-use Rattle.verdicts.proofs.Common.{◌↔◌, length, LinesCover}
-use Rattle.history_merge.specs.Operations.{operations_of}
+use Rattle.verdicts.proofs.Common.{length, LinesCover, operations_of, ◌↔◌}
 use Rattle.verdicts.proofs.claimed_violation.covers.Given as goal
 
 abbrev pub invariant-loop-rest : goal.invariant-loop-rest

@@ -1,7 +1,7 @@
-use Rattle.verdicts.proofs.Common.{◌∙◌, ap, sym, line_at}
+use Rattle.verdicts.proofs.Common.{ap, line_at, sym, ◌∙◌}
 use Rattle.verdicts.proofs.Collected.{found_none, found_one}
-use Rattle.verdicts.proofs.claiming.lines_at.Goals as goal
 use Rattle.verdicts.proofs.claiming.lines_at.Goals.{in-Some+in_ok-push, in_default}
+use Rattle.verdicts.proofs.claiming.lines_at.Goals as goal
 
 pub loop-place-preserved : goal.loop-place-preserved
 loop-place-preserved c =

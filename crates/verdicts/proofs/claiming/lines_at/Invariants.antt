@@ -1,4 +1,4 @@
-use Rattle.verdicts.proofs.Common.{◌≡◌, take, lines_at}
+use Rattle.verdicts.proofs.Common.{lines_at, take, ◌≡◌}
 use Rattle.verdicts.proofs.claiming.lines_at.Given as goal
 
 abbrev pub invariant-loop-place : goal.invariant-loop-place

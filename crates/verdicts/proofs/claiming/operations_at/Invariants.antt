@@ -1,4 +1,4 @@
-use Rattle.verdicts.proofs.Common.{◌≡◌, take, operations_at}
+use Rattle.verdicts.proofs.Common.{operations_at, take, ◌≡◌}
 use Rattle.verdicts.proofs.claiming.operations_at.Given as goal
 
 abbrev pub invariant-loop-place : goal.invariant-loop-place

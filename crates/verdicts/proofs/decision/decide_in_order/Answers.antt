@@ -1,4 +1,4 @@
-use Rattle.verdicts.proofs.Common.{subst, IsWitnessAnswer}
+use Rattle.verdicts.proofs.Common.{IsWitnessAnswer, subst}
 use Rattle.verdicts.proofs.NamedPlaces.{witness_is_chosen, yes_is_decided}
 use Rattle.verdicts.proofs.TrueClaims.{no_is_decided}
 use Rattle.verdicts.proofs.decision.decide_in_order.Goals as goal

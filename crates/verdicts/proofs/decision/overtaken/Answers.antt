@@ -1,4 +1,4 @@
-use Rattle.verdicts.proofs.Common.{subst, sym, IsDecided, No}
+use Rattle.verdicts.proofs.Common.{IsDecided, No, subst, sym}
 use Rattle.order_violation.specs.Pairs.{IsOrderAnswer}
 use Rattle.verdicts.proofs.NamedPlaces.{pair_is_chosen}
 use Rattle.verdicts.proofs.TrueClaims.{no_is_decided}

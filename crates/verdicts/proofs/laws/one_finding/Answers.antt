@@ -1,4 +1,4 @@
-use Rattle.verdicts.proofs.OneVerdict.{matched_is_one, pair_is_one, gap_is_one, witness_is_one}
+use Rattle.verdicts.proofs.OneVerdict.{gap_is_one, matched_is_one, pair_is_one, witness_is_one}
 use Rattle.verdicts.proofs.laws.one_finding.Goals as goal
 
 pub returns : goal.returns

@@ -1,6 +1,5 @@
-use Rattle.verdicts.proofs.Common.{arith, later_by, operation_within, ORIGIN, refl}
-use Rattle.history_merge.specs.Operations.{operations_of}
-use Rattle.value_match.proofs.ToldPlaces.{called_late, few_initial}
+use Rattle.verdicts.proofs.Common.{arith, few_initial, later_by, operation_within, operations_of, ORIGIN, refl}
+use Rattle.value_match.proofs.ToldPlaces.{called_late}
 use Rattle.verdicts.proofs.ClaimedLines.{through}
 use Rattle.verdicts.proofs.lookup.is_operation.Goals as goal
 

@@ -1,5 +1,4 @@
-use Rattle.history_merge.specs.Operations.{operations_of}
-use Rattle.value_match.proofs.ToldPlaces.{few_initial}
+use Rattle.verdicts.proofs.Common.{few_initial, operations_of}
 use Rattle.verdicts.proofs.ClaimedLines.{through}
 use Rattle.verdicts.proofs.ShownLines.{none_exactly}
 use Rattle.verdicts.proofs.lookup.no_line_did.Goals as goal

@@ -1,4 +1,5 @@
-use Rattle.verdicts.proofs.Common.{ap, arith, cases_lt, inl, inr, slice_get, slice_get-get_or, slice_get_within, Some, sym, take_rest, ◌∙◌, ◌≡◌}
+use Rattle.verdicts.proofs.Common.{ap, arith, cases_lt, inl, inr, slice_get, slice_get-get_or, slice_get_within, Some}
+use Rattle.verdicts.proofs.Common.{sym, take_rest, ◌∙◌, ◌≡◌}
 use Rattle.std.proofs.lemmas.Option.{same_Some}
 use Rattle.verdicts.proofs.ClaimedLines.{comes_after_first, through}
 use Rattle.verdicts.proofs.lookup.stands_before.Goals as goal

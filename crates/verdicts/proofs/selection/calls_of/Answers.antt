@@ -1,5 +1,5 @@
-use Rattle.verdicts.proofs.Common.{fact_from_collect, filter_map, IsFromIterResult, nat_cmp, rules, tests}
-use Rattle.verdicts.proofs.Common.{YieldsList-from_filter_map, YieldsList-from_slice, call_in}
+use Rattle.verdicts.proofs.Common.{call_in, fact_from_collect, filter_map, IsFromIterResult, nat_cmp, rules, tests}
+use Rattle.verdicts.proofs.Common.{YieldsList-from_filter_map, YieldsList-from_slice}
 use Rattle.verdicts.proofs.Collected.{holds_found}
 use Rattle.verdicts.proofs.selection.calls_of.Goals as goal
 

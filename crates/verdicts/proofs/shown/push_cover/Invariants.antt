@@ -1,4 +1,4 @@
-use Rattle.verdicts.proofs.Common.{◌++◌, ◌≡◌, flat_map, take, places_of_step}
+use Rattle.verdicts.proofs.Common.{flat_map, places_of_step, take, ◌++◌, ◌≡◌}
 use Rattle.verdicts.proofs.shown.push_cover.Given as goal
 
 abbrev pub invariant-loop-step : goal.invariant-loop-step

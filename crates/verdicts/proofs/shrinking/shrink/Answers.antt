@@ -1,5 +1,5 @@
 use Rattle.verdicts.proofs.Common.{ap, arith, contains, Event, filter, holds_ticket, IfOk-weaker, length, nat_cmp}
-use Rattle.verdicts.proofs.Common.{operations_of, selects, SelectsNamed, subst, timeline_is_complete, violation_lines}
+use Rattle.verdicts.proofs.Common.{operations_of, selects, SelectsNamed, subst, violation_lines}
 use Rattle.verdicts.proofs.Common.{◌∙◌, ◌≡◌}
 use Rattle.verdicts.proofs.Selections.{has_shortest_cover, no_longer}
 use Rattle.verdicts.proofs.ShrunkHistories.{are_complete, are_shrunk, IsShrunk, IsWhole}
@@ -45,8 +45,7 @@ returns c =
       kept = IfOk-weaker small (IsShrunk whole violation) _ (λ s is. is.kept) shrunk;
       same_violation = IfOk-weaker small (IsShrunk whole violation) _ (λ s is. is.same_violation) shrunk;
       minimal = IfOk-weaker small (IsShrunk whole violation) _ (λ s is. is.minimal) shrunk;
-      shortest = IfOk-weaker small (IsShrunk whole violation) _ (λ s is. has_shortest_cover whole.initial (operations_of whole.events) violation
-          (timeline_is_complete whole.initial whole.events is_whole.complete is_whole.few) c.requires) shrunk;
+      shortest = IfOk-weaker small (IsShrunk whole violation) _ (λ s is. has_shortest_cover whole.initial (operations_of whole.events) violation c.requires) shrunk;
       initial = IfOk-weaker small (IsShrunk whole violation) _ (λ s is. is.initial) shrunk;
       events = IfOk-weaker small (IsShrunk whole violation) _ (λ s is. is.events) shrunk;
       complete = IfOk-weaker small (IsShrunk whole violation) _ (λ s is. is.complete) shrunk;

@@ -1,5 +1,4 @@
-use Rattle.history_merge.proofs.Common.{◌≡◌, LOOSE, refl, subst}
-use Rattle.std.proofs.Common.{get_or}
+use Rattle.history_merge.proofs.Common.{get_or, LOOSE, refl, subst, ◌≡◌}
 use Rattle.history_merge.proofs.KnownValues.{knows_loose, repeats_by_set}
 use Rattle.history_merge.proofs.called.CalledValues.note_loose.Goals as goal
 

@@ -1,6 +1,5 @@
-use Rattle.history_merge.proofs.Common.{◌∙◌, ◌∷◌, ◌≡◌, ap, AreLeft, arith, Event, events_of}
-use Rattle.history_merge.proofs.Common.{item_count, MakesProgress, put_each, set, Some, sym}
-use Rattle.std.proofs.Common.{List}
+use Rattle.history_merge.proofs.Common.{ap, AreLeft, arith, Event, events_of, item_count, List, MakesProgress}
+use Rattle.history_merge.proofs.Common.{put_each, set, Some, sym, ◌∙◌, ◌∷◌, ◌≡◌}
 use Rattle.history_merge.proofs.TheirEvents.{GivesCall, GivesReturn, IsFirstOfAll, first_of_all, gives_call, gives_nothing, gives_return}
 use Rattle.history_merge.proofs.TheirEvents.{left_after_call, left_after_return, left_as_told, stays_none, still_none, told}
 use Rattle.history_merge.proofs.events.EventsIterator.next.Goals as goal

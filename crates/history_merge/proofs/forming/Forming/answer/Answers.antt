@@ -1,21 +1,11 @@
-use Rattle.history_merge.proofs.Common.{◌∙◌, ◌≡◌, None, refl}
-use Rattle.history_merge.proofs.Common.{slice_get_within, Some, sym, arith}
-use Rattle.std.proofs.Common.{get_or}
-use Rattle.history_merge.proofs.Formed.{formed_after_answer, pending_at, wrong_return}
+use Rattle.history_merge.proofs.Common.{arith, refl, sym, ◌∙◌}
+use Rattle.history_merge.proofs.Formed.{formed_after_answer, pending_at}
 use Rattle.history_merge.proofs.forming.Forming.answer.Goals as goal
 
 pub returns-in_default-get-clause-taken : goal.returns-in_default-get-clause-taken
 returns-in_default-get-clause-taken c = λ initial events known order returns.
     let at = pending_at events c.args.event.thread c.args.self.now c.in-Some.called c.requires.thread known (rw c.from-thread.ensures at c.in-Some.is) in
     grind (arith, at.was)
-
-pub complete-requires-clause-place : goal.complete-requires-clause-place
-complete-requires-clause-place c = grind (arith, slice_get_within)
-
-pub returns-in_default-kind_of-clause-taken : goal.returns-in_default-kind_of-clause-taken
-returns-in_default-kind_of-clause-taken c = λ initial events known order returns.
-    let here : get_or c.args.self.now.pending c.args.event.thread None ≡ Some c.in-Some.called = rw c.from-thread.ensures at c.in-Some.is in
-    grind (arith, wrong_return)
 
 pub returns-clause-taken : goal.returns-clause-taken
 returns-clause-taken c = λ initial events known order returns.

@@ -1,5 +1,4 @@
-use Rattle.history_merge.proofs.Common.{arith}
-use Rattle.history_merge.proofs.Common.{◌≡◌, length, refl}
+use Rattle.history_merge.proofs.Common.{arith, length, refl, ◌≡◌}
 use Rattle.history_merge.proofs.Formed.{fault_of_call, formed_after_call, none_pending_at}
 use Rattle.history_merge.proofs.forming.Forming.call.Goals as goal
 

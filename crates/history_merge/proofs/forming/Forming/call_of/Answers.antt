@@ -1,6 +1,5 @@
-use Rattle.history_merge.proofs.Common.{arith}
+use Rattle.history_merge.proofs.Common.{arith, None, sym}
 use Rattle.history_merge.proofs.TheirEvents.{call_so_far}
-use Rattle.history_merge.proofs.Common.{None, sym}
 use Rattle.history_merge.proofs.Formed.{pending_at}
 use Rattle.history_merge.proofs.Turns.{pending_call-above}
 use Rattle.history_merge.proofs.forming.Forming.call_of.Goals as goal

@@ -1,5 +1,4 @@
-use Rattle.history_merge.proofs.Common.{Event, HasFormed}
-use Rattle.std.proofs.Common.{List}
+use Rattle.history_merge.proofs.Common.{Event, HasFormed, List}
 use Rattle.history_merge.proofs.Turns.{IsLeastBefore}
 use Rattle.history_merge.proofs.forming.Forming.least_pending.Given as goal
 

@@ -1,5 +1,5 @@
-use Rattle.history_merge.proofs.Common.{[], ◌∙◌, ap, arith, Gathering, HasGathered, IfSome, inl, IsClash, refl, subst}
-use Rattle.history_merge.proofs.Common.{sym}
+use Rattle.history_merge.proofs.Common.{ap, arith, Gathering, HasGathered, IfSome, inl, IsClash, refl, subst, sym, ◌∙◌}
+use Rattle.history_merge.proofs.Common.{[]}
 use Rattle.history_merge.proofs.Faults.{begun}
 use Rattle.history_merge.proofs.gathering.Gathering.new.Goals as goal
 use Rattle.history_merge.proofs.gathering.Gathering.new.Goals.{in-Err, in-Ok}

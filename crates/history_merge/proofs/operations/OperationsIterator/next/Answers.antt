@@ -1,5 +1,4 @@
-use Rattle.history_merge.proofs.Common.{All, All-tail, ORIGIN, subst}
-use Rattle.std.specs.Prelude.{◌≤◌}
+use Rattle.history_merge.proofs.Common.{All, All-tail, ORIGIN, subst, ◌≤◌}
 use Rattle.history_merge.proofs.operations.OperationsIterator.next.Goals as goal
 
 pub invariant_of-self : goal.invariant_of-self

@@ -1,5 +1,4 @@
-use Rattle.history_merge.proofs.Common.{arith, get_or_from_slice_get, set, timeline, ◌+◌, ◌≡◌}
-use Rattle.std.proofs.Common.{get_or}
+use Rattle.history_merge.proofs.Common.{arith, get_or, get_or_from_slice_get, set, timeline, ◌+◌, ◌≡◌}
 use Rattle.history_merge.proofs.Timelines.{completed, is_timeline, operations_back}
 use Rattle.history_merge.proofs.timeline.Timeline.complete.Goals.{After-self-1}
 use Rattle.history_merge.proofs.timeline.Timeline.complete.Goals as goal

@@ -1,17 +1,17 @@
-use Rattle.value_match.proofs.Common.{◌∙◌, All-drop, All-take, ap, drop, drop-map, HasPlaces, map, sym, take}
-use Rattle.value_match.proofs.Common.{take-map, value_at}
+use Rattle.value_match.proofs.Common.{All-drop, All-take, ap, drop, drop-map, HasPlaces, map, sym, take, take-map}
+use Rattle.value_match.proofs.Common.{told_at, ◌∙◌}
 use Rattle.value_match.proofs.accepted.Values.split_at.Goals as goal
 
 pub new-requires : goal.new-requires
-new-requires c = rw (c.split_at.ensures.front, ← take-map) (All-take (HasPlaces c.self.inside.operations.now) c.args.place _ c.self.invariant)
+new-requires c = rw (c.split_at.ensures.front, ← take-map) (All-take (HasPlaces c.self.inside.timeline.now) c.args.place _ c.self.invariant)
 
 pub new-requires-2 : goal.new-requires-2
-new-requires-2 c = rw (c.split_at.ensures.back, ← drop-map) (All-drop (HasPlaces c.self.inside.operations.now) c.args.place _ c.self.invariant)
+new-requires-2 c = rw (c.split_at.ensures.back, ← drop-map) (All-drop (HasPlaces c.self.inside.timeline.now) c.args.place _ c.self.invariant)
 
 pub returns-clause-before : goal.returns-clause-before
-returns-clause-before c = c.new.ensures ∙ ap (map (value_at c.self.inside.operations.now)) c.split_at.ensures.front
-    ∙ sym (take-map (value_at c.self.inside.operations.now) c.args.place c.self.inside.pairs.now) ∙ ap (take c.args.place) c.self.view_is
+returns-clause-before c = c.new.ensures ∙ ap (map (told_at c.self.inside.initial_count c.self.inside.timeline.now)) c.split_at.ensures.front
+    ∙ sym (take-map (told_at c.self.inside.initial_count c.self.inside.timeline.now) c.args.place c.self.inside.pairs.now) ∙ ap (take c.args.place) c.self.view_is
 
 pub returns-clause-others : goal.returns-clause-others
-returns-clause-others c = c.new-2.ensures ∙ ap (map (value_at c.self.inside.operations.now)) c.split_at.ensures.back
-    ∙ sym (drop-map (value_at c.self.inside.operations.now) c.args.place c.self.inside.pairs.now) ∙ ap (drop c.args.place) c.self.view_is
+returns-clause-others c = c.new-2.ensures ∙ ap (map (told_at c.self.inside.initial_count c.self.inside.timeline.now)) c.split_at.ensures.back
+    ∙ sym (drop-map (told_at c.self.inside.initial_count c.self.inside.timeline.now) c.args.place c.self.inside.pairs.now) ∙ ap (drop c.args.place) c.self.view_is

@@ -1,8 +1,8 @@
-use Rattle.value_match.proofs.Common.{◌<◌, arith, EntersBefore, get_or, get_or_default, IsLongestOf, IsTableOf}
-use Rattle.value_match.proofs.Common.{length, subst, sym}
+use Rattle.value_match.proofs.Common.{arith, EntersBefore, get_or, get_or_default, IsLongestOf, IsTableOf, length}
+use Rattle.value_match.proofs.Common.{subst, sym, ◌<◌}
 use Rattle.value_match.proofs.Fronts.{fronts_rise, longest_found, longest_within, none_before, nowhere}
-use Rattle.value_match.proofs.table.LongestTable.longest_before.Goals as goal
 use Rattle.value_match.proofs.table.LongestTable.longest_before.Goals.{After-as_slice-fronts}
+use Rattle.value_match.proofs.table.LongestTable.longest_before.Goals as goal
 
 -- the fronts are the table's
 table : (c : After-as_slice-fronts) → IsTableOf c.self.inside.values c.as_slice-fronts.result.now

@@ -1,5 +1,5 @@
-use Rattle.verdicts.proofs.Common.{[], ◌++◌, ◌∙◌, ◌∷◌, ◌≡◌, ap, append_assoc, contains, List, nat_cmp, sym}
-use Rattle.verdicts.proofs.Common.{Operation, selects}
+use Rattle.verdicts.proofs.Common.{[], ap, append_assoc, contains, List, nat_cmp, Operation, selects, sym, ◌++◌, ◌∙◌}
+use Rattle.verdicts.proofs.Common.{◌∷◌, ◌≡◌}
 use Rattle.verdicts.proofs.Collected.{held_more, held_same}
 use Rattle.verdicts.proofs.selection.Selection.tickets.Goals as goal
 

@@ -1,4 +1,4 @@
-use Rattle.verdicts.proofs.Common.{◌≡◌, ◌++◌, contains, filter, List, nat_cmp, ℕ, holds_ticket, Operation, selects}
+use Rattle.verdicts.proofs.Common.{contains, filter, holds_ticket, List, nat_cmp, Operation, selects, ℕ, ◌++◌, ◌≡◌}
 use Rattle.verdicts.proofs.selection.Selection.tickets.Given as goal
 
 abbrev pub invariant-loop-operation : goal.invariant-loop-operation

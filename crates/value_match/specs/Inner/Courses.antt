@@ -1,0 +1,16 @@
+-- Operations by their times, whatever they are of, as a course.
+use Rattle.std.specs.Prelude.{List}
+use Rattle.history_merge.specs.declared.operation.Operation.{Operation}
+use Rattle.history_merge.specs.declared.operation.OpKind.TheVariants.{Enq}
+use Rattle.history_merge.specs.Complete.{AreComplete}
+use Rattle.history_merge.specs.Operations.{Did}
+use Rattle.value_match.specs.Lives.{Course, lives_of}
+
+-- values come in by the successful enqueues among the operations alone
+abbrev pub on : List Operation → Course
+on operations = record {
+  operations = operations;
+  Enters = λ enqueue v. Did operations enqueue (Enq v);
+  lives = lives_of operations;
+  IsComplete = AreComplete operations;
+}
