@@ -30,7 +30,6 @@ pub fn effects_rise_within_bars()
 /// Rows stand in the order of time: initial values, front first, then events by their tickets, each of an operation that is drawn in
 /// a row of its own and all others counted in rows between, and of a `YES` the effects in its order,
 /// each within its bar. Returns stand above calls as operations precede one another. The laws are the contract; the body is empty.
-#[tactic(auto, using(crate::proofs::Rows::rows_rise, crate::proofs::Rows::initial_values_have_rows, crate::proofs::Rows::operations_have_rows, crate::proofs::Rows::events_are_counted, crate::proofs::Rows::effects_have_rows, crate::proofs::Rows::initial_rows_are_first, crate::proofs::Rows::rows_tell_precedence, crate::proofs::Rows::effect_rows_are_in_bars, crate::proofs::Rows::effect_rows_rise))]
 pub fn rows_stand_in_time()
     ensures rise { RowsRise }
     ensures initial { InitialValuesHaveRows }

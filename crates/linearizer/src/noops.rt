@@ -1,5 +1,6 @@
 //! The operations that change nothing, by their positions.
-ghost use Rattle.std.specs.Prelude.{◌≡◌, ◌+◌, ◌↔◌, ◌<◌, ◌≤◌, All, IfOk, IsSomeAnd, IsTrue, MatchOption, OnOk, Some, false, filter, length, map, slice_get};
+ghost use Rattle.std.specs.Prelude.{◌≡◌, ◌+◌, ◌↔◌, ◌<◌, ◌≤◌, All, IfOk, IsSomeAnd, IsTrue, MatchOption, OnOk};
+ghost use Rattle.std.specs.Prelude.{Some, false, filter, length, map, slice_get};
 ghost use Rattle.history_merge.specs.declared.packed.TheConstants.{PACKED_LIMIT};
 ghost use Rattle.event_records.specs.declared.limits.TheConstants.{ORIGIN};
 ghost use Rattle.value_match.specs.Lives.{AreLeastFreeGaps, course_of, is_empty_answer, is_refused, timed};

@@ -1,5 +1,15 @@
-use Rattle.drawing.proofs.Rows.{operations_have_rows}
+use Rattle.drawing.proofs.Rows as rows
 use Rattle.drawing.proofs.laws.rows_stand_in_time.Goals as goal
 
-pub returns-clause-operations : goal.returns-clause-operations
-returns-clause-operations c = operations_have_rows
+pub returns : goal.returns
+returns c = record {
+  rise = rows.rows_rise;
+  initial = rows.initial_values_have_rows;
+  operations = rows.operations_have_rows;
+  counted = rows.events_are_counted;
+  effects = rows.effects_have_rows;
+  first = rows.initial_rows_are_first;
+  precedence = rows.rows_tell_precedence;
+  within = rows.effect_rows_are_in_bars;
+  in_order = rows.effect_rows_rise;
+}
