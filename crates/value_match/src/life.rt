@@ -92,7 +92,9 @@ impl Life {
 #[derive(Clone, Copy, Debug, PartialEq, Eq)]
 pub struct MatchedValue {
     pub life: Life,
+    /// Where the value comes from.
     pub source: Source,
+    /// The place of its dequeue among the operations, where it is dequeued.
     pub dequeue: Option<OpId>,
 }
 
