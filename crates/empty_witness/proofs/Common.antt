@@ -6,8 +6,8 @@ pub use Rattle.empty_witness.specs.declared.spans.Span.{Span}
 pub use Rattle.history_merge.proofs.Distinct.{call_before_return, contains_cons, no_enqueue, not_in_none, one_at}
 pub use Rattle.history_merge.proofs.Distinct.{place_of, return_differs_from_call, return_in_range}
 pub use Rattle.event_records.specs.declared.limits.TheConstants.{ORIGIN}
-pub use Rattle.history_merge.specs.Initial.{Contents, later_by}
-pub use Rattle.history_merge.specs.Inner.Timeline.{initial_enqueues, timeline}
+pub use Rattle.history_merge.specs.Initial.{Contents, initial_enqueues, later_by}
+pub use Rattle.history_merge.specs.Inner.Timeline.{timeline}
 pub use Rattle.history_merge.specs.Operations.{Did, IsAt, IsInWindow, NoneDid, Precedes}
 pub use Rattle.history_merge.specs.declared.operation.OpKind.TheVariants.{Deq, Empty, Enq, Not}
 pub use Rattle.history_merge.specs.declared.operation.Operation.{Operation}

@@ -59,13 +59,13 @@ pub use Rattle.history_merge.specs.Faults.{pending_call, repeats_value, was_call
 pub use Rattle.history_merge.specs.Forming.{answered, begun, operation_so_far, operations_so_far, waiting}
 pub use Rattle.history_merge.specs.Gathering.{HasFormed, HasGathered, HasMetFault, HasRefusedInitial, is_among}
 pub use Rattle.history_merge.specs.Gathering.{IsForming, Knows, name_in}
-pub use Rattle.history_merge.specs.Initial.{Contents, enqueue_at, IsCompleteFrom, later_by}
-pub use Rattle.history_merge.specs.Inner.Timeline.{enqueues_from, initial_enqueues, timeline}
+pub use Rattle.history_merge.specs.Initial.{Contents, enqueue_at, enqueues_from, initial_enqueues}
+pub use Rattle.history_merge.specs.Initial.{IsCompleteFrom, later_by}
 pub use Rattle.history_merge.specs.Inner.Clashes.{IsSought}
 pub use Rattle.history_merge.specs.Inner.Forming.{AreCalledIn, FitsTurn, is_called_in, IsFormedOf, NothingPending}
 pub use Rattle.history_merge.specs.Inner.History.{AreInTurn, AreLeft, comes_by_ticket, due_in, FollowsInTurn}
 pub use Rattle.history_merge.specs.Inner.History.{IsFirstDue, IsKept, IsRunOf, next_of}
-pub use Rattle.history_merge.specs.Inner.Timeline.{earlier_by, IsTimeline, operations_on}
+pub use Rattle.history_merge.specs.Inner.Timeline.{earlier_by, IsTimeline, operations_on, timeline}
 pub use Rattle.history_merge.specs.Legal.{IsLegalOrder, IsLinearizable}
 pub use Rattle.history_merge.specs.Operations.{Did, enqueued_value, kind_of, operation_of, operations_of, Precedes}
 pub use Rattle.history_merge.specs.Queue.{accept, accept_all, IsAccepted}

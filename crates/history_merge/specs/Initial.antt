@@ -1,6 +1,7 @@
 -- Histories of a queue that holds some values first: its initial values, front first, which no operation enqueues.
-use Rattle.std.specs.Prelude.{ℕ, ◌+◌, List, ◌++◌}
+use Rattle.std.specs.Prelude.{ℕ, ◌+◌, ◌-◌, List, [], ◌∷◌, ◌++◌, length}
 use Rattle.event_records.specs.declared.event.Event.{Event}
+use Rattle.event_records.specs.declared.limits.TheConstants.{ORIGIN}
 use Rattle.history_merge.specs.declared.operation.Operation.{Operation}
 use Rattle.history_merge.specs.declared.operation.OpKind.TheVariants.{Enq}
 use Rattle.history_merge.specs.Complete.{AreDistinct, IsCompleteHistory, called_values}
@@ -29,3 +30,12 @@ enqueue_at time v = record { call = time; ret = time; thread = 0; kind = Enq v }
 -- the operation, this much later
 abbrev pub later_by : ℕ → Operation → Operation
 later_by n o = record { call = o.call + n; ret = o.ret + n; thread = o.thread; kind = o.kind }
+
+-- from this time on the values are enqueued, one after another
+abbrev pub enqueues_from : ℕ → List ℕ → List Operation
+enqueues_from time [] = []
+enqueues_from time (v ∷ rest) = enqueue_at time v ∷ enqueues_from (time + 1) rest
+
+-- the enqueues of the initial values, of which the last comes just before the time of ticket 0
+abbrev pub initial_enqueues : List ℕ → List Operation
+initial_enqueues initial = enqueues_from (ORIGIN - length initial) initial

@@ -1,9 +1,8 @@
-ghost use Rattle.std.specs.Prelude.{◌≡◌, ◌+◌, ◌≤◌, List, length};
+ghost use Rattle.std.specs.Prelude.{◌≡◌, ◌+◌, ◌++◌, ◌≤◌, List, length, map};
 ghost use Rattle.event_records.specs.declared.event.Event.{Event};
-ghost use Rattle.event_records.specs.declared.limits.TheConstants.{MAX_EVENTS, MAX_INITIAL};
+ghost use Rattle.event_records.specs.declared.limits.TheConstants.{MAX_EVENTS, MAX_INITIAL, ORIGIN};
 ghost use Rattle.history_merge.specs.Complete.{AreComplete, IsCompleteHistory};
-ghost use Rattle.history_merge.specs.Initial.{IsCompleteFrom};
-ghost use Rattle.history_merge.specs.Inner.Timeline.{timeline};
+ghost use Rattle.history_merge.specs.Initial.{IsCompleteFrom, initial_enqueues, later_by};
 ghost use Rattle.history_merge.specs.Inner.Forming.{IsFormedOf};
 ghost use Rattle.history_merge.specs.Operations.{operations_of};
 
@@ -20,8 +19,8 @@ use std::marker::Model;
 /// Each value of this type is one: tickets rise, each thread's calls and returns alternate, each call has a return,
 /// no two calls enqueue one value, and the initial values are distinct and enqueued by no call.
 ///
-/// It keeps the initial values and its timeline, from which it restores operations and events. That takes 20 bytes for
-/// each operation, and 28 for each initial value.
+/// It keeps the initial values and the operations by time, from which it restores operations and events. That takes 20
+/// bytes for each operation, and 28 for each initial value.
 #[derive(Debug, Drop)]
 pub struct History {
     timeline: Timeline,
@@ -83,11 +82,11 @@ impl History {
         self.timeline.operations()
     }
 
-    /// Returns the operations on one scale of time: the enqueues of the initial values, one after another, and then the
-    /// operations at the times of their tickets. They are those of a complete history of a queue that is empty at first,
-    /// but that an initial value is enqueued within one time.
-    pub fn timeline(&self) -> &[PackedOperation]
-        ensures timeline { result.now ≡ timeline self.now.initial (operations_of self.now.events) }
+    /// Returns what happens on the one scale of time: the enqueues of the initial values, each within one time, of which
+    /// the last comes just before the time of ticket 0; and then the operations at the times of their tickets. It is for
+    /// passes over both, and takes no memory.
+    pub fn by_time(&self) -> &[PackedOperation]
+        ensures by_time { result.now ≡ initial_enqueues self.now.initial ++ map (later_by ORIGIN) (operations_of self.now.events) }
         ensures complete { AreComplete result.now }
         ensures from { IsCompleteFrom self.now.initial self.now.events }
         ensures few { length result.now ≤ MAX_EVENTS + MAX_INITIAL }

@@ -12,7 +12,7 @@ use std::marker::Model;
 /// An iterator over operations of a history by their tickets, in the order of their calls; seen as the list of those that
 /// are left.
 ///
-/// It borrows them from the history's timeline, on which each is later by `ORIGIN`.
+/// It borrows them from a history, which has each at the times of its tickets.
 #[derive(Debug, Drop)]
 pub struct Operations<'a> {
     later: &'a [PackedOperation],

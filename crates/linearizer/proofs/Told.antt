@@ -3,7 +3,7 @@ use Rattle.linearizer.proofs.Elements.{AllPairs-map, AllPairs-tail, earlier_at, 
 use Rattle.linearizer.proofs.OneOrder.{chosen_order_is_legal, each_once, operations_rise, position_along}
 use Rattle.linearizer.proofs.OneOrder.{sorted_is_chosen}
 use Rattle.value_match.proofs.ToldPlaces.{course_back, earlier, earlier_later, earlier_none, timeline_earlier}
-use Rattle.history_merge.specs.Inner.Timeline.{enqueues_from, initial_enqueues}
+use Rattle.history_merge.specs.Initial.{enqueues_from, initial_enqueues}
 use Rattle.history_merge.proofs.Timelines.{all_timeline_orders}
 use Rattle.std.proofs.lemmas.List.Elements.{All-append}
 use Rattle.std.proofs.lemmas.List.Sorted.{IsPermutation-append}

@@ -5,10 +5,10 @@ use std::alloc::Global;
 use std::marker::Model;
 use text_lines::{ReadFailed, TextSource};
 
-/// The most bytes that are kept.
-pub const MOST_KEPT: usize = 1 << 20;
+/// The most bytes that are kept: some 6,000 lines, so that what is kept for a message costs a short check little.
+pub const MOST_KEPT: usize = 1 << 17;
 
-/// A source that keeps the front of what it gives, at most a mebibyte, so that a message can show a line of it.
+/// A source that keeps the front of what it gives, at most 128 KiB, so that a message can show a line of it.
 ///
 /// What it gives is what the source gives. Where no memory is left for the front, no more of it is kept.
 #[derive(Drop)]

@@ -35,8 +35,8 @@ pub use Rattle.history_merge.proofs.KnownValues.{is_eq-nat_cmp, none_by_key}
 pub use Rattle.history_merge.proofs.Timelines.{length_enqueues}
 pub use Rattle.history_merge.specs.Complete.{AreComplete, IsTimed}
 pub use Rattle.event_records.specs.declared.limits.TheConstants.{MAX_INITIAL, ORIGIN}
-pub use Rattle.history_merge.specs.Initial.{enqueue_at, later_by}
-pub use Rattle.history_merge.specs.Inner.Timeline.{enqueues_from, initial_enqueues, timeline}
+pub use Rattle.history_merge.specs.Initial.{enqueue_at, enqueues_from, initial_enqueues, later_by}
+pub use Rattle.history_merge.specs.Inner.Timeline.{timeline}
 pub use Rattle.history_merge.specs.Legal.{ArePlacesOf}
 pub use Rattle.history_merge.specs.Operations.{Did, enqueued_value, IsAt, NoneDid, operations_of}
 pub use Rattle.history_merge.specs.declared.operation.OpKind.{OpKind}

@@ -20,7 +20,7 @@ use Rattle.value_match.proofs.Agreeing.{Agree, agree_back, chosen_of, life_of, n
 use Rattle.value_match.proofs.Lives.{life_is_contained, life_of_contained, places_of_value, value_is_life}
 use Rattle.std.proofs.lemmas.List.Elements.{Contains-get_or}
 use Rattle.value_match.proofs.Lists.{mapped_from, mapped_to}
-use Rattle.value_match.specs.Lives.{ComesIn, initial_lives, IsOfHistory}
+use Rattle.value_match.specs.Lives.{ComesIn, initial_lives, IsOfHistory, ListsItsLives}
 use Rattle.value_match.specs.declared.life.Source.{Source}
 use Rattle.value_match.specs.declared.life.Source.TheVariants as source
 use Rattle.value_match.specs.declared.violation.Violation.TheVariants as violation
@@ -542,17 +542,22 @@ module _ (initial : List ℕ) (operations : List Operation) (clear : IsClear (co
   pub clear_life : (life : Life) → IsLife (course initial operations) life → IsLife (on (timeline initial operations)) life
   clear_life = life_of (course initial operations) (on (timeline initial operations)) clear_course
 
+  -- the lives that are listed are those that there are
+  pub lists_its_lives : ListsItsLives (course initial operations)
+  lists_its_lives life = (
+    λ is. subst (λ lives. Contains lives life) (same_lives initial operations)
+        (life_is_contained (timeline initial operations) life clear_on (clear_life life is)),
+    λ listed. life_of (on (timeline initial operations)) (course initial operations) (agree_back _ _ clear_course) life
+        (life_of_contained (timeline initial operations) life (subst (λ lives. Contains lives life) (sym (same_lives initial operations)) listed)),
+  )
+
   module _ (values : List MatchedValue) (holds : HoldsValues (record { initial = initial; operations = operations }) values) where
     -- each value is a life
     pub value_lives : (value : MatchedValue) → Contains values value → IsLife (course initial operations) value.life
     value_lives value among =
-        let listed = subst (λ lives. Contains lives value.life) (holds.lives ∙ sym (same_lives initial operations))
-        (mapped_to (λ m. m.life) values value among) in
-        life_of (on (timeline initial operations)) (course initial operations)
-        (agree_back _ _ clear_course) value.life (life_of_contained (timeline initial operations) value.life listed)
+        (lists_its_lives value.life).1 (subst (λ lives. Contains lives value.life) holds.lives (mapped_to (λ m. m.life) values value among))
 
     -- and each life is that of a value
     pub life_value : (life : Life) → IsLife (course initial operations) life → (value : MatchedValue) × Contains values value × (value.life ≡ life)
-    life_value life is = mapped_from (λ m. m.life) values life
-        (subst (λ lives. Contains lives life) (same_lives initial operations ∙ sym holds.lives)
-        (life_is_contained (timeline initial operations) life clear_on (clear_life life is)))
+    life_value life is =
+        mapped_from (λ m. m.life) values life (subst (λ lives. Contains lives life) (sym holds.lives) ((lists_its_lives life).0 is))

@@ -16,7 +16,7 @@ pub(crate) struct Pair {
 
 /// Accepted values, seen as the list of them.
 ///
-/// It borrows the timeline, and a word for each value.
+/// It borrows the history's operations, and a word for each value.
 #[derive(Drop)]
 pub struct Values<'a> {
     initial_count: usize,

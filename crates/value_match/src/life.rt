@@ -11,7 +11,7 @@ use history_merge::{OpId, Operation};
 /// One above the greatest time: the call and the return of the dequeue that a value never gets.
 pub const NEVER: u64 = MAX_TIME + 1;
 
-/// The ticket of a time of the timeline. The enqueue of the j-th of k initial values has the ticket j - k.
+/// The ticket of a time. The enqueue of the j-th of k initial values has the ticket j - k.
 pub fn ticket_of(time: u64) -> i64
     requires { time ≤ NEVER }
     ensures { result ≡ ticket_of time }

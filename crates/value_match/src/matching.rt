@@ -3,7 +3,7 @@ ghost use Rattle.value_match.specs.Inner.Courses.{on};
 ghost use Rattle.value_match.specs.declared.matching.TheConstants.{MAX_MATCHED};
 ghost use Rattle.history_merge.specs.Inner.Timeline.{timeline};
 ghost use Rattle.history_merge.specs.Operations.{operations_of};
-ghost use Rattle.value_match.specs.Lives.{course_of, HoldsPlaces, is_empty_answer, is_refused};
+ghost use Rattle.value_match.specs.Lives.{course_of, HoldsPlaces, is_empty_answer, is_refused, ListsItsLives};
 ghost use Rattle.value_match.specs.Outcome.{HoldsValues};
 ghost use Rattle.value_match.specs.Violations.{IsClear};
 ghost use Rattle.value_match.specs.Inner.SortedOut.{IsSortedOutOf};
@@ -97,10 +97,11 @@ impl<'a> Matching<'a> {
     pub fn values(&self) -> Values<'_>
         ensures values { HoldsValues self.now result }
         ensures clear { IsClear (course_of self.now) }
+        ensures lives { ListsItsLives (course_of self.now) }
     {
         Values::new(
             self.initial().len(),
-            self.history.timeline(),
+            self.history.by_time(),
             self.sorted.values.as_slice(),
         )
     }

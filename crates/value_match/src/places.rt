@@ -7,7 +7,7 @@ use std::marker::Model;
 
 /// Places of operations of a history, seen as the list of them.
 ///
-/// It borrows those of the timeline.
+/// It borrows a list of the history's matching.
 #[derive(Drop)]
 pub struct Places<'a> {
     initial_count: usize,

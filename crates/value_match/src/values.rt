@@ -47,7 +47,7 @@ pub fn match_values(alloc: Global, history: &History) -> Result<Matched<'_>, All
     ensures complete { IsOfHistory history.now.initial (operations_of history.now.events) }
 {
     let initial_count = history.initial().len();
-    match find(alloc, history.timeline())? {
+    match find(alloc, history.by_time())? {
         MatchOutcome::Clear(sorted) => Ok(Matched::Clear(Matching::new(history, sorted))),
         MatchOutcome::Fresh(places) => Ok(Matched::Fresh(told_fresh(initial_count, places))),
         MatchOutcome::Repeat(places) => Ok(Matched::Repeat(told_repeat(initial_count, places))),

@@ -41,8 +41,9 @@ pub use Rattle.event_records.specs.declared.event.What.TheVariants.{CallDeq, Cal
 pub use Rattle.event_records.specs.declared.limits.TheConstants.{MAX_INITIAL, MAX_OPERATIONS, MAX_THREAD, MAX_TICKET}
 pub use Rattle.event_records.specs.declared.limits.TheConstants.{MAX_TIME, ORIGIN}
 pub use Rattle.history_merge.specs.Complete.{AreComplete, AreDistinct, called_value, called_values, IsCompleteHistory}
-pub use Rattle.history_merge.specs.Initial.{Contents, enqueue_at, HistoryView, IsCompleteFrom, later_by}
-pub use Rattle.history_merge.specs.Inner.Timeline.{enqueues_from, initial_enqueues, timeline}
+pub use Rattle.history_merge.specs.Initial.{Contents, enqueue_at, enqueues_from, HistoryView, initial_enqueues}
+pub use Rattle.history_merge.specs.Initial.{IsCompleteFrom, later_by}
+pub use Rattle.history_merge.specs.Inner.Timeline.{timeline}
 pub use Rattle.history_merge.specs.Legal.{ArePlacesOf, IsLegalOrder, IsLinearizable}
 pub use Rattle.history_merge.specs.Operations.{Did, IsAt, NoneDid, operation_of, operations_of, Precedes}
 pub use Rattle.history_merge.specs.Queue.{accept, accept_all, IsAccepted}

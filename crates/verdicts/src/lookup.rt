@@ -26,7 +26,7 @@ pub(crate) fn line_did(history: &History, line: ClaimLine, kind: OpKind) -> bool
 pub(crate) fn no_line_did(history: &History, kind: OpKind) -> bool
     ensures { IsTrue result ↔ NoLineDid history.now.initial (operations_of history.now.events) kind }
 {
-    none_did(history.timeline(), kind)
+    none_did(history.by_time(), kind)
 }
 
 /// Whether the first line precedes the second.
@@ -75,11 +75,11 @@ fn stands_before(values: &[u64], first: u64, second: u64) -> bool
 fn is_operation(history: &History, operation: Operation) -> bool
     ensures { IsTrue result ↔ Contains (operations_of history.now.events) operation }
 {
-    let timeline = history.timeline();
+    let by_time = history.by_time();
     if operation.call > MAX_TICKET || operation.ret > MAX_TICKET {
         return false;
     }
-    has_operation(timeline, later(operation))
+    has_operation(by_time, later(operation))
 }
 
 /// The operation by the times of its tickets.

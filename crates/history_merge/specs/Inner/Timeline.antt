@@ -1,17 +1,8 @@
 -- The timeline: the initial values, as enqueues before all else, and then the operations; and these by their tickets again.
-use Rattle.std.specs.Prelude.{◌≡◌, ◌≤◌, ℕ, ◌+◌, ◌-◌, List, [], ◌∷◌, ◌++◌, drop, length, map}
+use Rattle.std.specs.Prelude.{◌≡◌, ◌≤◌, ℕ, ◌-◌, List, ◌++◌, drop, length, map}
 use Rattle.event_records.specs.declared.limits.TheConstants.{MAX_INITIAL, ORIGIN}
 use Rattle.history_merge.specs.declared.operation.Operation.{Operation}
-use Rattle.history_merge.specs.Initial.{enqueue_at, later_by}
-
--- from this time on the values are enqueued, one after another
-abbrev pub enqueues_from : ℕ → List ℕ → List Operation
-enqueues_from time [] = []
-enqueues_from time (v ∷ rest) = enqueue_at time v ∷ enqueues_from (time + 1) rest
-
--- the enqueues of the initial values, of which the last comes just before the time of ticket 0
-abbrev pub initial_enqueues : List ℕ → List Operation
-initial_enqueues initial = enqueues_from (ORIGIN - length initial) initial
+use Rattle.history_merge.specs.Initial.{initial_enqueues, later_by}
 
 -- the initial values are enqueued one after another, and then come the operations, each at the times of its tickets
 abbrev pub timeline : List ℕ → List Operation → List Operation

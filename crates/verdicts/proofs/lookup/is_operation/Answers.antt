@@ -7,7 +7,7 @@ pub returns-then-operation-gt-MAX_TICKET : goal.returns-then-operation-gt-MAX_TI
 returns-then-operation-gt-MAX_TICKET c = (
   λ f. cc,
   λ among.
-      let within = operation_within c.args.history.now.events c.args.operation c.timeline-timeline.ensures.from.complete among in
+      let within = operation_within c.args.history.now.events c.args.operation c.by_time-by_time.ensures.from.complete among in
       absurd (grind (arith, within, c.then-operation-gt-MAX_TICKET.either)),
 )
 
@@ -15,7 +15,7 @@ pub returns : goal.returns
 returns c =
     let history = c.args.history.now in
     let operations = operations_of history.events in
-    let timeline = c.timeline-timeline.ensures in
-    let few = few_initial history.initial operations (rw timeline.timeline at timeline.complete) in
+    let by_time = c.by_time-by_time.ensures in
+    let few = few_initial history.initial operations (rw by_time.by_time at by_time.complete) in
     let there = called_late history.initial operations (later_by ORIGIN c.args.operation) c.args.operation few (omega arith) refl in
-    through (rw (timeline.timeline, c.later.ensures) at c.has_operation.ensures) (there.1, there.0)
+    through (rw (by_time.by_time, c.later.ensures) at c.has_operation.ensures) (there.1, there.0)

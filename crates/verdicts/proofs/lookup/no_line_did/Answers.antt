@@ -7,5 +7,5 @@ pub returns : goal.returns
 returns c =
     let history = c.args.history.now in
     let operations = operations_of history.events in
-    through (rw c.timeline.ensures.timeline at c.none_did.ensures)
-    (none_exactly history.initial operations (few_initial history.initial operations (rw c.timeline.ensures.timeline at c.timeline.ensures.complete)) c.args.kind)
+    through (rw c.by_time.ensures.by_time at c.none_did.ensures)
+    (none_exactly history.initial operations (few_initial history.initial operations (rw c.by_time.ensures.by_time at c.by_time.ensures.complete)) c.args.kind)

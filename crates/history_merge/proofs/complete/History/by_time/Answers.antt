@@ -1,7 +1,7 @@
 use Rattle.history_merge.proofs.Common.{arith, events_of}
 use Rattle.history_merge.proofs.Distinct.{few_operations}
 use Rattle.history_merge.proofs.Timelines.{length_timeline, timeline_is_complete}
-use Rattle.history_merge.proofs.complete.History.timeline.Goals as goal
+use Rattle.history_merge.proofs.complete.History.by_time.Goals as goal
 
 pub returns-clause-complete : goal.returns-clause-complete
 returns-clause-complete c =
