@@ -32,8 +32,9 @@ pub(crate) fn put_in_order(alloc: Global, values: &Values) -> Result<Swept, Allo
     requires in_time { All (λ value. enqueue_call value.life ≤ entered_by value.life) values.now }
     ensures { IfOk result (IsSweepOf values.now) }
 {
-    let mut order = Vec::with_capacity(alloc, values.len())?;
     let by_time = by_time(alloc, values)?;
+    // This list stays. It is made after those that don't, so that what comes next has their room, all of which was in use.
+    let mut order = Vec::with_capacity(alloc, values.len())?;
     let mut taken = vec![in alloc; false; values.len()]?;
     let entries = by_time.entries.as_slice();
     let dequeues = by_time.dequeues.as_slice();

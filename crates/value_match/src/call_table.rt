@@ -10,12 +10,16 @@ use std::alloc::{AllocError, Global};
 /// How many operations are noted ahead of the one that is matched: a dequeue may be called before its value.
 const AHEAD: usize = 1024;
 
-/// How many slots values have at most.
+/// How many slots values have at most, unless there are many initial values.
 const MOST_SLOTS: usize = 1 << 17;
 
+/// How many slots values have at most for each initial value. Between the call for a value and its dequeue, about as many others
+/// are called as the queue holds first.
+const SLOTS_OF_AN_INITIAL_VALUE: usize = 4;
+
 /// How many slots lie between those of values with the same lower half whose upper halves follow one another: the golden section
-/// of all slots, so that the values of few threads lie apart.
-const APART: u64 = 81_007;
+/// of 2^19 slots, the most that 100,000 initial values want, so that the values of few threads lie apart.
+const APART: u64 = 324_028;
 
 /// The places of the accepted calls to enqueue that came last, each in the slot of its value. A recorder puts the thread into the
 /// upper half of a value's bits and counts in the lower one, so values that are called at about the same time have slots of
@@ -32,14 +36,20 @@ pub(crate) struct CallTable {
 }
 
 impl CallTable {
-    /// The calls of these operations, of which the first are noted. It takes half a word for each operation, up to half a MiB.
+    /// The calls of these operations, of which the first are noted. The count is that of the initial values.
+    ///
+    /// It takes up to a word for each operation: up to half a MiB, or up to four words for each initial value.
     pub(crate) fn new(
         alloc: Global,
         operations: &[PackedOperation],
+        initial_count: usize,
     ) -> Result<CallTable, AllocError>
         requires { length operations.now ≤ MAX_MATCHED }
     {
-        let slots = operations.len().min(MOST_SLOTS).next_power_of_two();
+        let most = initial_count
+            .saturating_mul(SLOTS_OF_AN_INITIAL_VALUE)
+            .max(MOST_SLOTS);
+        let slots = operations.len().min(most).next_power_of_two();
         let mut calls = CallTable {
             above: vec![in alloc; 0; slots + 1]?,
             mask: slots.wrapping_sub(1),

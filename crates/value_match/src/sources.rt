@@ -34,13 +34,14 @@ struct NearSources {
     wanted: BTreeSet<u64>,
 }
 
-/// The sources of all dequeues.
+/// The sources of all dequeues. The count is that of the initial values, for room alone.
 ///
 /// Time O(n) for n operations if the values leave nearly in the order of their calls or, with recorder's names, soon after these.
 /// Else the calls of the other values are sorted by value, and each of their dequeues costs a look-up, O(n log n).
 pub(crate) fn sources_of(
     alloc: Global,
     operations: &[PackedOperation],
+    initial_count: usize,
 ) -> Result<Sources, AllocError>
     requires complete { AreComplete operations.now }
     requires few { length operations.now ≤ MAX_MATCHED }
@@ -51,7 +52,7 @@ pub(crate) fn sources_of(
     let mut takers = Vec::with_capacity(alloc, 2 * operations.len())?;
     takers.resize(operations.len(), MaybePlace::none())?;
     let mut guess = Guess {
-        calls: CallTable::new(alloc, operations)?,
+        calls: CallTable::new(alloc, operations, initial_count)?,
         from: 0,
         reach: REACH,
     };

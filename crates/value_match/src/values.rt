@@ -40,26 +40,30 @@ pub(crate) enum MatchOutcome {
 ///
 /// Time O(n) for n operations if the values leave nearly in the order of their calls or, with recorder's names, soon after these;
 /// else the calls of the others are sorted by value, O(n log n). The answer borrows the history and takes a word for each
-/// accepted value; beside it the work takes a word for each operation, half a word for each from the first that isn't settled at
-/// once, and a few more for each call or dequeue that is sorted.
+/// accepted value; beside it the work takes up to two words for each operation, half a word for each from the first that isn't
+/// settled at once, and a few more for each call or dequeue that is sorted.
 pub fn match_values(alloc: Global, history: &History) -> Result<Matched<'_>, AllocError>
     ensures matched { IfOk result (IsMatched history.now.initial (operations_of history.now.events)) }
     ensures complete { IsOfHistory history.now.initial (operations_of history.now.events) }
 {
     let initial_count = history.initial().len();
-    match find(alloc, history.by_time())? {
+    match find(alloc, history.by_time(), initial_count)? {
         MatchOutcome::Clear(sorted) => Ok(Matched::Clear(Matching::new(history, sorted))),
         MatchOutcome::Fresh(places) => Ok(Matched::Fresh(told_fresh(initial_count, places))),
         MatchOutcome::Repeat(places) => Ok(Matched::Repeat(told_repeat(initial_count, places))),
     }
 }
 
-fn find(alloc: Global, operations: &[PackedOperation]) -> Result<MatchOutcome, AllocError>
+fn find(
+    alloc: Global,
+    operations: &[PackedOperation],
+    initial_count: usize,
+) -> Result<MatchOutcome, AllocError>
     requires complete { AreComplete operations.now }
     requires few { length operations.now ≤ MAX_MATCHED }
     ensures { IfOk result (IsMatchOutcomeOf operations.now) }
 {
-    let sources = sources_of(alloc, operations)?;
+    let sources = sources_of(alloc, operations, initial_count)?;
     if let Some(places) = first_fresh(operations, sources.settled, sources.places.as_slice()) {
         return Ok(MatchOutcome::Fresh(places));
     }
