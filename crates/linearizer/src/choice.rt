@@ -24,7 +24,9 @@ pub(crate) enum Swept {
 ///
 /// The values stand in two lists, one by when each has entered, the other by when each was dequeued. In each list
 /// those before a cursor are taken, so the one at the cursor is the first of its values that remain.
-pub(crate) fn put_in_order(alloc: Global, values: &Values) -> Result<Swept, AllocError>
+///
+/// `room` says for how many values there is room in the order.
+pub(crate) fn put_in_order(alloc: Global, values: &Values, room: usize) -> Result<Swept, AllocError>
     requires few { length values.now ≤ PLACES }
     requires entries { All (λ value. entered_by value.life < NEVER) values.now }
     requires dequeues { All (λ value. dequeue_return value.life ≤ NEVER) values.now }
@@ -32,9 +34,8 @@ pub(crate) fn put_in_order(alloc: Global, values: &Values) -> Result<Swept, Allo
     requires in_time { All (λ value. enqueue_call value.life ≤ entered_by value.life) values.now }
     ensures { IfOk result (IsSweepOf values.now) }
 {
+    let mut order = Vec::with_capacity(alloc, room)?;
     let by_time = by_time(alloc, values)?;
-    // This list stays. It is made after those that don't, so that what comes next has their room, all of which was in use.
-    let mut order = Vec::with_capacity(alloc, values.len())?;
     let mut taken = vec![in alloc; false; values.len()]?;
     let entries = by_time.entries.as_slice();
     let dequeues = by_time.dequeues.as_slice();

@@ -13,7 +13,7 @@ use value_match::{MatchedValue, Matching};
 
 /// The accepted values of a matching in their chosen order, with the gap of each enqueue; seen as the history that they are of.
 ///
-/// It borrows the history, and holds a word for each value.
+/// It borrows the history, and takes a word for each operation and each initial value.
 #[derive(Drop)]
 pub struct OrderedValues<'a> {
     initial: &'a [u64],
@@ -55,7 +55,9 @@ pub fn order_values<'a>(alloc: Global, matching: &'a Matching) -> Result<OrderFo
 {
     let initial = matching.initial();
     let operations = matching.operations();
-    match put_in_order(alloc, &matching.values())? {
+    // As much room as matching gave back, so that nothing that comes later has a part of it that was never in use.
+    let room = initial.len().saturating_add(operations.len());
+    match put_in_order(alloc, &matching.values(), room)? {
         Swept::InOrder(order) => Ok(OrderFound::InOrder(OrderedValues {
             initial,
             operations,
