@@ -1,0 +1,2 @@
+//! Histories with pending calls, and the completion that decides them.
+#![tactic(auto)]
