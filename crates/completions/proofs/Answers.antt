@@ -22,7 +22,7 @@ use Rattle.history_merge.specs.Complete.{called_value}
 use Rattle.history_merge.specs.Faults.{pending_call}
 use Rattle.history_merge.specs.Initial.{enqueues_from, initial_enqueues, later_by}
 use Rattle.history_merge.specs.Operations.{kind_of, operation_of, operations_of}
-use Rattle.history_merge.proofs.Distinct.{contains_at, contains_cons, cut_at, not_in_none, place_of, IsMadeOf, made_of, traced}
+use Rattle.history_merge.proofs.Distinct.{contains_at, contains_cons, cut_at, not_in_none, pairs_at, place_of, rises_later, IsMadeOf, made_of, traced}
 use Rattle.history_merge.proofs.Turns.{answered_is_call, projection-at}
 use Rattle.value_match.proofs.Lists.{keeps, kept, passed_filter, passes_filter}
 use Rattle.completions.specs.Pending.{IsHistoryFrom, IsPendingCall, TakesTurnsSoFar}
@@ -352,10 +352,10 @@ paired_from (x ∷ calls) (w ∷ values) a among = elim (contains_cons (record {
   | inr there ↦ let found = paired_from calls values a there in (suc found.0, found.1, found.2, found.3, found.4)
 ]
 
-abbrev OtherThread : Event → Event → Type 0
+abbrev pub OtherThread : Event → Event → Type 0
 OtherThread c d = c.thread ≢ d.thread
 
-paired_apart : (calls : List Event) (values : List ℕ) → AllPairs OtherThread calls → AllPairs (λ a b. a.call.thread ≢ b.call.thread) (paired calls values)
+pub paired_apart : (calls : List Event) (values : List ℕ) → AllPairs OtherThread calls → AllPairs (λ a b. a.call.thread ≢ b.call.thread) (paired calls values)
 paired_apart [] values apart = pairs_none (λ (a b : Answer). a.call.thread ≢ b.call.thread)
 paired_apart (x ∷ calls) [] apart = pairs_none (λ (a b : Answer). a.call.thread ≢ b.call.thread)
 paired_apart (x ∷ calls) (w ∷ values) apart = AllPairs-cons (λ (a b : Answer). a.call.thread ≢ b.call.thread) (record { call = x; what = RetDeq w }) (paired calls values)
@@ -387,3 +387,30 @@ enqueue_answer_is events c a is = by_value (called_value c.what) refl is
           (v, called c.what v found, given, sym (ap (λ (b : Answer). b.call) one), sym (ap (λ (b : Answer). b.what) one))
       | inr other ↦ let clash : None ≡ Some a = rw other at made in cc
     ]
+
+-- an enqueue whose value was given is answered
+pub enqueue_answered : (events : List Event) (c : Event) (v : ℕ) → c.what ≡ CallEnq v → is_given events v ≡ true
+    → enqueue_answer events c ≡ Some (record { call = c; what = RetEnq })
+enqueue_answered events c v what given =
+    ap (option_and_then (λ w. cond (is_given events w) (Some (record { call = c; what = RetEnq })) None)) (ap called_value what) ∙ rw given refl
+
+-- the enqueues rise by their returns
+pub taken_rises : (before later : List Event) → TicketsRise later → AllPairs (λ x y. x.ret < y.ret) (taken_from before later)
+taken_rises before [] rise = pairs_none (λ (x y : Operation). x.ret < y.ret)
+taken_rises before (e ∷ later) rise = by_made (taken_operation before e) refl (taken_rises (before ++ e ∷ []) later (rises_later e later rise))
+  where
+    by_made : (made : Option Operation) → taken_operation before e ≡ made → AllPairs (λ x y. x.ret < y.ret) (taken_from (before ++ e ∷ []) later)
+        → AllPairs (λ x y. x.ret < y.ret) (cons_option made (taken_from (before ++ e ∷ []) later))
+    by_made None is rest = rest
+    by_made (Some o) is rest =
+        let found = taken_made before e o is in
+        let of = made_of found.0 (Some e) o found.2 in
+        let same : e ≡ of.0 = let s : Some e ≡ Some of.0 = of.1 in cc in
+        let ret : o.ret ≡ e.ticket = of.2.returned ∙ ap (λ (x : Event). x.ticket) (sym same) in
+        AllPairs-cons (λ (x y : Operation). x.ret < y.ret) o (taken_from (before ++ e ∷ []) later)
+        (all_members (λ y. o.ret < y.ret) (taken_from (before ++ e ∷ []) later) (λ y among.
+            let there = (taken_in (before ++ e ∷ []) later y among).2 in
+            let at = place_of later there.0 there.1 in
+            let less = pairs_at (λ (a b : Event). a.ticket < b.ticket) (e ∷ later) zero (suc at.0) e there.0 rise (omega arith) refl at.1 in
+            omega (arith, ret, there.2, less)))
+        rest

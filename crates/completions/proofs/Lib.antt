@@ -7,3 +7,4 @@ pub mod Followed
 pub mod Completing
 pub mod Complete
 pub mod Answers
+pub mod Decides
