@@ -39,12 +39,12 @@ call_or_answered (x ∷ answer ∷ rest) c turns rise among call =
     elim (contains_cons x (answer ∷ rest) c among) [
       | inl here ↦ inr (answer, (suc zero, omega arith, refl), ret, subst (λ (y : Event). y.ticket < answer.ticket) here less)
       | inr there ↦ elim (contains_cons answer rest c there) [
-          | inl here ↦ let clash : true ≡ false = sym call ∙ ap (λ (y : Event). is_call y.what) (sym here) ∙ ret in cc
-          | inr behind ↦ elim (call_or_answered rest c turns.1 (rises_later answer rest (rises_later x (answer ∷ rest) rise)) behind call) [
-              | inl last ↦ inl (last_or-some (Some answer) rest c last)
-              | inr (y, in_y, is_ret, later) ↦ inr (y, (suc (suc in_y.0), omega (arith, in_y.1), in_y.2), is_ret, later)
-            ]
+        | inl here ↦ let clash : true ≡ false = sym call ∙ ap (λ (y : Event). is_call y.what) (sym here) ∙ ret in cc
+        | inr behind ↦ elim (call_or_answered rest c turns.1 (rises_later answer rest (rises_later x (answer ∷ rest) rise)) behind call) [
+          | inl last ↦ inl (last_or-some (Some answer) rest c last)
+          | inr (y, in_y, is_ret, later) ↦ inr (y, (suc (suc in_y.0), omega (arith, in_y.1), in_y.2), is_ret, later)
         ]
+      ]
     ]
 
 module _ (initial : List ℕ) (events : List Event) (history : IsHistoryFrom initial events) (out : Event → Bool)

@@ -21,6 +21,7 @@ collected (suc n) P each =
   where
     long : (qs : List ℕ) (q : ℕ) → length qs ≡ n → length (qs ++ q ∷ []) ≡ suc n
     long qs q is = omega (arith, length-append qs (q ∷ []))
+
     at : (qs : List ℕ) (q : ℕ) → length qs ≡ n → ((k : ℕ) → k < n → P k (get_or qs k 0)) → P n q
         → (k : ℕ) → k < suc n → P k (get_or (qs ++ q ∷ []) k 0)
     at qs q is earlier here k below = elim (cases_eq k n) [
@@ -47,6 +48,7 @@ at_most n m P each below once =
         let one : get_or qs i 0 ≡ get_or qs j 0 = get_or_default qs i 0 d (omega arith) ∙ same ∙ get_or_default qs j d 0 inside in
         let places = once i j (get_or qs j 0) (subst (P i) one here) there in
         omega arith))
+
     bounded : (qs : List ℕ) → length qs ≡ n → ((k : ℕ) → k < n → P k (get_or qs k 0)) → (q : ℕ) → list_any (eqb q) qs ≡ true → q < m
     bounded qs long is q among =
         let place = Any-from_list_any (eqb q) qs among in

@@ -26,12 +26,13 @@ use Rattle.history_merge.proofs.Distinct.{contains_at, contains_cons, cut_at, ma
 use Rattle.history_merge.proofs.Timelines.{pairs_map, timeline_is_complete}
 use Rattle.value_match.proofs.Lists.{keeps, kept, mapped_from, mapped_to, passed_filter, passes_filter}
 use Rattle.verdicts.proofs.Exactly.{linearizable_without, violation_excludes_order}
+use Rattle.completions.specs.declared.answers.Answer.{Answer}
 use Rattle.completions.specs.Pending.{CompletesLinearizably, IsCompletion, IsDeciding, IsHistoryFrom, IsPendingCall}
-use Rattle.completions.specs.Completed.{Answer, is_answered, answers_to, calls_dequeue, completed, completed_by, enqueue_answer, is_given, is_left_out, left_values, next_ticket, paired, pending_calls, returns_from, is_pending}
+use Rattle.completions.specs.Completed.{is_answered, answers_to, calls_dequeue, completed, completed_by, enqueue_answer, is_given, is_left_out, left_values, next_ticket, paired, pending_calls, returns_from, is_pending}
 use Rattle.completions.proofs.Followed.{keeping, last_above, last_in, last_of, last_of-append, one_by_ticket, operations_keep, operations_made, pending_is_last}
 use Rattle.completions.proofs.Completing.{completed_or_ended, same_operations}
-use Rattle.completions.proofs.Complete.{after_last, test_of_pending, AreAnswers, below_next, is_answer, is_complete, no_return, only_pending, only_returns, out, pairs_across, pairs_append, pairs_made, pending_by_test, return_of, returns, tickets_rise}
-use Rattle.completions.proofs.Answers.{enqueue_answer_is, enqueue_answered, taken_rises, value_in, given_by, given_value_is, left_are, left_enqueues, OtherThread, paired_apart, paired_at, paired_from, taken_all, taken_from, taken_in, value_of}
+use Rattle.completions.proofs.Whole.{after_last, test_of_pending, AreAnswers, below_next, is_answer, is_complete, no_return, only_pending, only_returns, out, pairs_across, pairs_append, pairs_made, pending_by_test, return_of, returns-append, returns, tickets_rise}
+use Rattle.completions.proofs.Answering.{enqueue_answer_is, enqueue_answered, taken_rises, value_in, given_by, given_value_is, left_are, left_enqueues, OtherThread, paired_apart, paired_at, paired_from, taken_all, taken_from, taken_in, value_of}
 use Rattle.completions.proofs.Deciding.{Chosen, Completes, Ends, EnqueuesGiven, GivesLeft, NoViolation, ours_has_none}
 
 -- ---- the timeline
@@ -75,17 +76,10 @@ enqueues_rise n (v ∷ values) zero (suc j) d below inside =
 enqueues_rise n (v ∷ values) (suc i) zero d below inside = absurd (omega arith)
 enqueues_rise n (v ∷ values) (suc i) (suc j) d below inside = enqueues_rise (n + 1) values i j d (omega arith) (omega arith)
 
-returns-append : (n : ℕ) (xs ys : List Answer) → returns_from n (xs ++ ys) ≡ returns_from n xs ++ returns_from (n + length xs) ys
-returns-append n [] ys = ap (λ m. returns_from m ys) (let e : n ≡ n + 0 = omega arith in e)
-returns-append n (a ∷ xs) ys =
-    let first : Event = record { ticket = n; thread = a.call.thread; what = a.what } in
-    let e : (n + 1) + length xs ≡ n + suc (length xs) = omega arith in
-    ap (λ (es : List Event). first ∷ es) (returns-append (n + 1) xs ys ∙ ap (λ m. returns_from (n + 1) xs ++ returns_from m ys) e)
-
 calls_dequeue_is : (e : Event) → calls_dequeue e ≡ true → e.what ≡ CallDeq
 calls_dequeue_is e is = by_what e.what refl is
   where
-    by_what : (w : What) → e.what ≡ w → (elim w [ | CallDeq ↦ true | _ ↦ false ]) ≡ true → e.what ≡ CallDeq
+    by_what : (w : What) → e.what ≡ w → (elim w [ CallDeq ↦ true | _ ↦ false ]) ≡ true → e.what ≡ CallDeq
     by_what CallDeq what test = what
     by_what (CallEnq v) what test = cc
     by_what RetEnq what test = cc
@@ -94,7 +88,7 @@ calls_dequeue_is e is = by_what e.what refl is
     by_what RetEmpty what test = cc
 
 dequeue_is_called : (e : Event) → e.what ≡ CallDeq → calls_dequeue e ≡ true
-dequeue_is_called e what = subst (λ (w : What). (elim w [ | CallDeq ↦ true | _ ↦ false ]) ≡ true) (sym what) refl
+dequeue_is_called e what = subst (λ (w : What). (elim w [ CallDeq ↦ true | _ ↦ false ]) ≡ true) (sym what) refl
 
 module _ (initial : List ℕ) (events : List Event) (history : IsHistoryFrom initial events) (few_initial : length initial ≤ MAX_INITIAL) where
   -- a thread has one pending call
@@ -131,9 +125,11 @@ module _ (initial : List ℕ) (events : List Event) (history : IsHistoryFrom ini
   in_enqueue_answers a among =
       let from = kept (enqueue_answer events) (pending_calls events) a among in
       let is = enqueue_answer_is events from.0 a from.2 in
-      let there = in_pending from.0 from.1 in
-      (subst (Contains events) (sym is.3) there.0, subst (IsPendingCall events) (sym is.3) there.1,
-      (is.0, ap (λ (e : Event). e.what) is.3 ∙ is.1, is.2, is.4))
+      let there = in_pending from.0 from.1 in (
+        subst (Contains events) (sym is.3) there.0,
+        subst (IsPendingCall events) (sym is.3) there.1,
+        (is.0, ap (λ (e : Event). e.what) is.3 ∙ is.1, is.2, is.4),
+      )
 
   in_dequeue_answers : (a : Answer) → Contains (paired dequeue_calls (left_values initial events)) a
       → Contains events a.call × IsPendingCall events a.call × (a.call.what ≡ CallDeq)
@@ -159,16 +155,16 @@ module _ (initial : List ℕ) (events : List Event) (history : IsHistoryFrom ini
     apart = pairs_append (λ (a b : Answer). a.call.thread ≢ b.call.thread) enqueue_answers (paired dequeue_calls (left_values initial events))
         (pairs_made OtherThread (λ (a b : Answer). a.call.thread ≢ b.call.thread) (enqueue_answer events) (pending_calls events)
         (λ x y a b is_a is_b other same.
-            let a_is = enqueue_answer_is events x a is_a in
-            let b_is = enqueue_answer_is events y b is_b in
-            other (ap (λ (e : Event). e.thread) (sym a_is.3) ∙ same ∙ ap (λ (e : Event). e.thread) b_is.3))
+        let a_is = enqueue_answer_is events x a is_a in
+        let b_is = enqueue_answer_is events y b is_b in
+        other (ap (λ (e : Event). e.thread) (sym a_is.3) ∙ same ∙ ap (λ (e : Event). e.thread) b_is.3))
         pending_apart)
         (paired_apart dequeue_calls (left_values initial events) (AllPairs-filter OtherThread calls_dequeue (pending_calls events) pending_apart))
         (λ a b in_a in_b same.
-            let a_is = in_enqueue_answers a in_a in
-            let b_is = in_dequeue_answers b in_b in
-            let one = same_pending a.call b.call a_is.1 b_is.1 same in
-            let clash : CallEnq a_is.2.0 ≡ CallDeq = sym a_is.2.1 ∙ ap (λ (e : Event). e.what) one ∙ b_is.2 in cc);
+        let a_is = in_enqueue_answers a in_a in
+        let b_is = in_dequeue_answers b in_b in
+        let one = same_pending a.call b.call a_is.1 b_is.1 same in
+        let clash : CallEnq a_is.2.0 ≡ CallDeq = sym a_is.2.1 ∙ ap (λ (e : Event). e.what) one ∙ b_is.2 in cc);
   }
 
   -- what is known of a history with pending calls, by time
@@ -288,7 +284,7 @@ module _ (initial : List ℕ) (events : List Event) (history : IsHistoryFrom ini
             let p : Operation = record { call = a.call.ticket; ret = r.ticket; thread = a.call.thread; kind = k } in
             let apart : AllPairs (λ (a b : Answer). a.call.thread ≢ b.call.thread) (xs ++ a ∷ ys) = subst (AllPairs (λ (a b : Answer). a.call.thread ≢ b.call.thread)) is are.apart in
             let none : last_of a.call.thread (returns_from n xs) ≡ None = ap (last_or None) (no_return n a.call.thread xs (λ b in_b.
-                pairs_across (λ (a b : Answer). a.call.thread ≢ b.call.thread) xs (a ∷ ys) b a apart in_b (zero, omega arith, refl))) in
+            pairs_across (λ (a b : Answer). a.call.thread ≢ b.call.thread) xs (a ∷ ys) b a apart in_b (zero, omega arith, refl))) in
             let last : last_of r.thread (keeping left_out events ++ returns_from n xs) ≡ Some a.call =
             last_of-append (keeping left_out events) (returns_from n xs) a.call.thread none ∙ last_of_answered a among in
             let made : operation_of a.call (Some r) ≡ Some p = rw (kind, operation_of) refl in
@@ -296,9 +292,13 @@ module _ (initial : List ℕ) (events : List Event) (history : IsHistoryFrom ini
             let parts : ours ≡ ((keeping left_out events ++ returns_from n xs) ++ r ∷ []) ++ returns_from (n + length xs + 1) ys =
             ap (λ (es : List Event). keeping left_out events ++ es) (ap (returns_from n) is ∙ returns-append n xs (a ∷ ys))
             ∙ sym (append_assoc (keeping left_out events) (returns_from n xs) (r ∷ returns_from (n + length xs + 1) ys))
-            ∙ sym (append_assoc (keeping left_out events ++ returns_from n xs) (r ∷ []) (returns_from (n + length xs + 1) ys)) in
-            (p, subst (λ (es : List Event). Contains (operations_of es) p) (sym parts)
-            (operations_keep ((keeping left_out events ++ returns_from n xs) ++ r ∷ []) (returns_from (n + length xs + 1) ys) p there), refl, refl)
+            ∙ sym (append_assoc (keeping left_out events ++ returns_from n xs) (r ∷ []) (returns_from (n + length xs + 1) ys)) in (
+              p,
+              subst (λ (es : List Event). Contains (operations_of es) p) (sym parts)
+                  (operations_keep ((keeping left_out events ++ returns_from n xs) ++ r ∷ []) (returns_from (n + length xs + 1) ys) p there),
+              refl,
+              refl,
+            )
 
     abbrev is_ours : IsCompletion initial events ours
     is_ours = record {
@@ -387,24 +387,25 @@ module _ (initial : List ℕ) (events : List Event) (history : IsHistoryFrom ini
         let what : of.0.what ≡ found.0.what = ap (λ (e : Event). e.what) (sym same) ∙ found.3 in
         let called : call.what ≡ found.0.call.what = ap (λ (e : Event). e.what) one in
         let ret : p.ret ≡ r.ticket = of.2.returned ∙ ap (λ (e : Event). e.ticket) (sym same) in
-        let time : p.call + ORIGIN ≡ call.ticket + ORIGIN = ap (λ n. n + ORIGIN) of.2.called in
-        (omega (arith, ret, found.4),
-        elim (Contains-append_cases enqueue_answers (paired dequeue_calls (left_values initial events)) found.0 found.1) [
-          | inl first ↦
-              let is = (in_enqueue_answers found.0 first).2 in
-              let kind : Some (Enq is.0) ≡ Some p.kind =
-              ap₂ kind_of (sym (called ∙ is.1)) (sym (what ∙ is.3)) ∙ of.2.kind in
-              inl (is.0, (call, among, pending, called ∙ is.1, sym time), (let e : Enq is.0 ≡ p.kind = cc in sym e), done_if_given is.0 is.2)
-          | inr second ↦
-              let is = in_dequeue_answers found.0 second in
-              let v = is.3.1 in
-              let kind : Some (Deq is.3.1) ≡ Some p.kind = ap₂ kind_of (sym (called ∙ is.2)) (sym (what ∙ is.3.4)) ∙ of.2.kind in
-              let x = left_value is.3.0 is.3.1 is.3.3 in
-              let at_call : slice_get dequeuing is.3.0 ≡ Some (p.call + ORIGIN) =
-              slice_get-map time_of_call dequeue_calls is.3.0 ∙ ap (option_map time_of_call) is.3.2
-              ∙ ap (λ (n : ℕ). Some n) (ap time_of_call (sym one) ∙ sym time) in
-              inr (is.3.1, (is.3.0, x.0, at_call, x.1, x.2, (let e : Deq is.3.1 ≡ p.kind = cc in sym e)))
-        ])
+        let time : p.call + ORIGIN ≡ call.ticket + ORIGIN = ap (λ n. n + ORIGIN) of.2.called in (
+          omega (arith, ret, found.4),
+          elim (Contains-append_cases enqueue_answers (paired dequeue_calls (left_values initial events)) found.0 found.1) [
+            | inl first ↦
+                let is = (in_enqueue_answers found.0 first).2 in
+                let kind : Some (Enq is.0) ≡ Some p.kind =
+                ap₂ kind_of (sym (called ∙ is.1)) (sym (what ∙ is.3)) ∙ of.2.kind in
+                inl (is.0, (call, among, pending, called ∙ is.1, sym time), (let e : Enq is.0 ≡ p.kind = cc in sym e), done_if_given is.0 is.2)
+            | inr second ↦
+                let is = in_dequeue_answers found.0 second in
+                let v = is.3.1 in
+                let kind : Some (Deq is.3.1) ≡ Some p.kind = ap₂ kind_of (sym (called ∙ is.2)) (sym (what ∙ is.3.4)) ∙ of.2.kind in
+                let x = left_value is.3.0 is.3.1 is.3.3 in
+                let at_call : slice_get dequeuing is.3.0 ≡ Some (p.call + ORIGIN) =
+                slice_get-map time_of_call dequeue_calls is.3.0 ∙ ap (option_map time_of_call) is.3.2
+                ∙ ap (λ (n : ℕ). Some n) (ap time_of_call (sym one) ∙ sym time) in
+                inr (is.3.1, (is.3.0, x.0, at_call, x.1, x.2, (let e : Deq is.3.1 ≡ p.kind = cc in sym e)))
+          ],
+        )
 
     returned_by_last : (o : Operation) → Contains done o → o.ret ≤ last
     returned_by_last o among = elim (in_timeline initial (operations_of events) o among) [
@@ -441,14 +442,14 @@ module _ (initial : List ℕ) (events : List Event) (history : IsHistoryFrom ini
           let answer = enqueue_answered events enqueuing.0 v enqueuing.3 (given_if_done d v did) in
           let in_pend = passes_filter (is_pending events) events enqueuing.0 (test_of_pending initial events history enqueuing.0 enqueuing.2) enqueuing.1 in
           let in_a = Contains-append_left enqueue_answers (paired dequeue_calls (left_values initial events)) (record { call = enqueuing.0; what = RetEnq })
-              (keeps (enqueue_answer events) (pending_calls events) enqueuing.0 (record { call = enqueuing.0; what = RetEnq }) in_pend answer) in
+          (keeps (enqueue_answer events) (pending_calls events) enqueuing.0 (record { call = enqueuing.0; what = RetEnq }) in_pend answer) in
           let p = answered_made (record { call = enqueuing.0; what = RetEnq }) (Enq v) in_a (ap (λ w. kind_of w RetEnq) enqueuing.3) in
           (later_by ORIGIN p.0, (later_there initial (operations_of ours) p.0 p.1, p.3), ap (λ n. n + ORIGIN) p.2 ∙ enqueuing.4);
       has_dequeue = λ i time v x at_call at_left is_x.
           let c = call_at i time at_call in
           let what = calls_dequeue_is c.0 (passed_filter calls_dequeue (pending_calls events) c.0 (contains_at dequeue_calls i c.0 c.1)).1 in
           let in_a = Contains-append_right enqueue_answers (paired dequeue_calls (left_values initial events)) (record { call = c.0; what = RetDeq v })
-              (paired_at dequeue_calls (left_values initial events) i c.0 v c.1 (value_left i v x at_left is_x)) in
+          (paired_at dequeue_calls (left_values initial events) i c.0 v c.1 (value_left i v x at_left is_x)) in
           let p = answered_made (record { call = c.0; what = RetDeq v }) (Deq v) in_a (ap (λ w. kind_of w (RetDeq v)) what) in
           (later_by ORIGIN p.0, (later_there initial (operations_of ours) p.0 p.1, p.3), ap (λ n. n + ORIGIN) p.2 ∙ c.2);
       returned = returned_by_last;
@@ -469,23 +470,23 @@ module _ (initial : List ℕ) (events : List Event) (history : IsHistoryFrom ini
             (elim (in_timeline initial (operations_of events) x did.0) [
               | inl first ↦ Contains-append_left (initial_enqueues initial) (map (later_by ORIGIN) (taken_from [] events)) x first
               | inr (p, there, is) ↦ elim (taken_all [] events p v there (ap (λ (o : Operation). o.kind) is ∙ did.1)) [
-                  | inl none_there ↦ absurd (not_in_none p none_there)
-                  | inr taken ↦ Contains-append_right (initial_enqueues initial) (map (later_by ORIGIN) (taken_from [] events)) x
-                      (subst (Contains (map (later_by ORIGIN) (taken_from [] events))) is (mapped_to (later_by ORIGIN) (taken_from [] events) p taken))
-                ]
+                | inl none_there ↦ absurd (not_in_none p none_there)
+                | inr taken ↦ Contains-append_right (initial_enqueues initial) (map (later_by ORIGIN) (taken_from [] events)) x
+                    (subst (Contains (map (later_by ORIGIN) (taken_from [] events))) is (mapped_to (later_by ORIGIN) (taken_from [] events) p taken))
+              ]
             ])
       ];
       left_rises = AllPairs-filter (λ x y. x.ret < y.ret) (λ o. not (is_given events (value_of o))) (initial_enqueues initial ++ map (later_by ORIGIN) (taken_from [] events))
           (pairs_append (λ x y. x.ret < y.ret) (initial_enqueues initial) (map (later_by ORIGIN) (taken_from [] events))
           (enqueues_rise (ORIGIN - length initial) initial) later_rises
           (λ x y in_x in_y.
-              let early = (enqueue_in (ORIGIN - length initial) initial x in_x).1 in
-              let p = mapped_from (later_by ORIGIN) (taken_from [] events) y in_y in
-              let ret = ap (λ (o : Operation). o.ret) p.2 in
-              omega (arith, early, ret, few_initial)));
+          let early = (enqueue_in (ORIGIN - length initial) initial x in_x).1 in
+          let p = mapped_from (later_by ORIGIN) (taken_from [] events) y in_y in
+          let ret = ap (λ (o : Operation). o.ret) p.2 in
+          omega (arith, early, ret, few_initial)));
       calls_rise = pairs_map (λ c d. c < d) time_of_call dequeue_calls (λ i j d below inside.
           let less = AllPairs-filter (λ (e f : Event). e.ticket < f.ticket) calls_dequeue (pending_calls events)
-              (AllPairs-filter (λ (e f : Event). e.ticket < f.ticket) (is_pending events) events history.tickets_rise) i j d below inside in
+          (AllPairs-filter (λ (e f : Event). e.ticket < f.ticket) (is_pending events) events history.tickets_rise) i j d below inside in
           omega (arith, less));
     }
       where
@@ -505,7 +506,7 @@ module _ (initial : List ℕ) (events : List Event) (history : IsHistoryFrom ini
           let full = some.0 in
           let timed = completes full some.1 in
           let none : NoViolation (timeline initial (operations_of full)) = λ violation bad.
-              violation_excludes_order initial (operations_of full) violation timed.complete bad some.2 in
+          violation_excludes_order initial (operations_of full) violation timed.complete bad some.2 in
           linearizable_without initial (operations_of ours) (timeline_is_complete initial ours is_ours.is_complete few_initial)
           (ours_has_none done Enqueuing dequeuing (timeline initial (operations_of full)) timed none (left_enqueues initial events) last
           (timeline initial (operations_of ours)) chosen);

@@ -47,12 +47,12 @@ call_for [] v = inr (λ o among. absurd (not_in_none o among))
 call_for (x ∷ rest) v = elim (calls_or_not v x.kind) [
   | inl is ↦ inl (x, (zero, omega arith, refl), is)
   | inr differs ↦ elim (call_for rest v) [
-      | inl found ↦ inl (found.0, (suc found.1.0, omega (arith, found.1.1), found.1.2), found.2)
-      | inr none ↦ inr (λ o among. elim (contains_cons x rest o among) [
-          | inl here ↦ subst (λ (y : Operation). ¬ (CallsFor y v)) here differs
-          | inr there ↦ none o there
-        ])
-    ]
+    | inl found ↦ inl (found.0, (suc found.1.0, omega (arith, found.1.1), found.1.2), found.2)
+    | inr none ↦ inr (λ o among. elim (contains_cons x rest o among) [
+      | inl here ↦ subst (λ (y : Operation). ¬ (CallsFor y v)) here differs
+      | inr there ↦ none o there
+    ])
+  ]
 ]
 
 -- ---- lists
@@ -274,11 +274,11 @@ module _ (done : List Operation) (Enqueuing : ℕ → ℕ → Type 0) (dequeuing
       | inl (e, among, inl k) ↦ (e, (among, k))
       | inl (e, among, inr k) ↦ absurd (none (fresh d (Some e)) (record { value = v; dequeues = (is.keeps d did_d.0, did_d.1); enqueues = inl (among, k) }))
       | inr never ↦ absurd (none (fresh d None) (record {
-          value = v;
-          dequeues = (is.keeps d did_d.0, did_d.1);
-          not_accepted = λ enq did. never enq did.0 (inl did.1);
-          not_refused = λ o among k. never o among (inr k);
-        }))
+        value = v;
+        dequeues = (is.keeps d did_d.0, did_d.1);
+        not_accepted = λ enq did. never enq did.0 (inl did.1);
+        not_refused = λ o among k. never o among (inr k);
+      }))
     ]
 
     -- a value that is left was enqueued, and no completed dequeue gave it
@@ -329,22 +329,25 @@ module _ (done : List Operation) (Enqueuing : ℕ → ℕ → Type 0) (dequeuing
     repeated : (enq first second : Operation) → IsRepeatViolation (on ours) enq first second → ⊥
     repeated enq first second bad = elim (gives_it first bad.value bad.dequeues) [
       | inl old ↦ elim (gives_it second bad.value bad.dequeues_again) [
-          | inl again ↦
-              let e = enqueued_for bad.value first old in
-              none (repeat e.0 first second) (record {
-                value = bad.value; enqueues = e.1; dequeues = (is.keeps first old.0, old.1); dequeues_again = (is.keeps second again.0, again.1);
-                in_order = bad.in_order;
-              })
-          | inr (late, g) ↦ (untaken g.0 bad.value g.1 g.3 g.4).1 first old.0 old.1
-        ]
+        | inl again ↦
+            let e = enqueued_for bad.value first old in
+            none (repeat e.0 first second) (record {
+              value = bad.value;
+              enqueues = e.1;
+              dequeues = (is.keeps first old.0, old.1);
+              dequeues_again = (is.keeps second again.0, again.1);
+              in_order = bad.in_order;
+            })
+        | inr (late, g) ↦ (untaken g.0 bad.value g.1 g.3 g.4).1 first old.0 old.1
+      ]
       | inr (late, g) ↦ elim (gives_it second bad.value bad.dequeues_again) [
-          | inl again ↦ (untaken g.0 bad.value g.1 g.3 g.4).1 second again.0 again.1
-          | inr (later, h) ↦
-              let one = one_gives first second bad.value bad.dequeues.0 bad.dequeues_again.0 g h in
-              let rets = ap (λ (o : Operation). o.ret) one in
-              let less = bad.in_order in
-              absurd (omega (arith, rets, less))
-        ]
+        | inl again ↦ (untaken g.0 bad.value g.1 g.3 g.4).1 second again.0 again.1
+        | inr (later, h) ↦
+            let one = one_gives first second bad.value bad.dequeues.0 bad.dequeues_again.0 g h in
+            let rets = ap (λ (o : Operation). o.ret) one in
+            let less = bad.in_order in
+            absurd (omega (arith, rets, less))
+      ]
     ]
 
     module _ (a b : Life) (bad : IsOrderViolation (on ours) a b) (d : Operation) (is_d : dequeue_of b ≡ Some d) where
@@ -388,11 +391,11 @@ module _ (done : List Operation) (Enqueuing : ℕ → ℕ → Type 0) (dequeuing
         gone_by_then : GoneBy d.ret (enqueue_of a)
         gone_by_then y w did_y not_taken early = elim (cases_lt d.ret (dequeue_call (life_of y w))) [
           | inl later ↦ absurd (none (order (life_of y w) there) (record {
-              is_a = is_life y w (is.keeps y did_y.0, did_y.1);
-              is_b = is_there;
-              is_dequeued = called;
-              overtakes = (omega (arith, early, before, called_as_ours), later);
-            }))
+            is_a = is_life y w (is.keeps y did_y.0, did_y.1);
+            is_b = is_there;
+            is_dequeued = called;
+            overtakes = (omega (arith, early, before, called_as_ours), later);
+          }))
           | inr by ↦ by
         ]
 
@@ -406,11 +409,11 @@ module _ (done : List Operation) (Enqueuing : ℕ → ℕ → Type 0) (dequeuing
             none_a o.0 o.1.0 o.1.1
         overtaken_by_old (Some o) is_found did_o = elim (gives_it o bad.is_a.0 did_o) [
           | inl old_o ↦ none (order (record { enqueue = enqueue_of a; dequeue = Some o }) there) (record {
-              is_a = (bad.is_a.0, (is.keeps (enqueue_of a) old_a, bad.is_a.1.1), (is.keeps o old_o.0, old_o.1));
-              is_b = is_there;
-              is_dequeued = called;
-              overtakes = (omega (arith, before, called_as_ours), dequeued_later o is_found);
-            })
+            is_a = (bad.is_a.0, (is.keeps (enqueue_of a) old_a, bad.is_a.1.1), (is.keeps o old_o.0, old_o.1));
+            is_b = is_there;
+            is_dequeued = called;
+            overtakes = (omega (arith, before, called_as_ours), dequeued_later o is_found);
+          })
           | inr (late, g) ↦
               let known = untaken g.0 bad.is_a.0 g.1 g.3 g.4 in
               let p = pending_gave known.1 in
@@ -425,10 +428,10 @@ module _ (done : List Operation) (Enqueuing : ℕ → ℕ → Type 0) (dequeuing
         overtaken_by_left (Some o) is_found did_o = absurd (omega (arith, dequeued_later o is_found, late, called_by_last o did_o.0))
         overtaken_by_left None is_found none_a =
             let place = place_of left (enqueue_of a) (chosen.left_has (enqueue_of a) bad.is_a.0 (old_a, bad.is_a.1.1)
-                (λ o among k. none_a o (chosen.keeps o among) k)) in
+            (λ o among k. none_a o (chosen.keeps o among) k)) in
             let known = untaken g.0 bad.is_b.0 g.1 g.3 g.4 in
             let one = ap (λ (o : Operation). o.ret) (same_enqueue ours g.1 (enqueue_of b) bad.is_b.0 chosen.complete
-                (chosen.keeps g.1 known.0.0, known.0.1) bad.is_b.1) in
+            (chosen.keeps g.1 known.0.0, known.0.1) bad.is_b.1) in
             let by = call_by_return ours (enqueue_of b) chosen.complete bad.is_b.1.0 in
             elim (cases_lt place.0 g.0) [
               | inl below ↦

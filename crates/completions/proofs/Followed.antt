@@ -159,9 +159,9 @@ operations_push (x ∷ xs) e o among =
       | inl made ↦ by_next (find (λ r. nat_eq r.thread x.thread) xs) refl
           (ap (operation_of x) (sym (find-append (λ r. nat_eq r.thread x.thread) xs (e ∷ []))) ∙ made)
       | inr there ↦ elim (operations_push xs e o there) [
-          | inl old ↦ inl (tail_option (operation_of x (find (λ r. nat_eq r.thread x.thread) xs)) (operations_of xs) o old)
-          | inr new ↦ inr (new.0, last_of-cons x xs e.thread new.0 new.1, new.2)
-        ]
+        | inl old ↦ inl (tail_option (operation_of x (find (λ r. nat_eq r.thread x.thread) xs)) (operations_of xs) o old)
+        | inr new ↦ inr (new.0, last_of-cons x xs e.thread new.0 new.1, new.2)
+      ]
     ]
   where
     by_next : (next : Option Event) → find (λ r. nat_eq r.thread x.thread) xs ≡ next
@@ -203,15 +203,15 @@ next_kept : (out : Event → Bool) (e : Event) (xs : List Event) → OnlyLast ou
 next_kept out e [] only = refl
 next_kept out e (x ∷ xs) only = elim (cases_Bool (nat_eq x.thread e.thread)) [
   | inl own ↦ elim (cases_Bool (out x)) [
-      | inl gone ↦
-          let last = only.0 gone in
-          let threads : x.thread ≡ e.thread = eqb-true x.thread e.thread own in
-          let nothing : next_after e xs ≡ None = none_of_thread xs e.thread (ap (λ t. last_of t xs) (sym threads) ∙ last.1) in
-          let left : operation_of e (next_after e (keeping out (x ∷ xs))) ≡ None = rw gone (rw (none_kept out e xs nothing) refl) in
-          let whole : operation_of e (next_after e (x ∷ xs)) ≡ None = rw own (rw (no_kind_of_call e.what x.what last.0, operation_of) refl) in
-          left ∙ sym whole
-      | inr stays ↦ rw (stays, own) refl
-    ]
+    | inl gone ↦
+        let last = only.0 gone in
+        let threads : x.thread ≡ e.thread = eqb-true x.thread e.thread own in
+        let nothing : next_after e xs ≡ None = none_of_thread xs e.thread (ap (λ t. last_of t xs) (sym threads) ∙ last.1) in
+        let left : operation_of e (next_after e (keeping out (x ∷ xs))) ≡ None = rw gone (rw (none_kept out e xs nothing) refl) in
+        let whole : operation_of e (next_after e (x ∷ xs)) ≡ None = rw own (rw (no_kind_of_call e.what x.what last.0, operation_of) refl) in
+        left ∙ sym whole
+    | inr stays ↦ rw (stays, own) refl
+  ]
   | inr other ↦
       let rest = next_kept out e xs only.1 in
       elim (cases_Bool (out x)) [ inl gone ↦ rw (gone, other) rest | inr stays ↦ rw (stays, other) rest ]
@@ -326,10 +326,10 @@ made_later front (r ∷ rest) o among =
     let parts : front ++ r ∷ rest ≡ (front ++ r ∷ []) ++ rest = sym (append_assoc front (r ∷ []) rest) in
     elim (made_later (front ++ r ∷ []) rest o (subst (λ (es : List Event). Contains (operations_of es) o) parts among)) [
       | inl old ↦ elim (operations_push front r o old) [
-          | inl older ↦ inl older
-          | inr (call, last, made) ↦
-              inr ([], r, rest, call, refl, subst (λ (es : List Event). last_of r.thread es ≡ Some call) (sym (append-nil front)) last, made)
-        ]
+        | inl older ↦ inl older
+        | inr (call, last, made) ↦
+            inr ([], r, rest, call, refl, subst (λ (es : List Event). last_of r.thread es ≡ Some call) (sym (append-nil front)) last, made)
+      ]
       | inr (before, s, after, call, is, last, made) ↦
           let moved : (front ++ r ∷ []) ++ before ≡ front ++ r ∷ before = append_assoc front (r ∷ []) before in
           inr (r ∷ before, s, after, call, ap (λ (es : List Event). r ∷ es) is, subst (λ (es : List Event). last_of s.thread es ≡ Some call) moved last, made)

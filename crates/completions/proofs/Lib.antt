@@ -5,6 +5,7 @@ pub mod Counting
 pub mod Deciding
 pub mod Followed
 pub mod Completing
-pub mod Complete
-pub mod Answers
+pub mod Whole
+pub mod Answering
 pub mod Decides
+pub mod Walks

@@ -10,6 +10,7 @@ use Rattle.event_records.specs.Projection.{projection}
 use Rattle.event_records.specs.Turns.{is_call}
 use Rattle.history_merge.specs.Complete.{called_value}
 use Rattle.history_merge.specs.Faults.{pending_call}
+use Rattle.completions.specs.declared.answers.Answer.{Answer}
 
 -- whether the event is a pending call: the last event of its thread, and a call
 abbrev pub is_pending : List Event → Event → Bool
@@ -44,11 +45,6 @@ taken_values before (e ∷ later) = cons_option (taken_value before e) (taken_va
 abbrev pub left_values : List ℕ → List Event → List ℕ
 left_values initial events = filter (λ v. not (is_given events v)) (initial ++ taken_values [] events)
 
--- a pending call with its answer
-pub record Answer : Type 0 where
-  pub call : Event
-  pub what : What
-
 -- the pending calls, in their order
 abbrev pub pending_calls : List Event → List Event
 pending_calls events = filter (is_pending events) events
@@ -60,7 +56,7 @@ enqueue_answer events call =
 
 -- whether the call is a dequeue
 abbrev pub calls_dequeue : Event → Bool
-calls_dequeue e = elim e.what [ | CallDeq ↦ true | _ ↦ false ]
+calls_dequeue e = elim e.what [ CallDeq ↦ true | _ ↦ false ]
 
 -- the first call gives the first value, the second the second, and so on; a call for which no value is left isn't answered
 abbrev pub paired : List Event → List ℕ → List Answer

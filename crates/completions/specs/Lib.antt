@@ -1,2 +1,4 @@
 pub mod Pending
 pub mod Completed
+pub mod Faults
+pub mod Inner

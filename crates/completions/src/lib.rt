@@ -1,2 +1,15 @@
-//! Histories with pending calls, and the completion that decides them.
+//! Histories with pending calls, and the completion that decides them (Herlihy and Wing 1990, section 2.2).
 #![tactic(auto)]
+
+mod answers;
+mod completion;
+mod fault;
+mod given;
+mod last;
+mod left;
+mod pending;
+
+pub use answers::Answer;
+
+pub use completion::complete;
+pub use fault::CompletionFault;

@@ -21,8 +21,9 @@ use Rattle.history_merge.specs.Initial.{IsCompleteFrom}
 use Rattle.history_merge.proofs.Distinct.{contains_cons, contains_at, not_in_none, pairs_at, place_of, rises_later}
 use Rattle.history_merge.proofs.Turns.{answer_is_return, nothing_after_turns, pending_in}
 use Rattle.value_match.proofs.Lists.{keeps, kept, passed_filter, passes_filter}
+use Rattle.completions.specs.declared.answers.Answer.{Answer}
 use Rattle.completions.specs.Pending.{IsHistoryFrom, IsPendingCall, TakesTurnsSoFar}
-use Rattle.completions.specs.Completed.{Answer, completed_by, is_answered, is_left_out, is_pending, next_ticket, returns_from}
+use Rattle.completions.specs.Completed.{completed_by, is_answered, is_left_out, is_pending, next_ticket, returns_from}
 use Rattle.completions.proofs.Followed.{keeping, last_above, last_in, last_is_pending, last_of, one_by_ticket, pending_is_last}
 
 -- ---- lists
@@ -197,6 +198,13 @@ return_of n (a ∷ rest) r among =
           (found.0, tail a rest found.0 found.1, found.2, found.3, omega (arith, found.4), omega (arith, found.5))
     ]
 
+pub returns-append : (n : ℕ) (xs ys : List Answer) → returns_from n (xs ++ ys) ≡ returns_from n xs ++ returns_from (n + length xs) ys
+returns-append n [] ys = ap (λ m. returns_from m ys) (let e : n ≡ n + 0 = omega arith in e)
+returns-append n (a ∷ xs) ys =
+    let first : Event = record { ticket = n; thread = a.call.thread; what = a.what } in
+    let e : (n + 1) + length xs ≡ n + suc (length xs) = omega arith in
+    ap (λ (es : List Event). first ∷ es) (returns-append (n + 1) xs ys ∙ ap (λ m. returns_from (n + 1) xs ++ returns_from m ys) e)
+
 returns_rise : (n : ℕ) (answers : List Answer) → TicketsRise (returns_from n answers)
 returns_rise n [] = pairs_none (λ e f. e.ticket < f.ticket)
 returns_rise n (a ∷ rest) = AllPairs-cons (λ e f. e.ticket < f.ticket) (record { ticket = n; thread = a.call.thread; what = a.what }) (returns_from (n + 1) rest)
@@ -318,14 +326,14 @@ module _ (initial : List ℕ) (events : List Event) (history : IsHistoryFrom ini
     turns_of_idle t whole =
         let idle : pending_call t events ≡ None = nothing_after_turns (projection t events) whole in
         let stay : keeping out (projection t events) ≡ projection t events = filter_all (λ e. not (out e)) (projection t events) (λ x among.
-            let there = passed_filter (λ e. nat_eq e.thread t) events x among in
-            elim (cases_Bool (out x)) [
-              | inr stays ↦ ap not stays
-              | inl gone ↦
-                  let clash : None ≡ Some x = sym idle ∙ ap (λ u. pending_call u events) (sym (eqb-true x.thread t there.1)) ∙ only_pending x there.0 gone in cc
-            ]) in
+        let there = passed_filter (λ e. nat_eq e.thread t) events x among in
+        elim (cases_Bool (out x)) [
+          | inr stays ↦ ap not stays
+          | inl gone ↦
+              let clash : None ≡ Some x = sym idle ∙ ap (λ u. pending_call u events) (sym (eqb-true x.thread t there.1)) ∙ only_pending x there.0 gone in cc
+        ]) in
         let none : projection t returns ≡ [] = no_return (next_ticket events) t answered (λ a among same.
-            let clash : None ≡ Some a.call = sym idle ∙ ap (λ u. pending_call u events) (sym same) ∙ (are.pending a among).1 in cc) in
+        let clash : None ≡ Some a.call = sym idle ∙ ap (λ u. pending_call u events) (sym same) ∙ (are.pending a among).1 in cc) in
         subst TakesTurns (sym (ap (λ (es : List Event). keeping out (projection t events) ++ es) none
         ∙ append-nil (keeping out (projection t events)) ∙ stay)) whole
 
@@ -341,10 +349,10 @@ module _ (initial : List ℕ) (events : List Event) (history : IsHistoryFrom ini
         let stay : keeping out (projection t events) ≡ done ++ keeping out (call ∷ []) =
         ap (keeping out) is ∙ filter-append (λ e. not (out e)) done (call ∷ [])
         ∙ ap (λ (es : List Event). es ++ keeping out (call ∷ [])) (filter_all (λ e. not (out e)) done (λ x among.
-            let in_own : Contains (projection t events) x = subst (λ (es : List Event). Contains es x) (sym is) (Contains-append_left done (call ∷ []) x among) in
-            let there = passed_filter (λ e. nat_eq e.thread t) events x in_own in
-            stays_before t x call there.0 (eqb-true x.thread t there.1) last
-            (pairs_across (λ e f. e.ticket < f.ticket) done (call ∷ []) x call rises among (head call [])))) in
+        let in_own : Contains (projection t events) x = subst (λ (es : List Event). Contains es x) (sym is) (Contains-append_left done (call ∷ []) x among) in
+        let there = passed_filter (λ e. nat_eq e.thread t) events x in_own in
+        stays_before t x call there.0 (eqb-true x.thread t there.1) last
+        (pairs_across (λ e f. e.ticket < f.ticket) done (call ∷ []) x call rises among (head call [])))) in
         subst (λ (es : List Event). TakesTurns (es ++ projection t returns)) (sym stay) (by_answer here.0 here.1 pending (cases_Bool (is_answered answered call)))
       where
         by_answer : Contains events call → call.thread ≡ t → IsPendingCall events call → ((is_answered answered call ≡ true) ⊎ (is_answered answered call ≡ false))
@@ -371,11 +379,11 @@ module _ (initial : List ℕ) (events : List Event) (history : IsHistoryFrom ini
             let gone : out call ≡ true = rw (test_of_pending call pending, silent) refl in
             let left : keeping out (call ∷ []) ≡ [] = rw gone refl in
             let none : projection t returns ≡ [] = no_return (next_ticket events) t answered (λ a among same.
-                let as_last = (pending_is_last a.call.thread events a.call (are.pending a among).1).0 in
-                let mine = (pending_is_last call.thread events call pending).0 in
-                let one : a.call ≡ call =
-                let both : Some a.call ≡ Some call = sym as_last ∙ ap (λ u. last_of u events) (same ∙ sym own) ∙ mine in cc in
-                let clash : true ≡ false = sym (is_answer a among) ∙ ap (is_answered answered) one ∙ silent in cc) in
+            let as_last = (pending_is_last a.call.thread events a.call (are.pending a among).1).0 in
+            let mine = (pending_is_last call.thread events call pending).0 in
+            let one : a.call ≡ call =
+            let both : Some a.call ≡ Some call = sym as_last ∙ ap (λ u. last_of u events) (same ∙ sym own) ∙ mine in cc in
+            let clash : true ≡ false = sym (is_answer a among) ∙ ap (is_answered answered) one ∙ silent in cc) in
             let parts : (done ++ keeping out (call ∷ [])) ++ projection t returns ≡ done =
             ap (λ (es : List Event). (done ++ es) ++ projection t returns) left ∙ ap (λ (es : List Event). (done ++ []) ++ es) none
             ∙ append-nil (done ++ []) ∙ append-nil done in
@@ -398,13 +406,13 @@ module _ (initial : List ℕ) (events : List Event) (history : IsHistoryFrom ini
         tickets_in_range = All-append (λ e. e.ticket ≤ MAX_TICKET) (keeping out events) returns
             (All-filter (λ e. not (out e)) (λ e. e.ticket ≤ MAX_TICKET) events history.tickets_in_range)
             (all_members (λ r. r.ticket ≤ MAX_TICKET) returns (λ r among.
-                let found = return_of (next_ticket events) answered r among in omega (arith, found.5, few)));
+            let found = return_of (next_ticket events) answered r among in omega (arith, found.5, few)));
         threads_in_range = All-append (λ e. e.thread ≤ MAX_THREAD) (keeping out events) returns
             (All-filter (λ e. not (out e)) (λ e. e.thread ≤ MAX_THREAD) events history.threads_in_range)
             (all_members (λ r. r.thread ≤ MAX_THREAD) returns (λ r among.
-                let found = return_of (next_ticket events) answered r among in
-                let most = All-contains (λ e. e.thread ≤ MAX_THREAD) events found.0.call history.threads_in_range (are.pending found.0 found.1).0 in
-                omega (arith, found.2, most)));
+            let found = return_of (next_ticket events) answered r among in
+            let most = All-contains (λ e. e.thread ≤ MAX_THREAD) events found.0.call history.threads_in_range (are.pending found.0 found.1).0 in
+            omega (arith, found.2, most)));
         threads_take_turns = turns;
         values_are_distinct = pairs_back (λ v w. v ≢ w) initial (called_values (completed_by events answered)) distinct;
       };

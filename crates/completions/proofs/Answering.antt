@@ -25,11 +25,12 @@ use Rattle.history_merge.specs.Operations.{kind_of, operation_of, operations_of}
 use Rattle.history_merge.proofs.Distinct.{contains_at, contains_cons, cut_at, not_in_none, pairs_at, place_of, rises_later, IsMadeOf, made_of, traced}
 use Rattle.history_merge.proofs.Turns.{answered_is_call, projection-at}
 use Rattle.value_match.proofs.Lists.{keeps, kept, passed_filter, passes_filter}
+use Rattle.completions.specs.declared.answers.Answer.{Answer}
 use Rattle.completions.specs.Pending.{IsHistoryFrom, IsPendingCall, TakesTurnsSoFar}
-use Rattle.completions.specs.Completed.{Answer, answers_to, calls_dequeue, completed_by, enqueue_answer, given_value, given_values, is_given, is_left_out, left_values}
+use Rattle.completions.specs.Completed.{answers_to, calls_dequeue, completed_by, enqueue_answer, given_value, given_values, is_given, is_left_out, left_values}
 use Rattle.completions.specs.Completed.{next_ticket, paired, pending_calls, returns_from, taken_value, taken_values, is_pending}
 use Rattle.completions.proofs.Followed.{keeping, last_above, last_in, last_is_pending, last_of, last_of-append, last_or-some, operations_keep, operations_made, operations_push, one_by_ticket, pending_is_last}
-use Rattle.completions.proofs.Complete.{all_members, AreAnswers, first_with, is_answer, out, pairs_across, pairs_append, pairs_made, pairs_none, pairs_rest, pending_by_test, no_return, test_of_pending}
+use Rattle.completions.proofs.Whole.{all_members, AreAnswers, first_with, is_answer, out, pairs_across, pairs_append, pairs_made, pairs_none, pairs_rest, pending_by_test, no_return, test_of_pending}
 
 abbrev tail : {X : Type 0} (x : X) (xs : List X) (y : X) → Contains xs y → Contains (x ∷ xs) y
 tail x xs y among = (suc among.0, omega (arith, among.1), among.2)
@@ -170,7 +171,7 @@ taken_made before e o is = by_what e.what refl is
     by_pending None made = cc
     by_pending (Some call) made = (call, refl, made)
 
-    by_what : (w : What) → e.what ≡ w → (elim w [ | RetEnq ↦ option_and_then (λ call. operation_of call (Some e)) (pending_call e.thread before) | _ ↦ None ]) ≡ Some o
+    by_what : (w : What) → e.what ≡ w → (elim w [ RetEnq ↦ option_and_then (λ call. operation_of call (Some e)) (pending_call e.thread before) | _ ↦ None ]) ≡ Some o
         → (call : Event) × (pending_call e.thread before ≡ Some call) × (operation_of call (Some e) ≡ Some o) × (e.what ≡ RetEnq)
     by_what RetEnq what made = let found = by_pending (pending_call e.thread before) made in (found.0, found.1, found.2, what)
     by_what (CallEnq v) what made = cc
@@ -201,10 +202,11 @@ taken_in before (e ∷ later) o among =
           let found = taken_made before e o made in
           let there = operations_made before e found.0 o (pending_is_last e.thread before found.0 found.1).0 found.2 in
           let of = made_of found.0 (Some e) o found.2 in
-          let same : e ≡ of.0 = let s : Some e ≡ Some of.0 = of.1 in cc in
-          (subst (λ (es : List Event). Contains (operations_of es) o) parts (operations_keep (before ++ e ∷ []) later o there),
-          enqueued found.0.what of.0.what o.kind (ap (λ (x : Event). x.what) (sym same) ∙ found.3) of.2.kind,
-          (e, (zero, omega arith, refl), of.2.returned ∙ ap (λ (x : Event). x.ticket) (sym same)))
+          let same : e ≡ of.0 = let s : Some e ≡ Some of.0 = of.1 in cc in (
+            subst (λ (es : List Event). Contains (operations_of es) o) parts (operations_keep (before ++ e ∷ []) later o there),
+            enqueued found.0.what of.0.what o.kind (ap (λ (x : Event). x.what) (sym same) ∙ found.3) of.2.kind,
+            (e, (zero, omega arith, refl), of.2.returned ∙ ap (λ (x : Event). x.ticket) (sym same)),
+          )
       | inr deeper ↦
           let found = taken_in (before ++ e ∷ []) later o deeper in
           (subst (λ (es : List Event). Contains (operations_of es) o) parts found.0, found.1, (found.2.0, tail e later found.2.0 found.2.1, found.2.2))
@@ -228,19 +230,19 @@ taken_all before (e ∷ later) o v among is =
     elim (taken_all (before ++ e ∷ []) later o v (subst (λ (es : List Event). Contains (operations_of es) o) parts among) is) [
       | inr deeper ↦ inr (cons_tail (taken_operation before e) (taken_from (before ++ e ∷ []) later) o deeper)
       | inl old ↦ elim (operations_push before e o old) [
-          | inl older ↦ inl older
-          | inr (call, last, made) ↦
-              let of = made_of call (Some e) o made in
-              let same : e ≡ of.0 = let s : Some e ≡ Some of.0 = of.1 in cc in
-              let whats = answer_of_enqueue call.what of.0.what v (of.2.kind ∙ ap (λ k. Some k) is) in
-              let what : e.what ≡ RetEnq = ap (λ (x : Event). x.what) same ∙ whats.1 in
-              let pending = last_is_pending e.thread before call last (ap is_call whats.0) in
-              let here : option_and_then (λ c. operation_of c (Some e)) (pending_call e.thread before) ≡ Some o = rw pending made in
-              let taken : taken_operation before e ≡ Some o =
-              subst (λ (w : What). (elim w [ | RetEnq ↦ option_and_then (λ c. operation_of c (Some e)) (pending_call e.thread before) | _ ↦ None ]) ≡ Some o)
-              (sym what) here in
-              inr (cons_head (taken_operation before e) (taken_from (before ++ e ∷ []) later) o taken)
-        ]
+        | inl older ↦ inl older
+        | inr (call, last, made) ↦
+            let of = made_of call (Some e) o made in
+            let same : e ≡ of.0 = let s : Some e ≡ Some of.0 = of.1 in cc in
+            let whats = answer_of_enqueue call.what of.0.what v (of.2.kind ∙ ap (λ k. Some k) is) in
+            let what : e.what ≡ RetEnq = ap (λ (x : Event). x.what) same ∙ whats.1 in
+            let pending = last_is_pending e.thread before call last (ap is_call whats.0) in
+            let here : option_and_then (λ c. operation_of c (Some e)) (pending_call e.thread before) ≡ Some o = rw pending made in
+            let taken : taken_operation before e ≡ Some o =
+            subst (λ (w : What). (elim w [ RetEnq ↦ option_and_then (λ c. operation_of c (Some e)) (pending_call e.thread before) | _ ↦ None ]) ≡ Some o)
+            (sym what) here in
+            inr (cons_head (taken_operation before e) (taken_from (before ++ e ∷ []) later) o taken)
+      ]
     ]
 
 -- ---- their values
@@ -260,8 +262,10 @@ map_cons_option f (Some x) xs = refl
 value_of_kind : (call e : Event) → option_map value_of (operation_of call (Some e)) ≡ option_map value_in (kind_of call.what e.what)
 value_of_kind call e = by_kind (kind_of call.what e.what)
   where
-    by_kind : (k : Option OpKind) → option_map value_of (elim k [ | None ↦ None
-      | Some kind ↦ Some (record { call = call.ticket; ret = e.ticket; thread = call.thread; kind = kind }) ]) ≡ option_map value_in k
+    by_kind : (k : Option OpKind) → option_map value_of (elim k [
+      | None ↦ None
+      | Some kind ↦ Some (record { call = call.ticket; ret = e.ticket; thread = call.thread; kind = kind })
+    ]) ≡ option_map value_in k
     by_kind None = refl
     by_kind (Some k) = refl
 
@@ -283,8 +287,8 @@ taken_value_is before e = by_what e.what refl
         value_of_kind call e ∙ ap (λ w. option_map value_in (kind_of call.what w)) what ∙ called_by_enqueue call.what
 
     by_what : (w : What) → e.what ≡ w
-        → option_map value_of (elim w [ | RetEnq ↦ option_and_then (λ call. operation_of call (Some e)) (pending_call e.thread before) | _ ↦ None ])
-        ≡ (elim w [ | RetEnq ↦ option_and_then (λ call. called_value call.what) (pending_call e.thread before) | _ ↦ None ])
+        → option_map value_of (elim w [ RetEnq ↦ option_and_then (λ call. operation_of call (Some e)) (pending_call e.thread before) | _ ↦ None ])
+        ≡ (elim w [ RetEnq ↦ option_and_then (λ call. called_value call.what) (pending_call e.thread before) | _ ↦ None ])
     by_what RetEnq what = by_pending (pending_call e.thread before) what
     by_what (CallEnq v) what = refl
     by_what CallDeq what = refl
@@ -360,7 +364,7 @@ paired_apart [] values apart = pairs_none (λ (a b : Answer). a.call.thread ≢ 
 paired_apart (x ∷ calls) [] apart = pairs_none (λ (a b : Answer). a.call.thread ≢ b.call.thread)
 paired_apart (x ∷ calls) (w ∷ values) apart = AllPairs-cons (λ (a b : Answer). a.call.thread ≢ b.call.thread) (record { call = x; what = RetDeq w }) (paired calls values)
     (all_members (λ (b : Answer). x.thread ≢ b.call.thread) (paired calls values) (λ b among.
-        let found = paired_from calls values b among in first_with OtherThread x calls b.call apart (contains_at calls found.0 b.call found.2)))
+    let found = paired_from calls values b among in first_with OtherThread x calls b.call apart (contains_at calls found.0 b.call found.2)))
     (paired_apart calls values (pairs_rest OtherThread x calls apart))
 
 -- an answer to an enqueue
@@ -409,8 +413,8 @@ taken_rises before (e ∷ later) rise = by_made (taken_operation before e) refl 
         let ret : o.ret ≡ e.ticket = of.2.returned ∙ ap (λ (x : Event). x.ticket) (sym same) in
         AllPairs-cons (λ (x y : Operation). x.ret < y.ret) o (taken_from (before ++ e ∷ []) later)
         (all_members (λ y. o.ret < y.ret) (taken_from (before ++ e ∷ []) later) (λ y among.
-            let there = (taken_in (before ++ e ∷ []) later y among).2 in
-            let at = place_of later there.0 there.1 in
-            let less = pairs_at (λ (a b : Event). a.ticket < b.ticket) (e ∷ later) zero (suc at.0) e there.0 rise (omega arith) refl at.1 in
-            omega (arith, ret, there.2, less)))
+        let there = (taken_in (before ++ e ∷ []) later y among).2 in
+        let at = place_of later there.0 there.1 in
+        let less = pairs_at (λ (a b : Event). a.ticket < b.ticket) (e ∷ later) zero (suc at.0) e there.0 rise (omega arith) refl at.1 in
+        omega (arith, ret, there.2, less)))
         rest

@@ -1,0 +1,101 @@
+//! The answers to pending calls.
+ghost use Rattle.std.specs.Prelude.{◌≡◌, ◌≤◌, ◌++◌, List, All, IfOk, OnOk, filter, filter_map, true};
+ghost use Rattle.event_records.specs.declared.event.Event.{Event};
+ghost use Rattle.event_records.specs.declared.limits.TheConstants.{MAX_THREAD};
+ghost use Rattle.completions.specs.Completed.{answers_to, calls_dequeue, enqueue_answer, is_answered, paired};
+ghost use Rattle.completions.specs.Inner.Walk.{AreGiven, AreLast};
+
+use crate::given::{is_given, sorted_given};
+use crate::left::left_values;
+use crate::pending::pending_calls;
+use event_records::{Event, What};
+use std::alloc::{AllocError, Global};
+
+/// A pending call with its answer.
+#[derive(Clone, Copy, Debug)]
+pub struct Answer {
+    pub call: Event,
+    pub what: What,
+}
+
+/// Returns the answer to a pending enqueue if a dequeue gave its value.
+fn enqueue_answer(call: Event, given: &[u64]) -> Option<Answer>
+    ensures { (events : List Event) → AreGiven events given.now → result ≡ enqueue_answer events call }
+{
+    match call.what {
+        What::CallEnq(value) if is_given(given, value) => Some(Answer {
+            call,
+            what: What::RetEnq,
+        }),
+        _ => None,
+    }
+}
+
+/// Returns the answers to pending enqueues.
+pub(crate) fn enqueue_answers(alloc: Global, calls: &[Event], given: &[u64]) -> Result<Vec<Answer>, AllocError>
+    ensures { IfOk result (λ answers. (events : List Event) → AreGiven events given.now
+        → answers.items ≡ filter_map (enqueue_answer events) calls.now) }
+{
+    let mut answers = Vec::new(alloc);
+    for call in calls {
+        match enqueue_answer(*call, given) {
+            Some(answer) => answers.push(answer)?,
+            None => {}
+        }
+    }
+    Ok(answers)
+}
+
+/// Returns the pending dequeues, in their order.
+pub(crate) fn dequeue_calls(alloc: Global, calls: &[Event]) -> Result<Vec<Event>, AllocError>
+    ensures { IfOk result (λ dequeues. dequeues.items ≡ filter calls_dequeue calls.now) }
+{
+    let mut dequeues = Vec::new(alloc);
+    for call in calls {
+        if call.what == What::CallDeq {
+            dequeues.push(*call)?;
+        }
+    }
+    Ok(dequeues)
+}
+
+/// Adds the answers of these dequeues, which give these values in their order, as far as there are values.
+pub(crate) fn push_dequeue_answers(answers: &mut Vec<Answer>, calls: &[Event], values: &[u64]) -> Result<(), AllocError>
+    ensures { OnOk result (answers.new.items ≡ answers.old.items ++ paired calls.now values.now) }
+{
+    let count = calls.len().min(values.len());
+    for place in 0..count {
+        answers.push(Answer {
+            call: calls[place],
+            what: What::RetDeq(values[place]),
+        })?;
+    }
+    Ok(())
+}
+
+/// Whether one of these answers is to this call.
+pub(crate) fn is_answered(answers: &[Answer], call: Event) -> bool
+    ensures { result ≡ is_answered answers.now call }
+{
+    answers.iter().any(|answer| answer.call.ticket == call.ticket)
+}
+
+/// Returns the answers to pending calls.
+pub(crate) fn answers_to(
+    alloc: Global,
+    values: &[u64],
+    events: &[Event],
+    last: &[Option<Event>],
+) -> Result<Vec<Answer>, AllocError>
+    requires threads { All (λ e. e.thread ≤ MAX_THREAD) events.now }
+    requires last { AreLast events.now last.now }
+    ensures { IfOk result (λ answers. answers.items ≡ answers_to values.now events.now) }
+{
+    let calls = pending_calls(alloc, events, last)?;
+    let given = sorted_given(alloc, events)?;
+    let left = left_values(alloc, values, events, given.as_slice())?;
+    let dequeues = dequeue_calls(alloc, calls.as_slice())?;
+    let mut answers = enqueue_answers(alloc, calls.as_slice(), given.as_slice())?;
+    push_dequeue_answers(&mut answers, dequeues.as_slice(), left.as_slice())?;
+    Ok(answers)
+}

@@ -1,0 +1,140 @@
+//! The completion of a history.
+ghost use Rattle.std.specs.Prelude.{◌≡◌, ◌≤◌, ◌+◌, ◌++◌, List, All, IfErr, IfOk, OnOk, length, filter, not};
+ghost use Rattle.event_records.specs.declared.limits.TheConstants.{MAX_EVENTS, MAX_INITIAL, MAX_THREAD, MAX_THREADS, MAX_TICKET};
+ghost use Rattle.history_merge.specs.Initial.{IsCompleteFrom};
+ghost use Rattle.event_records.specs.declared.event.Event.{Event};
+ghost use Rattle.completions.specs.Completed.{completed, is_left_out, next_ticket, returns_from};
+ghost use Rattle.completions.specs.Faults.{IsBeyondLimits, IsCompletionFault};
+ghost use Rattle.completions.specs.Inner.Walk.{AreLast};
+ghost use Rattle.completions.specs.Pending.{IsDeciding, IsHistoryFrom};
+
+use crate::answers::{Answer, answers_to, is_answered};
+use crate::fault::CompletionFault;
+use crate::last::last_events;
+use crate::pending::is_pending;
+use event_records::{Event, MAX_EVENTS, MAX_TICKET};
+use history_merge::{HistoryFault, history_from};
+use std::alloc::{AllocError, Global};
+
+/// Whether the event is a pending call without an answer.
+#[inline(always)]
+fn is_left_out(last: &[Option<Event>], answers: &[Answer], event: Event) -> bool
+    requires thread { event.thread ≤ MAX_THREAD }
+    requires sized { length last.now ≡ MAX_THREADS }
+    ensures { (events : List Event) → AreLast events last.now → result ≡ is_left_out events answers.now event }
+{
+    is_pending(last, event) && !is_answered(answers, event)
+}
+
+/// Returns the events without the pending calls that have no answer.
+fn kept_events(
+    alloc: Global,
+    events: &[Event],
+    last: &[Option<Event>],
+    answers: &[Answer],
+) -> Result<Vec<Event>, AllocError>
+    requires threads { All (λ e. e.thread ≤ MAX_THREAD) events.now }
+    requires last { AreLast events.now last.now }
+    ensures { IfOk result (λ kept. kept.items ≡ filter (λ e. not (is_left_out events.now answers.now e)) events.now) }
+{
+    let mut kept = Vec::new(alloc);
+    for event in events {
+        if !is_left_out(last, answers, *event) {
+            kept.push(*event)?;
+        }
+    }
+    Ok(kept)
+}
+
+/// Adds the returns of answered calls, one after another from this ticket on.
+fn push_returns(full: &mut Vec<Event>, answers: &[Answer], ticket: u64) -> Result<(), AllocError>
+    requires { ticket + length answers.now ≤ MAX_TICKET + 1 }
+    ensures { OnOk result (full.new.items ≡ full.old.items ++ returns_from ticket answers.now) }
+{
+    let mut ticket = ticket;
+    for answer in answers {
+        full.push(Event {
+            ticket,
+            thread: answer.call.thread,
+            what: answer.what,
+        })?;
+        ticket += 1;
+    }
+    Ok(())
+}
+
+/// Returns a ticket above all.
+fn next_ticket(events: &[Event]) -> u64
+    requires { All (λ e. e.ticket ≤ MAX_TICKET) events.now }
+    ensures { result ≡ next_ticket events.now }
+{
+    match events.last() {
+        Some(last) => last.ticket + 1,
+        None => 0,
+    }
+}
+
+/// Judges the events as [`history_merge::history_from`] does, but for calls that are pending.
+fn check_history(alloc: Global, initial: &[u64], events: &[Event]) -> Result<(), CompletionFault>
+    requires few_initial { length initial.now ≤ MAX_INITIAL }
+    requires few_events { length events.now ≤ MAX_EVENTS }
+    ensures history { OnOk result (IsHistoryFrom initial.now events.now) }
+    ensures fault { IfErr result (IsCompletionFault initial.now events.now) }
+{
+    match history_from(alloc, initial.to_vec(alloc)?, events) {
+        Ok(_) => Ok(()),
+        Err(HistoryFault::Pending(_)) => Ok(()),
+        Err(fault) => Err(CompletionFault::History(fault)),
+    }
+}
+
+/// Completes a history.
+fn complete_history(
+    alloc: Global,
+    initial: &[u64],
+    events: &[Event],
+) -> Result<Vec<Event>, CompletionFault>
+    requires few_initial { length initial.now ≤ MAX_INITIAL }
+    requires history { IsHistoryFrom initial.now events.now }
+    ensures completed { IfOk result (λ full. full.items ≡ completed initial.now events.now) }
+    ensures within { IfOk result (λ full. ¬ (IsBeyondLimits initial.now events.now)) }
+    ensures fault { IfErr result (IsCompletionFault initial.now events.now) }
+{
+    let last = last_events(events);
+    let answers = answers_to(alloc, initial, events, &last)?;
+    let mut full = kept_events(alloc, events, &last, answers.as_slice())?;
+    let ticket = next_ticket(events);
+    let count = answers.len();
+    if full.len().saturating_add(count) > MAX_EVENTS || ticket + count as u64 > MAX_TICKET + 1 {
+        return Err(CompletionFault::Limit);
+    }
+    push_returns(&mut full, answers.as_slice(), ticket)?;
+    Ok(full)
+}
+
+/// Completes a history whose calls may be pending, of a queue that holds these values first (Herlihy and Wing 1990,
+/// section 2.2): the completion has a linearization if and only if some completion has one.
+///
+/// A pending enqueue returns as taken if a dequeue gave its value; otherwise its call is left out. The pending dequeues give, in the
+/// order of their calls, the values that no dequeue gave: the initial ones first, in their order, and then those of successful
+/// enqueues by their returns. Dequeues for which none is left are left out. All these returns come after the last event, the
+/// enqueues' first. A complete history comes back as it is.
+///
+/// `History` has the first fault as [`history_merge::history_from`] names it, but for `Pending`. `Limit` comes if the completion has more
+/// than `MAX_EVENTS` events or a ticket above `MAX_TICKET`. Time O(n log n) for n events and initial values, and memory in proportion.
+pub fn complete(
+    alloc: Global,
+    initial: &[u64],
+    events: &[Event],
+) -> Result<Vec<Event>, CompletionFault>
+    requires few_initial { length initial.now ≤ MAX_INITIAL }
+    requires few_events { length events.now ≤ MAX_EVENTS }
+    ensures deciding { IfOk result (λ full. IsDeciding initial.now events.now full.items) }
+    ensures completed { IfOk result (λ full. full.items ≡ completed initial.now events.now) }
+    ensures few { IfOk result (λ full. length full.items ≤ MAX_EVENTS) }
+    ensures same { IfOk result (λ full. IsCompleteFrom initial.now events.now → full.items ≡ events.now) }
+    ensures fault { IfErr result (IsCompletionFault initial.now events.now) }
+{
+    check_history(alloc, initial, events)?;
+    complete_history(alloc, initial, events)
+}

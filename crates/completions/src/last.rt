@@ -1,0 +1,56 @@
+//! The last event of each thread, on a walk over the events.
+ghost use Rattle.std.specs.Prelude.{◌≡◌, ◌≤◌, ◌<◌, ◌++◌, ◌∷◌, List, [], All, IfOk, length};
+ghost use Rattle.event_records.specs.Turns.{is_call};
+ghost use Rattle.event_records.specs.declared.event.Event.{Event};
+ghost use Rattle.event_records.specs.declared.limits.TheConstants.{MAX_THREAD, MAX_THREADS};
+ghost use Rattle.history_merge.specs.Faults.{pending_call};
+ghost use Rattle.completions.specs.Inner.Walk.{AreLast};
+
+use event_records::{Event, MAX_THREADS, What};
+
+/// Whether this is a call.
+pub(crate) fn is_call(what: What) -> bool
+    ensures { result ≡ is_call what }
+{
+    matches!(what, What::CallEnq(_) | What::CallDeq)
+}
+
+/// Returns no event for any thread.
+pub(crate) fn no_events() -> [Option<Event>; MAX_THREADS]
+    ensures { AreLast [] result }
+{
+    [None; MAX_THREADS]
+}
+
+/// Notes one more event.
+#[inline(always)]
+pub(crate) fn note(last: &mut [Option<Event>], event: Event)
+    requires thread { event.thread ≤ MAX_THREAD }
+    requires sized { length last.old ≡ MAX_THREADS }
+    ensures { (events : List Event) → AreLast events last.old → AreLast (events ++ event ∷ []) last.new }
+{
+    last[usize::from(event.thread)] = Some(event);
+}
+
+/// Returns the pending call of the thread, if it has one.
+#[inline(always)]
+pub(crate) fn pending_of(last: &[Option<Event>], thread: u8) -> Option<Event>
+    requires thread { thread ≤ MAX_THREAD }
+    requires sized { length last.now ≡ MAX_THREADS }
+    ensures { (events : List Event) → AreLast events last.now → result ≡ pending_call thread events }
+{
+    let event = last[usize::from(thread)]?;
+    if is_call(event.what) { Some(event) } else { None }
+}
+
+/// Returns the last event of each thread.
+pub(crate) fn last_events(events: &[Event]) -> [Option<Event>; MAX_THREADS]
+    requires { All (λ e. e.thread ≤ MAX_THREAD) events.now }
+    ensures { AreLast events.now result }
+{
+    let mut last = no_events();
+    for event in events {
+        note(&mut last, *event);
+    }
+    last
+}
