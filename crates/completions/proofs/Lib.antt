@@ -9,3 +9,4 @@ pub mod Whole
 pub mod Answering
 pub mod Decides
 pub mod Walks
+pub mod Sound

@@ -133,7 +133,7 @@ last_or-end : (xs : List Event) (x : Event) (o : Option Event) → last_or o (xs
 last_or-end [] x o = refl
 last_or-end (y ∷ xs) x o = last_or-end xs x (Some y)
 
-turns_append : (xs ys : List Event) → TakesTurns xs → TakesTurns ys → TakesTurns (xs ++ ys)
+pub turns_append : (xs ys : List Event) → TakesTurns xs → TakesTurns ys → TakesTurns (xs ++ ys)
 turns_append [] ys turns more = more
 turns_append (call ∷ []) ys turns more = absurd turns
 turns_append (call ∷ answer ∷ rest) ys turns more = (turns.0, turns_append rest ys turns.1 more)
@@ -161,7 +161,7 @@ filter_filter p q (x ∷ xs) = by_tests (p x) refl (q x) refl (filter_filter p q
         let right : filter q (filter p (x ∷ xs)) ≡ filter q (filter p xs) = rw in_p refl in
         left ∙ rest ∙ sym right
 
-filter_all : (p : Event → Bool) (xs : List Event) → ((x : Event) → Contains xs x → p x ≡ true) → filter p xs ≡ xs
+pub filter_all : (p : Event → Bool) (xs : List Event) → ((x : Event) → Contains xs x → p x ≡ true) → filter p xs ≡ xs
 filter_all p [] each = refl
 filter_all p (x ∷ xs) each = rw (each x (head x xs)) (ap (λ (es : List Event). x ∷ es) (filter_all p xs (λ y among. each y (tail x xs y among))))
 

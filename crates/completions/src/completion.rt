@@ -1,7 +1,9 @@
 //! The completion of a history.
-ghost use Rattle.std.specs.Prelude.{◌≡◌, ◌≤◌, ◌+◌, ◌++◌, List, All, IfErr, IfOk, OnOk, length, filter, not};
+ghost use Rattle.std.specs.Prelude.{◌≡◌, ◌≢◌, ℕ, ◌≤◌, ◌+◌, ◌++◌, List, All, IfErr, IfOk, OnOk, length, filter, not};
 ghost use Rattle.event_records.specs.declared.limits.TheConstants.{MAX_EVENTS, MAX_INITIAL, MAX_THREAD, MAX_THREADS, MAX_TICKET};
 ghost use Rattle.history_merge.specs.Initial.{IsCompleteFrom};
+ghost use Rattle.history_merge.specs.declared.fault.HistoryFault.TheVariants.{Pending};
+ghost use Rattle.completions.specs.declared.fault.CompletionFault.TheVariants.{History};
 ghost use Rattle.event_records.specs.declared.event.Event.{Event};
 ghost use Rattle.completions.specs.Completed.{completed, is_left_out, next_ticket, returns_from};
 ghost use Rattle.completions.specs.Faults.{IsBeyondLimits, IsCompletionFault};
@@ -66,12 +68,31 @@ fn push_returns(full: &mut Vec<Event>, answers: &[Answer], ticket: u64) -> Resul
 /// Returns a ticket above all.
 fn next_ticket(events: &[Event]) -> u64
     requires { All (λ e. e.ticket ≤ MAX_TICKET) events.now }
-    ensures { result ≡ next_ticket events.now }
+    ensures next { result ≡ next_ticket events.now }
+    ensures small { result ≤ MAX_TICKET + 1 }
 {
     match events.last() {
         Some(last) => last.ticket + 1,
         None => 0,
     }
+}
+
+/// Returns the fault unless it is that a call is pending.
+fn allow_pending(fault: HistoryFault) -> Result<(), CompletionFault>
+    ensures pending { OnOk result ((ticket : ℕ) × (fault ≡ Pending ticket)) }
+    ensures other { IfErr result (λ f. (f ≡ History fault) × ((ticket : ℕ) → fault ≢ Pending ticket)) }
+{
+    match fault {
+        HistoryFault::Pending(_) => Ok(()),
+        _ => Err(CompletionFault::History(fault)),
+    }
+}
+
+/// Returns these values.
+fn copied(alloc: Global, values: &[u64]) -> Result<Vec<u64>, AllocError>
+    ensures { IfOk result (λ copy. copy.items ≡ values.now) }
+{
+    values.iter().copied().collect(alloc)
 }
 
 /// Judges the events as [`history_merge::history_from`] does, but for calls that are pending.
@@ -81,10 +102,10 @@ fn check_history(alloc: Global, initial: &[u64], events: &[Event]) -> Result<(),
     ensures history { OnOk result (IsHistoryFrom initial.now events.now) }
     ensures fault { IfErr result (IsCompletionFault initial.now events.now) }
 {
-    match history_from(alloc, initial.to_vec(alloc)?, events) {
+    let values = copied(alloc, initial)?;
+    match history_from(alloc, values, events) {
         Ok(_) => Ok(()),
-        Err(HistoryFault::Pending(_)) => Ok(()),
-        Err(fault) => Err(CompletionFault::History(fault)),
+        Err(fault) => allow_pending(fault),
     }
 }
 

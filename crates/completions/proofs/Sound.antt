@@ -1,0 +1,178 @@
+-- Events without a fault but pending calls are a history.
+use Rattle.std.proofs.Common.{◌≡◌, ℕ, zero, suc, ◌+◌, ◌<◌, ◌≤◌, ◌⊎◌, ◌++◌, inl, inr, Bool, true, false, not, List, [], ◌∷◌, length, get_or, take, drop, Option, Some, None, refl, ap, sym, subst, ◌∙◌, arith, append_assoc, length-append}
+use Rattle.std.specs.Prelude.{All, AllPairs, Contains, filter, filter_map, IfOk, IsTrue, OnOk, MatchOption, MatchResult, nat_eq, slice_get, ⊤, Result, Ok, Err}
+use Rattle.std.specs.List.{last_or}
+use Rattle.std.proofs.lemmas.List.{append-nil, take_all}
+use Rattle.std.proofs.Math.Seq.{take-suc}
+use Rattle.std.proofs.lemmas.Bool.{cases_Bool, cases_lt}
+use Rattle.std.proofs.lemmas.Bool.Decides.{eqb_tells, nat_tests}
+use Rattle.std.proofs.lemmas.Grind.{common_steps}
+use Rattle.std.proofs.lemmas.List.Elements.{All-nil, All-push}
+use Rattle.std.proofs.lemmas.List.Quantifiers.{all_pairs_push}
+use Rattle.std.proofs.lemmas.Option.{slice_get-get_or}
+use Rattle.event_records.specs.declared.event.Event.{Event}
+use Rattle.event_records.specs.declared.event.What.TheVariants.{CallEnq}
+use Rattle.event_records.specs.declared.limits.TheConstants.{MAX_EVENTS, MAX_THREAD, MAX_TICKET}
+use Rattle.event_records.specs.Projection.{projection}
+use Rattle.event_records.specs.Turns.{answers, is_call, TakesTurns, TicketsRise}
+use Rattle.history_merge.specs.Complete.{AreDistinct, called_values}
+use Rattle.history_merge.specs.Faults.{IsFirstFault, NoFaultBefore, pending_call}
+use Rattle.history_merge.specs.Initial.{HistoryView, IsCompleteFrom}
+use Rattle.history_merge.specs.declared.fault.HistoryFault.{HistoryFault}
+use Rattle.history_merge.specs.declared.fault.HistoryFault.TheVariants.{Pending}
+use Rattle.history_merge.proofs.Distinct.{distinct_push}
+use Rattle.history_merge.proofs.Faults.{IsSound, MayFollow, may_follow, nothing_pending_in_complete}
+use Rattle.history_merge.proofs.Turns.{answered_is_call, one_event_more, pending_in, turns_push, TurnsSoFar}
+use Rattle.completions.specs.Completed.{answers_to, calls_dequeue, completed, enqueue_answer, is_answered, is_left_out, is_pending, left_values, next_ticket, paired, pending_calls, returns_from}
+use Rattle.completions.specs.declared.answers.Answer.{Answer}
+use Rattle.completions.specs.Faults.{IsBeyondLimits}
+use Rattle.completions.specs.Pending.{IsHistoryFrom, TakesTurnsSoFar}
+use Rattle.completions.proofs.Whole.{filter_all, pending_by_test, turns_append}
+
+-- ---- turns so far
+
+whole_turns : (xs : List Event) → TakesTurns xs → TakesTurnsSoFar xs
+whole_turns [] turns = tt
+whole_turns (call ∷ []) turns = absurd turns
+whole_turns (call ∷ answer ∷ rest) turns = (turns.0, whole_turns rest turns.1)
+
+turns_with_call : (done : List Event) (call : Event) → TakesTurns done → is_call call.what ≡ true → TakesTurnsSoFar (done ++ call ∷ [])
+turns_with_call [] call turns waits = waits
+turns_with_call (x ∷ []) call turns waits = absurd turns
+turns_with_call (x ∷ answer ∷ rest) call turns waits = (turns.0, turns_with_call rest call turns.1 waits)
+
+turns_so_far : (xs : List Event) → TurnsSoFar xs → TakesTurnsSoFar xs
+turns_so_far xs turns = by_pending (pending_in xs) refl turns
+  where
+    waiting : (o : Option Event) (c : Event) → Rattle.std.specs.Option.option_and_then (λ e. Rattle.std.specs.Bool.then_some (is_call e.what) e) o ≡ Some c → is_call c.what ≡ true
+    waiting None c is = cc
+    waiting (Some e) c is = elim (cases_Bool (is_call e.what)) [
+      | inl call ↦ let same : Some e ≡ Some c = rw call at is in let one : e ≡ c = cc in subst (λ (x : Event). is_call x.what ≡ true) one call
+      | inr other ↦ let clash : None ≡ Some c = rw other at is in cc
+    ]
+
+    by_pending : (p : Option Event) → pending_in xs ≡ p
+        → MatchOption p (TakesTurns xs) (λ call. (done : List Event) × (xs ≡ done ++ call ∷ []) × TakesTurns done) → TakesTurnsSoFar xs
+    by_pending None is whole = whole_turns xs whole
+    by_pending (Some call) is (done, parts, whole) =
+        subst TakesTurnsSoFar (sym parts) (turns_with_call done call whole (waiting (last_or None xs) call is))
+
+sound_is_history : (initial : List ℕ) (events : List Event) → IsSound initial events → IsHistoryFrom initial events
+sound_is_history initial events sound = record {
+  tickets_rise = sound.tickets_rise;
+  tickets_in_range = sound.tickets_in_range;
+  threads_in_range = sound.threads_in_range;
+  threads_take_turns = λ thread. turns_so_far (projection thread events) (sound.turns thread);
+  values_are_distinct = sound.values_are_distinct;
+}
+
+complete_is_history : (initial : List ℕ) (events : List Event) → IsCompleteFrom initial events → IsHistoryFrom initial events
+complete_is_history initial events whole = record {
+  tickets_rise = whole.complete.tickets_rise;
+  tickets_in_range = whole.complete.tickets_in_range;
+  threads_in_range = whole.complete.threads_in_range;
+  threads_take_turns = λ thread. whole_turns (projection thread events) (whole.complete.threads_take_turns thread);
+  values_are_distinct = whole.values_are_distinct;
+}
+
+-- ---- events without a fault
+
+last_is : (o : Option Event) (e : Event) (events : List Event) (d : Event) → last_or o (e ∷ events) ≡ Some (get_or (e ∷ events) (length events) d)
+last_is o e [] d = refl
+last_is o e (x ∷ events) d = last_is (Some e) x events d
+
+above_all : (events : List Event) (ticket : ℕ) → TicketsRise events → MatchOption (last_or None events) ⊤ (λ last. last.ticket < ticket)
+    → (k : ℕ) (d : Event) → k < length events → (get_or events k d).ticket < ticket
+above_all [] ticket rise above k d below = absurd (omega arith)
+above_all (e ∷ events) ticket rise above k d below =
+    let last : (get_or (e ∷ events) (length events) d).ticket < ticket =
+    subst (λ o. MatchOption o ⊤ (λ l. l.ticket < ticket)) (last_is None e events d) above in
+    grind (arith, nat_tests, cases_lt)
+
+sound_push : (initial : List ℕ) (events : List Event) (e : Event) → IsSound initial events → MayFollow initial events e
+    → IsSound initial (events ++ e ∷ [])
+sound_push initial events e sound may =
+    grind (arith, common_steps, all_pairs_push, above_all, All-push, distinct_push, eqb_tells, turns_push, one_event_more)
+
+sound_before : (initial : List ℕ) (events : List Event) (n : ℕ) → n ≤ length events → AreDistinct initial → NoFaultBefore initial events (length events)
+    → IsSound initial (take n events)
+sound_before initial events zero within distinct none = grind (arith, All-nil, append-nil)
+sound_before initial events (suc n) within distinct none =
+    let d : Event = record { ticket = 0; thread = 0; what = CallEnq 0 } in
+    let below : n < length events = omega arith in
+    let may = may_follow initial (take n events) n (get_or events n d) (none n (get_or events n d) below (slice_get-get_or events n d below)) in
+    grind (arith, take-suc, sound_push, sound_before initial events n)
+
+-- what a history builder takes but for pending calls is a history
+pub pending_is_history : (initial : List ℕ) (events : List Event) (ticket : ℕ) → IsFirstFault initial events (Pending ticket) → IsHistoryFrom initial events
+pending_is_history initial events ticket (distinct, none, least) =
+    sound_is_history initial events
+    (subst (IsSound initial) (take_all (length events) events (omega arith)) (sound_before initial events (length events) (omega arith) distinct none))
+
+pub taken_is_history : (initial : List ℕ) (events : List Event) (made : HistoryView) → (made.initial ≡ initial) × (made.events ≡ events)
+    → IsCompleteFrom made.initial made.events → IsHistoryFrom initial events
+taken_is_history initial events made is whole =
+    complete_is_history initial events (subst (λ (es : List Event). IsCompleteFrom initial es) is.1 (subst (λ (vs : List ℕ). IsCompleteFrom vs made.events) is.0 whole))
+
+-- ---- a complete history stays as it is
+
+none_pending : (initial : List ℕ) (events : List Event) → IsCompleteFrom initial events → (e : Event) → Contains events e → is_pending events e ≡ false
+none_pending initial events whole e among = elim (cases_Bool (is_pending events e)) [
+  | inr other ↦ other
+  | inl pending ↦
+      let is = pending_by_test initial events (complete_is_history initial events whole) e among pending in
+      let none = nothing_pending_in_complete events whole.complete e.thread in
+      let clash : None ≡ Some e = sym none ∙ is in cc
+]
+
+filter_none : (p : Event → Bool) (xs : List Event) → ((x : Event) → Contains xs x → p x ≡ false) → filter p xs ≡ []
+filter_none p [] each = refl
+filter_none p (x ∷ xs) each = rw (each x (zero, omega arith, refl)) (filter_none p xs (λ y among. each y (suc among.0, omega (arith, among.1), among.2)))
+
+pub complete_stays : (initial : List ℕ) (events : List Event) → IsCompleteFrom initial events → completed initial events ≡ events
+complete_stays initial events whole =
+    let none : pending_calls events ≡ [] = filter_none (is_pending events) events (none_pending initial events whole) in
+    let no_answers : answers_to initial events ≡ [] =
+    ap (λ (calls : List Event). filter_map (enqueue_answer events) calls ++ paired (filter calls_dequeue calls) (left_values initial events)) none in
+    let stay : filter (λ e. not (is_left_out events (answers_to initial events) e)) events ≡ events =
+    filter_all (λ e. not (is_left_out events (answers_to initial events) e)) events (λ e among. rw (none_pending initial events whole e among) refl) in
+    ap (λ (es : List Event). es ++ returns_from (next_ticket events) (answers_to initial events)) stay
+    ∙ ap (λ (l : List Answer). events ++ returns_from (next_ticket events) l) no_answers ∙ append-nil events
+
+-- ---- how long the completion is
+
+length_returns : (n : ℕ) (answers : List Answer) → length (returns_from n answers) ≡ length answers
+length_returns n [] = refl
+length_returns n (a ∷ answers) = ap (λ m. suc m) (length_returns (n + 1) answers)
+
+pub length_completed : (initial : List ℕ) (events : List Event)
+    → length (completed initial events)
+    ≡ length (filter (λ e. not (is_left_out events (answers_to initial events) e)) events) + length (answers_to initial events)
+length_completed initial events =
+    let parts = length-append (filter (λ e. not (is_left_out events (answers_to initial events) e)) events) (returns_from (next_ticket events) (answers_to initial events)) in
+    let rets = length_returns (next_ticket events) (answers_to initial events) in
+    omega (arith, parts, rets)
+
+-- what holds of a result's value gives what else holds of it
+pub when_ok : {T E : Type 0} (r : Result T E) (P Q : T → Type 0) → ((x : T) → P x → Q x) → IfOk r P → IfOk r Q
+when_ok (Ok x) P Q each is = each x is
+when_ok (Err e) P Q each is = is
+
+-- a completion that isn't beyond the limits has tickets and events within them
+pub within_limits : (initial : List ℕ) (events : List Event) → ¬ (IsBeyondLimits initial events)
+    → (length (completed initial events) ≤ MAX_EVENTS) × (next_ticket events + length (answers_to initial events) ≤ MAX_TICKET + 1)
+within_limits initial events within =
+    (elim (cases_lt MAX_EVENTS (length (completed initial events))) [ inl more ↦ absurd (within (inl more)) | inr few ↦ few ],
+    elim (cases_lt (MAX_TICKET + 1) (next_ticket events + length (answers_to initial events))) [ inl more ↦ absurd (within (inr more)) | inr few ↦ few ])
+
+pub when_both : {T E : Type 0} (r : Result T E) (P P' Q : T → Type 0) → ((x : T) → P x → P' x → Q x) → IfOk r P → IfOk r P' → IfOk r Q
+when_both (Ok x) P P' Q each is also = each x is also
+when_both (Err e) P P' Q each is also = is
+
+pub on_ok : {T E : Type 0} (r : Result T E) (P Q : Type 0) → (P → Q) → OnOk r P → OnOk r Q
+on_ok (Ok x) P Q then is = then is
+on_ok (Err e) P Q then is = is
+
+pub if_pending_history : (initial : List ℕ) (events : List Event) (fault : HistoryFault) → IsFirstFault initial events fault
+    → ((ticket : ℕ) × (fault ≡ Pending ticket)) → IsHistoryFrom initial events
+if_pending_history initial events fault first (ticket, is) = pending_is_history initial events ticket (subst (IsFirstFault initial events) is first)
