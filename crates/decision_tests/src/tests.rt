@@ -1,4 +1,5 @@
 mod claims;
+mod completing;
 mod histories;
 mod matching;
 mod searches;

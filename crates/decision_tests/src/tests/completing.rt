@@ -1,0 +1,136 @@
+//! Completions of histories whose calls are pending, and why a history has none.
+
+use super::small_histories::at;
+use completions::{CompletionFault, complete};
+use event_records::What::{CallDeq, CallEnq, RetDeq, RetEmpty, RetEnq};
+use event_records::{Event, MAX_EVENTS, MAX_INITIAL, What};
+use history_merge::HistoryFault;
+use std::alloc::{AllocError, Global};
+use std::test::Fail;
+
+/// An event: its ticket, its thread, and what it is.
+type Mark = (u64, u8, What);
+
+/// A pending enqueue whose value a dequeue gave, and a pending dequeue, for which the other value is left.
+const TAKEN: &[Mark] = &[
+    (0, 0, CallEnq(7)),
+    (1, 0, RetEnq),
+    (2, 1, CallEnq(9)),
+    (3, 2, CallDeq),
+    (4, 3, CallDeq),
+    (5, 2, RetDeq(9)),
+];
+
+/// Three pending dequeues, and a pending enqueue whose value no dequeue gave.
+const LEFT_OUT: &[Mark] = &[
+    (0, 0, CallDeq),
+    (1, 1, CallDeq),
+    (2, 2, CallDeq),
+    (3, 3, CallEnq(8)),
+];
+
+/// Two enqueues that return in the other order, and two pending dequeues.
+const BY_RETURNS: &[Mark] = &[
+    (0, 0, CallEnq(7)),
+    (1, 1, CallEnq(9)),
+    (2, 1, RetEnq),
+    (3, 0, RetEnq),
+    (4, 2, CallDeq),
+    (5, 3, CallDeq),
+];
+
+/// No call is pending.
+const COMPLETE: &[Mark] = &[(0, 0, CallDeq), (3, 0, RetEmpty)];
+
+/// A pending dequeue at the greatest ticket.
+const LATEST: &[Mark] = &[(999_999_999_999, 0, CallDeq)];
+
+/// Initial values and events; how many of the events are kept, the first ones; and the returns after them.
+static COMPLETED: [(&[u64], &[Mark], usize, &[Mark]); 6] = [
+    (&[], TAKEN, 6, &[(6, 1, RetEnq), (7, 3, RetDeq(7))]),
+    (
+        &[5, 6],
+        LEFT_OUT,
+        2,
+        &[(4, 0, RetDeq(5)), (5, 1, RetDeq(6))],
+    ),
+    (&[], LEFT_OUT, 0, &[]),
+    (&[], BY_RETURNS, 6, &[(6, 2, RetDeq(9)), (7, 3, RetDeq(7))]),
+    (&[4], COMPLETE, 2, &[]),
+    (&[], LATEST, 0, &[]),
+];
+
+/// Initial values and events without a completion, and why.
+static REFUSED: [(&[u64], &[Mark], CompletionFault); 3] = [
+    (&[5], LATEST, CompletionFault::Limit),
+    (
+        &[5, 5],
+        TAKEN,
+        CompletionFault::History(HistoryFault::InitialTwice(1)),
+    ),
+    (
+        &[8],
+        LEFT_OUT,
+        CompletionFault::History(HistoryFault::DuplicateValue(3)),
+    ),
+];
+
+/// The events of these marks.
+fn events_of(alloc: Global, marks: &[Mark]) -> Result<Vec<Event>, AllocError> {
+    let mut events = Vec::new(alloc);
+    for (ticket, thread, what) in marks {
+        events.push(at(*ticket, *thread, *what))?;
+    }
+    Ok(events)
+}
+
+/// The completion of these marks, or why there is none.
+fn completion_of(
+    alloc: Global,
+    initial: &[u64],
+    marks: &[Mark],
+) -> Result<Result<Vec<Event>, CompletionFault>, Fail> {
+    let events = events_of(alloc, marks)?;
+    if initial.len() > MAX_INITIAL || events.len() > MAX_EVENTS {
+        return Err("too many values or events")?;
+    }
+    Ok(complete(alloc, initial, &events))
+}
+
+/// Whether these are the first so many of some marks, and then others.
+fn are_completed(full: &[Event], marks: &[Mark], kept: usize, returns: &[Mark]) -> bool {
+    let mut wanted = marks.iter().take(kept).chain(returns.iter());
+    for event in full {
+        match wanted.next() {
+            Some((ticket, thread, what)) if *event == at(*ticket, *thread, *what) => {}
+            _ => return false,
+        }
+    }
+    wanted.next().is_none()
+}
+
+#[test]
+fn returns_pending_calls_or_leaves_them_out(rt: HostRuntime) -> Result<(), Fail> {
+    for (initial, marks, kept, returns) in &COMPLETED {
+        let full = completion_of(rt.alloc(), initial, marks)?;
+        let is_as_wanted = match &full {
+            Ok(full) => are_completed(full.as_slice(), marks, *kept, returns),
+            Err(_) => false,
+        };
+        assert!(rt; is_as_wanted, "{full:?}");
+    }
+    Ok(())
+}
+
+#[test]
+fn names_why_there_is_no_completion(rt: HostRuntime) -> Result<(), Fail> {
+    for (initial, marks, fault) in &REFUSED {
+        let full = completion_of(rt.alloc(), initial, marks)?;
+        let is_refused = match &full {
+            Ok(_) => false,
+            Err(why) => why == fault,
+        };
+        assert!(rt; is_refused, "{full:?}");
+    }
+    Ok(())
+}
