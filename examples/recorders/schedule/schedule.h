@@ -126,7 +126,7 @@ struct fifobench_search {
 
 // Makes runs until one shows a violation, prints what is found, and keeps SEED.history, SEED.report and SEED.trace.
 // Returns 0 if none shows one, 1 if one does, 2 if something is wrong.
-FIFOBENCH_WEAK int fifobench_search(const struct fifobench_search *search);
+FIFOBENCH_WEAK int fifobench_search_runs(const struct fifobench_search *search);
 
 #ifdef __cplusplus
 }

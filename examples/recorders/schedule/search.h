@@ -329,7 +329,7 @@ static const char *program_of(const struct fifobench_search *settings)
     return named != NULL && *named != '\0' ? named : "fifobench";
 }
 
-int fifobench_search(const struct fifobench_search *settings)
+int fifobench_search_runs(const struct fifobench_search *settings)
 {
     struct searching of = {.settings = settings, .program = program_of(settings)};
     unsigned runs = settings->runs != 0 ? settings->runs : DEFAULT_RUNS;
