@@ -62,11 +62,11 @@
 #include <sys/wait.h>
 #endif
 
-#if __has_include("schedule/points.hpp")
-#include "schedule/points.hpp"
+#if __has_include("schedule/for_recorder.hpp")
+#include "schedule/for_recorder.hpp"
 #define FIFOBENCH_HAS_POINTS
-#elif __has_include("../schedule/points.hpp")
-#include "../schedule/points.hpp"
+#elif __has_include("../schedule/for_recorder.hpp")
+#include "../schedule/for_recorder.hpp"
 #define FIFOBENCH_HAS_POINTS
 #endif
 

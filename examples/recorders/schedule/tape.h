@@ -46,6 +46,7 @@ struct tape {
     unsigned rate;
     bool has_buffers;
     uint64_t points, atomics, waits; // how many there were
+    uint64_t patience;
     size_t events, decisions, initial;
     size_t max_events;
     struct place places[FIFOBENCH_MAX_THREADS];

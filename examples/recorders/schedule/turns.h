@@ -6,7 +6,7 @@ static const char *const strategy_names[] = {"naps", "walk", "pct"};
 enum {
     MAX_STORES = 16,       // that wait in the list of a thread
     IDLE_POINTS = 200,     // of one operation without a write: the thread waits for another
-    LONG_OPERATION = 2000, // points of one operation, whatever it does
+    LONG_OPERATION = 500,  // points of one operation, whatever it does
     CLOCKS = 16,           // of the system
     MAX_DEPTH = 10         // of PCT
 };
@@ -35,6 +35,7 @@ struct seat {
     bool has_timed_out;
     bool relaxes;      // until another thread writes
     bool spins;        // goes last, until another thread writes
+    bool is_long;      // goes last, until some operation has ended
     uint64_t wakes_at; // number of operations that have ended; it sleeps until then
     uint64_t count;    // its points, and its other chances of a switch
     uint64_t steps;    // points of the operation
@@ -280,9 +281,10 @@ static unsigned list_awake(unsigned ready)
     struct seat *first = NULL;
     for (unsigned place = 0; place < ready; place++) {
         struct seat *of = run.ready[place];
-        if (!of->spins && of->wakes_at <= run.ended) {
+        bool goes_last = of->spins || of->is_long;
+        if (!goes_last && of->wakes_at <= run.ended) {
             run.ready[awake++] = of;
-        } else if (!of->spins && (first == NULL || of->wakes_at < first->wakes_at)) {
+        } else if (!goes_last && (first == NULL || of->wakes_at < first->wakes_at)) {
             first = of;
         }
     }
@@ -398,10 +400,24 @@ static struct seat *pick_wanted(struct seat *self, bool leaves)
     return count == 0 ? NULL : run.ready[best];
 }
 
+// No operation has ended for long. A strategy that goes on in the same way may be what keeps threads from it, so any
+// thread may go on, whether it sleeps or not: a run is called a livelock only if that doesn't help.
+static struct seat *pick_fairly(struct seat *self, bool leaves)
+{
+    if (!leaves && draw(10) != 0) {
+        return self;
+    }
+    unsigned count = list_ready(self, leaves);
+    return count == 0 ? NULL : run.ready[draw(count)];
+}
+
 static struct seat *pick(struct seat *self, bool leaves)
 {
     if (run.wanted != NULL) {
         return pick_wanted(self, leaves);
+    }
+    if (run.steps - run.progress > run.patience / 2) {
+        return pick_fairly(self, leaves);
     }
     switch (run.strategy) {
     case NAPS: return pick_by_naps(self, leaves);
@@ -449,7 +465,7 @@ static void count_point(struct seat *self, enum access access, uintptr_t from)
     self->steps++;
     self->idle++;
     run.steps++;
-    tape->points++;
+    tape->points = run.steps;
     tape->atomics += access >= LOADS && access <= MODIFIES;
     if (run.steps - run.progress > run.patience) {
         end_early(LIVELOCK);
@@ -461,12 +477,13 @@ static void step(struct seat *self, enum access access, uintptr_t from)
 {
     count_point(self, access, from);
     let_stores_out(self, false);
-    bool is_spinning = self->idle % IDLE_POINTS == IDLE_POINTS - 1 || self->steps % LONG_OPERATION == LONG_OPERATION - 1;
+    bool is_spinning = self->idle % IDLE_POINTS == IDLE_POINTS - 1, is_long = self->steps % LONG_OPERATION == 0;
+    self->is_long = self->is_long || is_long;
     if (is_spinning) {
         let_stores_out(self, true);
         rest_at(self, true);
     }
-    go_on(self, pick(self, is_spinning), is_spinning);
+    go_on(self, pick(self, is_spinning || is_long), is_spinning || is_long);
     if (access == WRITES || access == STORES) {
         wrote(self);
     }
@@ -549,7 +566,7 @@ static void set_patience(void)
 {
     const char *wanted = getenv("FIFOBENCH_PATIENCE");
     uint64_t number = wanted != NULL ? strtoull(wanted, NULL, 10) : 0;
-    run.patience = number > 0 ? number : 300000;
+    run.patience = tape->patience = number > 0 ? number : 300000;
 }
 
 static void keep_on_one_core(void)
@@ -689,6 +706,9 @@ void fifobench_schedule_returned(unsigned what, uint64_t value)
     run.one_in = run.rate * run.steps / run.ended / 2;
     run.one_in = run.one_in < 4 ? 4 : run.one_in;
     clear_restless();
+    for (unsigned number = 0; number < run.threads; number++) {
+        run.seat[number].is_long = false;
+    }
     self->from = 0;
     self->access = ENDS;
     self->count++;

@@ -1,6 +1,6 @@
 // The points of schedule.c as recorder.hpp uses them: if they are linked, and nothing else if they aren't.
-#ifndef FIFOBENCH_POINTS_HPP
-#define FIFOBENCH_POINTS_HPP
+#ifndef FIFOBENCH_FOR_RECORDER_HPP
+#define FIFOBENCH_FOR_RECORDER_HPP
 
 #include "schedule.h"
 
