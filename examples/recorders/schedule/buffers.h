@@ -22,6 +22,7 @@ static void let_stores_out(struct seat *self, bool all)
         wrote(self);
     }
     if (out > 0) {
+        note_decision((struct decision){self->count, tape->events, 0, self->number, STORE_IS_SEEN, 0, STORES, 1});
         self->stores -= out;
         memmove(self->store, self->store + out, self->stores * sizeof *self->store);
     }

@@ -5,8 +5,10 @@
 //     points.h     the functions that code compiled with -fsanitize=thread calls
 //     blocking.h   locks, conditions, semaphores, futexes, sleeping: whatever blocks gives way
 //     tape.h       what a run leaves: its events and its switches
-//     search.h     runs in child processes, and what `check` says of them
-//     trace.h      the few switches that a violation needs
+//     runs.h       runs in child processes, and what `check` says of them
+//     trace.h      places in the source, and the sentences of a trace
+//     shorten.h    leaves out the switches that a violation doesn't need
+//     search.h     the runs of a search, and what is said of them
 //
 // Compile it without -fsanitize=thread. The program must not be linked statically, since the functions of blocking.h
 // stand in front of those of the C library.
@@ -61,5 +63,7 @@
 #include "buffers.h"
 #include "points.h"
 #include "blocking.h"
+#include "runs.h"
 #include "trace.h"
+#include "shorten.h"
 #include "search.h"

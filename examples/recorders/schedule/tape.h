@@ -18,13 +18,13 @@ struct decision {
     uint64_t event;    // number of events before it
     uintptr_t from;    // the return address of the point
     uint32_t thread;   // FIRST_TURN: the start
-    uint32_t to;       // the thread that goes on; STORE_WAITS: how many points the store waits is `points`
+    uint32_t to;       // the thread that goes on, or STORE_WAITS for so many points, or STORE_IS_SEEN
     uint32_t points;
     uint16_t access;   // enum access
     uint16_t is_forced; // the thread could not go on, or had ended
 };
 
-enum { FIRST_TURN = FIFOBENCH_MAX_THREADS, STORE_WAITS = FIFOBENCH_MAX_THREADS + 1 };
+enum { FIRST_TURN = FIFOBENCH_MAX_THREADS, STORE_WAITS, STORE_IS_SEEN };
 
 // Where a thread is when a run ends early.
 struct place {

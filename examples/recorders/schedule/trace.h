@@ -1,7 +1,5 @@
 // Places in the source, and the sentences of a trace. A part of schedule.c.
 
-enum { MAX_PATH_BYTES = 4096, MAX_LINE_BYTES = 1024 };
-
 // The file in which the code at an address lies, and the address within it. False if it isn't known.
 static bool find_object(uintptr_t address, char file[MAX_PATH_BYTES], uintptr_t *within)
 {
@@ -30,11 +28,6 @@ static bool is_library(const char *path)
     return strstr(path, "/c++/") != NULL || strstr(path, "/lib/gcc/") != NULL || strstr(path, "/lib/clang/") != NULL ||
            strstr(path, "/lib/llvm") != NULL || strstr(path, "/library/core/") != NULL ||
            strstr(path, "/library/std/") != NULL || strstr(path, "/library/alloc/") != NULL;
-}
-
-static void cut_at(char *line, const char *ends)
-{
-    line[strcspn(line, ends)] = '\0';
 }
 
 // Reads what addr2line says of one address: pairs of a function and a line, the innermost first. Takes the first that
@@ -94,4 +87,72 @@ static void name_place(uintptr_t from, char *place, size_t room)
     const char *name = strrchr(line, '/');
     shorten(function);
     snprintf(place, room, "%.200s (%.400s)", name != NULL ? name + 1 : line, function);
+}
+
+static void tell_event(const struct tape *of, size_t ticket, FILE *to)
+{
+    const struct event *event = &of->event[ticket];
+    fprintf(to, "%6zu  thread %u ", ticket, event->thread);
+    switch (event->what) {
+    case FIFOBENCH_CALL_ENQ: fprintf(to, "calls enqueue of %" PRIu64 "\n", event->value); break;
+    case FIFOBENCH_RET_ENQ: fprintf(to, "returns: the value is enqueued\n"); break;
+    case FIFOBENCH_RET_NOT: fprintf(to, "returns: the enqueue has failed\n"); break;
+    case FIFOBENCH_CALL_DEQ: fprintf(to, "calls dequeue\n"); break;
+    case FIFOBENCH_RET_DEQ: fprintf(to, "returns: %" PRIu64 " is dequeued\n", event->value); break;
+    default: fprintf(to, "returns: the queue is empty\n"); break;
+    }
+}
+
+// A decision as a sentence: where its thread stops, and who goes on.
+static void tell_decision(const struct decision *made, FILE *to)
+{
+    static const char *const before[] = {"before it reads", "before it writes", "before a load", "before a store",
+                                         "before a read-modify-write or a lock", "before a fence"};
+    char place[MAX_LINE_BYTES] = "";
+    if (made->from != 0) {
+        name_place(made->from, place, sizeof place);
+    }
+    fprintf(to, "        ");
+    if (made->thread == FIRST_TURN) {
+        fprintf(to, "thread %u begins\n", made->to);
+        return;
+    }
+    fprintf(to, "thread %u ", made->thread);
+    if (made->to == STORE_WAITS) {
+        fprintf(to, "stores at %s, and no other thread sees it yet\n", place);
+        return;
+    }
+    if (made->to == STORE_IS_SEEN) {
+        fprintf(to, "goes on until what it stored is seen\n");
+        return;
+    }
+    if (made->access == ENDS) {
+        fprintf(to, made->is_forced ? "has made its last operation" : "stops between two operations");
+    } else if (made->access == WAITS) {
+        fprintf(to, made->from != 0 ? "waits at %s" : "waits for all others", place);
+    } else if (made->access == RESTS) {
+        fprintf(to, "yields or sleeps at %s", place);
+    } else if (made->is_forced) {
+        fprintf(to, "goes round at %s", place);
+    } else {
+        fprintf(to, "stops at %s, %s", place, before[made->access]);
+    }
+    fprintf(to, made->to == made->thread ? "; it goes on\n" : "; thread %u goes on\n", made->to);
+}
+
+// Writes the events that are kept and the decisions, in the order in which they were.
+static void tell_trace(const struct tape *of, const bool *is_kept, FILE *to)
+{
+    size_t next = 0;
+    for (size_t ticket = 0; ticket <= of->events; ticket++) {
+        while (next < of->decisions && of->decision[next].event <= ticket) {
+            if (of->decision[next].to != of->decision[next].thread) {
+                tell_decision(&of->decision[next], to);
+            }
+            next++;
+        }
+        if (ticket < of->events && is_kept[ticket]) {
+            tell_event(of, ticket, to);
+        }
+    }
 }

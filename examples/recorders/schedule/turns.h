@@ -566,7 +566,7 @@ static void set_patience(void)
 {
     const char *wanted = getenv("FIFOBENCH_PATIENCE");
     uint64_t number = wanted != NULL ? strtoull(wanted, NULL, 10) : 0;
-    run.patience = tape->patience = number > 0 ? number : 300000;
+    run.patience = tape->patience = number > 0 ? number : 100000;
 }
 
 static void keep_on_one_core(void)
