@@ -67,7 +67,7 @@ static void shorten(char *function)
 }
 
 // Writes `file:line (function)` for the code before a return address; `an unknown place` without debugging data.
-static void name_place(uintptr_t from, char *place, size_t room)
+static void find_place(uintptr_t from, char *place, size_t room)
 {
     char file[MAX_PATH_BYTES], command[2 * MAX_PATH_BYTES], function[MAX_LINE_BYTES], line[MAX_LINE_BYTES];
     uintptr_t within = 0;
@@ -87,6 +87,23 @@ static void name_place(uintptr_t from, char *place, size_t room)
     const char *name = strrchr(line, '/');
     shorten(function);
     snprintf(place, room, "%.200s (%.400s)", name != NULL ? name + 1 : line, function);
+}
+
+enum { KNOWN_PLACES = 64 };
+
+// As find_place, which takes long; so the places that were found last are kept.
+static void name_place(uintptr_t from, char *place, size_t room)
+{
+    static struct {
+        uintptr_t from;
+        char place[MAX_LINE_BYTES];
+    } known[KNOWN_PLACES];
+    size_t at = from / 4 % KNOWN_PLACES;
+    if (known[at].from != from || from == 0) {
+        known[at].from = from;
+        find_place(from, known[at].place, sizeof known[at].place);
+    }
+    snprintf(place, room, "%s", known[at].place);
 }
 
 static void tell_event(const struct tape *of, size_t ticket, FILE *to)
@@ -140,13 +157,34 @@ static void tell_decision(const struct decision *made, FILE *to)
     fprintf(to, made->to == made->thread ? "; it goes on\n" : "; thread %u goes on\n", made->to);
 }
 
+enum { TOLD_DECISIONS = 128 };
+
+// Whether a decision is worth a line: not one that changes nothing, nor another round of threads that wait for one
+// another.
+static bool is_news(const struct decision *made, struct decision told[TOLD_DECISIONS], size_t *count)
+{
+    if (made->to == made->thread) {
+        return false;
+    }
+    for (size_t place = 0; made->is_forced && place < *count; place++) {
+        if (told[place].thread == made->thread && told[place].to == made->to && told[place].from == made->from) {
+            return false;
+        }
+    }
+    if (made->is_forced && *count < TOLD_DECISIONS) {
+        told[(*count)++] = *made;
+    }
+    return !made->is_forced || *count < TOLD_DECISIONS;
+}
+
 // Writes the events that are kept and the decisions, in the order in which they were.
 static void tell_trace(const struct tape *of, const bool *is_kept, FILE *to)
 {
-    size_t next = 0;
+    struct decision told[TOLD_DECISIONS];
+    size_t next = 0, count = 0, decisions = of->decisions < MAX_DECISIONS ? of->decisions : MAX_DECISIONS;
     for (size_t ticket = 0; ticket <= of->events; ticket++) {
-        while (next < of->decisions && of->decision[next].event <= ticket) {
-            if (of->decision[next].to != of->decision[next].thread) {
+        while (next < decisions && of->decision[next].event <= ticket) {
+            if (is_news(&of->decision[next], told, &count)) {
                 tell_decision(&of->decision[next], to);
             }
             next++;
