@@ -65,6 +65,7 @@ static struct {
     unsigned rate;         // naps: in halves of the points of an operation; walk: a switch at one of so many points
     bool naps_before_writes;
     bool naps_in_pairs;
+    unsigned nap_bits;     // naps: a nap ends when 1 to 2^(nap_bits - 1) operations have ended
     uint64_t one_in;       // naps: sleep at one of so many points
     unsigned depth, round; // PCT: a round has 1 to `round` operations of each thread; 0: the run is one
     uint64_t changes[MAX_DEPTH];
@@ -305,7 +306,7 @@ static struct seat *pick_awake(const struct seat *self, bool leaves)
     return run.ready[draw(count)];
 }
 
-// Naps: whether the thread falls asleep here, until 1 to 32 operations of others have ended.
+// Naps: whether the thread falls asleep here, until some operations of others have ended.
 static bool falls_asleep(struct seat *self)
 {
     bool is_second = self->count == self->stops_at;
@@ -314,7 +315,7 @@ static bool falls_asleep(struct seat *self)
     if (!is_second && (self->steps < 2 || !is_place || draw(run.one_in) != 0)) {
         return false;
     }
-    self->wakes_at = run.ended + 1 + draw(UINT64_C(1) << draw(6));
+    self->wakes_at = run.ended + 1 + draw(UINT64_C(1) << draw(run.nap_bits));
     return true;
 }
 
@@ -543,6 +544,7 @@ static void set_strategy(void)
     run.rate = run.strategy == WALK ? rates[draw(7)] : 1 + (unsigned)draw(4);
     run.naps_before_writes = draw(3) == 0;
     run.naps_in_pairs = draw(2) == 0;
+    run.nap_bits = 4 + 2 * (unsigned)draw(3);
     run.one_in = 40;
     run.depth = 2 + (unsigned)draw(MAX_DEPTH - 1);
     run.round = draw(4) == 0 ? 0 : 1 + (unsigned)draw(16);
