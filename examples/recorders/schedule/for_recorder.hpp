@@ -67,7 +67,7 @@ int search(const Settings& settings, RunOne& run_one) {
     chosen.runs = settings.runs;
     chosen.threads = settings.threads;
     chosen.operations = settings.operations == Settings().operations ? 0 : settings.operations;
-    chosen.seconds = static_cast<unsigned>(settings.timeout.count() / 1000 + 1);
+    chosen.seconds = static_cast<unsigned>((settings.timeout.count() + 999) / 1000);
     chosen.context = &context;
     chosen.run = [](void* of, std::uint64_t seed, std::size_t operations) {
         const auto& [all, run] = *static_cast<Context*>(of);

@@ -96,7 +96,7 @@ static struct outcome make_run(const struct fifobench_search *search, uint64_t s
         run.wanted = wanted;
         run.wanted_count = wanted_count;
         atomic_store(&created_threads, 0);
-        alarm(search->seconds != 0 ? search->seconds : DEFAULT_SECONDS);
+        alarm(tape->seconds);
         search->run(search->context, seed, operations_of(search, seed));
         fflush(NULL);
         _exit(0);

@@ -56,11 +56,14 @@ static void tell_early(const char *folder, uint64_t seed, const struct outcome *
     } else if (outcome->ending == LIVELOCK) {
         fprintf(stderr, "livelock: %" PRIu64 " points, and no operation ends\n", tape->patience);
     } else if (outcome->signal == SIGALRM) {
-        fprintf(stderr, "hangs: a thread waits for something that isn't seen, or runs without a point\n");
-    } else {
+        fprintf(stderr, "hangs: no event for %u s: a thread waits for something that isn't seen, or runs without a "
+                        "point\n", tape->seconds);
+    } else if (outcome->signal != 0) {
         fprintf(stderr, "crash: %s\n", strsignal(outcome->signal));
+    } else {
+        fprintf(stderr, "the queue has ended the process\n");
     }
-    if (outcome->ending == DEADLOCK || outcome->ending == LIVELOCK) {
+    if (!outcome->has_failed) {
         tell_places(stderr);
     }
     make_folder(folder);
@@ -117,22 +120,34 @@ static uint64_t first_seed(uint64_t settings)
     return named != NULL && *named >= '0' && *named <= '9' ? strtoull(named, NULL, 10) : settings;
 }
 
-// Makes and prints the trace of the run at hand.
-static void tell_trace_of(const struct searching *of, uint64_t seed, const struct outcome *outcome, FILE *to)
+// Makes and prints the trace of the run at hand. Returns whether the run is the same when it is made again.
+static bool tell_trace_of(const struct searching *of, uint64_t seed, const struct outcome *outcome, FILE *to)
 {
     char path[MAX_PATH_BYTES], line[2 * MAX_LINE_BYTES];
     name_file(path, of->settings->folder, seed, "trace");
-    const char *fault = make_trace(of, seed, outcome, path);
+    bool is_equal = true;
+    const char *fault = make_trace(of, seed, outcome, path, &is_equal);
     FILE *file = fault == NULL ? fopen(path, "r") : NULL;
     if (file == NULL) {
-        fprintf(stderr, "fifobench: seed %" PRIu64 ": %s\n", seed, fault != NULL ? fault : "no trace");
-        return;
+        fprintf(stderr, "fifobench: seed %" PRIu64 ": %s\n", seed, fault != NULL ? fault : "the trace can't be read");
+        return is_equal;
     }
     fprintf(to, "  trace:   %s\n", path);
     while (fgets(line, sizeof line, file) != NULL) {
         fprintf(to, "  %s", line);
     }
     fclose(file);
+    return true;
+}
+
+// The trace of a run that fails, and how to make the run again.
+static void tell_again(const struct searching *of, uint64_t seed, const struct outcome *outcome, FILE *to)
+{
+    bool is_equal = tell_trace_of(of, seed, outcome, to);
+    fprintf(to, "  again:   ");
+    tell_command(to);
+    fprintf(to, "--seed %" PRIu64 " %s\n", seed,
+            is_equal ? "replays this very run" : "makes the same plan, though the run may be another");
 }
 
 static int tell_violation(const struct searching *of, uint64_t seed, const struct outcome *outcome, const char *history,
@@ -146,10 +161,7 @@ static int tell_violation(const struct searching *of, uint64_t seed, const struc
     }
     printf("with chosen schedules\n  history: %s\n  report:  %s\n", history, report);
     printf("  see it:  %s draw --text < %s\n", of->program, report);
-    tell_trace_of(of, seed, outcome, stdout);
-    printf("  again:   ");
-    tell_command(stdout);
-    printf("--seed %" PRIu64 " replays this very run\n", seed);
+    tell_again(of, seed, outcome, stdout);
     if (status != 1) {
         fprintf(stderr, "fifobench: '%s' can't shrink %s\n", of->program, history);
     }
@@ -183,10 +195,7 @@ static int search_one(struct searching *of, uint64_t seed)
     if (!outcome.is_wrong && !is_complete(&outcome)) {
         tell_early(folder, seed, &outcome);
         if (!outcome.has_failed && outcome.signal != SIGALRM) {
-            tell_trace_of(of, seed, &outcome, stderr);
-            fprintf(stderr, "  again:   ");
-            tell_command(stderr);
-            fprintf(stderr, "--seed %" PRIu64 " replays this very run\n", seed);
+            tell_again(of, seed, &outcome, stderr);
         }
         return 2;
     }
@@ -242,6 +251,7 @@ int fifobench_search_runs(const struct fifobench_search *settings)
         fprintf(stderr, "fifobench: there is no memory for chosen schedules\n");
         return 2;
     }
+    tape->seconds = settings->seconds != 0 ? settings->seconds : DEFAULT_SECONDS;
     make_folder(settings->folder);
     of.judges = ask(of.program, "--version", "/dev/null", "/dev/null") == 0;
     if (!of.judges) {

@@ -193,9 +193,9 @@ static bool write_trace(struct shortening *of, size_t all, const char *path)
 }
 
 // Makes the failing run again, by the seed and by its decisions, and leaves out what isn't needed. Writes SEED.trace.
-// Returns NULL, or a sentence on why there is no trace.
+// Returns NULL, or a sentence on why there is no trace; and whether the run was the same the second time.
 static const char *make_trace(const struct searching *searching, uint64_t seed, const struct outcome *outcome,
-                              const char *path)
+                              const char *path, bool *is_equal)
 {
     struct shortening of = {.of = searching, .seed = seed, .wanted_outcome = *outcome};
     size_t events = tape->events;
@@ -205,10 +205,10 @@ static const char *make_trace(const struct searching *searching, uint64_t seed, 
         memcpy(event, tape->event, events * sizeof *event);
         size_t all = count_switches(of.kept, of.count);
         make_run(searching->settings, seed, NULL, 0);
-        bool is_equal = tape->events == events && memcmp(event, tape->event, events * sizeof *event) == 0;
+        *is_equal = tape->events == events && memcmp(event, tape->event, events * sizeof *event) == 0;
         fault = "the run isn't the same when it is made again: a clock, an address, real input or threads of the "
                 "queue's own may change what it does";
-        if (is_equal && still_fails(&of, of.kept, of.count)) {
+        if (*is_equal && still_fails(&of, of.kept, of.count)) {
             cut_end(&of);
             leave_out_parts(&of);
             still_fails(&of, of.kept, of.count);

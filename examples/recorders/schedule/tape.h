@@ -26,11 +26,10 @@ struct decision {
 
 enum { FIRST_TURN = FIFOBENCH_MAX_THREADS, STORE_WAITS, STORE_IS_SEEN };
 
-// Where a thread is when a run ends early.
+// Where a thread is when a run ends early: its last point.
 struct place {
     uintptr_t from;
     const char *waits; // what for, or NULL
-    bool is_inside;
     bool has_ended;
 };
 
@@ -47,6 +46,7 @@ struct tape {
     bool has_buffers;
     uint64_t points, atomics, waits; // how many there were
     uint64_t patience;
+    unsigned seconds; // without an end of an operation, after which the run is given up
     size_t events, decisions, initial;
     size_t max_events;
     struct place places[FIFOBENCH_MAX_THREADS];
@@ -87,7 +87,7 @@ static void free_tape(struct tape *old)
 
 static void clear_tape(struct tape *used)
 {
-    struct tape empty = {.max_events = used->max_events, .event = used->event, .decision = used->decision,
+    struct tape empty = {.max_events = used->max_events, .seconds = used->seconds, .event = used->event, .decision = used->decision,
                          .initial_values = used->initial_values};
     *used = empty;
 }

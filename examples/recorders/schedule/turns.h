@@ -158,8 +158,7 @@ static _Noreturn void end_early(enum ending ending)
 {
     for (unsigned number = 0; number < run.threads; number++) {
         const struct seat *of = &run.seat[number];
-        tape->places[number] = (struct place){of->from, of->waits_for != NULL ? of->waits : NULL, of->is_inside,
-                                              of->has_ended};
+        tape->places[number] = (struct place){of->from, of->waits_for != NULL ? of->waits : NULL, of->has_ended};
     }
     tape->ending = ending;
     run.is_on = false;
@@ -467,6 +466,7 @@ static void count_point(struct seat *self, enum access access, uintptr_t from)
     self->idle++;
     run.steps++;
     tape->points = run.steps;
+    tape->places[self->number].from = from;
     tape->atomics += access >= LOADS && access <= MODIFIES;
     if (run.steps - run.progress > run.patience) {
         end_early(LIVELOCK);
@@ -703,6 +703,9 @@ void fifobench_schedule_returned(unsigned what, uint64_t value)
     }
     note_event(self->number, what, value);
     run.ended++;
+    if (run.is_child && run.ended % 4096 == 0) {
+        alarm(tape->seconds);
+    }
     run.progress = run.steps;
     run.outside_waits = 0;
     run.one_in = run.rate * run.steps / run.ended / 2;
@@ -751,7 +754,7 @@ void fifobench_schedule_leave(void)
     seat = NULL;
     self->is_inside = false;
     let_stores_out(self, true);
-    self->has_ended = true;
+    self->has_ended = tape->places[self->number].has_ended = true;
     self->access = ENDS;
     self->from = 0;
     self->count++;
