@@ -12,7 +12,7 @@
 #include <vector>
 
 // A node by its number, and how often the link was changed.
-struct Link {
+struct alignas(8) Link {
     std::uint32_t node;
     std::uint32_t tag;
     bool operator==(const Link& other) const { return node == other.node && tag == other.tag; }

@@ -27,6 +27,7 @@ static struct seat *lock_point(uintptr_t from)
 {
     struct seat *self = blocking();
     if (self != NULL) {
+        tape->locks++;
         if (!self->is_quiet) {
             step(self, MODIFIES, from);
         }

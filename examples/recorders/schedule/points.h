@@ -46,6 +46,7 @@ static void plain(const volatile void *at, size_t size, enum access access, uint
         let_stores_out(self, true);
     }
     if (!is_own_stack(self, at)) {
+        tape->accesses++;
         step(self, access, from);
     }
 }
@@ -58,6 +59,8 @@ static struct seat *atomic_point(enum access access, uintptr_t from)
         disturb_if_free();
         return NULL;
     }
+    tape->accesses++;
+    tape->atomics++;
     step(self, access, from);
     return self;
 }

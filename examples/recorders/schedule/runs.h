@@ -14,7 +14,7 @@ struct searching {
     const char *program;
     bool judges;
     bool said_own_threads;
-    uint64_t points, atomics, waits;
+    uint64_t accesses, atomics, locks;
     uint64_t operations, overlapping;
 };
 

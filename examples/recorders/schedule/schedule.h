@@ -15,6 +15,8 @@
 //     FIFOBENCH_SCHEDULES   chosen (default) or free: threads run as the system lets them, disturbed at points
 //     FIFOBENCH_STRATEGY    naps, walk or pct; by default the seed draws one
 //     FIFOBENCH_BUFFERS     0: each store is seen at once; 1: stores wait in buffers; by default the seed draws
+//     FIFOBENCH_SEED        the first seed of a search, as `--seed N` on its command line
+//     FIFOBENCH_TRIALS      runs that may be spent on a trace (default 500); 0: no trace
 //     FIFOBENCH_PATIENCE    points without an operation that ends, after which a run is a livelock (default 100000)
 #ifndef FIFOBENCH_SCHEDULE_H
 #define FIFOBENCH_SCHEDULE_H

@@ -3,6 +3,13 @@
 // How much is tried, so that a trace is there in some seconds. Not by the clock: the same run gives the same trace.
 enum { MOST_TRIALS = 500, MOST_POINTS = 4000000 };
 
+// Returns the number of runs that may be spent on a trace.
+static unsigned most_trials(void)
+{
+    const char *wanted = getenv("FIFOBENCH_TRIALS");
+    return wanted != NULL ? (unsigned)strtoul(wanted, NULL, 10) : MOST_TRIALS;
+}
+
 // The decisions that are still wanted, in the order of time, and the runs made so far.
 struct shortening {
     const struct searching *of;
@@ -10,7 +17,7 @@ struct shortening {
     struct outcome wanted_outcome;
     struct decision *kept, *sorted, *tried;
     size_t count;
-    unsigned trials;
+    unsigned trials, most_trials;
     uint64_t points; // of all trials
     char history[MAX_PATH_BYTES], report[MAX_PATH_BYTES];
 };
@@ -32,7 +39,7 @@ static bool is_same(const struct outcome *a, const struct outcome *b)
 
 static bool may_try(const struct shortening *of)
 {
-    return of->trials < MOST_TRIALS && of->points < MOST_POINTS;
+    return of->trials < of->most_trials && of->points < MOST_POINTS;
 }
 
 // Makes a run with these decisions. Returns whether it ends as the first one did.
@@ -197,7 +204,7 @@ static bool write_trace(struct shortening *of, size_t all, const char *path)
 static const char *make_trace(const struct searching *searching, uint64_t seed, const struct outcome *outcome,
                               const char *path, bool *is_equal)
 {
-    struct shortening of = {.of = searching, .seed = seed, .wanted_outcome = *outcome};
+    struct shortening of = {.of = searching, .seed = seed, .wanted_outcome = *outcome, .most_trials = most_trials()};
     size_t events = tape->events;
     struct event *event = malloc((events + 1) * sizeof *event);
     const char *fault = "there is no memory for a trace";

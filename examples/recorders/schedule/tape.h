@@ -44,7 +44,7 @@ struct tape {
     const char *strategy;
     unsigned rate;
     bool has_buffers;
-    uint64_t points, atomics, waits; // how many there were
+    uint64_t points, accesses, atomics, locks; // how many there were
     uint64_t patience;
     unsigned seconds; // without an end of an operation, after which the run is given up
     size_t events, decisions, initial;

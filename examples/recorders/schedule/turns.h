@@ -467,7 +467,6 @@ static void count_point(struct seat *self, enum access access, uintptr_t from)
     run.steps++;
     tape->points = run.steps;
     tape->places[self->number].from = from;
-    tape->atomics += access >= LOADS && access <= MODIFIES;
     if (run.steps - run.progress > run.patience) {
         end_early(LIVELOCK);
     }
@@ -513,7 +512,6 @@ static bool block(struct seat *self, const void *object, const char *what, bool 
 {
     count_point(self, WAITS, from);
     let_stores_out(self, true);
-    tape->waits++;
     self->waits_for = object;
     self->waits = what;
     self->waits_since = run.steps;
