@@ -582,6 +582,66 @@ void free(void *memory)
     is_looking = false;
 }
 
+// The locks of C11, which glibc makes of those above.
+int mtx_lock(mtx_t *mutex)
+{
+    return pthread_mutex_lock((pthread_mutex_t *)mutex) == 0 ? thrd_success : thrd_error;
+}
+
+int mtx_trylock(mtx_t *mutex)
+{
+    int status = pthread_mutex_trylock((pthread_mutex_t *)mutex);
+    return status == 0 ? thrd_success : status == EBUSY ? thrd_busy : thrd_error;
+}
+
+int mtx_timedlock(mtx_t *restrict mutex, const struct timespec *restrict until)
+{
+    int status = pthread_mutex_timedlock((pthread_mutex_t *)mutex, until);
+    return status == 0 ? thrd_success : status == ETIMEDOUT ? thrd_timedout : thrd_error;
+}
+
+int mtx_unlock(mtx_t *mutex)
+{
+    return pthread_mutex_unlock((pthread_mutex_t *)mutex) == 0 ? thrd_success : thrd_error;
+}
+
+int cnd_wait(cnd_t *condition, mtx_t *mutex)
+{
+    int status = pthread_cond_wait((pthread_cond_t *)condition, (pthread_mutex_t *)mutex);
+    return status == 0 ? thrd_success : thrd_error;
+}
+
+int cnd_timedwait(cnd_t *restrict condition, mtx_t *restrict mutex, const struct timespec *restrict until)
+{
+    int status = pthread_cond_timedwait((pthread_cond_t *)condition, (pthread_mutex_t *)mutex, until);
+    return status == 0 ? thrd_success : status == ETIMEDOUT ? thrd_timedout : thrd_error;
+}
+
+int cnd_signal(cnd_t *condition)
+{
+    return pthread_cond_signal((pthread_cond_t *)condition) == 0 ? thrd_success : thrd_error;
+}
+
+int cnd_broadcast(cnd_t *condition)
+{
+    return pthread_cond_broadcast((pthread_cond_t *)condition) == 0 ? thrd_success : thrd_error;
+}
+
+void thrd_yield(void)
+{
+    sched_yield();
+}
+
+int thrd_sleep(const struct timespec *time, struct timespec *left)
+{
+    return nanosleep(time, left) == 0 ? 0 : -1;
+}
+
+void call_once(once_flag *flag, void (*routine)(void))
+{
+    pthread_once((pthread_once_t *)flag, routine);
+}
+
 void fifobench_wait(const void *object)
 {
     struct seat *self = blocking();

@@ -3,6 +3,7 @@
 //     turns.h      whose turn it is: threads, strategies, deadlock and livelock
 //     buffers.h    stores that wait (store buffers)
 //     points.h     the functions that code compiled with -fsanitize=thread calls
+//     wide.h       the same for objects of 16 bytes, and functions of libatomic
 //     blocking.h   locks, conditions, semaphores, futexes, sleeping: whatever blocks gives way
 //     tape.h       what a run leaves: its events and its switches
 //     runs.h       runs in child processes, and what `check` says of them
@@ -53,6 +54,7 @@
 #include <sys/stat.h>
 #include <sys/syscall.h>
 #include <sys/wait.h>
+#include <threads.h>
 #include <time.h>
 #include <unistd.h>
 
@@ -62,6 +64,7 @@
 #include "turns.h"
 #include "buffers.h"
 #include "points.h"
+#include "wide.h"
 #include "blocking.h"
 #include "runs.h"
 #include "trace.h"

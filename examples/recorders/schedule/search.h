@@ -54,7 +54,7 @@ static void tell_early(const char *folder, uint64_t seed, const struct outcome *
     } else if (outcome->ending == DEADLOCK) {
         fprintf(stderr, "deadlock: no thread can go on\n");
     } else if (outcome->ending == LIVELOCK) {
-        fprintf(stderr, "livelock: %" PRIu64 " points, and no operation ends\n", tape->patience);
+        fprintf(stderr, "livelock: %" PRIu64 " points, and no operation ends (FIFOBENCH_PATIENCE sets the bound)\n", tape->patience);
     } else if (outcome->signal == SIGALRM) {
         fprintf(stderr, "hangs: no event for %u s: a thread waits for something that isn't seen, or runs without a "
                         "point\n", tape->seconds);
