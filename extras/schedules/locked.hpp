@@ -270,8 +270,8 @@ private:
     Values values_;
 };
 
-// A lock as that of Dekker: a thread raises its flag, and goes in if no other flag is up. It needs an order of its store
-// before its loads, which no weaker order than the sequentially consistent one gives.
+// A lock as that of Dekker: a thread raises its flag, and goes in if no other flag is up. It needs its store before its
+// loads, which no weaker order than the sequentially consistent one gives.
 template <std::memory_order raising>
 class Flags : public Any {
 public:

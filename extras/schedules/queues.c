@@ -239,8 +239,8 @@ static bool list_dequeue(void *argument, uint64_t *value)
     }
 }
 
-// An array under locks. BLOCKING waits for a value, and wakes always or only where the array was empty; COUNTED has a
-// counter beside it; FLAGS has a lock as that of Dekker, with or without a fence; CROSSED takes two locks in two orders.
+// An array under locks: with a counter beside it; with a dequeue that waits, and is woken always or only where the array
+// was empty; with a lock as that of Dekker, with or without a fence; with two locks, taken in one order or in two.
 struct locked {
     enum fault fault;
     pthread_mutex_t lock, other;
@@ -440,17 +440,23 @@ static const struct kind kinds[] = {
     {"semaphore", make_locked, semaphore_enqueue, semaphore_dequeue, NONE, true, "right"},
     {"two-locks", make_locked, crossed_enqueue, crossed_dequeue, NONE, false, "right"},
     {"flags", make_locked, flags_enqueue, flags_dequeue, NONE, false, "right"},
-    {"ring-sequence-first", make_ring, ring_enqueue, ring_dequeue, SEQUENCE_FIRST, false, "sequence set before the value"},
-    {"ring-freed-early", make_ring, ring_enqueue, ring_dequeue, FREED_EARLY, false, "slot freed before its value is read"},
+    {"ring-sequence-first", make_ring, ring_enqueue, ring_dequeue, SEQUENCE_FIRST, false,
+     "sequence set before the value"},
+    {"ring-freed-early", make_ring, ring_enqueue, ring_dequeue, FREED_EARLY, false,
+     "slot freed before its value is read"},
     {"ring-plain-claim", make_ring, ring_enqueue, ring_dequeue, PLAIN_CLAIM, false, "claims that aren't atomic"},
-    {"ring-early-empty", make_ring, ring_enqueue, ring_dequeue, EARLY_EMPTY, false, "empty while an enqueue is pending"},
+    {"ring-early-empty", make_ring, ring_enqueue, ring_dequeue, EARLY_EMPTY, false,
+     "empty while an enqueue is pending"},
     {"ms-plain-link", make_list, list_enqueue, list_dequeue, PLAIN_LINK, false, "next stored without compare-and-swap"},
     {"ms-head-store", make_list, list_enqueue, list_dequeue, HEAD_STORE, false, "head stored after a look"},
     {"ms-aba", make_list, list_enqueue, list_dequeue, NO_TAGS, false, "ABA over a list of free nodes"},
-    {"ms-value-late", make_list, list_enqueue, list_dequeue, VALUE_LATE, false, "value read after its node may be free"},
+    {"ms-value-late", make_list, list_enqueue, list_dequeue, VALUE_LATE, false,
+     "value read after its node may be free"},
     {"counted", make_locked, counted_enqueue, counted_dequeue, NONE, false, "a counter beside the list"},
-    {"lost-wake-up", make_locked, blocking_enqueue, blocking_dequeue, SOME_WAKE_UPS, true, "a lost wake-up: a deadlock"},
-    {"crossed-locks", make_locked, crossed_enqueue, crossed_dequeue, CROSSED, false, "two locks in two orders: a deadlock"},
+    {"lost-wake-up", make_locked, blocking_enqueue, blocking_dequeue, SOME_WAKE_UPS, true,
+     "a lost wake-up: a deadlock"},
+    {"crossed-locks", make_locked, crossed_enqueue, crossed_dequeue, CROSSED, false,
+     "two locks in two orders: a deadlock"},
     {"flags-no-fence", make_locked, flags_enqueue, flags_dequeue, NO_FENCE, false, "Dekker's lock without a fence"},
 };
 

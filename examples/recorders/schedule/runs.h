@@ -51,7 +51,8 @@ static int ask(const char *program, const char *command, const char *from, const
     fflush(NULL);
     pid_t child = fork();
     if (child == 0) {
-        int in = open(from, O_RDONLY), out = open(to, O_WRONLY | O_CREAT | O_TRUNC, 0666), none = open("/dev/null", O_WRONLY);
+        int in = open(from, O_RDONLY), none = open("/dev/null", O_WRONLY);
+        int out = open(to, O_WRONLY | O_CREAT | O_TRUNC, 0666);
         if (in >= 0 && out >= 0 && none >= 0 && dup2(in, 0) == 0 && dup2(out, 1) == 1 && dup2(none, 2) == 2) {
             execlp(program, program, command, (char *)NULL);
         }

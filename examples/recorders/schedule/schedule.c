@@ -1,11 +1,13 @@
 // The scheduler behind schedule.h, one C11 file to compile with its parts beside it:
 //
-//     turns.h      whose turn it is: threads, strategies, deadlock and livelock
+//     tape.h       what a run leaves: its events and its switches
+//     seats.h      the threads of a run and its state
+//     strategies.h who goes on: naps, walk and PCT
+//     turns.h      points and turns, and the functions that a recorder calls
 //     buffers.h    stores that wait (store buffers)
 //     points.h     the functions that code compiled with -fsanitize=thread calls
 //     wide.h       the same for objects of 16 bytes, and functions of libatomic
 //     blocking.h   locks, conditions, semaphores, futexes, sleeping: whatever blocks gives way
-//     tape.h       what a run leaves: its events and its switches
 //     runs.h       runs in child processes, and what `check` says of them
 //     trace.h      places in the source, and the sentences of a trace
 //     shorten.h    leaves out the switches that a violation doesn't need
@@ -61,6 +63,8 @@
 #define FROM ((uintptr_t)__builtin_return_address(0))
 
 #include "tape.h"
+#include "seats.h"
+#include "strategies.h"
 #include "turns.h"
 #include "buffers.h"
 #include "points.h"

@@ -54,7 +54,8 @@ static void tell_early(const char *folder, uint64_t seed, const struct outcome *
     } else if (outcome->ending == DEADLOCK) {
         fprintf(stderr, "deadlock: no thread can go on\n");
     } else if (outcome->ending == LIVELOCK) {
-        fprintf(stderr, "livelock: %" PRIu64 " points, and no operation ends (FIFOBENCH_PATIENCE sets the bound)\n", tape->patience);
+        fprintf(stderr, "livelock: %" PRIu64 " points, and no operation ends (FIFOBENCH_PATIENCE sets the bound)\n",
+                tape->patience);
     } else if (outcome->signal == SIGALRM) {
         fprintf(stderr, "hangs: no event for %u s: a thread waits for something that isn't seen, or runs without a "
                         "point\n", tape->seconds);
@@ -179,7 +180,8 @@ static void count_run(struct searching *of)
     count_overlap(of);
     if (tape->has_own_threads && !of->said_own_threads) {
         of->said_own_threads = true;
-        fprintf(stderr, "fifobench: the queue has threads of its own, which run free: a run may not be the same twice\n");
+        fprintf(stderr, "fifobench: the queue has threads of its own, which run free: a run may not be the same "
+                        "twice\n");
     }
 }
 

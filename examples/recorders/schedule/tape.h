@@ -87,8 +87,8 @@ static void free_tape(struct tape *old)
 
 static void clear_tape(struct tape *used)
 {
-    struct tape empty = {.max_events = used->max_events, .seconds = used->seconds, .event = used->event, .decision = used->decision,
-                         .initial_values = used->initial_values};
+    struct tape empty = {.max_events = used->max_events, .seconds = used->seconds, .event = used->event,
+                         .decision = used->decision, .initial_values = used->initial_values};
     *used = empty;
 }
 

@@ -36,7 +36,8 @@ static bool read_place(FILE *said, char function[MAX_LINE_BYTES], char line[MAX_
 {
     char next_function[MAX_LINE_BYTES], next_line[MAX_LINE_BYTES];
     bool is_found = false, is_own = false;
-    while (fgets(next_function, sizeof next_function, said) != NULL && fgets(next_line, sizeof next_line, said) != NULL) {
+    while (fgets(next_function, sizeof next_function, said) != NULL &&
+           fgets(next_line, sizeof next_line, said) != NULL) {
         if (!is_own && next_line[0] != '?') {
             cut_at(next_function, "\n");
             cut_at(next_line, " \n");
