@@ -163,6 +163,7 @@ static void keep_events(struct shortening *of, bool *is_kept)
     }
 }
 
+// Counts the decisions that weren't forced: a thread that could have gone on was stopped, or its store waited.
 static size_t count_switches(const struct decision *decisions, size_t count)
 {
     size_t switches = 0;
@@ -185,13 +186,14 @@ static void name_outcome(const struct outcome *outcome, char *name, size_t room)
 static bool write_trace(struct shortening *of, size_t all, const char *path)
 {
     char name[MAX_LINE_BYTES];
+    size_t made = tape->decisions < MAX_DECISIONS ? tape->decisions : MAX_DECISIONS;
     bool *is_kept = calloc(tape->events + 1, sizeof *is_kept);
     FILE *file = fopen(path, "w");
     if (is_kept != NULL && file != NULL) {
         keep_events(of, is_kept);
         name_outcome(&of->wanted_outcome, name, sizeof name);
         fprintf(file, "%s with %zu of the %zu switches of seed %" PRIu64 ":\n", name,
-                count_switches(of->kept, of->count), all, of->seed);
+                count_switches(tape->decision, made), all, of->seed);
         tell_trace(tape, is_kept, file);
     }
     bool is_written = is_kept != NULL && file != NULL && !ferror(file);

@@ -178,17 +178,25 @@ static bool is_news(const struct decision *made, struct decision told[TOLD_DECIS
     return !made->is_forced || *count < TOLD_DECISIONS;
 }
 
-// Writes the events that are kept and the decisions, in the order in which they were.
+// Writes the events that are kept and the decisions, in the order in which they were. Switches of threads that couldn't
+// go on are told between these events only.
 static void tell_trace(const struct tape *of, const bool *is_kept, FILE *to)
 {
     struct decision told[TOLD_DECISIONS];
+    size_t first = of->events, last = 0;
+    for (size_t ticket = 0; ticket < of->events; ticket++) {
+        first = is_kept[ticket] && ticket < first ? ticket : first;
+        last = is_kept[ticket] ? ticket : last;
+    }
+    last = of->ending == COMPLETE ? last : of->events;
     size_t next = 0, count = 0, decisions = of->decisions < MAX_DECISIONS ? of->decisions : MAX_DECISIONS;
     for (size_t ticket = 0; ticket <= of->events; ticket++) {
         while (next < decisions && of->decision[next].event <= ticket) {
-            if (is_news(&of->decision[next], told, &count)) {
-                tell_decision(&of->decision[next], to);
+            const struct decision *made = &of->decision[next++];
+            bool is_between = made->event > first && made->event <= last;
+            if ((!made->is_forced || is_between) && is_news(made, told, &count)) {
+                tell_decision(made, to);
             }
-            next++;
         }
         if (ticket < of->events && is_kept[ticket]) {
             tell_event(of, ticket, to);
