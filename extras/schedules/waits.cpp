@@ -1,5 +1,5 @@
-// Right queues that wait in each way that chosen schedules know, and some that show what is said of a queue. C++20, for
-// std::atomic::wait.
+// Right queues that wait in each way that chosen schedules know, and some that aren't right and end a run in other ways.
+// C++20, for std::atomic::wait.
 //
 //     waits                              lists them
 //     waits QUEUE [RUNS [SEED]]
@@ -151,7 +151,7 @@ struct Late {
     }
     void unlock() {
         const std::lock_guard<std::mutex> guard(mutex);
-        is_taken = false;    // and nobody is told
+        is_taken = false;    // without a signal
     }
 };
 

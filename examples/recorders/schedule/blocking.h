@@ -36,7 +36,7 @@ static struct seat *lock_point(uintptr_t from)
     return self;
 }
 
-// Tells those that wait for the object; it may have been changed by a thread that isn't the run's.
+// Lets those look again that wait for the object. A thread that isn't the run's may have changed it.
 static void changed(const void *object)
 {
     if (seat != NULL) {

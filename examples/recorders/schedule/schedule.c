@@ -11,7 +11,7 @@
 //     runs.h       runs in child processes, and what `check` says of them
 //     trace.h      places in the source, and the sentences of a trace
 //     shorten.h    leaves out the switches that a violation doesn't need
-//     search.h     the runs of a search, and what is said of them
+//     search.h     the runs of a search, and what it prints
 //
 // Compile it without -fsanitize=thread. The program must not be linked statically, since the functions of blocking.h
 // stand in front of those of the C library.

@@ -1,4 +1,4 @@
-// The runs of a search, and what is said of them. A part of schedule.c.
+// The runs of a search, and what it prints. A part of schedule.c.
 
 // Adds how many operations have returned, and how many of these overlap another.
 static void count_overlap(struct searching *of)

@@ -11,7 +11,7 @@ enum {
     MAX_DEPTH = 10         // of PCT
 };
 
-// A store that waits, for so many points of its thread.
+// A store that waits, for a number of points of its thread.
 struct store {
     uint64_t value;
     volatile void *at;
@@ -62,18 +62,18 @@ static struct {
     uint64_t progress; // steps when one ended last
     uint64_t patience;
     enum strategy strategy;
-    unsigned rate;         // naps: in halves of the points of an operation; walk: a switch at one of so many points
+    unsigned rate;         // naps: in halves of the points of an operation; walk: a switch at one of this many points
     bool naps_before_writes;
     bool naps_in_pairs;
     unsigned nap_bits;     // naps: a nap ends when 1 to 2^(nap_bits - 1) operations have ended
-    uint64_t one_in;       // naps: sleep at one of so many points
+    uint64_t one_in;       // naps: sleep at one of this many points
     unsigned depth, round; // PCT: a round has 1 to `round` operations of each thread; 0: the run is one
     uint64_t changes[MAX_DEPTH];
     unsigned changed, change_count;
     uint64_t round_began, estimate;
     int64_t lowest;
     bool has_buffers;
-    unsigned store_rate; // a store waits at one of so many
+    unsigned store_rate; // one store of this many waits
     unsigned restless;   // threads that relax or spin
     uint64_t slept;      // nanoseconds, in no time
     uint64_t clock[CLOCKS];

@@ -18,7 +18,7 @@ struct decision {
     uint64_t event;    // number of events before it
     uintptr_t from;    // the return address of the point
     uint32_t thread;   // FIRST_TURN: the start
-    uint32_t to;       // the thread that goes on, or STORE_WAITS for so many points, or STORE_IS_SEEN
+    uint32_t to;       // the thread that goes on, or STORE_WAITS for `points` points, or STORE_IS_SEEN
     uint32_t points;
     uint16_t access;   // enum access
     uint16_t is_forced; // the thread could not go on, or had ended

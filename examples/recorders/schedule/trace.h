@@ -52,7 +52,7 @@ static bool read_place(FILE *said, char function[MAX_LINE_BYTES], char line[MAX_
     return is_found;
 }
 
-// Shortens a function's name: no arguments, no template's values.
+// Shortens a function's name: no arguments, no template's values, no type in front.
 static void shorten(char *function)
 {
     unsigned depth = 0;
@@ -65,6 +65,10 @@ static void shorten(char *function)
         depth -= *at == '>' && depth > 0;
     }
     *to = '\0';
+    const char *space = strstr(function, "operator") == NULL ? strrchr(function, ' ') : NULL;
+    if (space != NULL) {
+        memmove(function, space + 1, strlen(space));
+    }
 }
 
 // Writes `file:line (function)` for the code before a return address; `an unknown place` without debugging data.
@@ -179,7 +183,7 @@ static bool is_news(const struct decision *made, struct decision told[TOLD_DECIS
 }
 
 // Writes the events that are kept and the decisions, in the order in which they were. Switches of threads that couldn't
-// go on are told between these events only.
+// go on are written between these events only.
 static void tell_trace(const struct tape *of, const bool *is_kept, FILE *to)
 {
     struct decision told[TOLD_DECISIONS];
