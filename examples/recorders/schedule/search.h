@@ -43,6 +43,12 @@ static void tell_places(FILE *to)
     }
 }
 
+static void tell_unseen(void)
+{
+    fprintf(stderr, "fifobench: no atomic operation was seen in the queue, and no lock: inline assembler, and code "
+                    "compiled without -fsanitize=thread, is one step\n");
+}
+
 // Says how a run ended early, and keeps its text.
 static void tell_early(const char *folder, uint64_t seed, const struct outcome *outcome)
 {
@@ -63,6 +69,9 @@ static void tell_early(const char *folder, uint64_t seed, const struct outcome *
         fprintf(stderr, "crash: %s\n", strsignal(outcome->signal));
     } else {
         fprintf(stderr, "the queue has ended the process\n");
+    }
+    if (outcome->signal == SIGALRM && tape->atomics == 0 && tape->locks == 0) {
+        tell_unseen();
     }
     if (!outcome->has_failed) {
         tell_places(stderr);
@@ -234,8 +243,7 @@ static int tell_none(const struct searching *of, uint64_t seed, unsigned runs)
         return of->locks == 0 || !of->judges ? 2 : 0;
     }
     if (of->atomics == 0 && of->locks == 0) {
-        fprintf(stderr, "fifobench: no atomic operation was seen in the queue, and no lock: inline assembler, and code "
-                        "compiled without -fsanitize=thread, is one step\n");
+        tell_unseen();
     }
     return of->judges ? 0 : 2;
 }
