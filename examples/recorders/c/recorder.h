@@ -44,14 +44,6 @@
 #include <sys/wait.h>
 #include <time.h>
 
-#ifdef __has_include
-#if __has_include("schedule/schedule.h")
-#include "schedule/schedule.h"
-#elif __has_include("../schedule/schedule.h")
-#include "../schedule/schedule.h"
-#endif
-#endif
-
 enum { RECORDER_MAX_THREADS = 64, RECORDER_MAX_EVENTS = 2000000, RECORDER_MAX_INITIAL = 100000, RECORDER_OPERATIONS = 500 };
 
 // Which operations a thread makes. Alternate: enqueue, dequeue, and so on. Mix: a percentage of enqueues, by the
@@ -155,27 +147,20 @@ struct recorder {
     struct recorder_thread of_thread[RECORDER_MAX_THREADS];
 };
 
-#ifdef FIFOBENCH_SCHEDULE_H
 #ifdef __has_include
 #if __has_include("schedule/for_recorder.h")
 #include "schedule/for_recorder.h"
-#else
+#elif __has_include("../schedule/for_recorder.h")
 #include "../schedule/for_recorder.h"
 #endif
 #endif
-#else // the folder schedule isn't there: threads run as the system lets them
+#ifndef RECORDER_IF_CHOSEN // the folder schedule isn't there: threads run as the system lets them
+#define RECORDER_IF_CHOSEN(call) ((void)0)
 #define recorder_points_chosen(choose) (false && (choose))
 #define recorder_points_disturb() ((void)0)
 #define recorder_points_returns() ((void)0)
 #define recorder_points_noted(is_call, what, value) ((void)(is_call))
 #define recorder_points_begin(settings) ((settings) != NULL)
-#define recorder_points_started(thread) ((void)(thread))
-#define recorder_points_open(threads) ((void)(threads))
-#define recorder_points_enter(thread) ((void)(thread))
-#define recorder_points_alone() ((void)0)
-#define recorder_points_leave() ((void)0)
-#define recorder_points_end() ((void)0)
-#define recorder_points_initial(value) ((void)(value))
 #define recorder_points_search(settings, calls) 2
 #endif
 
@@ -380,11 +365,11 @@ static inline bool recorder_has_met(struct recorder *recorder, unsigned number)
 static inline void recorder_meet(struct recorder *recorder, unsigned number)
 {
     atomic_fetch_add(&recorder->arrived, 1);
-    while (atomic_load(&recorder->arrived) < recorder->threads && !atomic_load(&recorder->open)) {
+    while (!recorder->is_chosen && atomic_load(&recorder->arrived) < recorder->threads && !atomic_load(&recorder->open)) {
         sched_yield();
     }
     double until = recorder_seconds() + 0.1;
-    while (recorder->threads > 1 && !atomic_load(&recorder->open) && !recorder_has_met(recorder, number) &&
+    while (!recorder->is_chosen && recorder->threads > 1 && !atomic_load(&recorder->open) && !recorder_has_met(recorder, number) &&
            recorder_seconds() < until) {
         sched_yield();
     }
@@ -399,9 +384,7 @@ static inline bool recorder_prepare(struct recorder *recorder, unsigned number)
         calls->enter(recorder->queue, number);
     }
     for (size_t j = 0; calls != NULL && number == 0 && j < recorder->settings.initial; j++) {
-        if (recorder->is_chosen) {
-            recorder_points_initial(recorder_value(&recorder->settings, RECORDER_MAX_THREADS, j));
-        }
+        RECORDER_IF_CHOSEN(initial(recorder_value(&recorder->settings, RECORDER_MAX_THREADS, j)));
         bool (*put)(void *, uint64_t) = calls->preload != NULL ? calls->preload : calls->enqueue;
         if (!put(recorder->queue, recorder_value(&recorder->settings, RECORDER_MAX_THREADS, j))) {
             return false;
@@ -416,9 +399,7 @@ static inline void recorder_drain(struct recorder_thread *thread)
     struct recorder *recorder = thread->recorder;
     size_t taken = recorder->settings.initial, given = 0;
     bool found = true;
-    if (recorder->is_chosen) {
-        recorder_points_alone();
-    }
+    RECORDER_IF_CHOSEN(alone());
     pthread_mutex_lock(&recorder->lock);
     while (!recorder->is_chosen && recorder->worked < recorder->threads) {
         pthread_cond_wait(&recorder->changed, &recorder->lock);
@@ -453,11 +434,8 @@ static inline void *recorder_start(void *argument)
         fputs("fifobench: the queue doesn't take an initial value\n", stderr);
         atomic_store(&recorder->refused, true);
     }
-    if (recorder->is_chosen) {
-        recorder_points_enter(thread->number);
-    } else {
-        recorder_meet(recorder, thread->number);
-    }
+    RECORDER_IF_CHOSEN(enter(thread->number));
+    recorder_meet(recorder, thread->number);
     if (!atomic_load(&recorder->refused)) {
         recorder->work(thread, recorder->argument);
         recorder_tell(recorder, &recorder->worked);
@@ -468,9 +446,7 @@ static inline void *recorder_start(void *argument)
             recorder->calls->leave(recorder->queue, thread->number);
         }
     }
-    if (recorder->is_chosen) {
-        recorder_points_leave();
-    }
+    RECORDER_IF_CHOSEN(leave());
     recorder_tell(recorder, &recorder->ended);
     return NULL;
 }
@@ -611,9 +587,7 @@ static inline struct recorder *recorder_go(struct recorder *recorder, recorder_w
     }
     while (started < recorder->threads &&
            pthread_create(&running[started], NULL, recorder_start, &recorder->of_thread[started]) == 0) {
-        if (recorder->is_chosen) {
-            recorder_points_started(started);
-        }
+        RECORDER_IF_CHOSEN(started(started));
         started++;
     }
     if (started < recorder->threads) {
@@ -621,16 +595,12 @@ static inline struct recorder *recorder_go(struct recorder *recorder, recorder_w
         atomic_store(&recorder->refused, true);
         atomic_store(&recorder->open, true);
     }
-    if (recorder->is_chosen) {
-        recorder_points_open(started);
-    }
+    RECORDER_IF_CHOSEN(open(started));
     recorder_wait(recorder, started);
     for (unsigned number = 0; number < started; number++) {
         pthread_join(running[number], NULL);
     }
-    if (recorder->is_chosen) {
-        recorder_points_end();
-    }
+    RECORDER_IF_CHOSEN(end());
     if (atomic_load(&recorder->refused)) {
         recorder_free(recorder);
         return NULL;

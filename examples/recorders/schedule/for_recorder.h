@@ -3,6 +3,11 @@
 #ifndef FIFOBENCH_FOR_RECORDER_H
 #define FIFOBENCH_FOR_RECORDER_H
 
+#include "schedule.h"
+
+// Where `recorder` is a run: calls this function of schedule.h, if the run's schedule is chosen.
+#define RECORDER_IF_CHOSEN(call) (recorder->is_chosen ? fifobench_schedule_##call : (void)0)
+
 static inline bool recorder_points_linked(void)
 {
     return fifobench_schedule_begin != NULL;
@@ -46,14 +51,6 @@ static inline bool recorder_points_begin(const struct recorder_settings *setting
     }
     return fault == NULL;
 }
-
-#define recorder_points_started fifobench_schedule_started
-#define recorder_points_open fifobench_schedule_open
-#define recorder_points_enter fifobench_schedule_enter
-#define recorder_points_alone fifobench_schedule_alone
-#define recorder_points_leave fifobench_schedule_leave
-#define recorder_points_end fifobench_schedule_end
-#define recorder_points_initial fifobench_schedule_initial
 
 struct recorder_points_context {
     const struct recorder_settings *settings;
