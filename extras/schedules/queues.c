@@ -6,7 +6,9 @@
 
 #include <semaphore.h>
 
-enum { SLOTS = 8, NODES = 4096, NO_NODE = UINT32_MAX, MOST_THREADS = 8 };
+enum { SLOTS = 8, NODES = 4096, MOST_THREADS = 8 };
+
+static const uint32_t NO_NODE = UINT32_MAX;
 
 enum fault {
     NONE,
