@@ -97,6 +97,21 @@ static void leave_out_parts(struct shortening *of)
     }
 }
 
+// Tries without the choices of who goes on for a thread that can't: the next by number may do as well.
+static void leave_out_forced(struct shortening *of)
+{
+    size_t count = 0;
+    for (size_t place = 0; place < of->count; place++) {
+        if (!of->kept[place].is_forced) {
+            of->tried[count++] = of->kept[place];
+        }
+    }
+    if (count < of->count && may_try(of) && still_fails(of, of->tried, count)) {
+        memcpy(of->kept, of->tried, count * sizeof *of->kept);
+        of->count = count;
+    }
+}
+
 // Copies the decisions of the run at hand, but for what was only noted.
 static size_t copy_decisions(struct decision *to)
 {
@@ -218,7 +233,9 @@ static const char *make_trace(const struct searching *searching, uint64_t seed, 
         fault = "the run isn't the same when it is made again: a clock, an address, real input or threads of the "
                 "queue's own may change what it does";
         if (*is_equal && still_fails(&of, of.kept, of.count)) {
+            leave_out_forced(&of);
             cut_end(&of);
+            leave_out_forced(&of);
             leave_out_parts(&of);
             still_fails(&of, of.kept, of.count);
             fault = write_trace(&of, all, path) ? NULL : "the trace can't be written";
