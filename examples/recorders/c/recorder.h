@@ -44,7 +44,7 @@
 #include <sys/wait.h>
 #include <time.h>
 
-enum { RECORDER_MAX_THREADS = 64, RECORDER_MAX_EVENTS = 2000000, RECORDER_MAX_INITIAL = 100000 };
+enum { RECORDER_MAX_THREADS = 64, RECORDER_MAX_EVENTS = 2000000, RECORDER_MAX_INITIAL = 100000, RECORDER_OPERATIONS = 500 };
 
 // Which operations a thread makes. Alternate: enqueue, dequeue, and so on. Mix: a percentage of enqueues, by the
 // seed. Bursts: 1 to 32 enqueues, by the seed, and then as many dequeues. Roles: threads of even number enqueue, the
@@ -59,11 +59,12 @@ struct recorder_settings {
     enum recorder_pattern pattern;
     unsigned percent;     // of enqueues in a mix
     uint64_t seed;        // of a run; the first of a search
-    unsigned runs;        // of a search
+    unsigned runs;        // of a search; 0: 100, or 300 with chosen schedules
     unsigned timeout;     // in seconds: a run without an event for so long hangs
     uint64_t first;       // is added to each value: for queues that take 0 as `nothing`
     size_t initial;       // values that the queue is given before the run; before a loop of your own by you
     bool drain;           // at the end the queue is dequeued until it says that it is empty
+    bool choose;          // schedules, if schedule.c is linked; else its points disturb the threads
     const char *program;  // that judges, or NULL
     const char *folder;
     // The value of the n-th operation of a thread, and that of initial value n with the thread 64. All have to
@@ -74,8 +75,8 @@ struct recorder_settings {
 static inline struct recorder_settings recorder_defaults(void)
 {
     return (struct recorder_settings){
-        .threads = 4, .operations = 500, .pattern = RECORDER_BY_SEED, .percent = 50, .seed = 1, .runs = 100,
-        .timeout = 30, .drain = true, .folder = "fifobench-runs"};
+        .threads = 4, .operations = RECORDER_OPERATIONS, .pattern = RECORDER_BY_SEED, .percent = 50, .seed = 1,
+        .timeout = 30, .drain = true, .choose = true, .folder = "fifobench-runs"};
 }
 
 // The calls of a queue. The first three are needed, the others may be NULL.
@@ -142,8 +143,26 @@ struct recorder {
     unsigned worked; // how many threads have made their operations, under the lock
     unsigned ended;
     bool has_surplus;
+    bool is_chosen; // the schedule
     struct recorder_thread of_thread[RECORDER_MAX_THREADS];
 };
+
+#ifdef __has_include
+#if __has_include("schedule/for_recorder.h")
+#include "schedule/for_recorder.h"
+#elif __has_include("../schedule/for_recorder.h")
+#include "../schedule/for_recorder.h"
+#endif
+#endif
+#ifndef RECORDER_IF_CHOSEN // the folder schedule isn't there: threads run as the system lets them
+#define RECORDER_IF_CHOSEN(call) ((void)0)
+#define recorder_points_chosen(choose) (false && (choose))
+#define recorder_points_disturb() ((void)0)
+#define recorder_points_returns() ((void)0)
+#define recorder_points_noted(is_call, what, value) ((void)(is_call))
+#define recorder_points_begin(settings) ((settings) != NULL)
+#define recorder_points_search(settings, calls) 2
+#endif
 
 static inline uint64_t recorder_value(const struct recorder_settings *settings, unsigned thread, uint64_t n)
 {
@@ -158,6 +177,10 @@ static inline uint64_t recorder_value(const struct recorder_settings *settings, 
 // room that was asked for end the program: a history without them would be another one.
 static inline void recorder_note(struct recorder_thread *thread, enum recorder_what what, uint64_t value)
 {
+    bool is_call = what == RECORDER_CALL_ENQ || what == RECORDER_CALL_DEQ;
+    if (!is_call) {
+        recorder_points_returns();
+    }
     uint64_t ticket = atomic_fetch_add(&thread->recorder->tickets, 1);
     size_t count = atomic_load_explicit(&thread->count, memory_order_relaxed);
     if (count == thread->room) {
@@ -166,6 +189,7 @@ static inline void recorder_note(struct recorder_thread *thread, enum recorder_w
     }
     thread->events[count] = (struct recorder_event){ticket, value, thread->number, what};
     atomic_store_explicit(&thread->count, count + 1, memory_order_release);
+    recorder_points_noted(is_call, what, value);
 }
 
 // Just before the queue's enqueue. Gives its value, which no other call has.
@@ -341,11 +365,11 @@ static inline bool recorder_has_met(struct recorder *recorder, unsigned number)
 static inline void recorder_meet(struct recorder *recorder, unsigned number)
 {
     atomic_fetch_add(&recorder->arrived, 1);
-    while (atomic_load(&recorder->arrived) < recorder->threads && !atomic_load(&recorder->open)) {
+    while (!recorder->is_chosen && atomic_load(&recorder->arrived) < recorder->threads && !atomic_load(&recorder->open)) {
         sched_yield();
     }
     double until = recorder_seconds() + 0.1;
-    while (recorder->threads > 1 && !atomic_load(&recorder->open) && !recorder_has_met(recorder, number) &&
+    while (!recorder->is_chosen && recorder->threads > 1 && !atomic_load(&recorder->open) && !recorder_has_met(recorder, number) &&
            recorder_seconds() < until) {
         sched_yield();
     }
@@ -360,6 +384,7 @@ static inline bool recorder_prepare(struct recorder *recorder, unsigned number)
         calls->enter(recorder->queue, number);
     }
     for (size_t j = 0; calls != NULL && number == 0 && j < recorder->settings.initial; j++) {
+        RECORDER_IF_CHOSEN(initial(recorder_value(&recorder->settings, RECORDER_MAX_THREADS, j)));
         bool (*put)(void *, uint64_t) = calls->preload != NULL ? calls->preload : calls->enqueue;
         if (!put(recorder->queue, recorder_value(&recorder->settings, RECORDER_MAX_THREADS, j))) {
             return false;
@@ -374,8 +399,9 @@ static inline void recorder_drain(struct recorder_thread *thread)
     struct recorder *recorder = thread->recorder;
     size_t taken = recorder->settings.initial, given = 0;
     bool found = true;
+    RECORDER_IF_CHOSEN(alone());
     pthread_mutex_lock(&recorder->lock);
-    while (recorder->worked < recorder->threads) {
+    while (!recorder->is_chosen && recorder->worked < recorder->threads) {
         pthread_cond_wait(&recorder->changed, &recorder->lock);
     }
     pthread_mutex_unlock(&recorder->lock);
@@ -408,6 +434,7 @@ static inline void *recorder_start(void *argument)
         fputs("fifobench: the queue doesn't take an initial value\n", stderr);
         atomic_store(&recorder->refused, true);
     }
+    RECORDER_IF_CHOSEN(enter(thread->number));
     recorder_meet(recorder, thread->number);
     if (!atomic_load(&recorder->refused)) {
         recorder->work(thread, recorder->argument);
@@ -419,6 +446,7 @@ static inline void *recorder_start(void *argument)
             recorder->calls->leave(recorder->queue, thread->number);
         }
     }
+    RECORDER_IF_CHOSEN(leave());
     recorder_tell(recorder, &recorder->ended);
     return NULL;
 }
@@ -552,8 +580,14 @@ static inline struct recorder *recorder_go(struct recorder *recorder, recorder_w
     unsigned started = 0;
     recorder->work = work;
     recorder->argument = argument;
+    recorder->is_chosen = recorder_points_chosen(recorder->settings.choose);
+    if (recorder->is_chosen && !recorder_points_begin(&recorder->settings)) {
+        recorder_free(recorder);
+        return NULL;
+    }
     while (started < recorder->threads &&
            pthread_create(&running[started], NULL, recorder_start, &recorder->of_thread[started]) == 0) {
+        RECORDER_IF_CHOSEN(started(started));
         started++;
     }
     if (started < recorder->threads) {
@@ -561,10 +595,12 @@ static inline struct recorder *recorder_go(struct recorder *recorder, recorder_w
         atomic_store(&recorder->refused, true);
         atomic_store(&recorder->open, true);
     }
+    RECORDER_IF_CHOSEN(open(started));
     recorder_wait(recorder, started);
     for (unsigned number = 0; number < started; number++) {
         pthread_join(running[number], NULL);
     }
+    RECORDER_IF_CHOSEN(end());
     if (atomic_load(&recorder->refused)) {
         recorder_free(recorder);
         return NULL;
@@ -771,6 +807,9 @@ static inline int recorder_search(const struct recorder_settings *settings, cons
         fprintf(stderr, "fifobench: %s\n", recorder_fault(settings));
         return 2;
     }
+    if (recorder_points_chosen(settings->choose)) {
+        return recorder_points_search(settings, calls);
+    }
     if (one.program == NULL) {
         one.program = named != NULL && *named != '\0' ? named : "fifobench";
     }
@@ -779,7 +818,9 @@ static inline int recorder_search(const struct recorder_settings *settings, cons
         fprintf(stderr, "fifobench: no program '%s': nothing is judged; the histories are kept in %s\n", one.program,
                 one.folder);
     }
-    for (unsigned made = 0; made < settings->runs; made++, one.seed++) {
+    recorder_points_disturb();
+    one.runs = settings->runs != 0 ? settings->runs : 100;
+    for (unsigned made = 0; made < one.runs; made++, one.seed++) {
         int answer = recorder_search_one(&one, calls, judges, &operations, &overlapping);
         if (answer != 0) {
             return answer;
@@ -787,7 +828,7 @@ static inline int recorder_search(const struct recorder_settings *settings, cons
     }
     remove(one.folder); // if it is empty
     printf("%s in %u runs (seeds %" PRIu64 " to %" PRIu64 "); %zu of 100 operations overlap another\n",
-           judges ? "no violation" : "nothing judged", settings->runs, settings->seed, one.seed - 1,
+           judges ? "no violation" : "nothing judged", one.runs, settings->seed, one.seed - 1,
            100 * overlapping / (operations + !operations));
     return judges ? 0 : 2;
 }

@@ -62,6 +62,14 @@
 #include <sys/wait.h>
 #endif
 
+#if __has_include("schedule/for_recorder.hpp")
+#include "schedule/for_recorder.hpp"
+#define FIFOBENCH_HAS_POINTS
+#elif __has_include("../schedule/for_recorder.hpp")
+#include "../schedule/for_recorder.hpp"
+#define FIFOBENCH_HAS_POINTS
+#endif
+
 namespace fifobench {
 
 constexpr unsigned max_threads = 64;
@@ -91,11 +99,12 @@ struct Settings {
     std::optional<Pattern> pattern;      // if none, that of the seed: 1 alternates, 2 mixes, and so on
     unsigned percent = 50;               // of enqueues in a mix
     std::uint64_t seed = 1;              // of a run; the first of a search
-    unsigned runs = 100;                 // of a search
+    unsigned runs = 0;                   // of a search; 0: 100, or 300 with chosen schedules
     std::chrono::milliseconds timeout{30'000};    // a run without an event for so long hangs
     std::uint64_t first = 0;             // is added to each value: for queues that take 0 as `nothing`
     std::size_t initial = 0;             // values that the queue is given before the run; before your own loop by you
     bool drain = true;                   // at the end the queue is dequeued until it says that it is empty
+    bool choose = true;                  // schedules, if schedule.c is linked; else its points disturb the threads
     std::string program;                 // that judges
     std::string folder = "fifobench-runs";
 
@@ -109,6 +118,27 @@ struct Settings {
 
     Pattern pattern_of_seed() const { return pattern.value_or(static_cast<Pattern>((seed + 3) % 4)); }
 };
+
+#ifndef FIFOBENCH_HAS_POINTS
+namespace detail::points {    // the folder schedule isn't there: threads run as the system lets them
+
+inline bool are_chosen() { return false; }
+inline void disturb() {}
+inline void begin(std::uint64_t, unsigned, std::size_t, const std::string&) {}
+inline void started(unsigned) {}
+inline void open(std::size_t) {}
+inline void enter(unsigned) {}
+inline void alone() {}
+inline void leave() {}
+inline void end() {}
+inline void initial(std::uint64_t) {}
+inline void returns() {}
+inline void noted(bool, unsigned, std::uint64_t) {}
+template <class RunOne>
+int search(const Settings&, RunOne&) { return 2; }
+
+}    // namespace detail::points
+#endif
 
 namespace detail {
 
@@ -246,11 +276,16 @@ private:
     // The ticket is drawn first: of a call before the queue is asked, of a return after it has answered. What came
     // before a return is seen by every call of a greater ticket, since the order is sequentially consistent.
     void note(What what, std::uint64_t value) {
+        const bool is_call = what == What::CallEnq || what == What::CallDeq;
+        if (!is_call) {
+            detail::points::returns();
+        }
         const std::uint64_t ticket = tickets_->fetch_add(1, std::memory_order_seq_cst);
         if (ticket >= max_events) {
             throw std::length_error("a history has at most 2000000 events");
         }
         log_.append(Event{ticket, value, what});
+        detail::points::noted(is_call, static_cast<unsigned>(what), value);
     }
 
     std::atomic<std::uint64_t>* tickets_;
@@ -433,19 +468,25 @@ public:
     History record(Work& work) {
         std::vector<std::thread> running;
         running.reserve(settings_.threads);
+        if (is_chosen_) {
+            points::begin(settings_.seed, settings_.threads, settings_.operations, settings_.folder);
+        }
         try {
             for (Thread& thread : recorded_) {
                 running.emplace_back([this, &thread, &work] { run_thread(thread, work); });
+                if (is_chosen_) points::started(thread.number());
             }
         } catch (const std::system_error&) {
             guarded(running.size(), [] { throw std::runtime_error("it can't be started"); });
             is_refused_.store(true);
             start_.open();
         }
+        if (is_chosen_) points::open(running.size());
         wait(running.size());
         for (std::thread& thread : running) {
             thread.join();
         }
+        if (is_chosen_) points::end();
         if (is_refused_.load()) {
             throw std::runtime_error("before the start: " + failures_.front());
         }
@@ -475,7 +516,7 @@ private:
         if (!is_ready) {
             is_refused_.store(true);
         }
-        start_.wait(number);
+        is_chosen_ ? points::enter(number) : start_.wait(number);
         if (!is_refused_.load()) {
             has_begun_.store(true);
             guarded(number, [&] { work(thread); });
@@ -485,6 +526,7 @@ private:
             }
             guarded(number, [&] { hooks_.leave(number); });
         }
+        if (is_chosen_) points::leave();
         const std::lock_guard<std::mutex> guard(lock_);
         ++ended_;
         has_ended_.notify_all();
@@ -492,6 +534,7 @@ private:
 
     void preload() {
         for (const std::uint64_t value : initial_) {
+            if (is_chosen_) points::initial(value);
             if (hooks_.preload && !hooks_.preload(value)) {
                 throw std::runtime_error("the queue doesn't take the initial value " + std::to_string(value));
             }
@@ -500,7 +543,8 @@ private:
 
     // In the seat of thread 0 once all others have ended. No sound queue gives more values than went in.
     void drain(Thread& thread) {
-        while (worked_.load() < settings_.threads) {
+        if (is_chosen_) points::alone();
+        while (!is_chosen_ && worked_.load() < settings_.threads) {
             std::this_thread::sleep_for(std::chrono::microseconds(50));
         }
         if (has_failed_.load()) {
@@ -579,6 +623,7 @@ private:
     }
 
     const Settings settings_;
+    const bool is_chosen_ = settings_.choose && points::are_chosen();
     const Hooks hooks_;
     std::vector<std::uint64_t> initial_;
     alignas(64) std::atomic<std::uint64_t> tickets_{0};
@@ -677,6 +722,7 @@ inline int status_of(const std::string& command) {
 class Search {
 public:
     explicit Search(const Settings& settings) : settings_(settings), program_(settings.program) {
+        settings_.runs = settings.runs != 0 ? settings.runs : 100;
         const char* const named = std::getenv("FIFOBENCH");
         program_ = !program_.empty() ? program_ : named != nullptr && *named != '\0' ? named : "fifobench";
         std::filesystem::create_directories(settings_.folder);
@@ -689,6 +735,7 @@ public:
 
     template <class RunOne>
     int all(RunOne& run_one) {
+        points::disturb();
         for (unsigned made = 0; made < settings_.runs; ++made) {
             Settings one = settings_;
             one.seed += made;
@@ -763,7 +810,7 @@ private:
         return status_of(shell_word(program_) + " " + command + " <" + shell_word(from) + " >" + shell_word(to));
     }
 
-    const Settings settings_;
+    Settings settings_;
     std::string program_;
     bool judges_ = false;
     std::size_t operations_ = 0;
@@ -777,6 +824,9 @@ private:
 template <class RunOne>
 int search_runs(const Settings& settings, RunOne run_one) {
     try {
+        if (settings.choose && detail::points::are_chosen()) {
+            return detail::points::search(settings, run_one);
+        }
         return detail::Search(settings).all(run_one);
     } catch (const std::exception& exception) {
         std::cerr << "fifobench: " << exception.what() << std::endl;

@@ -1,0 +1,286 @@
+// The runs of a search, and what it prints. A part of schedule.c.
+
+// Adds how many operations have returned, and how many of these overlap another.
+static void count_overlap(struct searching *of)
+{
+    size_t calls = 0, pending = 0, calls_at[FIFOBENCH_MAX_THREADS] = {0}, pending_at[FIFOBENCH_MAX_THREADS] = {0};
+    for (size_t place = 0; place < tape->events; place++) {
+        const struct event *event = &tape->event[place];
+        if (is_call(event)) {
+            calls_at[event->thread] = calls++;
+            pending_at[event->thread] = pending++;
+        } else {
+            pending--;
+            of->operations++;
+            of->overlapping += pending_at[event->thread] > 0 || calls - calls_at[event->thread] > 1;
+        }
+    }
+}
+
+// Says of each thread where it is.
+static void tell_places(FILE *to)
+{
+    size_t open[FIFOBENCH_MAX_THREADS];
+    char place[MAX_LINE_BYTES];
+    open_calls(tape, open);
+    for (unsigned number = 0; number < tape->threads; number++) {
+        const struct place *at = &tape->places[number];
+        if (at->has_ended || open[number] == 0) {
+            fprintf(to, "fifobench: thread %u %s\n", number,
+                    at->has_ended ? "has made its last operation" : "is between two operations");
+            continue;
+        }
+        const struct event *call = &tape->event[open[number] - 1];
+        fprintf(to, "fifobench: thread %u is inside ", number);
+        if (call->what == FIFOBENCH_CALL_ENQ) {
+            fprintf(to, "the enqueue of %" PRIu64, call->value);
+        } else {
+            fprintf(to, "a dequeue");
+        }
+        name_place(at->from, place, sizeof place);
+        fprintf(to, ", ticket %zu, at %s", open[number] - 1, place);
+        fprintf(to, at->waits != NULL ? "; it waits for %s\n" : "\n", at->waits);
+    }
+}
+
+static void tell_unseen(void)
+{
+    fprintf(stderr, "fifobench: no atomic operation was seen in the queue, and no lock: inline assembler, and code "
+                    "compiled without -fsanitize=thread, is one step\n");
+}
+
+// Says how a run ended early, and keeps its text.
+static void tell_early(const char *folder, uint64_t seed, const struct outcome *outcome)
+{
+    char path[MAX_PATH_BYTES];
+    size_t open[FIFOBENCH_MAX_THREADS];
+    fprintf(stderr, "fifobench: seed %" PRIu64 ": ", seed);
+    if (outcome->has_failed) {
+        fprintf(stderr, "%s\n", tape->failure);
+    } else if (outcome->ending == DEADLOCK) {
+        fprintf(stderr, "deadlock: no thread can go on\n");
+    } else if (outcome->ending == LIVELOCK) {
+        fprintf(stderr, "livelock: %" PRIu64 " points, and no operation ends (FIFOBENCH_PATIENCE sets the bound)\n",
+                tape->patience);
+    } else if (outcome->signal == SIGALRM) {
+        fprintf(stderr, "hangs: no event for %u s: a thread waits for something that isn't seen, or runs without a "
+                        "point\n", tape->seconds);
+    } else if (outcome->signal != 0) {
+        fprintf(stderr, "crash: %s\n", strsignal(outcome->signal));
+    } else {
+        fprintf(stderr, "the queue has ended the process\n");
+    }
+    if (outcome->signal == SIGALRM && tape->atomics == 0 && tape->locks == 0) {
+        tell_unseen();
+    }
+    if (!outcome->has_failed) {
+        tell_places(stderr);
+    }
+    make_folder(folder);
+    name_file(path, folder, seed, open_calls(tape, open) > 0 ? "pending" : "history");
+    fprintf(stderr, write_tape_to(tape, path) ? "fifobench: what there is: %s\n" : "fifobench: can't write %s\n", path);
+}
+
+// A run of this process itself has ended early; so does the process.
+static _Noreturn void report_early(void)
+{
+    struct outcome outcome = {.ending = tape->ending};
+    seat = NULL;
+    tell_early(run.settings.folder != NULL ? run.settings.folder : "fifobench-runs", run.settings.seed, &outcome);
+    fflush(NULL);
+    _exit(2);
+}
+
+// The command that made this search, with its settings of the environment, but for the seed and the number of runs.
+static void tell_command(FILE *to)
+{
+    static const char *const names[] = {"FIFOBENCH_STRATEGY", "FIFOBENCH_BUFFERS", "FIFOBENCH_PATIENCE"};
+    for (unsigned place = 0; place < 3; place++) {
+        if (getenv(names[place]) != NULL) {
+            fprintf(to, "%s=%s ", names[place], getenv(names[place]));
+        }
+    }
+    static char words[1 << 16];
+    int file = open("/proc/self/cmdline", O_RDONLY);
+    ssize_t length = file >= 0 ? read(file, words, sizeof words - 1) : 0;
+    close(file);
+    for (ssize_t at = 0; at < length; at += (ssize_t)strlen(words + at) + 1) {
+        if (strcmp(words + at, "--seed") == 0 || strcmp(words + at, "--runs") == 0) {
+            at += (ssize_t)strlen(words + at) + 1;
+        } else {
+            fprintf(to, strpbrk(words + at, " '\"$&|<>;*?\\") != NULL ? "\"%s\" " : "%s ", words + at);
+        }
+    }
+}
+
+// The first seed: that of `--seed N` on the command line or of FIFOBENCH_SEED, so that any program can replay a run.
+static uint64_t first_seed(uint64_t settings)
+{
+    char words[1 << 16];
+    const char *named = getenv("FIFOBENCH_SEED");
+    int file = open("/proc/self/cmdline", O_RDONLY);
+    ssize_t length = file >= 0 ? read(file, words, sizeof words - 1) : 0;
+    close(file);
+    words[length > 0 ? length : 0] = '\0';
+    for (ssize_t at = 0; at < length; at += (ssize_t)strlen(words + at) + 1) {
+        if (strcmp(words + at, "--seed") == 0) {
+            named = words + at + sizeof "--seed";
+        }
+    }
+    return named != NULL && *named >= '0' && *named <= '9' ? strtoull(named, NULL, 10) : settings;
+}
+
+// Makes and prints the trace of the run at hand. Returns whether the run is the same when it is made again.
+static bool tell_trace_of(const struct searching *of, uint64_t seed, const struct outcome *outcome, FILE *to)
+{
+    char path[MAX_PATH_BYTES], line[2 * MAX_LINE_BYTES];
+    name_file(path, of->settings->folder, seed, "trace");
+    bool is_equal = true;
+    if (most_trials() == 0) {
+        return true;
+    }
+    const char *fault = make_trace(of, seed, outcome, path, &is_equal);
+    FILE *file = fault == NULL ? fopen(path, "r") : NULL;
+    if (file == NULL) {
+        fprintf(stderr, "fifobench: seed %" PRIu64 ": %s\n", seed, fault != NULL ? fault : "the trace can't be read");
+        return is_equal;
+    }
+    fprintf(to, "  trace:   %s\n", path);
+    while (fgets(line, sizeof line, file) != NULL) {
+        fprintf(to, "  %s", line);
+    }
+    fclose(file);
+    return true;
+}
+
+// The trace of a run that fails, and how to make the run again.
+static void tell_again(const struct searching *of, uint64_t seed, const struct outcome *outcome, FILE *to)
+{
+    bool is_equal = tell_trace_of(of, seed, outcome, to);
+    fprintf(to, "  again:   ");
+    tell_command(to);
+    fprintf(to, "--seed %" PRIu64 " %s\n", seed,
+            is_equal ? "replays this very run" : "makes the same plan, though the run may be another");
+}
+
+static int tell_violation(const struct searching *of, uint64_t seed, const struct outcome *outcome, const char *history,
+                          const char *report)
+{
+    const struct fifobench_search *settings = of->settings;
+    int status = ask(of->program, "shrink", history, report);
+    printf("%s: seed %" PRIu64 ", ", outcome->verdict, seed);
+    if (settings->pattern != NULL) {
+        printf("%s, ", settings->pattern(settings->context, seed));
+    }
+    printf("with chosen schedules\n  history: %s\n  report:  %s\n", history, report);
+    printf("  see it:  %s draw --text < %s\n", of->program, report);
+    tell_again(of, seed, outcome, stdout);
+    if (status != 1) {
+        fprintf(stderr, "fifobench: '%s' can't shrink %s\n", of->program, history);
+    }
+    return status == 1 ? 1 : 2;
+}
+
+static void count_run(struct searching *of)
+{
+    of->accesses += tape->accesses;
+    of->atomics += tape->atomics;
+    of->locks += tape->locks;
+    count_overlap(of);
+    if (tape->has_own_threads && !of->said_own_threads) {
+        of->said_own_threads = true;
+        fprintf(stderr, "fifobench: the queue has threads of its own, which run free: a run may not be the same "
+                        "twice\n");
+    }
+}
+
+// One run of a search: 0, 1 or 2.
+static int search_one(struct searching *of, uint64_t seed)
+{
+    char history[MAX_PATH_BYTES], report[MAX_PATH_BYTES];
+    const char *folder = of->settings->folder;
+    name_file(history, folder, seed, "history");
+    name_file(report, folder, seed, "report");
+    struct outcome outcome = make_run(of->settings, seed, NULL, 0);
+    if (!outcome.is_wrong && outcome.ending == NOT_BEGUN && outcome.signal == 0 && !outcome.has_failed) {
+        fprintf(stderr, "fifobench: seed %" PRIu64 ": there is no run\n", seed);
+        return 2;
+    }
+    if (!outcome.is_wrong && !is_complete(&outcome)) {
+        tell_early(folder, seed, &outcome);
+        if (!outcome.has_failed && outcome.signal != SIGALRM) {
+            tell_again(of, seed, &outcome, stderr);
+        }
+        return 2;
+    }
+    count_run(of);
+    judge(of, history, report, &outcome);
+    if (outcome.is_wrong) {
+        fprintf(stderr, "fifobench: %s says '%s' of %s\n", of->program, outcome.verdict, history);
+        return 2;
+    }
+    if (strncmp(outcome.verdict, "NO ", 3) == 0) {
+        return tell_violation(of, seed, &outcome, history, report);
+    }
+    if (of->judges) {
+        remove(history);
+        remove(report);
+    }
+    return 0;
+}
+
+// Says what no violation means, and what wasn't seen.
+static int tell_none(const struct searching *of, uint64_t seed, unsigned runs)
+{
+    printf("%s in %u runs (seeds %" PRIu64 " to %" PRIu64 "), with chosen schedules; %" PRIu64
+           " of 100 operations overlap another\n", of->judges ? "no violation" : "nothing judged", runs, seed,
+           seed + runs - 1, 100 * of->overlapping / (of->operations + (of->operations == 0)));
+    fflush(stdout);
+    if (of->accesses == 0) {
+        fprintf(stderr, of->locks == 0
+                            ? "fifobench: no point was seen in the queue: compile it with -fsanitize=thread\n"
+                            : "fifobench: only locks were seen in the queue: compile it with -fsanitize=thread\n");
+        return of->locks == 0 || !of->judges ? 2 : 0;
+    }
+    if (of->atomics == 0 && of->locks == 0) {
+        tell_unseen();
+    }
+    return of->judges ? 0 : 2;
+}
+
+static const char *program_of(const struct fifobench_search *settings)
+{
+    const char *named = settings->program != NULL && *settings->program != '\0' ? settings->program
+                                                                               : getenv("FIFOBENCH");
+    return named != NULL && *named != '\0' ? named : "fifobench";
+}
+
+int fifobench_search_runs(const struct fifobench_search *settings)
+{
+    struct searching of = {.settings = settings, .program = program_of(settings)};
+    unsigned runs = settings->runs != 0 ? settings->runs : DEFAULT_RUNS;
+    uint64_t seed = first_seed(settings->seed);
+    size_t operations = settings->operations != 0 ? settings->operations : 100;
+    tape = new_tape(4 * settings->threads * (operations + 1) + 2 * MAX_INITIAL_VALUES);
+    if (tape == NULL) {
+        fprintf(stderr, "fifobench: there is no memory for chosen schedules\n");
+        return 2;
+    }
+    tape->seconds = settings->seconds != 0 ? settings->seconds : DEFAULT_SECONDS;
+    make_folder(settings->folder);
+    of.judges = ask(of.program, "--version", "/dev/null", "/dev/null") == 0;
+    if (!of.judges) {
+        fprintf(stderr, "fifobench: no program '%s': nothing is judged; the histories are kept in %s\n", of.program,
+                settings->folder);
+    }
+    int answer = 0;
+    for (unsigned made = 0; made < runs && answer == 0; made++) {
+        answer = search_one(&of, seed + made);
+    }
+    rmdir(settings->folder); // if it is empty
+    answer = answer == 0 ? tell_none(&of, seed, runs) : answer;
+    fflush(stdout);
+    free_tape(tape);
+    tape = NULL;
+    return answer;
+}
