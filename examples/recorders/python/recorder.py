@@ -156,6 +156,12 @@ class Thread:
         if self.seat is not None:
             self.seat.ended()
 
+    def _skips(self):
+        """Whether a run that is made again does without this operation."""
+        is_skipped = self.seat is not None and self.seat.scheduler.skips(self.seat)
+        self._asked += is_skipped
+        return is_skipped
+
 
 class _Start:
     """The common start: threads wait, for a bounded time, until all are there and two are seen to run at once.
@@ -239,6 +245,12 @@ class History:
         """Writes the text of the history to a text file."""
         to.writelines(self._lines())
         to.flush()
+
+    def operations(self):
+        """The thread of each operation, and its number there from 0 on, in the order of the calls."""
+        made = {}
+        return [(event[1], made.setdefault(event[1], itertools.count()).__next__()) for event in self._events
+                if _is_call(event)]
 
     def overlapping(self):
         """How many operations there are, and how many of them overlap another."""
@@ -389,14 +401,14 @@ class _Run:
         for _ in range(min(left + 1, room)):
             if self.threads[0].dequeue(queue.dequeue) is None:
                 return
-        if room > left:
+        if room > left and (self.scheduler is None or not self.scheduler.is_again):
             _say(f"seed {self.options.seed}: the queue gave more values than went in")
 
 
 def record(threads, operations, work, **settings):
     """Runs `work(thread)` in each of the threads, which begin together, and gives what they recorded.
 
-    There is no drain, no initial value and no pattern. `settings` are those of Options. If a call raises an exception,
+    There is no drain, no initial value, no pattern and no chosen schedule. `settings` are those of Options. If a call raises an exception,
     its thread ends and the others go on; if the run hangs, what there is is kept in the folder, and the threads that
     hang are left. In both cases the history has failures.
     """
@@ -406,9 +418,14 @@ def record(threads, operations, work, **settings):
 
 
 def run(options, queue):
-    """One run over this queue, by the pattern of the seed."""
+    """One run over this queue, by the pattern of the seed.
+
+    With chosen schedules it may be what makes the queue, so that the locks which are made then give way.
+    """
     chosen = _chosen(options)
-    return _run_with(options, queue, chosen and chosen.schedule.scheduler_of(options))
+    if chosen is not None:
+        return chosen.run(sys.modules[__name__], options, queue)
+    return _run_with(options, queue, None)
 
 
 def _run_with(options, queue, scheduler):
@@ -419,6 +436,8 @@ def _run_with(options, queue, scheduler):
 
     def make_operations(thread):
         for is_enqueue in _plan(options, thread.number):
+            if thread._skips():
+                continue
             if is_enqueue:
                 thread.enqueue(queue.enqueue)
             else:
@@ -455,7 +474,7 @@ def _plan(options, thread):
     return [n % 2 == 0 for n in range(options.operations)]
 
 
-_modules = {}    # schedule.py and schedule_search.py, once they are loaded
+_modules = {}    # those of the schedule, once they are loaded
 
 
 def _chosen(options):
@@ -465,11 +484,12 @@ def _chosen(options):
         is_asked = os.environ.get("FIFOBENCH_SCHEDULE", "") not in ("", "0")
     if is_asked is False:
         return None
-    for name in () if _modules else ("schedule", "schedule_search"):
+    for name in () if _modules else ("schedule_locks", "schedule", "schedule_search"):
         path = os.path.join(os.path.dirname(os.path.abspath(__file__)), f"{name}.py")
         spec = importlib.util.spec_from_file_location(f"fifobench_{name}", path)
         _modules[name] = sys.modules[spec.name] = importlib.util.module_from_spec(spec)
         spec.loader.exec_module(_modules[name])
+    _modules["schedule"].leave_out(*(module.__file__ for module in _modules.values()), _chosen.__code__.co_filename)
     return _modules["schedule_search"]
 
 

@@ -3,7 +3,7 @@
 Put this file beside `recorder.py`, and set FIFOBENCH_SCHEDULE=1 or `Options(schedule=True)`. The queue stays as it is.
 One thread runs at a time. Before each step of the interpreter that can touch what threads share (an attribute, an item,
 a global, a call) the recorder's thread may be stopped, by `sys.settrace`, and another one goes on. The seed draws a
-strategy (naps, walk or pct), its rates, and the number of operations, at most 100 for each thread.
+strategy (naps, walk or pct), its rates, and the number of operations, at most 64 for each thread.
 
     naps    operations run whole, in an order by chance; now and then a thread is stopped within one, and sleeps until
             1 to 32 operations of others have ended
@@ -30,11 +30,12 @@ import dis
 import os
 import sys
 import threading
-import time
+
+import fifobench_schedule_locks as locks    # schedule_locks.py, under the name that the recorder gives it
 
 STRATEGIES = ("naps", "walk", "pct")
 RATES = (3, 5, 10, 20, 50, 100, 300)    # walk: one of so many points
-MOST_OPERATIONS = 100
+MOST_OPERATIONS = 64
 MOST_NAP = 6    # a nap lasts until at most 2**5 operations of others have ended
 SPINS = 200    # points of one thread within an operation after which others have their turn
 REPLAY_SPINS = 1000    # the same while given switches are made again
@@ -66,11 +67,6 @@ class Chance:
         return (z ^ (z >> 31)) % bound
 
 
-def chance_of(seed):
-    """The draws of a seed's schedule, which no thread's plan has."""
-    return Chance(~seed * 64)
-
-
 def settings_of(asked):
     """The settings that the options name, or the environment."""
     if isinstance(asked, dict):
@@ -95,7 +91,7 @@ class Drawn:
 
 def draw(settings, seed, operations):
     """Draws the strategy of a seed, and how many operations each thread makes: 1/8, 1/4, 1/2 or all of the most."""
-    chance = chance_of(seed)
+    chance = Chance(~seed * 64)    # no thread's plan begins there
     strategy = ("naps", "naps", "naps", "naps", "walk", "walk", "pct", "pct")[chance.below(8)]
     one_in = RATES[chance.below(len(RATES))]
     depth = 2 + chance.below(9)
@@ -159,6 +155,28 @@ class _Naps:
         for one in candidates:
             one.spins = False
         return candidates[chance.below(len(candidates))] if candidates else None
+
+
+class _Few(_Naps):
+    """Threads make all their operations one after another, but for 1 to 3 naps: for a trace that a person can read."""
+
+    def __init__(self, scheduler, drawn):
+        super().__init__(scheduler, drawn)
+        self.left = 1 + scheduler.chance.below(3)
+        self.length = 1 + scheduler.chance.below(1 << (4 + scheduler.chance.below(9)))
+
+    def gap(self, seat):
+        return 1 + self.scheduler.chance.below(self.length) if self.left > 0 else SPINS
+
+    def next(self, seat, why):
+        if why == "point" and self.left <= 0 or why == "between" and not any(
+                0 < one.wakes_at <= self.scheduler.ended for one in self.scheduler.seats if not one.has_ended):
+            return seat
+        self.left -= why == "point"
+        for one in self.scheduler.seats:
+            if 0 < one.wakes_at <= self.scheduler.ended:
+                one.wakes_at = 0
+        return super().next(seat, "waits" if why == "between" else why)
 
 
 class _Walk:
@@ -253,7 +271,7 @@ class _Replay:
         return min(candidates, key=lambda one: (one.number <= after, one.number), default=None)
 
 
-_OF_STRATEGY = {"naps": _Naps, "walk": _Walk, "pct": _Pct}
+_OF_STRATEGY = {"naps": _Naps, "walk": _Walk, "pct": _Pct, "few": _Few}
 
 # Instructions that touch nothing of another thread; no point is before them.
 _OWN = ("CACHE", "RESUME", "NOP", "EXTENDED_ARG", "PRECALL", "KW_NAMES", "PUSH_NULL", "POP_TOP", "COPY", "SWAP", "LOAD_CONST",
@@ -275,11 +293,16 @@ def _points_of(code):
     return bytes(points)
 
 
-_LEFT_OUT = (__file__, os.path.join(os.path.dirname(__file__), "recorder.py"), threading.__file__)
+_ours = {__file__}    # the recorder's files
+
+
+def leave_out(*files):
+    """No point is in these files, nor in what they call but the queue."""
+    _ours.update(files)
 
 
 def _is_left_out(filename):
-    return filename in _LEFT_OUT or filename.startswith("<frozen")
+    return filename in _ours or filename == threading.__file__ or filename.startswith("<frozen")
 
 
 def _place(frame):
@@ -303,7 +326,7 @@ class Seat:
     def __init__(self, scheduler, number):
         self.scheduler = scheduler
         self.number = number
-        self.gate = _REAL["Lock"]()
+        self.gate = locks.REAL["Lock"]()
         self.gate.acquire()
         self.operation = self.point = self.stop_at = 0
         self.seen = 0    # points of the operation that the scheduler has counted
@@ -330,7 +353,7 @@ class Seat:
     def _trace_call(self, frame, event, argument):
         code = frame.f_code
         caller = frame.f_back.f_code
-        if _is_left_out(code.co_filename) or caller.co_filename == __file__ and caller.co_name != "inside":
+        if _is_left_out(code.co_filename) or caller.co_filename in _ours and caller.co_name != "inside":
             return None
         frame.f_trace_lines = False
         frame.f_trace_opcodes = True
@@ -357,9 +380,7 @@ class Seat:
             self.scheduler.stop(self, sys._getframe(1))
 
 
-_points = {}
-_seats = {}    # by the identity of the thread
-_makers = set()    # threads that make a queue: the locks they make give way
+_points = {}    # of each code that was called
 
 
 class Scheduler:
@@ -367,7 +388,7 @@ class Scheduler:
 
     def __init__(self, settings, drawn, seed, threads, switches=None):
         self.settings = settings
-        self.chance = chance_of(seed ^ 0x5EED)
+        self.chance = Chance(~seed * 64 + 1)
         self.tickets = lambda: 0    # how many tickets are drawn; the recorder's
         self.where = {}
         self.steps = self.ended = self.progress = 0
@@ -378,6 +399,8 @@ class Scheduler:
         self.has_foreign = False    # a thread of the queue's own takes locks
         self.is_over = False
         self.is_replay = switches is not None
+        self.is_again = False    # nothing is said that was said before
+        self.skipped = ()    # operations that aren't made, by thread and number
         self.most_spins = REPLAY_SPINS if self.is_replay else SPINS
         self.strategy = _Replay(self, switches) if self.is_replay else _OF_STRATEGY[drawn.strategy](self, drawn)
 
@@ -385,24 +408,24 @@ class Scheduler:
         """Called in a recorder's thread as it begins; returns when it is its turn."""
         seat = thread.seat = self.seats[thread.number]
         seat.ident = threading.get_ident()
-        _seats[seat.ident] = seat
+        locks.seats[seat.ident] = seat
         self.take(seat)
 
     def leave(self, thread):
         """Called in the thread when it has made its last step."""
-        _seats.pop(threading.get_ident(), None)
+        locks.seats.pop(threading.get_ident(), None)
         self._leave(self.seats[thread.number])
 
     @contextlib.contextmanager
     def going_on(self, run):
         """The run goes on: its threads are on one core, and locks know its scheduler."""
         self.tickets = lambda: sum(len(thread._events) for thread in run.threads)
-        _now[0] = self
+        locks.now[0] = self
         try:
-            with one_core(), making(False):
+            with locks.one_core(), locks.making(False):
                 yield
         finally:
-            _now[0] = None
+            locks.now[0] = None
 
     def told_outcome(self, calls):
         """The sentence on a deadlock or a livelock, with the place of each thread."""
@@ -501,9 +524,9 @@ class Scheduler:
     def _wait_for_foreign(self, seat):
         """A thread of the queue's own may release what the others wait for. The watchdog bounds this."""
         while not self.is_over:
-            _REAL["sleep"](0.001)
+            locks.REAL["sleep"](0.001)
             for one in self.seats:
-                if isinstance(one.waits_for, _Lock) and not one.waits_for.locked():
+                if isinstance(one.waits_for, locks.Lock) and not one.waits_for.locked():
                     one.waits_for = one.deadline = None
                 if not one.has_ended and one.waits_for is None:
                     return one
@@ -524,6 +547,12 @@ class Scheduler:
             one.spins = False
         self._go_on(seat, self.strategy.next(seat, "between"), "between", None)
         self._set_stop(seat)
+
+    def skips(self, seat):
+        """Whether the thread's next operation isn't made."""
+        is_skipped = (seat.number, seat.operation) in self.skipped
+        seat.operation += is_skipped
+        return is_skipped
 
     def wait_for_others(self, seat):
         """Stays until all other threads have left."""
@@ -591,203 +620,7 @@ class Scheduler:
                 one.gate.release()
 
 
-class _Lock:
-    """threading.Lock, but a thread of a run that can't take it lets others go on."""
-
-    def __init__(self):
-        self._lock = _REAL["Lock"]()
-
-    def acquire(self, blocking=True, timeout=-1):
-        seat = _seats.get(threading.get_ident())
-        if seat is None:
-            _note_foreign()
-            return self._lock.acquire(blocking, timeout)
-        seat.touch()
-        seconds = None if timeout < 0 else timeout
-        while not self._lock.acquire(False):
-            if not blocking or not seat.scheduler.wait(seat, self, seconds):
-                return False
-        return True
-
-    def release(self):
-        self._lock.release()
-        scheduler = _now[0]
-        if scheduler is not None:
-            scheduler.released(self)
-
-    def locked(self):
-        return self._lock.locked()
-
-    __enter__ = acquire
-
-    def __exit__(self, kind, value, traceback):
-        self.release()
-
-    def _at_fork_reinit(self):
-        self._lock = _REAL["Lock"]()
-
-
-class _RLock:
-    """threading.RLock over such a lock."""
-
-    def __init__(self):
-        self._lock = _Lock()
-        self._owner = None
-        self._count = 0
-
-    def acquire(self, blocking=True, timeout=-1):
-        me = threading.get_ident()
-        if self._owner != me:
-            if not self._lock.acquire(blocking, timeout):
-                return False
-            self._owner = me
-        self._count += 1
-        return True
-
-    def release(self):
-        if self._owner != threading.get_ident():
-            raise RuntimeError("cannot release un-acquired lock")
-        self._count -= 1
-        if self._count == 0:
-            self._owner = None
-            self._lock.release()
-
-    __enter__ = acquire
-
-    def __exit__(self, kind, value, traceback):
-        self.release()
-
-    # The three that threading.Condition calls.
-    def _release_save(self):
-        saved = self._count, self._owner
-        self._count, self._owner = 0, None
-        self._lock.release()
-        return saved
-
-    def _acquire_restore(self, saved):
-        self._lock.acquire()
-        self._count, self._owner = saved
-
-    def _is_owned(self):
-        return self._owner == threading.get_ident()
-
-
-_now = [None]    # the scheduler of the run that goes on
-
-
-def _note_foreign():
-    """A thread that isn't the recorder's takes a lock of the queue during a run: it runs free."""
-    scheduler = _now[0]
-    if scheduler is not None and not scheduler.has_foreign and threading.get_ident() not in _makers:
-        scheduler.has_foreign = True
-        if not _told_foreign:
-            _told_foreign.append(threading.current_thread().name)
-            print(f"fifobench: the queue's own thread {_told_foreign[0]} isn't scheduled: it runs free, and runs of a seed "
-                  "may differ", file=sys.stderr, flush=True)
-
-
-_told_foreign = []
-_REAL = {name: getattr(threading, name) for name in ("Lock", "RLock")}
-_REAL.update({name: getattr(time, name) for name in (
-    "sleep", "time", "monotonic", "perf_counter", "time_ns", "monotonic_ns", "perf_counter_ns")})
-
-
-def _gives_way():
-    me = threading.get_ident()
-    return me in _seats or me in _makers
-
-
-def _make_lock():
-    return _Lock() if _gives_way() else _REAL["Lock"]()
-
-
-def _make_rlock(*words, **named):
-    return _RLock() if _gives_way() else _REAL["RLock"](*words, **named)
-
-
-def _sleep(seconds):
-    seat = _seats.get(threading.get_ident())
-    if seat is None:
-        _REAL["sleep"](seconds)
-    elif seconds > 0:
-        seat.scheduler.wait(seat, seat, seconds)
-    else:
-        seat.scheduler.relax(seat)
-
-
-def _clock(name):
-    """The clock of the run, in which a look takes a microsecond; outside of a run the real one."""
-    real = _REAL[name]
-
-    def read():
-        seat = _seats.get(threading.get_ident())
-        if seat is None:
-            return real()
-        seat.scheduler.clock += 1e-6
-        clock = seat.scheduler.clock
-        return int(clock * 1e9) if name.endswith("_ns") else clock
-
-    return read
-
-
-_OURS = {"Lock": _make_lock, "RLock": _make_rlock, "sleep": _sleep}
-_OURS.update({name: _clock(name) for name in _REAL if name not in _OURS})
-
-
-@contextlib.contextmanager
-def making(is_making=True):
-    """Locks that this thread makes meanwhile give way in runs, or don't."""
-    me = threading.get_ident()
-    was_making = me in _makers
-    (_makers.add if is_making else _makers.discard)(me)
-    try:
-        yield
-    finally:
-        (_makers.add if was_making else _makers.discard)(me)
-
-
-@contextlib.contextmanager
-def one_core():
-    """Keeps the threads that are started meanwhile on one core, so that no switch wakes up another."""
-    if not hasattr(os, "sched_setaffinity"):
-        yield
-        return
-    cores = os.sched_getaffinity(0)
-    os.sched_setaffinity(0, {sorted(cores)[os.getpid() % len(cores)]})
-    try:
-        yield
-    finally:
-        os.sched_setaffinity(0, cores)
-
-
 def scheduler_of(options):
     """The scheduler of one run with these options, all operations of it."""
     settings = settings_of(options.schedule)
     return Scheduler(settings, draw(settings, options.seed, options.operations), options.seed, options.threads)
-
-
-class Patches:
-    """While it is entered, locks and clocks under any name of any module are those that give way."""
-
-    def __init__(self):
-        self._replaced = []
-
-    def __enter__(self):
-        ours = {id(_REAL[name]): _OURS[name] for name in _REAL}
-        ours[id(threading._allocate_lock)] = _make_lock
-        for module in list(sys.modules.values()):
-            names = getattr(module, "__dict__", None)
-            if isinstance(names, dict) and names is not globals():
-                self._replace(names, ours)
-        return self
-
-    def _replace(self, names, ours):
-        for name, value in list(names.items()):
-            if id(value) in ours and names.get("__name__") != "_thread":
-                names[name] = ours[id(value)]
-                self._replaced.append((names, name, value))
-
-    def __exit__(self, *raised):
-        for names, name, value in self._replaced:
-            names[name] = value
-        self._replaced.clear()

@@ -6,10 +6,14 @@ Beside `recorder.py` and `schedule.py`; the recorder loads both if chosen schedu
 import dataclasses
 import os
 
-import fifobench_schedule as schedule    # schedule.py, under the name that the recorder gives it
+import fifobench_schedule as schedule    # schedule.py and schedule_locks.py, under the names that the recorder gives them
+import fifobench_schedule_locks as locks
 
 MOST_RUNS = 300    # of a search, unless its options say more or fewer
-MOST_REPLAYS = 300    # while switches are left out
+MOST_REPLAYS = 400    # while operations and switches are left out
+MOST_SWITCHES = 6    # a trace with more is tried to be had with fewer
+MOST_FEW = 200    # tries
+MOST_LIVELOCKS = 40    # the same of a livelock, which takes long
 
 
 @dataclasses.dataclass
@@ -20,9 +24,19 @@ class Made:
     history: object
     switches: list
     outcome: str    # deadlock, livelock or None
+    wanted: set = dataclasses.field(default_factory=set)    # the keys of switches that were left
 
     def text(self):
         return "".join(self.history._lines())
+
+
+def run(recorder, options, queue):
+    """Makes one run over a queue, or over one that is made."""
+    with locks.Patches():
+        if isinstance(queue, type) or not hasattr(queue, "enqueue"):
+            with locks.making():
+                queue = queue()
+        return recorder._run_with(options, queue, schedule.scheduler_of(options))
 
 
 class Search:
@@ -33,7 +47,6 @@ class Search:
         self.options = options
         self.make_queue = make_queue
         self.settings = schedule.settings_of(options.schedule)
-        self.replays = 0
 
     def answer(self):
         """Makes the runs until one isn't right, and says what was found."""
@@ -41,7 +54,7 @@ class Search:
         options.check()
         runs = options.runs or MOST_RUNS
         is_judged = recorder._is_found(options)
-        with schedule.Patches():
+        with locks.Patches():
             for seed in range(options.seed, options.seed + runs):
                 try:
                     answer = self._judge(self.make(seed), is_judged)
@@ -54,13 +67,18 @@ class Search:
               f"{runs} runs (seeds {options.seed} to {options.seed + runs - 1}), with chosen schedules", flush=True)
         return recorder.Answer.NO_VIOLATION if is_judged else recorder.Answer.WRONG
 
-    def make(self, seed, switches=None):
-        """Makes the run of a seed; with given switches just these, where a choice is left."""
+    def make(self, seed, switches=None, skipped=(), few=None, is_again=False):
+        """Makes the run of a seed, perhaps again; with given switches or a number of another schedule that has few, and
+        without some operations."""
         drawn = schedule.draw(self.settings, seed, self.options.operations)
         options = dataclasses.replace(self.options, seed=seed, operations=drawn.operations)
-        with schedule.making():
+        with locks.making():
             queue = self.make_queue()
+        if few is not None:
+            drawn, seed = dataclasses.replace(drawn, strategy="few"), few
         scheduler = schedule.Scheduler(self.settings, drawn, seed, options.threads, switches)
+        scheduler.is_again = is_again
+        scheduler.skipped = skipped
         history = self.recorder._run_with(options, queue, scheduler)
         return Made(options, history, scheduler.made, scheduler.outcome)
 
@@ -90,7 +108,7 @@ class Search:
     def _tell_again(self, made, kind):
         """Makes the run again, leaves out switches, and prints what is left."""
         seed = made.options.seed
-        if self.make(seed).text() != made.text():
+        if self.make(seed, is_again=True).text() != made.text():
             print(f"  again:   seed {seed} made another run the second time: something but the schedule plays a part, as "
                   "clocks, addresses (id, hash), input, or threads of the queue's own", flush=True)
             return
@@ -105,37 +123,76 @@ class Search:
         print(f"  again:   with these settings --seed {seed} replays this very run", flush=True)
 
     def smallest(self, made, kind):
-        """The run with as few of its switches as show the same kind of violation."""
-        seed, best = made.options.seed, made
-        self.replays = 0
+        """The run with as few of its operations, and then of its switches, as show the same kind of violation."""
+        small = _Smallest(self, made, kind)
+        small.leave_out()
+        if len(small.switches) > MOST_SWITCHES:
+            small.try_few()
+        return small.best
 
-        def shows(switches):
-            nonlocal best
-            self.replays += 1
-            replayed = self.make(seed, switches)
-            if self.kind(replayed) != kind:
-                return False
-            best = replayed
-            return True
 
-        switches = self._fewest(made.switches, shows)
-        best.wanted = {switch.key for switch in switches}
-        return best
+class _Smallest:
+    """Leaves out operations and switches of a run, while the same kind of violation is left."""
 
-    def _fewest(self, switches, shows):
-        """Leaves out switches from the last to the first, many at once and then fewer, while the rest `shows` it."""
-        if shows([]):
+    def __init__(self, search, made, kind):
+        self.search = search
+        self.kind = kind
+        self.best = made
+        self.switches = made.switches
+        self.operations = [(thread, n) for thread in range(made.options.threads) for n in range(made.options.operations)]
+        self.planned = set(self.operations)
+        self.left = MOST_REPLAYS if kind != "livelock" else MOST_LIVELOCKS
+
+    def leave_out(self):
+        for _ in range(2):
+            self.leave_out_operations()
+            self.leave_out_switches()
+
+    def try_few(self):
+        """Tries schedules of few switches over the operations that are left, and takes the first that shows it."""
+        best, switches = self.best, self.switches
+        for number in range(MOST_FEW if self.kind != "livelock" else 0):
+            if self._shows(self.operations, None, number):
+                self.left = MOST_REPLAYS
+                self.switches = self.best.switches
+                self.leave_out()
+                break
+        if len(self.switches) > len(switches):
+            self.best, self.switches = best, switches
+
+    def _shows(self, operations, switches, few=None):
+        self.left -= 1
+        skipped = self.planned.difference(operations)
+        made = self.search.make(self.best.options.seed, switches, skipped, few, is_again=True)
+        if self.search.kind(made) != self.kind:
+            return False
+        self.best = made
+        return True
+
+    def leave_out_operations(self):
+        # By the ticket of the call. What comes last is left out first.
+        places = {key: place for place, key in enumerate(self.best.history.operations())}
+        made = sorted((one for one in self.operations if one in places), key=places.get)
+        self.operations = self._fewest(made, lambda operations: self._shows(operations, self.switches))
+
+    def leave_out_switches(self):
+        self.switches = self._fewest(self.best.switches, lambda switches: self._shows(self.operations, switches))
+        self.best.wanted = {switch.key for switch in self.switches}
+
+    def _fewest(self, items, shows):
+        """Leaves out items from the last to the first, many at once and then fewer."""
+        if self.left > 0 and shows([]):
             return []
-        size = len(switches)
+        size = len(items)
         while size > 0:
-            end = len(switches)
-            while end > 0 and self.replays < MOST_REPLAYS:
-                rest = switches[:max(0, end - size)] + switches[end:]
-                if len(rest) < len(switches) and rest and shows(rest):
-                    switches = rest
+            end = len(items)
+            while end > 0 and self.left > 0:
+                rest = items[:max(0, end - size)] + items[end:]
+                if rest and shows(rest):
+                    items = rest
                 end -= size
-            size = size // 2 if size > 1 else 0
-        return switches
+            size //= 2
+        return items
 
 
 _TELLS = {"ret-enq": "its enqueue returns", "ret-not": "its enqueue fails, the queue is full",
@@ -165,19 +222,33 @@ class Trace:
                 events.append((int(words[0]), int(words[1]), words[2], words[3] if len(words) > 3 else None))
         return events
 
+    def _switches(self):
+        """The switches, without those to and from threads that make no operation."""
+        busy = {thread for thread, _ in self.made.history.operations()}
+        kept, came_from = [], None
+        for switch in self.made.switches:
+            if switch.thread in busy:
+                came_from = switch
+            if came_from is not None and switch.to in busy:
+                if switch.to != came_from.thread:
+                    came_from.to = switch.to
+                    kept.append(came_from)
+                came_from = None
+        return kept
+
     def lines(self):
         events = self._events()
         first = min((event[0] for event in events), default=0)
         last = max((event[0] for event in events), default=0) if self.made.history.is_complete else float("inf")
-        wanted = getattr(self.made, "wanted", ())
         told = [((ticket, 1), self._told_event(thread, what, value)) for ticket, thread, what, value in events]
-        kept = [switch for switch in self.made.switches if switch.thread >= 0
-                and (switch.key in wanted or first < switch.ticket <= last)]
+        kept = [switch for switch in self._switches() if switch.key in self.made.wanted or first < switch.ticket <= last]
         told += [((switch.ticket, 0), self._told_switch(switch)) for switch in kept]
         told.sort(key=lambda one: one[0])
-        count = f"{len(kept)} switch{'es' if len(kept) != 1 else ''}"
-        seed = self.made.options.seed
-        return [f"{self.kind} with {count}, left of the run of seed {seed}:"] + [f"  {line}" for _, line in told]
+        count = sum(switch.why != "leaves" for switch in kept)
+        count = f"{count} switch{'es' if count != 1 else ''}"
+        operations, seed = len(self.made.history.operations()), self.made.options.seed
+        head = f"{self.kind} with {count}, in a run of {operations} operations that is left of seed {seed}:"
+        return [head] + [f"  {line}" for _, line in told]
 
     @staticmethod
     def _told_event(thread, what, value):
@@ -192,6 +263,8 @@ class Trace:
     def _told_switch(self, switch):
         then = f"thread {switch.to} goes on"
         where = schedule.told_place(switch.where)
+        if switch.why == "waits" and switch.where is None:
+            return f"thread {switch.thread} has made its operations: {then}"
         if switch.why == "between":
             return f"thread {switch.thread} is between two operations: {then}"
         if switch.why == "leaves":

@@ -267,11 +267,14 @@ class Bounded:
 
 
 class Waiting(Bounded):
-    """The library's queue; an enqueue waits for room, and a dequeue for a value up to a time."""
+    """The library's queue; an enqueue waits for room and a dequeue for a value, both up to a time."""
 
     def enqueue(self, value):
-        self.queue.put(value)
-        return True
+        try:
+            self.queue.put(value, timeout=0.01)
+            return True
+        except queue.Full:
+            return False
 
     def dequeue(self):
         try:
@@ -341,8 +344,7 @@ def main(words):
         return 2
     make = queues[words[0]]
     if words[1:2] == ["--write"]:
-        history = recorder.run_chosen(recorder.Options(schedule=True, seed=int(words[2])), make)
-        history.write(sys.stdout)
+        recorder.run(recorder.Options(schedule=True, seed=int(words[2]), operations=32), make).write(sys.stdout)
         return 0
     return recorder.search(options_of(words[1:]), make)
 
