@@ -195,8 +195,8 @@ class _Smallest:
         return items
 
 
-_TELLS = {"ret-enq": "its enqueue returns", "ret-not": "its enqueue fails, the queue is full",
-          "ret-empty": "its dequeue finds the queue empty"}
+_TELLS = {"call-deq": "calls dequeue", "ret-enq": "returns from its enqueue", "ret-empty": "finds the queue empty",
+          "ret-not": "returns from its enqueue, the queue is full"}
 
 
 class Trace:
@@ -254,11 +254,9 @@ class Trace:
     def _told_event(thread, what, value):
         if what == "call-enq":
             return f"thread {thread} calls enqueue of {value}"
-        if what == "call-deq":
-            return f"thread {thread} calls dequeue"
         if what == "ret-deq":
-            return f"thread {thread}: its dequeue returns {value}"
-        return f"thread {thread}: {_TELLS[what]}"
+            return f"thread {thread} returns from its dequeue with {value}"
+        return f"thread {thread} {_TELLS[what]}"
 
     def _told_switch(self, switch):
         then = f"thread {switch.to} goes on"
