@@ -163,6 +163,12 @@ type made struct {
 
 func (search *searching) answer() (Answer, error) {
 	options := &search.options
+	if seed, err := strconv.ParseUint(os.Getenv("FIFOBENCH_SEED"), 10, 64); err == nil {
+		options.Seed = seed
+	}
+	if runs, err := strconv.ParseUint(os.Getenv("FIFOBENCH_RUNS"), 10, 64); err == nil && options.Runs == 0 {
+		options.Runs = runs
+	}
 	if options.Runs == 0 {
 		options.Runs = mostRuns
 	}
@@ -328,7 +334,7 @@ func (search *searching) tellAgain(first *made, kind string) error {
 		return err
 	}
 	fmt.Printf("  trace:   %s\n    %s\n", path, strings.Join(lines, "\n    "))
-	fmt.Printf("  again:   with these settings --seed %d replays this very run\n", seed)
+	fmt.Printf("  again:   FIFOBENCH_SEED=%d in the environment, or --seed %d replays this very run\n", seed, seed)
 	return nil
 }
 

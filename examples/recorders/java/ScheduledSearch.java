@@ -53,10 +53,13 @@ final class ScheduledSearch {
     }
 
     Recorder.Answer answer() throws Exception {
-        long end = recorder.seed + (recorder.runs == 0 ? MOST_RUNS : recorder.runs);
+        Map<String, String> environment = System.getenv();
+        long first = Long.parseLong(environment.getOrDefault("FIFOBENCH_SEED", "" + recorder.seed));
+        long runs = Long.parseLong(environment.getOrDefault("FIFOBENCH_RUNS", "" + MOST_RUNS));
+        long end = first + (recorder.runs == 0 ? runs : recorder.runs);
         boolean isJudged = recorder.isFound();
         try {
-            for (long seed = recorder.seed; seed < end; seed++) {
+            for (long seed = first; seed < end; seed++) {
                 Recorder.Answer answer = judge(make(seed, Variant.NONE), isJudged);
                 if (answer != Recorder.Answer.NO_VIOLATION) {
                     return answer;
@@ -68,7 +71,7 @@ final class ScheduledSearch {
             recorder.isQuiet = false;
         }
         System.out.printf("%s %d runs (seeds %d to %d), with chosen schedules%n",
-                isJudged ? "no violation in" : "nothing judged in", end - recorder.seed, recorder.seed, end - 1);
+                isJudged ? "no violation in" : "nothing judged in", end - first, first, end - 1);
         return isJudged ? Recorder.Answer.NO_VIOLATION : Recorder.Answer.WRONG;
     }
 
@@ -224,7 +227,8 @@ final class ScheduledSearch {
         Path path = recorder.folder.resolve(seed + ".trace");
         Files.writeString(path, String.join("\n", told) + "\n");
         System.out.println("  trace:   " + path + "\n    " + String.join("\n    ", told));
-        System.out.println("  again:   with these settings --seed " + seed + " replays this very run");
+        System.out.println("  again:   FIFOBENCH_SEED=" + seed + " in the environment, or --seed " + seed
+                + " replays this very run");
     }
 
     private interface Shows<T> {

@@ -52,10 +52,11 @@ class Search:
         """Makes the runs until one isn't right, and says what was found."""
         options, recorder = self.options, self.recorder
         options.check()
-        runs = options.runs or MOST_RUNS
+        runs = options.runs or int(os.environ.get("FIFOBENCH_RUNS") or MOST_RUNS)
+        first = int(os.environ.get("FIFOBENCH_SEED") or options.seed)
         is_judged = recorder._is_found(options)
         with locks.Patches():
-            for seed in range(options.seed, options.seed + runs):
+            for seed in range(first, first + runs):
                 try:
                     answer = self._judge(self.make(seed), is_judged)
                 except OSError as error:
@@ -64,7 +65,7 @@ class Search:
                 if answer != recorder.Answer.NO_VIOLATION:
                     return answer
         print("no violation in" if is_judged else "nothing judged in",
-              f"{runs} runs (seeds {options.seed} to {options.seed + runs - 1}), with chosen schedules", flush=True)
+              f"{runs} runs (seeds {first} to {first + runs - 1}), with chosen schedules", flush=True)
         return recorder.Answer.NO_VIOLATION if is_judged else recorder.Answer.WRONG
 
     def make(self, seed, switches=None, skipped=(), few=None, is_again=False):
@@ -120,7 +121,7 @@ class Search:
         print(f"  trace:   {path}")
         for line in lines:
             print(f"    {line}")
-        print(f"  again:   with these settings --seed {seed} replays this very run", flush=True)
+        print(f"  again:   FIFOBENCH_SEED={seed} in the environment, or --seed {seed} replays this very run", flush=True)
 
     def smallest(self, made, kind):
         """The run with as few of its operations, and then of its switches, as show the same kind of violation."""
