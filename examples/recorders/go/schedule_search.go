@@ -15,8 +15,8 @@ import (
 
 const (
 	mostRuns      = 300 // of a search, unless its options say more or fewer
-	mostReplays   = 400 // while operations and switches are left out
-	mostLivelocks = 40  // the same of a livelock, which takes long
+	mostReplays   = 150 // in each of four rounds in which operations or switches are left out
+	mostLivelocks = 10  // the same of a livelock, which takes long
 	mostSwitches  = 6   // a trace with more is tried to be had with fewer
 	mostFew       = 200 // tries
 )
@@ -314,9 +314,9 @@ func (search *searching) tellAgain(first *made, kind string) error {
 			"clocks, orders of maps and of select, input, or goroutines of the queue's own\n", seed)
 		return nil
 	}
-	small := smallest{search: search, kind: kind, best: first, switches: first.scheduler.made, left: mostReplays}
+	small := smallest{search: search, kind: kind, best: first, switches: first.scheduler.made, most: mostReplays}
 	if kind == "livelock" {
-		small.left = mostLivelocks
+		small.most = mostLivelocks
 	}
 	small.leaveOut()
 	if len(small.switches) > mostSwitches && kind != "livelock" {
@@ -345,7 +345,7 @@ type smallest struct {
 	best       *made
 	operations []key
 	switches   []change
-	left       int // replays
+	most, left int // replays of a round
 	err        error
 }
 
@@ -356,16 +356,22 @@ func (small *smallest) leaveOut() {
 		small.operations = fewest(operations, func(some []key) bool {
 			skipped = without(small.best.planned(), some)
 			return small.shows(variant{switches: small.switches, skipped: skipped})
-		}, &small.left)
+		}, small.round())
 		skipped = without(small.best.planned(), small.operations)
 		small.switches = fewest(small.best.scheduler.made, func(some []change) bool {
 			return small.shows(variant{switches: some, skipped: skipped})
-		}, &small.left)
+		}, small.round())
 	}
 	small.best.wanted = map[key]bool{}
 	for _, one := range small.switches {
 		small.best.wanted[one.key] = true
 	}
+}
+
+// The replays that are left, at the beginning of a round.
+func (small *smallest) round() *int {
+	small.left = small.most
+	return &small.left
 }
 
 // Tries schedules of few switches over the operations that are left, and takes the first that shows it.
@@ -374,7 +380,7 @@ func (small *smallest) tryFew() {
 	skipped := without(best.planned(), small.operations)
 	for number := uint64(1); number <= mostFew; number++ {
 		if small.shows(variant{few: number, skipped: skipped}) {
-			small.left, small.switches = mostReplays, small.best.scheduler.made
+			small.switches = small.best.scheduler.made
 			small.leaveOut()
 			break
 		}
@@ -408,7 +414,7 @@ func (small *smallest) shows(variant variant) bool {
 
 // Leaves out items from the last to the first, many at once and then fewer.
 func fewest[T any](items []T, shows func(some []T) bool, left *int) []T {
-	if *left > 0 && shows(nil) {
+	if shows(nil) {
 		return nil
 	}
 	for size := len(items); size > 0; size /= 2 {

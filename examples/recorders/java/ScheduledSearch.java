@@ -16,8 +16,8 @@ import java.util.stream.Collectors;
 /** Searches with chosen schedules, and tells a violation by the few switches that it needs. Beside {@link Schedule}. */
 final class ScheduledSearch {
     private static final int MOST_RUNS = 300;    // of a search, unless its settings say more or fewer
-    private static final int MOST_REPLAYS = 400;    // while operations and switches are left out
-    private static final int MOST_LIVELOCKS = 40;    // the same of a livelock, which takes long
+    private static final int MOST_REPLAYS = 150;    // in each of four rounds in which operations or switches are left out
+    private static final int MOST_LIVELOCKS = 10;    // the same of a livelock, which takes long
     private static final int MOST_SWITCHES = 6;    // a trace with more is tried to be had with fewer
     private static final int MOST_FEW = 200;    // tries
     private final Schedule schedule;
@@ -241,13 +241,14 @@ final class ScheduledSearch {
         private Made best;
         private List<Schedule.Key> operations = List.of();
         private List<Schedule.Switch> switches;
-        private int left;    // replays
+        private final int most;    // replays of a round
+        private int left;
 
         Smallest(Made made, String kind) {
             this.kind = kind;
             this.best = made;
             this.switches = made.switches();
-            this.left = kind.equals("livelock") ? MOST_LIVELOCKS : MOST_REPLAYS;
+            this.most = kind.equals("livelock") ? MOST_LIVELOCKS : MOST_REPLAYS;
         }
 
         void leaveOut() throws Exception {
@@ -266,7 +267,6 @@ final class ScheduledSearch {
             List<Schedule.Switch> than = switches;
             for (int number = 1; number <= MOST_FEW; number++) {
                 if (shows(new Variant(null, number, without(operations)))) {
-                    left = MOST_REPLAYS;
                     switches = best.switches();
                     leaveOut();
                     break;
@@ -299,7 +299,8 @@ final class ScheduledSearch {
 
         // Leaves out items from the last to the first, many at once and then fewer.
         private <T> List<T> fewest(List<T> items, Shows<T> shows) throws Exception {
-            if (left > 0 && shows.test(List.of())) {
+            left = most;
+            if (shows.test(List.of())) {
                 return List.of();
             }
             for (int size = items.size(); size > 0; size /= 2) {

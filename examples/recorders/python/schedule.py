@@ -395,6 +395,7 @@ class Scheduler:
         self.clock = 1000.0
         self.seats = [Seat(self, number) for number in range(threads)]
         self.made = []
+        self.running = self.seats[0]
         self.outcome = None    # deadlock or livelock
         self.has_foreign = False    # a thread of the queue's own takes locks
         self.is_over = False
@@ -438,12 +439,10 @@ class Scheduler:
 
     def told_block(self):
         """The sentence on a call that blocks, though it has the turn."""
-        running = [one for one in self.seats if not one.has_ended and not one.gate.locked()]
-        places = self.places()
-        told = [f"thread {one.number} at {told_place(places.get(one.number))}" for one in running]
-        self.abandon()
-        return "blocked outside of the schedule, as in an extension module or by a lock made before the search: " + (
-            ", ".join(told) or "a thread of the queue's own")
+        where = self.places().get(self.running.number)
+        self.abandon(self.running)
+        return ("blocked outside of the schedule, as in an extension module or by a lock made before the search: "
+                f"thread {self.running.number} at {told_place(where)}")
 
     def open(self):
         """Lets the first thread go, once all have been started."""
@@ -597,6 +596,7 @@ class Scheduler:
         seat.gate.acquire()
         if self.is_over:
             raise Abandoned
+        self.running = seat
         seat.since = seat.point
 
     def places(self):

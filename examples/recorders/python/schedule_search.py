@@ -10,10 +10,10 @@ import fifobench_schedule as schedule    # schedule.py and schedule_locks.py, un
 import fifobench_schedule_locks as locks
 
 MOST_RUNS = 300    # of a search, unless its options say more or fewer
-MOST_REPLAYS = 400    # while operations and switches are left out
+MOST_REPLAYS = 150    # in each of four rounds in which operations or switches are left out
 MOST_SWITCHES = 6    # a trace with more is tried to be had with fewer
 MOST_FEW = 200    # tries
-MOST_LIVELOCKS = 40    # the same of a livelock, which takes long
+MOST_LIVELOCKS = 10    # the same of a livelock, which takes long
 
 
 @dataclasses.dataclass
@@ -142,7 +142,8 @@ class _Smallest:
         self.switches = made.switches
         self.operations = [(thread, n) for thread in range(made.options.threads) for n in range(made.options.operations)]
         self.planned = set(self.operations)
-        self.left = MOST_REPLAYS if kind != "livelock" else MOST_LIVELOCKS
+        self.most = MOST_REPLAYS if kind != "livelock" else MOST_LIVELOCKS
+        self.left = 0    # replays of the round
 
     def leave_out(self):
         for _ in range(2):
@@ -154,7 +155,6 @@ class _Smallest:
         best, switches = self.best, self.switches
         for number in range(MOST_FEW if self.kind != "livelock" else 0):
             if self._shows(self.operations, None, number):
-                self.left = MOST_REPLAYS
                 self.switches = self.best.switches
                 self.leave_out()
                 break
@@ -182,7 +182,8 @@ class _Smallest:
 
     def _fewest(self, items, shows):
         """Leaves out items from the last to the first, many at once and then fewer."""
-        if self.left > 0 and shows([]):
+        self.left = self.most
+        if shows([]):
             return []
         size = len(items)
         while size > 0:

@@ -11,6 +11,7 @@ import os
 import queue
 import sys
 import threading
+import time
 
 sys.path.insert(0, os.path.join(os.path.dirname(os.path.abspath(__file__)), "..", "..", "..", "examples", "recorders", "python"))
 import recorder
@@ -312,10 +313,39 @@ class Livelock(Locked):
             return self.items.popleft()
 
 
+class Helped(Locked):
+    """A thread of the queue's own takes the lock now and then."""
+
+    def __init__(self):
+        super().__init__()
+        threading.Thread(target=self.help, name="helper", daemon=True).start()
+
+    def help(self):
+        for _ in range(200):
+            with self.lock:
+                time.sleep(0.0001)
+            time.sleep(0.0001)
+
+
+class Imported(Locked):
+    """A lock that was made as the module was imported, and doesn't give way."""
+
+    lock_of_all = threading.Lock()
+
+    def enqueue(self, value):
+        with self.lock_of_all:
+            return super().enqueue(value)
+
+    def dequeue(self):
+        with self.lock_of_all:
+            return super().dequeue()
+
+
 RIGHT = {"linked": Linked, "ring": Ring, "locked": Locked, "bounded": Bounded, "waiting": Waiting}
 WRONG = {"stored-next": StoredNext, "stored-head": StoredHead, "early-sequence": EarlySequence, "early-free": EarlyFree,
          "empty-early": EmptyEarly, "counted": Counted, "split-claim": SplitClaim, "peeked": Peeked}
-HUNG = {"deadlock": Deadlock, "livelock": Livelock}
+HUNG = {"deadlock": Deadlock, "livelock": Livelock, "blocking": Imported}
+FREE = {"helped": Helped}
 
 
 def options_of(words):
@@ -334,11 +364,11 @@ def options_of(words):
 
 def main(words):
     if words == ["--list"]:
-        for kind, queues in (("right", RIGHT), ("wrong", WRONG), ("hung", HUNG)):
+        for kind, queues in (("right", RIGHT), ("wrong", WRONG), ("hung", HUNG), ("free", FREE)):
             for name, made in queues.items():
                 print(f"{name}\t{kind}\t{made.__doc__}")
         return 0
-    queues = {**RIGHT, **WRONG, **HUNG}
+    queues = {**RIGHT, **WRONG, **HUNG, **FREE}
     if not words or words[0] not in queues or len(words) % 2 == 0:
         print(f"queues: a name of {', '.join(queues)}, and options with their values", file=sys.stderr)
         return 2
@@ -346,7 +376,11 @@ def main(words):
     if words[1:2] == ["--write"]:
         recorder.run(recorder.Options(schedule=True, seed=int(words[2]), operations=32), make).write(sys.stdout)
         return 0
-    return recorder.search(options_of(words[1:]), make)
+    try:
+        return recorder.search(options_of(words[1:]), make)
+    except (KeyError, ValueError) as refused:
+        print(f"queues: {refused}", file=sys.stderr)
+        return 2
 
 
 if __name__ == "__main__":
