@@ -2,8 +2,8 @@
 
 Put this file beside `recorder.py`, and set FIFOBENCH_SCHEDULE=1 or `Options(schedule=True)`. The queue stays as it is.
 One thread runs at a time. Before each step of the interpreter that can touch what threads share (an attribute, an item,
-a global, a call) the recorder's thread may be stopped, by `sys.settrace`, and another one goes on. The seed draws a
-strategy (naps, walk or pct), its rates, and the number of operations, at most 64 for each thread.
+a global, a call) the recorder's thread may be stopped, by `sys.settrace` or, from 3.12 on, `sys.monitoring`, and another
+one goes on. The seed draws a strategy (naps, walk or pct), its rates, and the number of operations, at most 64 for each thread.
 
     naps    operations run whole, in an order by chance; now and then a thread is stopped within one, and sleeps until
             1 to 32 operations of others have ended
@@ -27,6 +27,7 @@ the module threading itself is one step between its locks. A debugger or coverag
 import contextlib
 import dataclasses
 import dis
+import gc
 import os
 import sys
 import threading
@@ -321,7 +322,7 @@ class Seat:
     """What a scheduler knows of one thread."""
 
     __slots__ = ("scheduler", "number", "gate", "operation", "point", "stop_at", "seen", "since", "has_ended", "waits_for",
-                 "deadline", "relaxes", "wakes_at", "spins", "priority", "quota", "tracers", "ident", "is_expired", "where")
+                 "deadline", "relaxes", "wakes_at", "spins", "priority", "quota", "tracers", "ident", "is_inside", "is_expired", "where")
 
     def __init__(self, scheduler, number):
         self.scheduler = scheduler
@@ -331,7 +332,7 @@ class Seat:
         self.operation = self.point = self.stop_at = 0
         self.seen = 0    # points of the operation that the scheduler has counted
         self.since = 0    # the point at which the thread went on
-        self.has_ended = self.relaxes = self.spins = self.is_expired = False
+        self.has_ended = self.relaxes = self.spins = self.is_expired = self.is_inside = False
         self.waits_for = self.deadline = self.ident = self.where = None
         self.wakes_at = self.priority = 0
         self.quota = 1
@@ -339,39 +340,21 @@ class Seat:
 
     def inside(self, call, *words):
         """Makes a call of the queue, with points."""
-        previous = sys.gettrace()
-        sys.settrace(self._trace_call)
+        self.is_inside = True
         try:
-            return call(*words)
+            return _instructions.calls(self, call, words)
         finally:
-            sys.settrace(previous)
+            self.is_inside = False
 
     def ended(self):
         """An operation has ended."""
         self.scheduler.operation_ended(self)
 
-    def _trace_call(self, frame, event, argument):
-        code = frame.f_code
-        caller = frame.f_back.f_code
-        if _is_left_out(code.co_filename) or caller.co_filename in _ours and caller.co_name != "inside":
-            return None
-        frame.f_trace_lines = False
-        frame.f_trace_opcodes = True
-        found = self.tracers.get(id(code))
-        if found is None:
-            points = _points.get(code) or _points.setdefault(code, _points_of(code))
-            found = self.tracers[id(code)] = (self._tracer(points), code)
-        return found[0]
-
-    def _tracer(self, points):
-        def trace(frame, event, argument):
-            if event == "opcode" and points[frame.f_lasti]:
-                self.point += 1
-                if self.point >= self.stop_at:
-                    self.scheduler.stop(self, frame)
-            return trace
-
-        return trace
+    def step(self, frame=None):
+        """A point before an instruction."""
+        self.point += 1
+        if self.point >= self.stop_at:
+            self.scheduler.stop(self, frame or sys._getframe(2))
 
     def touch(self):
         """A point of the recorder's own, before a lock is taken."""
@@ -380,7 +363,80 @@ class Seat:
             self.scheduler.stop(self, sys._getframe(1))
 
 
-_points = {}    # of each code that was called
+class _Traced:
+    """Points by `sys.settrace`."""
+
+    def __init__(self):
+        self._points = {}    # of each code that was called
+
+    def calls(self, seat, call, words):
+        previous = sys.gettrace()
+        sys.settrace(lambda frame, event, argument: self._trace_call(seat, frame))
+        try:
+            return call(*words)
+        finally:
+            sys.settrace(previous)
+
+    def _trace_call(self, seat, frame):
+        code = frame.f_code
+        caller = frame.f_back.f_code
+        if _is_left_out(code.co_filename) or caller.co_filename in _ours and caller.co_name != "calls":
+            return None
+        frame.f_trace_lines = False
+        frame.f_trace_opcodes = True
+        found = seat.tracers.get(id(code))
+        if found is None:
+            points = self._points.get(code) or self._points.setdefault(code, _points_of(code))
+            found = seat.tracers[id(code)] = (self._tracer(seat, points), code)
+        return found[0]
+
+    @staticmethod
+    def _tracer(seat, points):
+        def trace(frame, event, argument):
+            if event == "opcode" and points[frame.f_lasti]:
+                seat.point += 1
+                if seat.point >= seat.stop_at:
+                    seat.scheduler.stop(seat, frame)
+            return trace
+
+        return trace
+
+
+class _Monitored:
+    """Points by `sys.monitoring`, from Python 3.12 on, where a code that is traced for the first time has other events."""
+
+    def __init__(self):
+        self._points = {}    # of each code that was called, by its identity, with the code
+        self._tool = next(number for number in (4, 3, 2, 1, 0) if sys.monitoring.get_tool(number) is None)
+        events = sys.monitoring.events
+        sys.monitoring.use_tool_id(self._tool, "fifobench")
+        sys.monitoring.register_callback(self._tool, events.PY_START, self._start)
+        sys.monitoring.register_callback(self._tool, events.INSTRUCTION, self._step)
+        sys.monitoring.set_events(self._tool, events.PY_START)
+
+    @staticmethod
+    def calls(seat, call, words):
+        return call(*words)
+
+    def _start(self, code, offset):
+        """A code is called. Its instructions are points from now on if it is the queue's."""
+        if _is_left_out(code.co_filename):
+            return sys.monitoring.DISABLE
+        seat = locks.seats.get(threading.get_ident())
+        if seat is None or not seat.is_inside:
+            return None
+        if id(code) not in self._points:
+            self._points[id(code)] = (_points_of(code), code)
+            sys.monitoring.set_local_events(self._tool, code, sys.monitoring.events.INSTRUCTION)
+        return sys.monitoring.DISABLE
+
+    def _step(self, code, offset):
+        seat = locks.seats.get(threading.get_ident())
+        if seat is not None and seat.is_inside and self._points[id(code)][0][offset]:
+            seat.step()
+
+
+_instructions = _Monitored() if hasattr(sys, "monitoring") else _Traced()
 
 
 class Scheduler:
@@ -419,14 +475,19 @@ class Scheduler:
 
     @contextlib.contextmanager
     def going_on(self, run):
-        """The run goes on: its threads are on one core, and locks know its scheduler."""
+        """The run goes on: its threads are on one core, locks know its scheduler, and no garbage is collected."""
         self.tickets = lambda: sum(len(thread._events) for thread in run.threads)
         locks.now[0] = self
+        # The collector would call what has been left by other runs, at a point that isn't this run's.
+        is_collecting = gc.isenabled()
+        gc.disable()
         try:
             with locks.one_core(), locks.making(False):
                 yield
         finally:
             locks.now[0] = None
+            if is_collecting:
+                gc.enable()
 
     def told_outcome(self, calls):
         """The sentence on a deadlock or a livelock, with the place of each thread."""
