@@ -32,7 +32,8 @@ func init() {
 	}
 }
 
-// RunScheduled makes one run with chosen schedules over a fresh queue, all operations of it, by the pattern of the seed.
+// RunScheduled makes one run with a chosen schedule over a fresh queue, by the pattern of the seed, with as many
+// operations as the options say.
 func RunScheduled(options Options, makeQueue func() Queue) (*History, error) {
 	settings, _, err := settingsOf(&options)
 	if err == nil {

@@ -757,8 +757,8 @@ public final class Recorder implements AutoCloseable {
         Path report = folder.resolve(seed + ".report");
         Files.write(report, ask("shrink", history).text);
         Pattern pattern = patternOf(seed);
-        System.out.printf("%s: seed %d, %s%n  history: %s%n  report:  %s%n  see it:  %s draw --text < %s%n", firstLine, seed,
-                pattern, kept, report, program(), report);
+        System.out.printf("%s: seed %d, %s%n  history: %s%n  report:  %s%n  see it:  %s draw --text < %s%n", firstLine,
+                seed, pattern, kept, report, program(), report);
         if (tellAgain != null) {
             tellAgain.accept(firstLine);
         } else {

@@ -12,8 +12,8 @@ import java.util.function.Supplier;
 
 /**
  * Chooses how the threads of a recorded run interleave, so that a seed fixes the run and not its plan alone. Beside
- * Recorder.java, with ScheduleStrategies.java and ScheduledSearch.java; {@code FIFOBENCH_SCHEDULE=1} in the environment,
- * or {@code recorder.schedule(new Schedule())}.
+ * Recorder.java, with ScheduleStrategies.java and ScheduledSearch.java; {@code FIFOBENCH_SCHEDULE=1} in the
+ * environment, or {@code recorder.schedule(new Schedule())}.
  *
  * <p>One thread runs at a time. At a point another one may go on: between two operations, and where the queue calls
  *
@@ -23,12 +23,12 @@ import java.util.function.Supplier;
  * new Schedule.Lock()           in place of a ReentrantLock: who can't lock it lets others go on
  * </pre>
  *
- * These do nothing, and the lock is a ReentrantLock, outside of such a run. Without any of them operations run whole, in
- * an order by chance. The seed draws a strategy, its rates, and the number of operations, at most 100 of each thread.
+ * These do nothing, and the lock is a ReentrantLock, outside of such a run. Without any of them operations run whole,
+ * in an order by chance. The seed draws a strategy, its rates, and the number of operations of each thread, at most 100.
  *
  * <ul>
- * <li>naps: operations run whole, in an order by chance; now and then a thread is stopped at a point, and sleeps until 1
- *     to 32 operations of others have ended
+ * <li>naps: operations run whole, in an order by chance; now and then a thread is stopped at a point, and sleeps until
+ *     1 to 32 operations of others have ended
  * <li>walk: at one of so many points another thread goes on
  * <li>pct: threads have priorities by chance, and at depth - 1 points of a round the running one becomes the last
  *     (Burckhardt, Kothari, Musuvathi, Nagarakatte, ASPLOS 2010, here in rounds of some operations)
@@ -44,7 +44,8 @@ public final class Schedule implements Recorder.Chooser {
     static final int MOST_SPINS = 200;    // points within an operation after which others have their turn
     static final int REPLAY_SPINS = 1000;    // the same while given switches are made again
     private static final int[] RATES = {3, 5, 10, 20, 50, 100, 300};
-    private static final List<String> STRATEGIES = List.of("naps", "naps", "naps", "naps", "walk", "walk", "pct", "pct");
+    private static final List<String> STRATEGIES =
+            List.of("naps", "naps", "naps", "naps", "walk", "walk", "pct", "pct");
 
     private String strategy = System.getenv("FIFOBENCH_STRATEGY");
     private int oneIn;
@@ -396,7 +397,8 @@ public final class Schedule implements Recorder.Chooser {
         }
 
         private void note(Seat seat, Seat other, Why why) {
-            String where = why == Why.BETWEEN || why == Why.LEAVES ? "" : placeIn(Thread.currentThread().getStackTrace());
+            boolean isWithin = why != Why.BETWEEN && why != Why.LEAVES;
+            String where = isWithin ? placeIn(Thread.currentThread().getStackTrace()) : "";
             made.add(new Switch(seat.key(), other.number, why, where, tickets.get()));
         }
 

@@ -197,7 +197,7 @@ final class ScheduleStrategies {
     static final class Replay implements Schedule.Strategy {
         private final Schedule.Scheduler scheduler;
         private final Map<Schedule.Key, Integer> to = new HashMap<>();
-        private final Map<Schedule.Key, TreeSet<Integer>> points = new HashMap<>();    // of an operation: its point is 0 here
+        private final Map<Schedule.Key, TreeSet<Integer>> points = new HashMap<>();    // of an operation, at its point 0
 
         Replay(Schedule.Scheduler scheduler, List<Schedule.Switch> switches) {
             this.scheduler = scheduler;

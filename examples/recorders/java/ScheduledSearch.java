@@ -16,7 +16,7 @@ import java.util.stream.Collectors;
 /** Searches with chosen schedules, and tells a violation by the few switches that it needs. Beside {@link Schedule}. */
 final class ScheduledSearch {
     private static final int MOST_RUNS = 300;    // of a search, unless its settings say more or fewer
-    private static final int MOST_REPLAYS = 150;    // in each of four rounds in which operations or switches are left out
+    private static final int MOST_REPLAYS = 150;    // in each of four rounds that leave out operations or switches
     private static final int MOST_LIVELOCKS = 10;    // the same of a livelock, which takes long
     private static final int MOST_SWITCHES = 6;    // a trace with more is tried to be had with fewer
     private static final int MOST_FEW = 200;    // tries
@@ -46,7 +46,8 @@ final class ScheduledSearch {
     }
 
     /** A run that was made. */
-    private record Made(Schedule.Scheduler scheduler, Recorder.History history, int operations, Set<Schedule.Key> wanted) {
+    private record Made(Schedule.Scheduler scheduler, Recorder.History history, int operations,
+            Set<Schedule.Key> wanted) {
         List<Schedule.Switch> switches() {
             return scheduler.made;
         }
@@ -86,8 +87,9 @@ final class ScheduledSearch {
             }
         }
         Schedule.Drawn of = variant.few == 0 ? drawn : new Schedule.Drawn("few", 0, 0, drawn.operations());
-        Schedule.Scheduler scheduler = new Schedule.Scheduler(schedule.patience(), of, variant.few == 0 ? seed : variant.few,
-                run.tickets, recorder.threads, seat -> makeSteps(run, seat, queue), variant);
+        long by = variant.few == 0 ? seed : variant.few;
+        Schedule.Scheduler scheduler = new Schedule.Scheduler(schedule.patience(), of, by, run.tickets,
+                recorder.threads, seat -> makeSteps(run, seat, queue), variant);
         scheduler.open();
         waitForEnd(run, scheduler);
         scheduler.close();
@@ -214,8 +216,8 @@ final class ScheduledSearch {
         long seed = first.history.seed;
         recorder.isQuiet = true;
         if (!Arrays.equals(text(make(seed, Variant.NONE)), text(first))) {
-            System.out.println("  again:   seed " + seed + " made another run the second time: something but the schedule plays a "
-                    + "part, as clocks, identity hashes, input, or threads of the queue's own");
+            System.out.println("  again:   seed " + seed + " made another run the second time: something but the "
+                    + "schedule plays a part, as clocks, identity hashes, input, or threads of the queue's own");
             return;
         }
         Smallest small = new Smallest(first, kind);
@@ -343,7 +345,8 @@ final class ScheduledSearch {
     private List<String> trace(Made made, String kind) throws IOException {
         List<Recorder.Event> events = keptEvents(made);
         long first = events.isEmpty() ? 0 : events.get(0).ticket();
-        long last = events.isEmpty() || !made.history.isComplete() ? Long.MAX_VALUE : events.get(events.size() - 1).ticket();
+        boolean hasLast = !events.isEmpty() && made.history.isComplete();
+        long last = hasLast ? events.get(events.size() - 1).ticket() : Long.MAX_VALUE;
         List<Line> lines = new ArrayList<>();
         events.forEach(event -> lines.add(new Line(event.ticket(), true, toldEvent(event))));
         int count = 0;
@@ -399,8 +402,8 @@ final class ScheduledSearch {
     }
 
     private static final Map<Integer, String> DOES = Map.of(Recorder.CALL_DEQ, "calls dequeue",
-            Recorder.RET_ENQ, "returns from its enqueue", Recorder.RET_NOT, "returns from its enqueue, the queue is full",
-            Recorder.RET_EMPTY, "finds the queue empty");
+            Recorder.RET_ENQ, "returns from its enqueue", Recorder.RET_EMPTY, "finds the queue empty",
+            Recorder.RET_NOT, "returns from its enqueue, the queue is full");
 
     private static String toldEvent(Recorder.Event event) {
         String value = Long.toUnsignedString(event.value());

@@ -408,9 +408,9 @@ class _Run:
 def record(threads, operations, work, **settings):
     """Runs `work(thread)` in each of the threads, which begin together, and gives what they recorded.
 
-    There is no drain, no initial value, no pattern and no chosen schedule. `settings` are those of Options. If a call raises an exception,
-    its thread ends and the others go on; if the run hangs, what there is is kept in the folder, and the threads that
-    hang are left. In both cases the history has failures.
+    There is no drain, no initial value, no pattern and no chosen schedule. `settings` are those of Options. If a call
+    raises an exception, its thread ends and the others go on; if the run hangs, what there is is kept in the folder,
+    and the threads that hang are left. In both cases the history has failures.
     """
     run_of = _Run(Options(threads=threads, operations=operations, **settings), [])
     run_of.go(work, None)

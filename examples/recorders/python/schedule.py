@@ -1,9 +1,10 @@
 """Chooses how the threads of a recorded run interleave, so that a seed fixes the run and not its plan alone.
 
-Put this file beside `recorder.py`, and set FIFOBENCH_SCHEDULE=1 or `Options(schedule=True)`. The queue stays as it is.
-One thread runs at a time. Before each step of the interpreter that can touch what threads share (an attribute, an item,
-a global, a call) the recorder's thread may be stopped, by `sys.settrace` or, from 3.12 on, `sys.monitoring`, and another
-one goes on. The seed draws a strategy (naps, walk or pct), its rates, and the number of operations, at most 64 for each thread.
+Put this file, `schedule_locks.py` and `schedule_search.py` beside `recorder.py`, and set FIFOBENCH_SCHEDULE=1 or
+`Options(schedule=True)`. The queue stays as it is. One thread runs at a time. Before each step of the interpreter that
+can touch what threads share (an attribute, an item, a global, a call) a thread may be stopped, and another one goes on:
+by `sys.settrace` or, from 3.12 on, by `sys.monitoring`. The seed draws a strategy, its rates, and the number of
+operations of each thread, at most 64.
 
     naps    operations run whole, in an order by chance; now and then a thread is stopped within one, and sleeps until
             1 to 32 operations of others have ended
@@ -197,7 +198,7 @@ class _Walk:
 
 
 class _Pct:
-    """Priorities in rounds: in one each thread makes 1 to 8 operations, and the running one is put last at some points."""
+    """Priorities in rounds: in one each thread makes 1 to 8 operations, and at some points the running one comes last."""
 
     MOST_QUOTA = 8
 
@@ -275,9 +276,9 @@ class _Replay:
 _OF_STRATEGY = {"naps": _Naps, "walk": _Walk, "pct": _Pct, "few": _Few}
 
 # Instructions that touch nothing of another thread; no point is before them.
-_OWN = ("CACHE", "RESUME", "NOP", "EXTENDED_ARG", "PRECALL", "KW_NAMES", "PUSH_NULL", "POP_TOP", "COPY", "SWAP", "LOAD_CONST",
-        "LOAD_CLOSURE", "MAKE_CELL", "MAKE_FUNCTION", "COPY_FREE_VARS", "IS_OP", "PUSH_EXC_INFO", "CHECK_EXC_MATCH",
-        "RERAISE", "LOAD_SMALL_INT", "NOT_TAKEN")
+_OWN = ("CACHE", "RESUME", "NOP", "EXTENDED_ARG", "PRECALL", "KW_NAMES", "PUSH_NULL", "POP_TOP", "COPY", "SWAP",
+        "LOAD_CONST", "LOAD_CLOSURE", "MAKE_CELL", "MAKE_FUNCTION", "COPY_FREE_VARS", "IS_OP", "PUSH_EXC_INFO",
+        "CHECK_EXC_MATCH", "RERAISE", "LOAD_SMALL_INT", "NOT_TAKEN")
 _OWN_KINDS = ("LOAD_FAST", "STORE_FAST", "DELETE_FAST", "JUMP", "POP_", "RETURN_", "DUP_", "ROT_", "SETUP_", "BUILD_",
               "UNARY_", "END_")
 
@@ -321,8 +322,9 @@ def told_place(where):
 class Seat:
     """What a scheduler knows of one thread."""
 
-    __slots__ = ("scheduler", "number", "gate", "operation", "point", "stop_at", "seen", "since", "has_ended", "waits_for",
-                 "deadline", "relaxes", "wakes_at", "spins", "priority", "quota", "tracers", "ident", "is_inside", "is_expired", "where")
+    __slots__ = ("scheduler", "number", "gate", "operation", "point", "stop_at", "seen", "since", "has_ended",
+                 "waits_for", "deadline", "relaxes", "wakes_at", "spins", "priority", "quota", "tracers", "ident",
+                 "is_inside", "is_expired")
 
     def __init__(self, scheduler, number):
         self.scheduler = scheduler
@@ -333,7 +335,7 @@ class Seat:
         self.seen = 0    # points of the operation that the scheduler has counted
         self.since = 0    # the point at which the thread went on
         self.has_ended = self.relaxes = self.spins = self.is_expired = self.is_inside = False
-        self.waits_for = self.deadline = self.ident = self.where = None
+        self.waits_for = self.deadline = self.ident = None
         self.wakes_at = self.priority = 0
         self.quota = 1
         self.tracers = {}
@@ -403,7 +405,7 @@ class _Traced:
 
 
 class _Monitored:
-    """Points by `sys.monitoring`, from Python 3.12 on, where a code that is traced for the first time has other events."""
+    """Points by `sys.monitoring`, from Python 3.12 on. By `sys.settrace` a code has other events the first time there."""
 
     def __init__(self):
         self._points = {}    # of each code that was called, by its identity, with the code

@@ -1,7 +1,7 @@
 """Locks and clocks that give way while schedules are chosen. Beside `schedule.py`, which loads it.
 
-`Patches` puts them in place of those of `threading` and `time`, under any name by which a module has imported them. Outside
-of a run's threads they are the real ones.
+`Patches` puts them in place of those of `threading` and `time`, under any name by which a module has imported them.
+Outside of a run's threads they do as the real ones.
 """
 
 import contextlib
@@ -107,8 +107,8 @@ def _note_foreign():
         scheduler.has_foreign = True
         if not _told_foreign:
             _told_foreign.append(threading.current_thread().name)
-            print(f"fifobench: the queue's own thread {_told_foreign[0]} isn't scheduled: it runs free, and runs of a seed "
-                  "may differ", file=sys.stderr, flush=True)
+            print(f"fifobench: the queue's own thread {_told_foreign[0]} isn't scheduled: it runs free, and runs of a "
+                  "seed may differ", file=sys.stderr, flush=True)
 
 
 def _gives_way():

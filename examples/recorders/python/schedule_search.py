@@ -6,7 +6,8 @@ Beside `recorder.py` and `schedule.py`; the recorder loads both if chosen schedu
 import dataclasses
 import os
 
-import fifobench_schedule as schedule    # schedule.py and schedule_locks.py, under the names that the recorder gives them
+# schedule.py and schedule_locks.py, under the names that the recorder gives them.
+import fifobench_schedule as schedule
 import fifobench_schedule_locks as locks
 
 MOST_RUNS = 300    # of a search, unless its options say more or fewer
@@ -110,8 +111,8 @@ class Search:
         """Makes the run again, leaves out switches, and prints what is left."""
         seed = made.options.seed
         if self.make(seed, is_again=True).text() != made.text():
-            print(f"  again:   seed {seed} made another run the second time: something but the schedule plays a part, as "
-                  "clocks, addresses (id, hash), input, or threads of the queue's own", flush=True)
+            print(f"  again:   seed {seed} made another run the second time: something but the schedule plays a part, "
+                  "as clocks, addresses (id, hash), input, or threads of the queue's own", flush=True)
             return
         small = self.smallest(made, kind)
         lines = Trace(self, small, kind).lines()
@@ -121,7 +122,8 @@ class Search:
         print(f"  trace:   {path}")
         for line in lines:
             print(f"    {line}")
-        print(f"  again:   FIFOBENCH_SEED={seed} in the environment, or --seed {seed} replays this very run", flush=True)
+        print(f"  again:   FIFOBENCH_SEED={seed} in the environment, or --seed {seed} replays this very run",
+              flush=True)
 
     def smallest(self, made, kind):
         """The run with as few of its operations, and then of its switches, as show the same kind of violation."""
@@ -140,7 +142,8 @@ class _Smallest:
         self.kind = kind
         self.best = made
         self.switches = made.switches
-        self.operations = [(thread, n) for thread in range(made.options.threads) for n in range(made.options.operations)]
+        options = made.options
+        self.operations = [(thread, n) for thread in range(options.threads) for n in range(options.operations)]
         self.planned = set(self.operations)
         self.most = MOST_REPLAYS if kind != "livelock" else MOST_LIVELOCKS
         self.left = 0    # replays of the round
@@ -243,7 +246,8 @@ class Trace:
         first = min((event[0] for event in events), default=0)
         last = max((event[0] for event in events), default=0) if self.made.history.is_complete else float("inf")
         told = [((ticket, 1), self._told_event(thread, what, value)) for ticket, thread, what, value in events]
-        kept = [switch for switch in self._switches() if switch.key in self.made.wanted or first < switch.ticket <= last]
+        kept = [switch for switch in self._switches()
+                if switch.key in self.made.wanted or first < switch.ticket <= last]
         told += [((switch.ticket, 0), self._told_switch(switch)) for switch in kept]
         told.sort(key=lambda one: one[0])
         count = sum(switch.why != "leaves" for switch in kept)

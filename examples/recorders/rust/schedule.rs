@@ -1,4 +1,5 @@
-//! Atomics and locks with points for chosen schedules, to be imported by a queue in place of those of `std`, as Loom's are:
+//! Atomics and locks with points for chosen schedules, to be imported by a queue in place of those of `std`, as Loom's
+//! are:
 //!
 //! ```ignore
 //! #[cfg(not(fifobench_schedule))]
@@ -8,9 +9,9 @@
 //! ```
 //!
 //! For a stable compiler; with nightly flags the queue has points without a change, and this file isn't needed
-//! (`schedule_runs.rs` has both commands). What `std` blocks on gives way without a change here too: Condvar, RwLock, Once,
-//! Barrier, parking, sleeping, yielding. Plain data have no points: a race of plain data shows by the points of the
-//! atomics beside it alone.
+//! (`schedule_runs.rs` has both commands). What `std` blocks on gives way without a change here too: Condvar, RwLock,
+//! Once, Barrier, parking, sleeping, yielding. Plain data have no points: a race of plain data shows by the points of
+//! the atomics beside it alone.
 
 #![allow(dead_code, unused_imports)] // A queue uses a part of it.
 

@@ -1,7 +1,7 @@
 //! Chosen schedules in Rust: the recorder's runs by the scheduler of `../schedule/schedule.c`, which has to be linked.
 //!
-//! Beside `recorder.rs`, which uses this file under `--cfg fifobench_schedule`; a test has nothing to write. The queue has
-//! points in one of two ways.
+//! Beside `recorder.rs`, which uses this file under `--cfg fifobench_schedule`; a test has nothing to write. The queue
+//! has points in one of two ways.
 //!
 //! - Unchanged, with nightly flags, which `RUSTC_BOOTSTRAP=1` lets a stable compiler take:
 //!
@@ -17,8 +17,8 @@
 //!   rustc --edition 2021 -O -g --cfg fifobench_schedule -Clink-arg=schedule.o test.rs
 //!   ```
 //!
-//! With cargo these flags are those of `RUSTFLAGS`, and schedule.o has an absolute path. A link without schedule.o fails,
-//! and names functions of the form `fifobench_schedule_..` or `__tsan_..`: they are those of schedule.c.
+//! With cargo these flags are those of `RUSTFLAGS`, and schedule.o has an absolute path. A link without schedule.o
+//! fails, and names functions of the form `fifobench_schedule_..` or `__tsan_..`: they are those of schedule.c.
 
 use super::{make_steps, told_panic, Answer, Options, Queue, Run, Start, Steps};
 use std::ffi::{c_char, c_int, c_uint, c_void, CStr, CString};

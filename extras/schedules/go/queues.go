@@ -1,7 +1,8 @@
 // Queues with a fault that shows if goroutines meet in one way alone, and right ones beside them.
 //
-//	queues NAME [--seed S] [--runs R] [--ops N] [--strategy S] [--folder F] [--timeout SECONDS]    a search, status 0, 1 or 2
+//	queues NAME [--seed S] [--runs R] [--ops N] [--strategy S] [--folder F] [--timeout SECONDS]
 //
+// makes a search, with status 0, 1 or 2.
 // queues --list has a line for each: its name, whether it is right, and the fault.
 package main
 

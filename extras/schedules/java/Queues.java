@@ -12,10 +12,10 @@ import java.util.function.Supplier;
  * Queues with a fault that shows if threads meet in one way alone, and right ones beside them.
  *
  * <pre>
- * Queues NAME [--seed S] [--runs R] [--ops N] [--strategy S] [--folder F] [--timeout SECONDS]    a search, status 0, 1 or 2
+ * Queues NAME [--seed S] [--runs R] [--ops N] [--strategy S] [--folder F] [--timeout SECONDS]
  * </pre>
  *
- * {@code Queues --list} has a line for each: its name, whether it is right, and the fault.
+ * makes a search, with status 0, 1 or 2. {@code Queues --list} has a line for each: its name, whether it is right, and the fault.
  */
 final class Queues {
     private Queues() {}

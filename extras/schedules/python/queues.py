@@ -1,8 +1,9 @@
 """Queues with a fault that shows if threads meet in one way alone, and right ones beside them.
 
-    queues.py NAME [--seed S] [--runs R] [--ops N] [--strategy S] [--folder F] [--timeout SECONDS]    a search, status 0, 1 or 2
+    queues.py NAME [--seed S] [--runs R] [--ops N] [--strategy S] [--folder F] [--timeout SECONDS]
     queues.py NAME --write SEED    one run with chosen schedules, written to standard output
 
+The first makes a search, with status 0, 1 or 2.
 `queues.py --list` has a line for each: its name, whether it is right, and the fault.
 """
 
@@ -13,7 +14,8 @@ import sys
 import threading
 import time
 
-sys.path.insert(0, os.path.join(os.path.dirname(os.path.abspath(__file__)), "..", "..", "..", "examples", "recorders", "python"))
+HERE = os.path.dirname(os.path.abspath(__file__))
+sys.path.insert(0, os.path.join(HERE, "..", "..", "..", "examples", "recorders", "python"))
 import recorder
 
 
@@ -351,8 +353,8 @@ FREE = {"helped": Helped}
 def options_of(words):
     """The options that the words name."""
     options = recorder.Options(schedule=True, timeout=10.0)
-    kinds = {"--seed": ("seed", int), "--runs": ("runs", int), "--ops": ("operations", int), "--folder": ("folder", str),
-             "--timeout": ("timeout", float)}
+    kinds = {"--seed": ("seed", int), "--runs": ("runs", int), "--ops": ("operations", int),
+             "--folder": ("folder", str), "--timeout": ("timeout", float)}
     for name, word in zip(words[::2], words[1::2]):
         if name == "--strategy":
             options.schedule = {"strategy": word}

@@ -2,8 +2,8 @@
 //!
 //!     queues NAME [--seed S] [--runs R] [--ops N] [--folder F] [--timeout SECONDS]    a search, status 0, 1 or 2
 //!
-//! `queues --list` has a line for each: its name, whether it is right, and the fault. With `--cfg fifobench_points` atomics
-//! and locks are those of `schedule.rs`; else they are those of `std`, and the compiler sets the points.
+//! `queues --list` has a line for each: its name, whether it is right, and the fault. With `--cfg fifobench_points`
+//! atomics and locks are those of `schedule.rs`; else they are those of `std`, and the compiler sets the points.
 
 #![deny(warnings)]
 #![allow(unexpected_cfgs)]
