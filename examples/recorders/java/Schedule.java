@@ -24,7 +24,7 @@ import java.util.function.Supplier;
  * </pre>
  *
  * These do nothing, and the lock is a ReentrantLock, outside of such a run. Without any of them operations run whole,
- * in an order by chance. The seed draws a strategy, its rates, and the number of operations of each thread, at most 100.
+ * in an order by chance. The seed draws a strategy, its rates, and the number of operations of a thread, at most 100.
  *
  * <ul>
  * <li>naps: operations run whole, in an order by chance; now and then a thread is stopped at a point, and sleeps until

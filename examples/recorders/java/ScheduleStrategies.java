@@ -197,7 +197,8 @@ final class ScheduleStrategies {
     static final class Replay implements Schedule.Strategy {
         private final Schedule.Scheduler scheduler;
         private final Map<Schedule.Key, Integer> to = new HashMap<>();
-        private final Map<Schedule.Key, TreeSet<Integer>> points = new HashMap<>();    // of an operation, at its point 0
+        // Of an operation, whose key has the point 0.
+        private final Map<Schedule.Key, TreeSet<Integer>> points = new HashMap<>();
 
         Replay(Schedule.Scheduler scheduler, List<Schedule.Switch> switches) {
             this.scheduler = scheduler;

@@ -22,7 +22,8 @@ judges each. A loop of your own is recorded by `record`. docs/RECORDING.md has t
 
 The interpreter's lock lets one thread run at a time, and hides most faults: threads change places between two steps of
 the interpreter alone, which this module lets them do often. It pays on a build without that lock (3.13's free-threaded
-build and later), and over a queue in another language that gives the lock up.
+build and later), and over a queue in another language that gives the lock up. With `schedule.py` beside this file and
+FIFOBENCH_SCHEDULE=1 in the environment the seed chooses where threads change places; that file says how.
 
 A queue may also have `preload(value)`, which puts an initial value in (else `enqueue` does), and `enter(thread)` and
 `leave(thread)`, which are called in each thread before the common start and after its last operation.

@@ -71,11 +71,10 @@ class Chance:
 
 def settings_of(asked):
     """The settings that the options name, or the environment."""
+    patience = os.environ.get("FIFOBENCH_PATIENCE") or Settings.patience
+    settings = Settings(strategy=os.environ.get("FIFOBENCH_STRATEGY") or None, patience=int(patience))
     if isinstance(asked, dict):
-        return Settings(**asked)
-    patience = os.environ.get("FIFOBENCH_PATIENCE")
-    strategy = os.environ.get("FIFOBENCH_STRATEGY")
-    settings = Settings(strategy=strategy or None, patience=int(patience) if patience else Settings.patience)
+        settings = dataclasses.replace(settings, **asked)
     if settings.strategy not in (None,) + STRATEGIES:
         raise ValueError(f'no strategy "{settings.strategy}": naps, walk or pct')
     return settings
@@ -198,7 +197,7 @@ class _Walk:
 
 
 class _Pct:
-    """Priorities in rounds: in one each thread makes 1 to 8 operations, and at some points the running one comes last."""
+    """Priorities in rounds, in which each thread makes 1 to 8 operations; at some points the running one comes last."""
 
     MOST_QUOTA = 8
 
@@ -405,7 +404,7 @@ class _Traced:
 
 
 class _Monitored:
-    """Points by `sys.monitoring`, from Python 3.12 on. By `sys.settrace` a code has other events the first time there."""
+    """Points by `sys.monitoring`, from Python 3.12 on; there `sys.settrace` gives other events the first time."""
 
     def __init__(self):
         self._points = {}    # of each code that was called, by its identity, with the code

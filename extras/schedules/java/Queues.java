@@ -15,7 +15,8 @@ import java.util.function.Supplier;
  * Queues NAME [--seed S] [--runs R] [--ops N] [--strategy S] [--folder F] [--timeout SECONDS]
  * </pre>
  *
- * makes a search, with status 0, 1 or 2. {@code Queues --list} has a line for each: its name, whether it is right, and the fault.
+ * makes a search, with status 0, 1 or 2. {@code Queues --list} has a line for each: its name, whether it is right, and
+ * the fault.
  */
 final class Queues {
     private Queues() {}
