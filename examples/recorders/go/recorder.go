@@ -95,8 +95,10 @@ type Options struct {
 	tellAgain  func(kind string)                 // the last lines of a verdict, with chosen schedules
 }
 
-// Set by schedule.go, if that is beside this file. A search by it if the options ask for chosen schedules.
-var chosenSearch func(options *Options, makeQueue func() Queue) (answer Answer, isChosen bool, err error)
+// Makes a search, if chosen schedules are asked for. Set by schedule.go, if that is beside this file.
+var chosenSearch = func(*Options, func() Queue) (answer Answer, isChosen bool, err error) {
+	return Wrong, os.Getenv("FIFOBENCH_SCHEDULE") == "1", errors.New("FIFOBENCH_SCHEDULE=1, but there is no schedule.go")
+}
 
 // Defaults gives the settings that a search has as a rule.
 func Defaults() Options {
@@ -650,10 +652,8 @@ func search(options Options, makeQueue func() Queue) (Answer, error) {
 	if err := options.Check(); err != nil {
 		return Wrong, err
 	}
-	if chosenSearch != nil {
-		if answer, isChosen, err := chosenSearch(&options, makeQueue); isChosen {
-			return answer, err
-		}
+	if answer, isChosen, err := chosenSearch(&options, makeQueue); isChosen {
+		return answer, err
 	}
 	if options.Runs == 0 {
 		options.Runs = 100
