@@ -608,7 +608,6 @@ public final class Recorder implements AutoCloseable {
             this.state = state;
         }
 
-        // The next word modulo a number.
         int below(int number) {
             state += 0x9e3779b97f4a7c15L;
             long z = state;
@@ -666,7 +665,8 @@ public final class Recorder implements AutoCloseable {
         try {
             return searchRuns(makeQueue);
         } catch (Exception failure) {
-            say(failure.getMessage() != null ? failure.getMessage() : failure.toString());
+            boolean isNamed = failure.getMessage() == null || failure instanceof ReflectiveOperationException;
+            say(isNamed ? failure.toString() : failure.getMessage());
             return Answer.WRONG;
         }
     }

@@ -359,9 +359,7 @@ class Seat:
 
     def touch(self):
         """A point of the recorder's own, before a lock is taken."""
-        self.point += 1
-        if self.point >= self.stop_at:
-            self.scheduler.stop(self, sys._getframe(1))
+        self.step(sys._getframe(1))
 
 
 class _Traced:
