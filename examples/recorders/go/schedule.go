@@ -273,6 +273,10 @@ func (scheduler *scheduler) below(bound int) int {
 
 // The seat of the goroutine that calls; nil if it isn't one of the run's.
 func (scheduler *scheduler) current() *seat {
+	if scheduler.isOver.Load() {
+		scheduler.leaveRun()
+		return nil
+	}
 	seat := scheduler.running.Load()
 	if seat == nil {
 		return nil
@@ -295,6 +299,16 @@ func (scheduler *scheduler) current() *seat {
 		seat.low, seat.high = at, at
 	}
 	return seat
+}
+
+// Ends a goroutine of the run, once that is over. Its deferred calls are made, and may come here again.
+func (scheduler *scheduler) leaveRun() {
+	id := goroutine()
+	for _, one := range scheduler.seats {
+		if one.hasEntered.Load() && one.id == id {
+			runtime.Goexit()
+		}
+	}
 }
 
 // The number of the goroutine that calls: "goroutine 7 [running]".
