@@ -581,12 +581,12 @@ func (made *made) busySwitches() []change {
 }
 
 func toldEvent(event *event) string {
-	told := map[string]string{callDeq: "calls dequeue", retEnq: "returns from its enqueue",
-		retNot: "returns from its enqueue, the queue is full", retEmpty: "finds the queue empty"}[event.what]
+	told := map[string]string{callDeq: "calls dequeue", retEnq: "returns: the value is enqueued",
+		retNot: "returns: the enqueue has failed", retEmpty: "returns: the queue is empty"}[event.what]
 	if event.what == callEnq {
 		told = fmt.Sprintf("calls enqueue of %d", event.value)
 	} else if event.what == retDeq {
-		told = fmt.Sprintf("returns from its dequeue with %d", event.value)
+		told = fmt.Sprintf("returns: %d is dequeued", event.value)
 	}
 	return fmt.Sprintf("thread %d %s", event.thread, told)
 }

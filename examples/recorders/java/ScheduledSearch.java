@@ -402,13 +402,13 @@ final class ScheduledSearch {
     }
 
     private static final Map<Integer, String> DOES = Map.of(Recorder.CALL_DEQ, "calls dequeue",
-            Recorder.RET_ENQ, "returns from its enqueue", Recorder.RET_EMPTY, "finds the queue empty",
-            Recorder.RET_NOT, "returns from its enqueue, the queue is full");
+            Recorder.RET_ENQ, "returns: the value is enqueued", Recorder.RET_EMPTY, "returns: the queue is empty",
+            Recorder.RET_NOT, "returns: the enqueue has failed");
 
     private static String toldEvent(Recorder.Event event) {
         String value = Long.toUnsignedString(event.value());
         String does = event.what() == Recorder.CALL_ENQ ? "calls enqueue of " + value
-                : event.what() == Recorder.RET_DEQ ? "returns from its dequeue with " + value : DOES.get(event.what());
+                : event.what() == Recorder.RET_DEQ ? "returns: " + value + " is dequeued" : DOES.get(event.what());
         return "thread " + event.thread() + " " + does;
     }
 

@@ -200,8 +200,8 @@ class _Smallest:
         return items
 
 
-_TELLS = {"call-deq": "calls dequeue", "ret-enq": "returns from its enqueue", "ret-empty": "finds the queue empty",
-          "ret-not": "returns from its enqueue, the queue is full"}
+_TELLS = {"call-deq": "calls dequeue", "ret-enq": "returns: the value is enqueued",
+          "ret-not": "returns: the enqueue has failed", "ret-empty": "returns: the queue is empty"}
 
 
 class Trace:
@@ -261,7 +261,7 @@ class Trace:
         if what == "call-enq":
             return f"thread {thread} calls enqueue of {value}"
         if what == "ret-deq":
-            return f"thread {thread} returns from its dequeue with {value}"
+            return f"thread {thread} returns: {value} is dequeued"
         return f"thread {thread} {_TELLS[what]}"
 
     def _told_switch(self, switch):
