@@ -673,7 +673,7 @@ public final class Recorder implements AutoCloseable {
 
     private Answer searchRuns(Supplier<Queue> makeQueue) throws Exception {
         if (chooser == null && "1".equals(System.getenv("FIFOBENCH_SCHEDULE"))) {
-            String name = Recorder.class.getName().replace("Recorder", "Schedule");
+            String name = Recorder.class.getName().replaceAll("Recorder$", "Schedule");
             chooser = (Chooser) Class.forName(name).getDeclaredConstructor().newInstance();
         }
         if (chooser != null) {
