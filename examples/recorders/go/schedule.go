@@ -15,7 +15,7 @@ package fifobench
 //
 //	naps    operations run whole, in an order by chance; now and then a goroutine is stopped at a point, and sleeps
 //	        until 1 to 32 operations of others have ended
-//	walk    at one of so many points another goroutine goes on
+//	walk    at 1 point of 3 to 300, by chance, another goroutine goes on
 //	pct     goroutines have priorities by chance, and at depth - 1 points of a round the running one becomes the last
 //	        (Burckhardt, Kothari, Musuvathi, Nagarakatte, ASPLOS 2010, here in rounds of some operations)
 //
@@ -41,7 +41,7 @@ import (
 // Schedule has the settings of chosen schedules. Zero: drawn from the seed, or as the environment says.
 type Schedule struct {
 	Strategy   string // naps, walk or pct
-	OneIn      int    // of walk: another goroutine goes on at one of so many points
+	OneIn      int    // of walk: another goroutine goes on at 1 point of this number
 	Depth      int    // of pct
 	Operations int    // of each goroutine
 	Patience   int    // points without an operation that ends, after which a run is a livelock; 100,000

@@ -1,6 +1,6 @@
 package fifobench
 
-// Searches with chosen schedules, and tells a violation by the few switches that it needs. Beside schedule.go.
+// Searches with chosen schedules, and traces a violation to the few switches that it needs. Beside schedule.go.
 
 import (
 	"fmt"

@@ -15,7 +15,7 @@ type naps struct {
 	factor int
 }
 
-// Points until a goroutine falls asleep: on average once in so many operations.
+// Points until a goroutine falls asleep: on average once in this many operations.
 func (naps *naps) gap(*seat) int {
 	oneIn := naps.factor * naps.steps / (naps.ended + 1)
 	if oneIn < 4 {

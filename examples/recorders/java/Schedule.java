@@ -29,7 +29,7 @@ import java.util.function.Supplier;
  * <ul>
  * <li>naps: operations run whole, in an order by chance; now and then a thread is stopped at a point, and sleeps until
  *     1 to 32 operations of others have ended
- * <li>walk: at one of so many points another thread goes on
+ * <li>walk: at 1 point of 3 to 300, by chance, another thread goes on
  * <li>pct: threads have priorities by chance, and at depth - 1 points of a round the running one becomes the last
  *     (Burckhardt, Kothari, Musuvathi, Nagarakatte, ASPLOS 2010, here in rounds of some operations)
  * </ul>
@@ -59,7 +59,7 @@ public final class Schedule implements Recorder.Chooser {
         return this;
     }
 
-    /** Of walk: another thread goes on at one of so many points. Unless set, drawn from the seed. */
+    /** Of walk: another thread goes on at 1 point of this number. Unless set, drawn from the seed. */
     public Schedule oneIn(int oneIn) {
         this.oneIn = oneIn;
         return this;

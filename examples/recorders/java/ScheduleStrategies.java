@@ -34,7 +34,7 @@ final class ScheduleStrategies {
             this.factor = 1 << scheduler.below(3);
         }
 
-        // Points until a thread falls asleep: on average once in so many operations.
+        // Points until a thread falls asleep: on average once in this many operations.
         @Override
         public int gap(Schedule.Seat seat) {
             int oneIn = Math.max(4, factor * scheduler.steps / (scheduler.ended + 1));

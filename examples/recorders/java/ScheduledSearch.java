@@ -13,7 +13,7 @@ import java.util.Set;
 import java.util.function.Supplier;
 import java.util.stream.Collectors;
 
-/** Searches with chosen schedules, and tells a violation by the few switches that it needs. Beside {@link Schedule}. */
+/** Searches with chosen schedules, and traces a violation to the few switches that it needs. */
 final class ScheduledSearch {
     private static final int MOST_RUNS = 300;    // of a search, unless its settings say more or fewer
     private static final int MOST_REPLAYS = 150;    // in each of four rounds that leave out operations or switches

@@ -8,7 +8,7 @@ operations of each thread, at most 64.
 
     naps    operations run whole, in an order by chance; now and then a thread is stopped within one, and sleeps until
             1 to 32 operations of others have ended
-    walk    at one of so many points another thread goes on
+    walk    at 1 point of 3 to 300, by chance, another thread goes on
     pct     threads have priorities by chance, and at depth - 1 points of a round the running one becomes the last
             (Burckhardt, Kothari, Musuvathi, Nagarakatte, ASPLOS 2010, here in rounds of some operations)
 
@@ -36,12 +36,12 @@ import threading
 import fifobench_schedule_locks as locks    # schedule_locks.py, under the name that the recorder gives it
 
 STRATEGIES = ("naps", "walk", "pct")
-RATES = (3, 5, 10, 20, 50, 100, 300)    # walk: one of so many points
+RATES = (3, 5, 10, 20, 50, 100, 300)    # walk: one of this many points
 MOST_OPERATIONS = 64
 MOST_NAP = 6    # a nap lasts until at most 2**5 operations of others have ended
 SPINS = 200    # points of one thread within an operation after which others have their turn
 REPLAY_SPINS = 1000    # the same while given switches are made again
-EXPIRES = 16    # a timed wait is over early at one of so many choices
+EXPIRES = 16    # a timed wait is over early at one of this many choices
 
 
 @dataclasses.dataclass
@@ -49,7 +49,7 @@ class Settings:
     """Settings of the schedules; None or 0: drawn from the seed."""
 
     strategy: str = None    # naps, walk or pct
-    one_in: int = 0    # walk: another thread goes on at one of so many points
+    one_in: int = 0    # walk: another thread goes on at 1 point of this number
     depth: int = 0    # pct
     operations: int = 0    # of each thread
     patience: int = 100_000    # points without an operation that ends: the run is a livelock

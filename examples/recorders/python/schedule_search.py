@@ -1,4 +1,4 @@
-"""Searches with chosen schedules, and tells a violation by the few switches that it needs.
+"""Searches with chosen schedules, and traces a violation to the few switches that it needs.
 
 Beside `recorder.py` and `schedule.py`; the recorder loads both if chosen schedules are asked for.
 """

@@ -98,7 +98,7 @@ pub(super) fn alone() {
     }
 }
 
-/// Tells what the queue holds at the start.
+/// Notes a value that the queue holds at the start.
 pub(super) fn initial(value: u64) {
     if is_chosen() {
         unsafe { fifobench_schedule_initial(value) }
@@ -135,7 +135,7 @@ pub(super) fn run_threads(run: &Run, steps: &Steps) -> Vec<String> {
 
 // What the runs of a search are made of.
 struct Context<'a> {
-    // Makes the run of a seed with so many operations of each thread. Gives what went wrong in it.
+    // Makes the run of a seed with this number of operations of each thread. Returns what went wrong in it.
     run: &'a dyn Fn(u64, usize) -> Option<String>,
     options: &'a Options,
 }

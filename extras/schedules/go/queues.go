@@ -25,7 +25,7 @@ type node struct {
 // A list with a first node that is empty, as Michael and Scott's.
 type linked struct {
 	head, tail atomic.Pointer[node]
-	// Links a node behind the last one, and moves the head to the node behind it.
+	// The first links a node to the last one, the second moves the head to the node that follows.
 	link     func(last, added *node) bool
 	moveHead func(first, following *node) bool
 }
