@@ -315,14 +315,14 @@ class Livelock(Locked):
             return self.items.popleft()
 
 
-class Helped(Locked):
+class Ticked(Locked):
     """A thread of the queue's own takes the lock now and then."""
 
     def __init__(self):
         super().__init__()
-        threading.Thread(target=self.help, name="helper", daemon=True).start()
+        threading.Thread(target=self.tick, name="ticker", daemon=True).start()
 
-    def help(self):
+    def tick(self):
         for _ in range(200):
             with self.lock:
                 time.sleep(0.0001)
@@ -347,7 +347,7 @@ RIGHT = {"linked": Linked, "ring": Ring, "locked": Locked, "bounded": Bounded, "
 WRONG = {"stored-next": StoredNext, "stored-head": StoredHead, "early-sequence": EarlySequence, "early-free": EarlyFree,
          "empty-early": EmptyEarly, "counted": Counted, "split-claim": SplitClaim, "peeked": Peeked}
 HUNG = {"deadlock": Deadlock, "livelock": Livelock, "blocking": Imported}
-FREE = {"helped": Helped}
+FREE = {"ticked": Ticked}
 
 
 def options_of(words):
