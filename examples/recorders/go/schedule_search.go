@@ -315,7 +315,8 @@ func (search *searching) tellAgain(first *made, kind string) error {
 			"clocks, orders of maps and of select, input, or goroutines of the queue's own\n", seed)
 		return nil
 	}
-	small := smallest{search: search, kind: kind, best: first, switches: first.scheduler.made, most: mostReplays}
+	small := smallest{search: search, kind: kind, waiting: first.waiting(), best: first, switches: first.scheduler.made,
+		most: mostReplays}
 	if kind == "livelock" {
 		small.most = mostLivelocks
 	}
@@ -343,6 +344,7 @@ func (search *searching) tellAgain(first *made, kind string) error {
 type smallest struct {
 	search     *searching
 	kind       string
+	waiting    string
 	best       *made
 	operations []key
 	switches   []change
@@ -352,13 +354,13 @@ type smallest struct {
 
 func (small *smallest) leaveOut() {
 	for round := 0; round < 2; round++ {
-		operations := small.best.operations()
-		skipped := map[key]bool{}
-		small.operations = fewest(operations, func(some []key) bool {
-			skipped = without(small.best.planned(), some)
+		fixed, free := small.best.operations(small.waiting)
+		left := fewest(free, func(some []key) bool {
+			skipped := without(small.best.planned(), append(some[:len(some):len(some)], fixed...))
 			return small.shows(variant{switches: small.switches, skipped: skipped})
 		}, small.round())
-		skipped = without(small.best.planned(), small.operations)
+		small.operations = append(left[:len(left):len(left)], fixed...)
+		skipped := without(small.best.planned(), small.operations)
 		small.switches = fewest(small.best.scheduler.made, func(some []change) bool {
 			return small.shows(variant{switches: some, skipped: skipped})
 		}, small.round())
@@ -406,7 +408,7 @@ func (small *smallest) shows(variant variant) bool {
 	if err != nil {
 		small.err = err
 	}
-	if kind != small.kind {
+	if kind != small.kind || made.waiting() != small.waiting {
 		return false
 	}
 	small.best = made
@@ -454,9 +456,26 @@ func (made *made) planned() []key {
 	return all
 }
 
-// The planned operations of a run by the tickets of their calls. A drain's aren't planned.
-func (made *made) operations() []key {
-	var found []key
+// The kinds of the calls that are open if no goroutine gets on; two runs that show the same have the same kinds.
+func (made *made) waiting() string {
+	isOpen := map[string]bool{}
+	for _, call := range made.history.openCalls() {
+		isOpen[call.what] = made.outcome != ""
+	}
+	switch {
+	case isOpen[callEnq] && isOpen[callDeq]:
+		return "both"
+	case isOpen[callEnq]:
+		return callEnq
+	case isOpen[callDeq]:
+		return callDeq
+	}
+	return ""
+}
+
+// The planned operations of a run by the tickets of their calls. A drain's aren't planned. Where dequeues alone wait,
+// each enqueue is fixed, and the other way round: else a run would be left in which they wait for nothing.
+func (made *made) operations(waiting string) (fixed, free []key) {
 	var counts [MaxThreads]int
 	for place := range made.history.events {
 		event := &made.history.events[place]
@@ -466,12 +485,15 @@ func (made *made) operations() []key {
 		for made.scheduler.skipped[key{event.thread, counts[event.thread], 0}] {
 			counts[event.thread]++
 		}
-		if counts[event.thread] < made.options.Operations {
-			found = append(found, key{event.thread, counts[event.thread], 0})
+		at := key{event.thread, counts[event.thread], 0}
+		if at.operation < made.options.Operations && (waiting == callEnq || waiting == callDeq) && event.what != waiting {
+			fixed = append(fixed, at)
+		} else if at.operation < made.options.Operations {
+			free = append(free, at)
 		}
 		counts[event.thread]++
 	}
-	return found
+	return fixed, free
 }
 
 // A line of a trace, by ticket; a switch comes before the event of its ticket.

@@ -240,6 +240,7 @@ final class ScheduledSearch {
     /** Leaves out operations and switches of a run, while the same kind of violation is left. */
     private final class Smallest {
         private final String kind;
+        private final Set<Integer> waiting;
         private Made best;
         private List<Schedule.Key> operations = List.of();
         private List<Schedule.Switch> switches;
@@ -248,6 +249,7 @@ final class ScheduledSearch {
 
         Smallest(Made made, String kind) {
             this.kind = kind;
+            this.waiting = waiting(made);
             this.best = made;
             this.switches = made.switches();
             this.most = kind.equals("livelock") ? MOST_LIVELOCKS : MOST_REPLAYS;
@@ -256,7 +258,10 @@ final class ScheduledSearch {
         void leaveOut() throws Exception {
             for (int round = 0; round < 2; round++) {
                 List<Schedule.Switch> all = switches;
-                operations = fewest(operationsOf(best), some -> shows(new Variant(all, 0, without(some))));
+                List<Schedule.Key> fixed = operationsOf(best, waiting, true);
+                operations = fewest(operationsOf(best, waiting, false),
+                        some -> shows(new Variant(all, 0, without(joined(some, fixed)))));
+                operations = joined(operations, fixed);
                 switches = fewest(best.switches(), some -> shows(new Variant(some, 0, without(operations))));
             }
             best.wanted.clear();
@@ -294,7 +299,7 @@ final class ScheduledSearch {
         private boolean shows(Variant variant) throws Exception {
             left--;
             Made made = make(best.history.seed, variant);
-            boolean isSame = kind(made).equals(kind);
+            boolean isSame = kind(made).equals(kind) && waiting(made).equals(waiting);
             best = isSame ? made : best;
             return isSame;
         }
@@ -318,8 +323,21 @@ final class ScheduledSearch {
         }
     }
 
-    // The planned operations of a run by the tickets of their calls. A drain's aren't planned.
-    private static List<Schedule.Key> operationsOf(Made made) {
+    private static <T> List<T> joined(List<T> some, List<T> others) {
+        List<T> all = new ArrayList<>(some);
+        all.addAll(others);
+        return all;
+    }
+
+    // The kinds of the calls that are open if no thread gets on; two runs that show the same have the same kinds.
+    private static Set<Integer> waiting(Made made) {
+        List<Recorder.Event> open = made.scheduler.outcome == null ? List.of() : made.history.openCalls();
+        return open.stream().map(Recorder.Event::what).collect(Collectors.toSet());
+    }
+
+    // The planned operations of a run by the tickets of their calls. A drain's aren't planned. Where dequeues alone
+    // wait, each enqueue is fixed, and the other way round: else a run would be left in which they wait for nothing.
+    private static List<Schedule.Key> operationsOf(Made made, Set<Integer> waiting, boolean areFixed) {
         List<Schedule.Key> found = new ArrayList<>();
         int[] counts = new int[Recorder.MAX_THREADS];
         for (Recorder.Event event : made.history.events) {
@@ -330,7 +348,8 @@ final class ScheduledSearch {
             while (made.scheduler.skipped.contains(new Schedule.Key(thread, counts[thread], 0))) {
                 counts[thread]++;
             }
-            if (counts[thread] < made.operations) {
+            boolean isFixed = waiting.size() == 1 && !waiting.contains(event.what());
+            if (counts[thread] < made.operations && isFixed == areFixed) {
                 found.add(new Schedule.Key(thread, counts[thread], 0));
             }
             counts[thread]++;

@@ -157,9 +157,9 @@ class Thread:
         if self.seat is not None:
             self.seat.ended()
 
-    def _skips(self):
+    def _skips(self, is_enqueue):
         """Whether a run that is made again does without this operation."""
-        is_skipped = self.seat is not None and self.seat.scheduler.skips(self.seat)
+        is_skipped = self.seat is not None and self.seat.scheduler.skips(self.seat, is_enqueue)
         self._asked += is_skipped
         return is_skipped
 
@@ -437,7 +437,7 @@ def _run_with(options, queue, scheduler):
 
     def make_operations(thread):
         for is_enqueue in _plan(options, thread.number):
-            if thread._skips():
+            if thread._skips(is_enqueue):
                 continue
             if is_enqueue:
                 thread.enqueue(queue.enqueue)

@@ -457,6 +457,7 @@ class Scheduler:
         self.is_replay = switches is not None
         self.is_again = False    # nothing is said that was said before
         self.skipped = ()    # operations that aren't made, by thread and number
+        self.planned = {}    # those that are made, in their order, and whether they are enqueues
         self.most_spins = REPLAY_SPINS if self.is_replay else SPINS
         self.strategy = _Replay(self, switches) if self.is_replay else _OF_STRATEGY[drawn.strategy](self, drawn)
 
@@ -607,10 +608,13 @@ class Scheduler:
         self._go_on(seat, self.strategy.next(seat, "between"), "between", None)
         self._set_stop(seat)
 
-    def skips(self, seat):
+    def skips(self, seat, is_enqueue):
         """Whether the thread's next operation isn't made."""
-        is_skipped = (seat.number, seat.operation) in self.skipped
+        key = seat.number, seat.operation
+        is_skipped = key in self.skipped
         seat.operation += is_skipped
+        if not is_skipped:
+            self.planned[key] = is_enqueue
         return is_skipped
 
     def wait_for_others(self, seat):

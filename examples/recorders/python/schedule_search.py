@@ -25,6 +25,7 @@ class Made:
     history: object
     switches: list
     outcome: str    # deadlock, livelock or None
+    planned: dict    # its operations in their order, by thread and number, and whether they are enqueues
     wanted: set = dataclasses.field(default_factory=set)    # the keys of switches that were left
 
     def text(self):
@@ -82,7 +83,7 @@ class Search:
         scheduler.is_again = is_again
         scheduler.skipped = skipped
         history = self.recorder._run_with(options, queue, scheduler)
-        return Made(options, history, scheduler.made, scheduler.outcome)
+        return Made(options, history, scheduler.made, scheduler.outcome, scheduler.planned)
 
     def _judge(self, made, is_judged):
         recorder, history = self.recorder, made.history
@@ -106,6 +107,10 @@ class Search:
             return "an exception" if made.history.has_ended else "a hang"
         verdict, _ = self.recorder._ask(made.options, "check", made.history)
         return verdict.partition("\n")[0]
+
+    def signature(self, made):
+        """The kind of a run, and if no thread gets on those of the calls that are open: the same if runs show the same."""
+        return self.kind(made), frozenset(call[2] for call in made.history._open_calls()) if made.outcome else None
 
     def _tell_again(self, made, kind):
         """Makes the run again, leaves out switches, and prints what is left."""
@@ -140,10 +145,10 @@ class _Smallest:
     def __init__(self, search, made, kind):
         self.search = search
         self.kind = kind
+        self.signature = search.signature(made)
         self.best = made
         self.switches = made.switches
-        options = made.options
-        self.operations = [(thread, n) for thread in range(options.threads) for n in range(options.operations)]
+        self.operations = list(made.planned)
         self.planned = set(self.operations)
         self.most = MOST_REPLAYS if kind != "livelock" else MOST_LIVELOCKS
         self.left = 0    # replays of the round
@@ -168,16 +173,22 @@ class _Smallest:
         self.left -= 1
         skipped = self.planned.difference(operations)
         made = self.search.make(self.best.options.seed, switches, skipped, few, is_again=True)
-        if self.search.kind(made) != self.kind:
+        if self.search.signature(made) != self.signature:
             return False
         self.best = made
         return True
 
     def leave_out_operations(self):
-        # By the ticket of the call. What comes last is left out first.
-        places = {key: place for place, key in enumerate(self.best.history.operations())}
-        made = sorted((one for one in self.operations if one in places), key=places.get)
-        self.operations = self._fewest(made, lambda operations: self._shows(operations, self.switches))
+        """What comes last is left out first.
+
+        Where dequeues alone wait, each enqueue stays, and the other way round: else a run would be left in which they
+        wait for nothing.
+        """
+        waiting = self.signature[1] or ()
+        stays = {"call-deq": True, "call-enq": False}[min(waiting)] if len(waiting) == 1 else None
+        fixed = [key for key, is_enqueue in self.best.planned.items() if is_enqueue is stays]
+        free = [key for key, is_enqueue in self.best.planned.items() if is_enqueue is not stays]
+        self.operations = fixed + self._fewest(free, lambda some: self._shows(fixed + some, self.switches))
 
     def leave_out_switches(self):
         self.switches = self._fewest(self.best.switches, lambda switches: self._shows(self.operations, switches))
