@@ -109,7 +109,7 @@ class Search:
         return verdict.partition("\n")[0]
 
     def signature(self, made):
-        """The kind of a run, and if no thread gets on those of the calls that are open: the same if runs show the same."""
+        """The kind of a run, and if no thread gets on, which calls are open: equal if two runs show the same."""
         return self.kind(made), frozenset(call[2] for call in made.history._open_calls()) if made.outcome else None
 
     def _tell_again(self, made, kind):
