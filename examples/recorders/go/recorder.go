@@ -82,7 +82,7 @@ type Options struct {
 	Pattern    Pattern
 	Percent    uint64                            // enqueues of a hundred operations, for Mix
 	Seed       uint64                            // of the run, or of the first run of a search
-	Runs       uint64                            // how many a search makes at most
+	Runs       uint64                            // how many a search makes at most; 0: 100, or 300 with chosen schedules
 	Timeout    time.Duration                     // a run without an event for so long is given up
 	Value      func(thread int, n uint64) uint64 // of a thread's operation n; values have to differ
 	First      uint64                            // added to n; 1 for a queue that takes 0 for "nothing"
@@ -90,6 +90,14 @@ type Options struct {
 	Drain      bool                              // take values out at the end, until the queue says that it is empty
 	Folder     string                            // where histories and reports are kept
 	Program    string                            // if empty, that of the variable FIFOBENCH, else that on the PATH
+	Schedule   any                               // with schedule.go a Schedule; nil: if FIFOBENCH_SCHEDULE=1
+	isQuiet    bool                              // what was said once isn't said again
+	tellAgain  func(kind string)                 // the last lines of a verdict, with chosen schedules
+}
+
+// Makes a search, if chosen schedules are asked for. Set by schedule.go, if that is beside this file.
+var chosenSearch = func(*Options, func() Queue) (answer Answer, isChosen bool, err error) {
+	return Wrong, os.Getenv("FIFOBENCH_SCHEDULE") == "1", errors.New("FIFOBENCH_SCHEDULE=1, but there is no schedule.go")
 }
 
 // Defaults gives the settings that a search has as a rule.
@@ -99,7 +107,6 @@ func Defaults() Options {
 		Operations: 500,
 		Percent:    50,
 		Seed:       1,
-		Runs:       100,
 		Timeout:    30 * time.Second,
 		Value:      func(thread int, n uint64) uint64 { return uint64(thread)<<32 + n },
 		Drain:      true,
@@ -519,7 +526,7 @@ func (run *run) drain(queue Queue) {
 			return
 		}
 	}
-	if room > left {
+	if room > left && !run.options.isQuiet {
 		say("seed %d: the queue gave more values than went in", run.options.Seed)
 	}
 }
@@ -645,6 +652,12 @@ func search(options Options, makeQueue func() Queue) (Answer, error) {
 	if err := options.Check(); err != nil {
 		return Wrong, err
 	}
+	if answer, isChosen, err := chosenSearch(&options, makeQueue); isChosen {
+		return answer, err
+	}
+	if options.Runs == 0 {
+		options.Runs = 100
+	}
 	operations, overlapping := 0, 0
 	isJudged := options.isFound()
 	for number := uint64(0); number < options.Runs; number++ {
@@ -749,6 +762,10 @@ func (options *Options) judge(history *History) (Answer, error) {
 	fmt.Printf("%s: seed %d, %s\n", firstLine, seed, pattern)
 	fmt.Printf("  history: %s\n  report:  %s\n", kept, report)
 	fmt.Printf("  see it:  %s draw --text < %s\n", options.program(), report)
+	if options.tellAgain != nil {
+		options.tellAgain(firstLine)
+		return Violation, nil
+	}
 	fmt.Printf("  again:   seed %d, pattern %s: the same plan, though threads may meet in another way\n", seed, pattern)
 	return Violation, nil
 }

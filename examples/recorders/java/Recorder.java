@@ -13,11 +13,10 @@ import java.util.Arrays;
 import java.util.Comparator;
 import java.util.List;
 import java.util.Locale;
-import java.util.Objects;
-import java.util.concurrent.TimeUnit;
 import java.util.concurrent.atomic.AtomicInteger;
 import java.util.concurrent.atomic.AtomicLong;
 import java.util.function.BooleanSupplier;
+import java.util.function.Consumer;
 import java.util.function.Supplier;
 
 /**
@@ -67,24 +66,19 @@ public final class Recorder implements AutoCloseable {
     }
 
     /** One call of enqueue. */
-    public interface Enqueue {
-        boolean call(long value) throws Exception;
-    }
+    public interface Enqueue { boolean call(long value) throws Exception; }
 
     /** One call of dequeue. */
-    public interface Dequeue {
-        Long call() throws Exception;
-    }
+    public interface Dequeue { Long call() throws Exception; }
+
+    /** What chooses how threads interleave: a {@code Schedule}, if Schedule.java is beside this file. */
+    public interface Chooser { Answer search(Recorder recorder, Supplier<Queue> makeQueue) throws Exception; }
 
     /** What one thread does in a loop of your own. */
-    public interface Work {
-        void make(Worker worker) throws Exception;
-    }
+    public interface Work { void make(Worker worker) throws Exception; }
 
     /** The value of operation n, from 0, of a thread. */
-    public interface Values {
-        long value(int thread, long n);
-    }
+    public interface Values { long value(int thread, long n); }
 
     /** Which operations a thread makes. */
     public enum Pattern {
@@ -111,19 +105,22 @@ public final class Recorder implements AutoCloseable {
         WRONG
     }
 
-    private int threads = 4;
-    private int operations = 500;
+    int threads = 4;
+    int operations = 500;
     private Pattern pattern;
     private int percent = 50;
-    private long seed = 1;
-    private long runs = 100;
-    private Duration timeout = Duration.ofSeconds(30);
+    long seed = 1;
+    long runs;
+    Duration timeout = Duration.ofSeconds(30);
     private Values values = (thread, n) -> ((long) thread << 32) + n;
     private long first;
-    private int initial;
-    private boolean drains = true;
-    private Path folder = Path.of("fifobench-runs");
+    int initial;
+    boolean drains = true;
+    Path folder = Path.of("fifobench-runs");
     private String program;
+    private Chooser chooser;
+    Consumer<String> tellAgain;    // the last lines of a verdict, with chosen schedules
+    boolean isQuiet;    // what was said once isn't said again
     private final List<Thread> hanging = new ArrayList<>();
 
     /** 1 to 64; 4 unless set. */
@@ -156,7 +153,7 @@ public final class Recorder implements AutoCloseable {
         return this;
     }
 
-    /** How many runs a search makes at most; 100 unless set. */
+    /** How many runs a search makes at most; unless set 100, or 300 with chosen schedules. */
     public Recorder runs(long runs) {
         this.runs = runs;
         return this;
@@ -204,6 +201,12 @@ public final class Recorder implements AutoCloseable {
         return this;
     }
 
+    /** What chooses how threads interleave; unless set, a Schedule if the environment has FIFOBENCH_SCHEDULE=1. */
+    public Recorder schedule(Chooser chooser) {
+        this.chooser = chooser;
+        return this;
+    }
+
     /** A queue of two calls. */
     public static Queue queue(Enqueue enqueue, Dequeue dequeue) {
         return new Queue() {
@@ -221,14 +224,9 @@ public final class Recorder implements AutoCloseable {
 
     // What an event is: a place in the list of its words.
     private static final String[] WORDS = {"call-enq", "ret-enq", "ret-not", "call-deq", "ret-deq", "ret-empty"};
-    private static final int CALL_ENQ = 0;
-    private static final int RET_ENQ = 1;
-    private static final int RET_NOT = 2;
-    private static final int CALL_DEQ = 3;
-    private static final int RET_DEQ = 4;
-    private static final int RET_EMPTY = 5;
+    static final int CALL_ENQ = 0, RET_ENQ = 1, RET_NOT = 2, CALL_DEQ = 3, RET_DEQ = 4, RET_EMPTY = 5;
 
-    private record Event(long ticket, int thread, int what, long value) {
+    record Event(long ticket, int thread, int what, long value) {
         boolean isCall() {
             return what == CALL_ENQ || what == CALL_DEQ;
         }
@@ -237,8 +235,8 @@ public final class Recorder implements AutoCloseable {
     /** What one thread records. Only that thread may use it. */
     public final class Worker {
         private final AtomicLong tickets;
-        private final int number;
-        private long asked;
+        final int number;
+        long asked;
         // Of each event the ticket times 8 plus its word, and the value. Who reads takes the count first.
         private volatile long[] noted;
         private final AtomicInteger count = new AtomicInteger();
@@ -306,10 +304,8 @@ public final class Recorder implements AutoCloseable {
 
     // The common start: threads wait, for a bounded time, until all are there and two are seen to run at once.
     private static final class Start {
-        private static final int LOOKS = 1_000;
-        private static final int PASSES = 64;
-        private static final long ARRIVAL_NANOS = 1_000_000_000;
-        private static final long RUNNING_NANOS = 100_000_000;
+        private static final int LOOKS = 1_000, PASSES = 64;
+        private static final long ARRIVAL_NANOS = 1_000_000_000, RUNNING_NANOS = 100_000_000;
         private final int threads;
         private final AtomicInteger arrived = new AtomicInteger();
         private final AtomicInteger lastBy = new AtomicInteger();
@@ -351,11 +347,11 @@ public final class Recorder implements AutoCloseable {
 
     /** What was recorded: the events of all threads, by ticket. */
     public static final class History {
-        private final long seed;
-        private final List<Event> events;
+        final long seed;
+        final List<Event> events;
         private final List<Long> initial;
-        private final List<String> failures;
-        private final boolean hasEnded;
+        final List<String> failures;
+        final boolean hasEnded;
 
         private History(long seed, List<Event> events, List<Long> initial, List<String> failures, boolean hasEnded) {
             this.seed = seed;
@@ -380,12 +376,12 @@ public final class Recorder implements AutoCloseable {
             return failures;
         }
 
-        private List<Event> openCalls() {
+        List<Event> openCalls() {
             Event[] open = new Event[MAX_THREADS];
             for (Event event : events) {
                 open[event.thread] = event.isCall() ? event : null;
             }
-            return Arrays.stream(open).filter(Objects::nonNull).toList();
+            return Arrays.stream(open).filter(event -> event != null).toList();
         }
 
         /** Writes the text of the history: bytes of ASCII. */
@@ -408,9 +404,7 @@ public final class Recorder implements AutoCloseable {
 
         // How many operations overlap another.
         private long overlapping() {
-            long open = 0;
-            long met = 0;
-            long overlapping = 0;
+            long open = 0, met = 0, overlapping = 0;
             for (Event event : events) {
                 long thread = 1L << event.thread;
                 if (event.isCall()) {
@@ -476,15 +470,15 @@ public final class Recorder implements AutoCloseable {
     }
 
     // One run: its workers, and what went wrong.
-    private final class Run {
-        private final long seed;
-        private final AtomicLong tickets = new AtomicLong();
-        private final Worker[] workers;
-        private final List<Long> initials = new ArrayList<>();
-        private final List<String> failures = new ArrayList<>();
+    final class Run {
+        final long seed;
+        final AtomicLong tickets = new AtomicLong();
+        final Worker[] workers;
+        final List<Long> initials = new ArrayList<>();
+        final List<String> failures = new ArrayList<>();
         private final AtomicInteger ended = new AtomicInteger();
         private volatile boolean hasFailed;
-        private boolean hasEnded = true;
+        boolean hasEnded = true;
 
         Run(long seed, int initial) {
             checkSettings();
@@ -518,7 +512,7 @@ public final class Recorder implements AutoCloseable {
         // Stays until all threads have made their operations; false if one failed.
         private boolean haveAllEnded() throws InterruptedException {
             while (ended.get() < workers.length && !hasFailed) {
-                TimeUnit.MICROSECONDS.sleep(50);
+                Thread.sleep(0, 50_000);
             }
             return !hasFailed;
         }
@@ -552,8 +546,7 @@ public final class Recorder implements AutoCloseable {
         // Stays until all have ended, or no ticket is drawn for the time of the settings. Who hangs stays in the list.
         private void waitForEnd(List<Thread> running) {
             boolean isInterrupted = false;
-            long seen = 0;
-            long since = System.nanoTime();
+            long seen = 0, since = System.nanoTime();
             while (!running.isEmpty() && System.nanoTime() - since < timeout.toNanos()) {
                 try {
                     running.get(0).join(50);
@@ -585,7 +578,7 @@ public final class Recorder implements AutoCloseable {
         }
 
         // Takes out what is left, until the queue says that it is empty or has given more values than went in.
-        private void drain(Queue queue) throws Exception {
+        void drain(Queue queue) throws Exception {
             List<Event> events = history().events;
             long taken = events.stream().filter(event -> event.what == RET_ENQ).count();
             long given = events.stream().filter(event -> event.what == RET_DEQ).count();
@@ -596,26 +589,25 @@ public final class Recorder implements AutoCloseable {
                     return;
                 }
             }
-            if (room > left) {
+            if (room > left && !isQuiet) {
                 say("seed " + seed + ": the queue gave more values than went in");
             }
         }
     }
 
-    private static String toldCall(Event call) {
+    static String toldCall(Event call) {
         String kind = call.what == CALL_DEQ ? "dequeue" : "enqueue of " + Long.toUnsignedString(call.value);
         return "thread " + call.thread + " is inside " + kind;
     }
 
     // SplitMix64.
-    private static final class Words {
+    static final class Words {
         private long state;
 
         Words(long state) {
             this.state = state;
         }
 
-        // The next word modulo a number.
         int below(int number) {
             state += 0x9e3779b97f4a7c15L;
             long z = state;
@@ -631,7 +623,7 @@ public final class Recorder implements AutoCloseable {
     }
 
     // What one thread does: true is an enqueue.
-    private boolean[] plan(long seed, int thread) {
+    boolean[] plan(long seed, int thread) {
         Words words = new Words(seed * MAX_THREADS + thread);
         boolean[] plan = new boolean[operations];
         Pattern pattern = patternOf(seed);
@@ -673,16 +665,23 @@ public final class Recorder implements AutoCloseable {
         try {
             return searchRuns(makeQueue);
         } catch (Exception failure) {
-            say(failure.getMessage() != null ? failure.getMessage() : failure.toString());
+            boolean isNamed = failure.getMessage() == null || failure instanceof ReflectiveOperationException;
+            say(isNamed ? failure.toString() : failure.getMessage());
             return Answer.WRONG;
         }
     }
 
     private Answer searchRuns(Supplier<Queue> makeQueue) throws Exception {
-        long all = 0;
-        long overlapping = 0;
+        if (chooser == null && "1".equals(System.getenv("FIFOBENCH_SCHEDULE"))) {
+            String name = Recorder.class.getName().replaceAll("Recorder$", "Schedule");
+            chooser = (Chooser) Class.forName(name).getDeclaredConstructor().newInstance();
+        }
+        if (chooser != null) {
+            return chooser.search(this, makeQueue);
+        }
+        long all = 0, overlapping = 0, end = seed + (runs == 0 ? 100 : runs);
         boolean isJudged = isFound();
-        for (long ofRun = seed; ofRun < seed + runs; ofRun++) {
+        for (long ofRun = seed; ofRun < end; ofRun++) {
             History history = run(ofRun, makeQueue.get());
             if (!history.failures.isEmpty()) {
                 if (history.hasEnded) {
@@ -703,7 +702,7 @@ public final class Recorder implements AutoCloseable {
             overlapping += history.overlapping();
         }
         System.out.printf("%s %d runs (seeds %d to %d); %d of 100 operations overlap another%n",
-                isJudged ? "no violation in" : "nothing judged in", runs, seed, seed + runs - 1,
+                isJudged ? "no violation in" : "nothing judged in", end - seed, seed, end - 1,
                 all == 0 ? 0 : 100 * overlapping / all);
         return isJudged ? Answer.NO_VIOLATION : Answer.WRONG;
     }
@@ -714,7 +713,7 @@ public final class Recorder implements AutoCloseable {
     }
 
     // Whether the program can be started; if it can't, a line says so.
-    private boolean isFound() {
+    boolean isFound() {
         try {
             ProcessBuilder help = new ProcessBuilder(program(), "help");
             help.redirectOutput(Redirect.DISCARD).redirectError(Redirect.DISCARD).start();
@@ -725,10 +724,10 @@ public final class Recorder implements AutoCloseable {
         }
     }
 
-    private record Told(byte[] text, int status) {}
+    record Told(byte[] text, int status) {}
 
     // What the program writes about this history, and its status.
-    private Told ask(String command, History history) throws IOException {
+    Told ask(String command, History history) throws IOException {
         Process judge = new ProcessBuilder(program(), command).redirectError(Redirect.INHERIT).start();
         try (OutputStream input = judge.getOutputStream()) {
             history.write(input);
@@ -744,7 +743,7 @@ public final class Recorder implements AutoCloseable {
         }
     }
 
-    private Answer judge(History history) throws IOException {
+    Answer judge(History history) throws IOException {
         Told verdict = ask("check", history);
         if (verdict.status == 0) {
             return Answer.NO_VIOLATION;
@@ -758,16 +757,18 @@ public final class Recorder implements AutoCloseable {
         Path report = folder.resolve(seed + ".report");
         Files.write(report, ask("shrink", history).text);
         Pattern pattern = patternOf(seed);
-        System.out.println(firstLine + ": seed " + seed + ", " + pattern);
-        System.out.println("  history: " + kept);
-        System.out.println("  report:  " + report);
-        System.out.println("  see it:  " + program() + " draw --text < " + report);
-        System.out.println("  again:   seed " + seed + ", pattern " + pattern
-                + ": the same plan, though threads may meet in another way");
+        System.out.printf("%s: seed %d, %s%n  history: %s%n  report:  %s%n  see it:  %s draw --text < %s%n", firstLine,
+                seed, pattern, kept, report, program(), report);
+        if (tellAgain != null) {
+            tellAgain.accept(firstLine);
+        } else {
+            System.out.println("  again:   seed " + seed + ", pattern " + pattern
+                    + ": the same plan, though threads may meet in another way");
+        }
         return Answer.VIOLATION;
     }
 
-    private Path keep(History history, String kind) throws IOException {
+    Path keep(History history, String kind) throws IOException {
         Files.createDirectories(folder);
         Path path = folder.resolve(history.seed + "." + kind);
         try (OutputStream to = Files.newOutputStream(path)) {
@@ -777,7 +778,7 @@ public final class Recorder implements AutoCloseable {
     }
 
     // Keeps what there is, and says what happened.
-    private void keepFailed(History history) {
+    void keepFailed(History history) {
         say("seed " + history.seed + ": " + String.join(", ", history.failures));
         try {
             say("what was recorded: " + keep(history, history.isComplete() ? "history" : "pending"));

@@ -22,14 +22,17 @@ judges each. A loop of your own is recorded by `record`. docs/RECORDING.md has t
 
 The interpreter's lock lets one thread run at a time, and hides most faults: threads change places between two steps of
 the interpreter alone, which this module lets them do often. It pays on a build without that lock (3.13's free-threaded
-build and later), and over a queue in another language that gives the lock up.
+build and later), and over a queue in another language that gives the lock up. With `schedule.py` beside this file and
+FIFOBENCH_SCHEDULE=1 in the environment the seed chooses where threads change places; that file says how.
 
 A queue may also have `preload(value)`, which puts an initial value in (else `enqueue` does), and `enter(thread)` and
 `leave(thread)`, which are called in each thread before the common start and after its last operation.
 """
 
+import contextlib
 import dataclasses
 import enum
+import importlib.util
 import itertools
 import os
 import subprocess
@@ -63,7 +66,7 @@ class Options:
     pattern: str = None
     percent: int = 50    # enqueues of a hundred operations, for mix
     seed: int = 1    # of the run, or of the first run of a search
-    runs: int = 100    # how many a search makes at most
+    runs: int = None    # how many a search makes at most; None: 100, or 300 with chosen schedules
     timeout: float = 30.0    # seconds; a run without an event for so long is given up as hanging
     first: int = 0    # added to n; 1 for a queue that takes 0 for "nothing"
     value: object = None    # the value of a thread's operation n, a function (thread, n); None: thread * 2**32 + n
@@ -71,6 +74,9 @@ class Options:
     drain: bool = True    # take values out after the threads have ended, until the queue says that it is empty
     folder: str = "fifobench-runs"    # where histories and reports are kept
     program: str = None    # else that of the environment variable FIFOBENCH, else fifobench on the PATH
+    # Whether the seed chooses how threads interleave, by schedule.py beside this file: True, False, or a dict of its
+    # settings. None: yes if the environment has FIFOBENCH_SCHEDULE=1.
+    schedule: object = None
 
     def pattern_of(self, seed):
         """The pattern of a seed."""
@@ -112,6 +118,7 @@ class Thread:
     def __init__(self, options, draw, number):
         self.number = number    # from 0
         self.failure = None
+        self.seat = None    # with chosen schedules, what schedule.py knows of the thread
         self._options = options
         self._draw = draw
         self._asked = 0
@@ -129,17 +136,32 @@ class Thread:
         value = self._options.value_of(self.number, self._asked + self._options.first)
         self._asked += 1
         self._note("call-enq", value)
-        taken = call(value) is not False
+        taken = self._call(call, value) is not False
         self._note("ret-enq" if taken else "ret-not", None)
+        self._end_operation()
         return taken
 
     def dequeue(self, call):
         """Calls `call()`, which gives the value that the queue gave, or None if it said that it is empty."""
         self._asked += 1
         self._note("call-deq", None)
-        found = call()
+        found = self._call(call)
         self._note("ret-empty" if found is None else "ret-deq", found)
+        self._end_operation()
         return found
+
+    def _call(self, call, *words):
+        return call(*words) if self.seat is None else self.seat.inside(call, *words)
+
+    def _end_operation(self):
+        if self.seat is not None:
+            self.seat.ended()
+
+    def _skips(self, is_enqueue):
+        """Whether a run that is made again does without this operation."""
+        is_skipped = self.seat is not None and self.seat.scheduler.skips(self.seat, is_enqueue)
+        self._asked += is_skipped
+        return is_skipped
 
 
 class _Start:
@@ -225,6 +247,12 @@ class History:
         to.writelines(self._lines())
         to.flush()
 
+    def operations(self):
+        """The thread of each operation, and its number there from 0 on, in the order of the calls."""
+        made = {}
+        return [(event[1], made.setdefault(event[1], itertools.count()).__next__()) for event in self._events
+                if _is_call(event)]
+
     def overlapping(self):
         """How many operations there are, and how many of them overlap another."""
         open_now, met, overlapping = set(), set(), 0
@@ -274,12 +302,13 @@ def _nothing(number):
 class _Run:
     """One run: its threads, and what went wrong."""
 
-    def __init__(self, options, initial):
+    def __init__(self, options, initial, scheduler=None):
         options.check()
         self.options = options
         self.initial = initial
         self.draw = _tickets()
         self.threads = [Thread(options, self.draw, number) for number in range(options.threads)]
+        self.scheduler = scheduler    # with chosen schedules
         self.start = _Start(len(self.threads))
         self.ended = set()
         self.failures = []
@@ -289,8 +318,11 @@ class _Run:
     def _make_steps(self, thread, work, queue):
         """What one thread does; the first one drains when all have ended."""
         try:
+            if self.scheduler is not None:
+                self.scheduler.enter(thread)
             getattr(queue, "enter", _nothing)(thread.number)
-            self.start.meet(thread.number)
+            if self.scheduler is None:
+                self.start.meet(thread.number)
             work(thread)
             self.ended.add(thread.number)
             if queue and thread.number == 0 and self.options.drain and self._have_all_ended():
@@ -299,9 +331,14 @@ class _Run:
         except BaseException as failure:
             thread.failure = failure
             self.has_failed = True
+        finally:
+            if self.scheduler is not None:
+                self.scheduler.leave(thread)
 
     def _have_all_ended(self):
         """Stays until all threads have made their operations; False if one failed."""
+        if self.scheduler is not None:
+            self.scheduler.wait_for_others(self.threads[0].seat)
         while len(self.ended) < len(self.threads) and not self.has_failed:
             time.sleep(5e-5)
         return not self.has_failed
@@ -310,24 +347,36 @@ class _Run:
         """Runs the threads, and waits until they have ended or the time is over."""
         running = [threading.Thread(target=self._make_steps, args=(thread, work, queue), daemon=True)
                    for thread in self.threads]
-        interval = sys.getswitchinterval()
-        sys.setswitchinterval(1e-5)
-        try:
+        with self._taking_turns() if self.scheduler is None else self.scheduler.going_on(self):
             self._wait(running)
-        finally:
-            sys.setswitchinterval(interval)
-        self.failures = [f"thread {thread.number} failed: {thread.failure!r}"
-                         for thread in self.threads if thread.failure]
+        self.failures = [f"thread {thread.number} failed: {thread.failure!r}" for thread in self.threads
+                         if thread.failure and (self.scheduler is None or not self.scheduler.is_over)]
+        if self.scheduler is not None and self.scheduler.outcome:
+            self.failures.append(self.scheduler.told_outcome(self.history()._open_calls()))
         if not self.has_ended:
             self.has_failed = True
             told = _told_calls(self.history()._open_calls())
             self.failures.append(f"no event for {self.options.timeout:g} s: {told}")
+            if self.scheduler is not None:
+                self.failures.append(self.scheduler.told_block())
             self.history().keep_failed(self.options)
+
+    @contextlib.contextmanager
+    def _taking_turns(self):
+        """Lets the interpreter's threads take turns as often as it can."""
+        interval = sys.getswitchinterval()
+        sys.setswitchinterval(1e-5)
+        try:
+            yield
+        finally:
+            sys.setswitchinterval(interval)
 
     def _wait(self, running):
         """Stays until all have ended, or no event comes for the time of the options."""
         for thread in running:
             thread.start()
+        if self.scheduler is not None:
+            self.scheduler.open()
         seen, since = 0, time.monotonic()
         while running and time.monotonic() - since < self.options.timeout:
             running[0].join(0.05)
@@ -353,16 +402,16 @@ class _Run:
         for _ in range(min(left + 1, room)):
             if self.threads[0].dequeue(queue.dequeue) is None:
                 return
-        if room > left:
+        if room > left and (self.scheduler is None or not self.scheduler.is_again):
             _say(f"seed {self.options.seed}: the queue gave more values than went in")
 
 
 def record(threads, operations, work, **settings):
     """Runs `work(thread)` in each of the threads, which begin together, and gives what they recorded.
 
-    There is no drain, no initial value and no pattern. `settings` are those of Options. If a call raises an exception,
-    its thread ends and the others go on; if the run hangs, what there is is kept in the folder, and the threads that
-    hang are left. In both cases the history has failures.
+    There is no drain, no initial value, no pattern and no chosen schedule. `settings` are those of Options. If a call
+    raises an exception, its thread ends and the others go on; if the run hangs, what there is is kept in the folder,
+    and the threads that hang are left. In both cases the history has failures.
     """
     run_of = _Run(Options(threads=threads, operations=operations, **settings), [])
     run_of.go(work, None)
@@ -370,14 +419,26 @@ def record(threads, operations, work, **settings):
 
 
 def run(options, queue):
-    """One run over this queue, by the pattern of the seed."""
-    run_of = _Run(options, [options.value_of(MAX_THREADS, place) for place in range(options.initial)])
+    """One run over this queue, by the pattern of the seed.
+
+    With chosen schedules it may be what makes the queue, so that the locks which are made then give way.
+    """
+    chosen = _chosen(options)
+    if chosen is not None:
+        return chosen.run(sys.modules[__name__], options, queue)
+    return _run_with(options, queue, None)
+
+
+def _run_with(options, queue, scheduler):
+    run_of = _Run(options, [options.value_of(MAX_THREADS, place) for place in range(options.initial)], scheduler)
     for value in run_of.initial:
         if getattr(queue, "preload", queue.enqueue)(value) is False:
             raise ValueError(f"the queue has no room for the initial value {value}")
 
     def make_operations(thread):
         for is_enqueue in _plan(options, thread.number):
+            if thread._skips(is_enqueue):
+                continue
             if is_enqueue:
                 thread.enqueue(queue.enqueue)
             else:
@@ -414,16 +475,39 @@ def _plan(options, thread):
     return [n % 2 == 0 for n in range(options.operations)]
 
 
+_modules = {}    # those of the schedule, once they are loaded
+
+
+def _chosen(options):
+    """The module schedule_search.py beside this one, if chosen schedules are asked for; else None."""
+    is_asked = options.schedule
+    if is_asked is None:
+        is_asked = os.environ.get("FIFOBENCH_SCHEDULE", "") not in ("", "0")
+    if is_asked is False:
+        return None
+    for name in () if _modules else ("schedule_locks", "schedule", "schedule_search"):
+        path = os.path.join(os.path.dirname(os.path.abspath(__file__)), f"{name}.py")
+        spec = importlib.util.spec_from_file_location(f"fifobench_{name}", path)
+        _modules[name] = sys.modules[spec.name] = importlib.util.module_from_spec(spec)
+        spec.loader.exec_module(_modules[name])
+    _modules["schedule"].leave_out(*(module.__file__ for module in _modules.values()), _chosen.__code__.co_filename)
+    return _modules["schedule_search"]
+
+
 def search(options, make_queue):
     """Makes runs, each over a fresh queue, and judges each with `fifobench check`, until one is a violation.
 
     What it found is said on standard output. The first violation is kept in the folder: the history, and the report of
     `fifobench shrink`. If no program is found, nothing is judged, and every history is kept.
     """
+    chosen = _chosen(options)
+    if chosen is not None:
+        return chosen.Search(sys.modules[__name__], options, make_queue).answer()
     options.check()
     operations = overlapping = 0
     is_judged = _is_found(options)
-    for seed in range(options.seed, options.seed + options.runs):
+    runs = options.runs or 100
+    for seed in range(options.seed, options.seed + runs):
         of_run = dataclasses.replace(options, seed=seed)
         history = run(of_run, make_queue())
         try:
@@ -436,7 +520,7 @@ def search(options, make_queue):
         made, met = history.overlapping()
         operations, overlapping = operations + made, overlapping + met
     print("no violation in" if is_judged else "nothing judged in",
-          f"{options.runs} runs (seeds {options.seed} to {options.seed + options.runs - 1});",
+          f"{runs} runs (seeds {options.seed} to {options.seed + runs - 1});",
           f"{100 * overlapping // max(1, operations)} of 100 operations overlap another", flush=True)
     return Answer.NO_VIOLATION if is_judged else Answer.WRONG
 
@@ -473,7 +557,12 @@ def _ask(options, command, history):
     return told.stdout.decode("ascii", "replace"), told.returncode
 
 
-def _judge(options, history):
+def _tell_plan(options):
+    seed, pattern = options.seed, options.pattern_of(options.seed)
+    print(f"  again:   seed {seed}, pattern {pattern}: the same plan, though threads may meet in another way")
+
+
+def _judge(options, history, tell_again=None):
     verdict, status = _ask(options, "check", history)
     if status == 0:
         return Answer.NO_VIOLATION
@@ -490,6 +579,9 @@ def _judge(options, history):
     print(f"  history: {kept}")
     print(f"  report:  {report}")
     print(f"  see it:  {_program(options)} draw --text < {report}")
-    print(f"  again:   seed {seed}, pattern {pattern}: the same plan, though threads may meet in another way")
+    if tell_again is None:
+        _tell_plan(options)
+    else:
+        tell_again(first_line)
     sys.stdout.flush()
     return Answer.VIOLATION

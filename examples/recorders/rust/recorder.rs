@@ -23,7 +23,11 @@
 //! `FIFOBENCH=/path/to/fifobench cargo test` then makes 100 short runs, each over a fresh queue, and judges each. A
 //! loop of your own is recorded by `record`. docs/RECORDING.md has the rules that this module keeps.
 
-#![allow(dead_code)] // A test uses a part of it.
+#![allow(dead_code, unexpected_cfgs)] // A test uses a part of it.
+
+#[cfg(fifobench_schedule)]
+#[path = "schedule_runs.rs"]
+mod schedule;
 
 use std::any::Any;
 use std::env;
@@ -141,7 +145,7 @@ impl Default for Options {
             pattern: None,
             percent: 50,
             seed: 1,
-            runs: 100,
+            runs: if cfg!(fifobench_schedule) { 300 } else { 100 },
             timeout: Duration::from_secs(30),
             value: |thread, n| (thread as u64) << 32 | n,
             first: 0,
@@ -249,6 +253,8 @@ impl Run<'_> {
 
     // Stays until all threads have made their operations; false if one failed.
     fn have_all_ended(&self) -> bool {
+        #[cfg(fifobench_schedule)]
+        schedule::alone();
         while self.ended.load(Ordering::SeqCst) < self.options.threads && !self.has_failed.load(Ordering::SeqCst) {
             thread::sleep(Duration::from_micros(50));
         }
@@ -311,6 +317,8 @@ impl Thread<'_> {
     // The ticket is drawn first: of a call that is before the queue is asked, of a return after it has answered. What
     // came before a return is seen by every call that has a greater ticket: the order is sequentially consistent.
     fn note(&mut self, what: u64, value: u64) {
+        #[cfg(fifobench_schedule)]
+        schedule::before_ticket(what);
         let ticket = self.run.tickets.fetch_add(1, Ordering::SeqCst);
         assert!(ticket < MAX_EVENTS, "a history has at most {MAX_EVENTS} events");
         if self.used == self.chunk.slots.len() {
@@ -322,6 +330,8 @@ impl Thread<'_> {
         of_value.store(value, Ordering::Relaxed);
         self.used += 1;
         self.chunk.count.store(self.used, Ordering::Release);
+        #[cfg(fifobench_schedule)]
+        schedule::after_ticket(what, value);
     }
 }
 
@@ -528,6 +538,8 @@ pub fn run(options: &Options, queue: &impl Queue) -> History {
     options.check();
     let initial: Vec<u64> = (0..options.initial as u64).map(|place| (options.value)(MAX_THREADS, place)).collect();
     for (place, value) in initial.iter().enumerate() {
+        #[cfg(fifobench_schedule)]
+        schedule::initial(*value);
         assert!(queue.preload(*value), "the queue has no room for the initial value at place {place}");
     }
     let run = Run::new(options);
@@ -578,6 +590,10 @@ fn make_steps(run: &Run, start: &Start, number: usize, steps: &Steps) -> Result<
 
 // Runs the threads, with a watchdog beside them, and gives what went wrong in them.
 fn run_threads(run: &Run, initial: &[u64], steps: &Steps) -> Vec<String> {
+    #[cfg(fifobench_schedule)]
+    if schedule::is_chosen() {
+        return schedule::run_threads(run, steps);
+    }
     let start = &Start::new(run.options.threads);
     thread::scope(|scope| {
         let (ended, end) = mpsc::channel::<()>();
@@ -668,7 +684,8 @@ fn drain(thread: &mut Thread, queue: &impl Queue, initial: usize) {
             return;
         }
     }
-    if room > left {
+    // A chosen schedule is made again and again, and the verdict says it.
+    if room > left && !cfg!(fifobench_schedule) {
         say(&format!("seed {}: the queue gave more values than went in", thread.run.options.seed));
     }
 }
@@ -690,6 +707,10 @@ pub fn search<Q: Queue>(options: &Options, make_queue: impl Fn() -> Q) -> Answer
 }
 
 fn search_runs<Q: Queue>(options: &Options, make_queue: impl Fn() -> Q) -> Result<Answer, String> {
+    #[cfg(fifobench_schedule)]
+    if schedule::is_chosen() {
+        return Ok(schedule::search(options, make_queue));
+    }
     let (mut operations, mut overlapping) = (0, 0);
     let is_judged = is_found(options);
     for number in 0..options.runs {
