@@ -1,6 +1,13 @@
 -- The way of the argument, from numbers to histories:
--- Counting: different places below a bound are at most so many.
--- Deciding: a violation of the chosen completion is one of each completion.
+-- Counting: different places below a bound are no more than the bound.
+-- Deciding: the three counting arguments; a violation of the completion that is given is one of each completion.
+-- Followed: the operations of a completion, and which precede which.
+-- Completing: the events that are kept, and the returns after them.
+-- Whole: the completion that is given is a complete history.
+-- Answering: the answers to pending calls, each to a call of its own and each of a value of its own.
+-- Decides: the completion that is given decides.
+-- Walks: walks over the events, with the last event of each thread.
+-- Sound: events without a fault are a complete history.
 pub mod Counting
 pub mod Deciding
 pub mod Followed
