@@ -1,14 +1,13 @@
 -- The answers to pending calls, the values that they give, and the operations that come of them.
-use Rattle.std.proofs.Common.{◌≡◌, ◌≢◌, ℕ, zero, suc, ◌+◌, ◌-◌, ◌<◌, ◌≤◌, ◌⊎◌, ◌++◌, inl, inr, Bool, true, false, not, List, [], ◌∷◌, length, map, Option, Some, None, refl, ap, sym, subst, ◌∙◌, arith}
-use Rattle.std.proofs.Common.{length-append, get_or, take, drop}
-use Rattle.std.specs.Prelude.{All, AllPairs, Contains, IsTrue, filter, filter_map, nat_eq, slice_get, ◌&&◌, option_and_then, cond}
-use Rattle.std.specs.List.{cons_option, last_or, list_any}
-use Rattle.std.proofs.lemmas.Bool.{cases_Bool, cases_lt, cases_order, eq-eqb, eqb-true, false≢true}
+use Rattle.std.proofs.Common.{◌≡◌, ◌≢◌, ℕ, zero, suc, ◌+◌, ◌-◌, ◌<◌, ◌⊎◌, ◌++◌, inl, inr, Bool, true, false, not, List, [], ◌∷◌, length, map, Option, Some, None, refl, ap, sym, subst, ◌∙◌, arith}
+use Rattle.std.proofs.Common.{get_or, take, drop}
+use Rattle.std.specs.Prelude.{AllPairs, Contains, filter, nat_eq, slice_get, option_and_then, cond}
+use Rattle.std.specs.List.{cons_option, last_or}
+use Rattle.std.proofs.lemmas.Bool.{cases_Bool, eq-eqb, eqb-true}
 use Rattle.std.specs.Prelude.{option_map}
 use Rattle.std.proofs.lemmas.List.{append_assoc, append-nil, map-append}
-use Rattle.std.proofs.lemmas.List.Elements.{Contains-append_cases, Contains-append_left, Contains-append_right, Contains-get_or, filter-append}
 use Rattle.std.proofs.lemmas.List.Folds.{Any-from_list_any, list_any_at}
-use Rattle.std.proofs.lemmas.List.Kept.{AllPairs-cons, AllPairs-filter}
+use Rattle.std.proofs.lemmas.List.Kept.{AllPairs-cons}
 use Rattle.event_records.specs.declared.event.Event.{Event}
 use Rattle.event_records.specs.declared.event.What.{What}
 use Rattle.event_records.specs.declared.event.What.TheVariants.{CallEnq, CallDeq, RetEnq, RetNot, RetDeq, RetEmpty}
@@ -22,15 +21,15 @@ use Rattle.history_merge.specs.Complete.{called_value}
 use Rattle.history_merge.specs.Faults.{pending_call}
 use Rattle.history_merge.specs.Initial.{enqueues_from, initial_enqueues, later_by}
 use Rattle.history_merge.specs.Operations.{kind_of, operation_of, operations_of}
-use Rattle.history_merge.proofs.Distinct.{contains_at, contains_cons, cut_at, not_in_none, pairs_at, place_of, rises_later, IsMadeOf, made_of, traced}
+use Rattle.history_merge.proofs.Distinct.{contains_at, contains_cons, cut_at, not_in_none, pairs_at, place_of, rises_later, made_of, traced}
 use Rattle.history_merge.proofs.Turns.{answered_is_call, projection-at}
-use Rattle.value_match.proofs.Lists.{keeps, kept, passed_filter, passes_filter}
+use Rattle.value_match.proofs.Lists.{keeps, kept}
 use Rattle.completions.specs.declared.answers.Answer.{Answer}
-use Rattle.completions.specs.Pending.{IsHistoryFrom, IsPendingCall, TakesTurnsSoFar}
-use Rattle.completions.specs.Completed.{answers_to, calls_dequeue, completed_by, enqueue_answer, given_value, given_values, is_given, is_left_out, left_values}
-use Rattle.completions.specs.Completed.{next_ticket, paired, pending_calls, returns_from, taken_value, taken_values, is_pending}
-use Rattle.completions.proofs.Followed.{keeping, last_above, last_in, last_is_pending, last_of, last_of-append, last_or-some, operations_keep, operations_made, operations_push, one_by_ticket, pending_is_last}
-use Rattle.completions.proofs.Whole.{all_members, AreAnswers, first_with, is_answer, out, pairs_across, pairs_append, pairs_made, pairs_none, pairs_rest, pending_by_test, no_return, test_of_pending}
+use Rattle.completions.specs.Pending.{IsHistoryFrom, TakesTurnsSoFar}
+use Rattle.completions.specs.Completed.{enqueue_answer, given_value, given_values, is_given, left_values}
+use Rattle.completions.specs.Completed.{paired, taken_value, taken_values}
+use Rattle.completions.proofs.Followed.{last_is_pending, last_or-some, operations_keep, operations_made, operations_push, pending_is_last}
+use Rattle.completions.proofs.Whole.{all_members, first_with, pairs_none, pairs_rest}
 
 abbrev tail : {X : Type 0} (x : X) (xs : List X) (y : X) → Contains xs y → Contains (x ∷ xs) y
 tail x xs y among = (suc among.0, omega (arith, among.1), among.2)

@@ -1,24 +1,23 @@
 -- Completions, event by event: which operations a completion has, and that the chosen one is complete.
-use Rattle.std.proofs.Common.{◌≡◌, ◌≢◌, ℕ, zero, suc, ◌+◌, ◌<◌, ◌≤◌, ◌⊎◌, ◌++◌, inl, inr, Bool, true, false, not, List, [], ◌∷◌, length, Option, Some, None, refl, ap, sym, subst, ◌∙◌, arith}
-use Rattle.std.specs.Prelude.{All, AllPairs, Contains, IsTrue, filter, nat_eq, ⊤}
+use Rattle.std.proofs.Common.{◌≡◌, ℕ, zero, suc, ◌<◌, ◌⊎◌, ◌++◌, inl, inr, Bool, true, false, not, List, [], ◌∷◌, Some, None, refl, ap, sym, subst, ◌∙◌, arith}
+use Rattle.std.specs.Prelude.{All, Contains, nat_eq}
 use Rattle.std.specs.List.{last_or}
-use Rattle.std.proofs.lemmas.Bool.{cases_Bool, cases_lt, eq-eqb, eqb-true, false≢true}
+use Rattle.std.proofs.lemmas.Bool.{cases_Bool, eq-eqb, eqb-true}
 use Rattle.std.proofs.Common.{length-append}
-use Rattle.std.proofs.lemmas.List.{append_assoc, append-nil, get_or_append_left}
+use Rattle.std.proofs.lemmas.List.{append_assoc, get_or_append_left}
 use Rattle.std.proofs.lemmas.List.Elements.{All-contains, Contains-append_cases, Contains-append_left, Contains-append_right}
 use Rattle.std.proofs.lemmas.List.Kept.{AllPairs-filter}
 use Rattle.event_records.specs.declared.event.Event.{Event}
 use Rattle.event_records.specs.Projection.{projection}
-use Rattle.event_records.specs.Turns.{answers, is_call, TicketsRise}
+use Rattle.event_records.specs.Turns.{is_call, TicketsRise}
 use Rattle.history_merge.specs.declared.operation.Operation.{Operation}
-use Rattle.history_merge.specs.Faults.{pending_call}
 use Rattle.history_merge.specs.Operations.{operation_of, operations_of}
 use Rattle.history_merge.proofs.Distinct.{contains_cons, not_in_none, rises_later}
 use Rattle.history_merge.proofs.Turns.{answer_is_return}
 use Rattle.value_match.proofs.Lists.{passed_filter, passes_filter}
 use Rattle.completions.specs.Pending.{IsHistoryFrom, IsPendingCall, TakesTurnsSoFar}
-use Rattle.completions.proofs.Followed.{keeping, last_above, last_in, last_is_pending, last_of, last_of-append, last_or-some, made_by_call, made_later}
-use Rattle.completions.proofs.Followed.{one_by_ticket, only_last, operations_kept, pending_is_last, rises_front}
+use Rattle.completions.proofs.Followed.{keeping, last_above, last_in, last_is_pending, last_of, last_or-some, made_by_call, made_later}
+use Rattle.completions.proofs.Followed.{only_last, operations_kept, pending_is_last, rises_front}
 
 -- what holds of all holds of those in front
 all_front : {X : Type 0} (P : X → Type 0) (xs ys : List X) → All P (xs ++ ys) → All P xs

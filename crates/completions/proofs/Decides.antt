@@ -1,37 +1,34 @@
 -- The chosen completion decides.
 use Rattle.std.proofs.Common.{◌≡◌, ◌≢◌, ℕ, zero, suc, ◌+◌, ◌-◌, ◌<◌, ◌≤◌, ◌⊎◌, ◌++◌, inl, inr, Bool, true, false, not, List, [], ◌∷◌, length, map, Option, Some, None, refl, ap, sym, subst, ◌∙◌, arith}
-use Rattle.std.proofs.Common.{ap₂, get_or, length-append, take, drop}
-use Rattle.std.specs.Prelude.{All, AllPairs, Contains, filter, filter_map, nat_eq, option_map, slice_get, ◌&&◌}
+use Rattle.std.proofs.Common.{ap₂, get_or, take, drop}
+use Rattle.std.specs.Prelude.{AllPairs, Contains, filter, filter_map, option_map, slice_get, ◌&&◌}
 use Rattle.std.specs.List.{last_or}
-use Rattle.std.proofs.lemmas.Bool.{cases_Bool, cases_lt, cases_order, eq-eqb, eqb-true, false≢true}
-use Rattle.std.proofs.lemmas.List.{append_assoc, append-nil}
+use Rattle.std.proofs.lemmas.Bool.{cases_Bool}
+use Rattle.std.proofs.lemmas.List.{append_assoc}
 use Rattle.std.proofs.lemmas.List.Elements.{Contains-append_cases, Contains-append_left, Contains-append_right, Contains-get_or}
 use Rattle.std.proofs.lemmas.List.Kept.{AllPairs-filter}
-use Rattle.std.proofs.lemmas.Option.{get_or_from_slice_get, slice_get-map}
+use Rattle.std.proofs.lemmas.Option.{slice_get-map}
 use Rattle.event_records.specs.declared.event.Event.{Event}
 use Rattle.event_records.specs.declared.event.What.{What}
 use Rattle.event_records.specs.declared.event.What.TheVariants.{CallEnq, CallDeq, RetEnq, RetNot, RetDeq, RetEmpty}
 use Rattle.event_records.specs.declared.limits.TheConstants.{MAX_INITIAL, MAX_TICKET, ORIGIN}
-use Rattle.event_records.specs.Projection.{projection}
-use Rattle.event_records.specs.Turns.{answers, is_call, TicketsRise}
+use Rattle.event_records.specs.Turns.{answers, TicketsRise}
 use Rattle.history_merge.specs.declared.operation.Operation.{Operation}
 use Rattle.history_merge.specs.declared.operation.OpKind.{OpKind}
 use Rattle.history_merge.specs.declared.operation.OpKind.TheVariants.{Enq, Deq, Empty, Not}
-use Rattle.history_merge.specs.Complete.{AreComplete}
-use Rattle.history_merge.specs.Initial.{enqueues_from, initial_enqueues, IsCompleteFrom, later_by}
+use Rattle.history_merge.specs.Initial.{enqueues_from, initial_enqueues, later_by}
 use Rattle.history_merge.specs.Inner.Timeline.{timeline}
-use Rattle.history_merge.specs.Legal.{IsLinearizable}
 use Rattle.history_merge.specs.Operations.{Did, kind_of, NoneDid, operation_of, operations_of}
-use Rattle.history_merge.proofs.Distinct.{contains_at, contains_cons, cut_at, made_of, not_in_none, pairs_at, place_of, traced}
+use Rattle.history_merge.proofs.Distinct.{contains_at, contains_cons, cut_at, made_of, not_in_none, place_of, traced}
 use Rattle.history_merge.proofs.Timelines.{pairs_map, timeline_is_complete}
 use Rattle.value_match.proofs.Lists.{keeps, kept, mapped_from, mapped_to, passed_filter, passes_filter}
 use Rattle.verdicts.proofs.Exactly.{linearizable_without, violation_excludes_order}
 use Rattle.completions.specs.declared.answers.Answer.{Answer}
-use Rattle.completions.specs.Pending.{CompletesLinearizably, IsCompletion, IsDeciding, IsHistoryFrom, IsPendingCall}
-use Rattle.completions.specs.Completed.{is_answered, answers_to, calls_dequeue, completed, completed_by, enqueue_answer, is_given, is_left_out, left_values, next_ticket, paired, pending_calls, returns_from, is_pending}
+use Rattle.completions.specs.Pending.{IsCompletion, IsDeciding, IsHistoryFrom, IsPendingCall}
+use Rattle.completions.specs.Completed.{is_answered, answers_to, calls_dequeue, completed, enqueue_answer, is_given, is_left_out, left_values, next_ticket, paired, pending_calls, returns_from, is_pending}
 use Rattle.completions.proofs.Followed.{keeping, last_above, last_in, last_of, last_of-append, one_by_ticket, operations_keep, operations_made, pending_is_last}
 use Rattle.completions.proofs.Completing.{completed_or_ended, same_operations}
-use Rattle.completions.proofs.Whole.{after_last, test_of_pending, AreAnswers, below_next, is_answer, is_complete, no_return, only_pending, only_returns, out, pairs_across, pairs_append, pairs_made, pending_by_test, return_of, returns-append, returns, tickets_rise}
+use Rattle.completions.proofs.Whole.{after_last, test_of_pending, AreAnswers, below_next, is_answer, is_complete, no_return, only_pending, only_returns, pairs_across, pairs_append, pairs_made, pending_by_test, return_of, returns-append, tickets_rise}
 use Rattle.completions.proofs.Answering.{enqueue_answer_is, enqueue_answered, taken_rises, value_in, given_by, given_value_is, left_are, left_enqueues, OtherThread, paired_apart, paired_at, paired_from, taken_all, taken_from, taken_in, value_of}
 use Rattle.completions.proofs.Deciding.{Chosen, Completes, Ends, EnqueuesGiven, GivesLeft, NoViolation, ours_has_none}
 

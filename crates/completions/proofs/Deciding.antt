@@ -1,23 +1,22 @@
 -- What is violated in the chosen completion is violated in each completion. So the chosen one decides.
-use Rattle.std.proofs.Common.{◌≡◌, ◌≢◌, ℕ, zero, suc, ◌+◌, ◌<◌, ◌≤◌, ◌⊎◌, inl, inr, List, [], ◌∷◌, length, Option, Some, None, refl, ap, sym, subst, ◌∙◌, arith}
+use Rattle.std.proofs.Common.{◌≡◌, ℕ, zero, suc, ◌<◌, ◌≤◌, ◌⊎◌, inl, inr, List, [], ◌∷◌, length, Option, Some, None, refl, ap, sym, subst, ◌∙◌, arith}
 use Rattle.std.specs.Prelude.{AllPairs, Contains, MatchOption, find, slice_get}
-use Rattle.std.proofs.lemmas.Bool.{cases_lt, cases_order, cases_eq}
+use Rattle.std.proofs.lemmas.Bool.{cases_lt, cases_eq}
 use Rattle.std.proofs.lemmas.Option.{slice_get_within}
-use Rattle.event_records.specs.declared.limits.TheConstants.{MAX_TIME}
 use Rattle.history_merge.specs.declared.operation.Operation.{Operation}
 use Rattle.history_merge.specs.declared.operation.OpKind.{OpKind}
 use Rattle.history_merge.specs.declared.operation.OpKind.TheVariants.{Enq, Deq, Empty, Not}
 use Rattle.history_merge.specs.Complete.{AreComplete}
-use Rattle.history_merge.specs.Operations.{Did, NoneDid, Precedes}
+use Rattle.history_merge.specs.Operations.{Did, NoneDid}
 use Rattle.history_merge.proofs.Distinct.{call_by_return, CallsFor, contains_at, contains_cons, not_in_none, one_at, one_by_key, pairs_at, place_of}
 use Rattle.history_merge.proofs.Distinct.{no_enqueue, return_in_range, same_call, same_enqueue, same_value_call}
 use Rattle.value_match.specs.declared.life.Life.{Life}
 use Rattle.value_match.specs.declared.life.TheConstants.{NEVER}
 use Rattle.value_match.specs.Inner.Courses.{on}
-use Rattle.value_match.specs.Lives.{call_or_never, return_or_never, Covers, dequeue_call, dequeue_of, dequeue_return, enqueue_call, enqueue_of, enqueue_return}
-use Rattle.value_match.specs.Lives.{is_dequeue_of, IsCovered, IsFreeGap, IsLeastFreeGap, IsLife}
+use Rattle.value_match.specs.Lives.{call_or_never, return_or_never, Covers, dequeue_call, dequeue_of, dequeue_return, enqueue_of}
+use Rattle.value_match.specs.Lives.{is_dequeue_of, IsFreeGap, IsLife}
 use Rattle.value_match.specs.Violations.{CoversFrom, fresh, FullViolation, IsClear, IsEnqueuedTooLate, IsNeverEnqueued, IsOrderViolation, IsRepeatViolation}
-use Rattle.value_match.specs.Violations.{IsViolationOf, IsWitnessViolation, order, Overtakes, repeat, witness}
+use Rattle.value_match.specs.Violations.{IsViolationOf, IsWitnessViolation, order, repeat, witness}
 use Rattle.value_match.proofs.Lives.{dequeued_if_called, found_dequeue}
 use Rattle.order_violation.proofs.Chosen.{did_dequeue}
 use Rattle.empty_witness.proofs.Covers.{chosen_cover}

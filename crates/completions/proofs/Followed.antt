@@ -1,10 +1,10 @@
 -- One event more, and events left out: what becomes of the operations.
-use Rattle.std.proofs.Common.{◌≡◌, ◌≢◌, ℕ, zero, suc, ◌+◌, ◌<◌, ◌≤◌, ◌⊎◌, ◌++◌, inl, inr, Bool, true, false, not, List, [], ◌∷◌, length, Option, Some, None, refl, ap, sym, subst, ◌∙◌, arith}
-use Rattle.std.specs.Prelude.{Contains, filter, find, nat_eq, slice_get, option_and_then, ⊤}
+use Rattle.std.proofs.Common.{◌≡◌, ℕ, zero, suc, ◌<◌, ◌≤◌, ◌⊎◌, ◌++◌, inl, inr, Bool, true, false, not, List, [], ◌∷◌, length, Option, Some, None, refl, ap, sym, subst, ◌∙◌, arith}
+use Rattle.std.specs.Prelude.{Contains, filter, find, nat_eq, option_and_then, ⊤}
 use Rattle.std.specs.List.{cons_option, last_or}
 use Rattle.std.specs.Bool.{then_some}
 use Rattle.std.specs.Option.{option_or}
-use Rattle.std.proofs.lemmas.Bool.{cases_Bool, cases_eq, eq-eqb, eqb-true, ne_eqb, false≢true}
+use Rattle.std.proofs.lemmas.Bool.{cases_Bool, eq-eqb, eqb-true}
 use Rattle.std.proofs.Common.{get_or, length-append}
 use Rattle.std.proofs.lemmas.List.{append_assoc, append-nil, get_or_append_left}
 use Rattle.std.proofs.lemmas.List.Elements.{filter-append}
@@ -15,7 +15,6 @@ use Rattle.event_records.specs.declared.event.What.TheVariants.{CallEnq, CallDeq
 use Rattle.event_records.specs.Projection.{projection}
 use Rattle.event_records.specs.Turns.{is_call, TicketsRise}
 use Rattle.history_merge.specs.declared.operation.Operation.{Operation}
-use Rattle.history_merge.specs.declared.operation.OpKind.{OpKind}
 use Rattle.history_merge.specs.Faults.{pending_call}
 use Rattle.history_merge.specs.Operations.{kind_of, operation_of, operations_of}
 use Rattle.history_merge.proofs.Distinct.{contains_cons, not_in_none, one_by_key, pairs_at, place_of, rises_later}

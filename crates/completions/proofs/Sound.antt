@@ -1,6 +1,6 @@
 -- Events without a fault but pending calls are a history.
-use Rattle.std.proofs.Common.{◌≡◌, ℕ, zero, suc, ◌+◌, ◌<◌, ◌≤◌, ◌⊎◌, ◌++◌, inl, inr, Bool, true, false, not, List, [], ◌∷◌, length, get_or, take, drop, Option, Some, None, refl, ap, sym, subst, ◌∙◌, arith, append_assoc, length-append}
-use Rattle.std.specs.Prelude.{All, AllPairs, Contains, filter, filter_map, IfOk, IsTrue, OnOk, MatchOption, MatchResult, nat_eq, slice_get, ⊤, Result, Ok, Err}
+use Rattle.std.proofs.Common.{◌≡◌, ℕ, zero, suc, ◌+◌, ◌<◌, ◌≤◌, ◌++◌, inl, inr, Bool, true, false, not, List, [], ◌∷◌, length, get_or, take, Option, Some, None, refl, ap, sym, subst, ◌∙◌, arith, length-append}
+use Rattle.std.specs.Prelude.{Contains, filter, filter_map, IfOk, OnOk, MatchOption, ⊤, Result, Ok, Err}
 use Rattle.std.specs.List.{last_or}
 use Rattle.std.proofs.lemmas.List.{append-nil, take_all}
 use Rattle.std.proofs.Math.Seq.{take-suc}
@@ -12,22 +12,22 @@ use Rattle.std.proofs.lemmas.List.Quantifiers.{all_pairs_push}
 use Rattle.std.proofs.lemmas.Option.{slice_get-get_or}
 use Rattle.event_records.specs.declared.event.Event.{Event}
 use Rattle.event_records.specs.declared.event.What.TheVariants.{CallEnq}
-use Rattle.event_records.specs.declared.limits.TheConstants.{MAX_EVENTS, MAX_THREAD, MAX_TICKET}
+use Rattle.event_records.specs.declared.limits.TheConstants.{MAX_EVENTS, MAX_TICKET}
 use Rattle.event_records.specs.Projection.{projection}
 use Rattle.event_records.specs.Turns.{answers, is_call, TakesTurns, TicketsRise}
-use Rattle.history_merge.specs.Complete.{AreDistinct, called_values}
-use Rattle.history_merge.specs.Faults.{IsFirstFault, NoFaultBefore, pending_call}
+use Rattle.history_merge.specs.Complete.{AreDistinct}
+use Rattle.history_merge.specs.Faults.{IsFirstFault, NoFaultBefore}
 use Rattle.history_merge.specs.Initial.{HistoryView, IsCompleteFrom}
 use Rattle.history_merge.specs.declared.fault.HistoryFault.{HistoryFault}
 use Rattle.history_merge.specs.declared.fault.HistoryFault.TheVariants.{Pending}
 use Rattle.history_merge.proofs.Distinct.{distinct_push}
 use Rattle.history_merge.proofs.Faults.{IsSound, MayFollow, may_follow, nothing_pending_in_complete}
-use Rattle.history_merge.proofs.Turns.{answered_is_call, one_event_more, pending_in, turns_push, TurnsSoFar}
-use Rattle.completions.specs.Completed.{answers_to, calls_dequeue, completed, enqueue_answer, is_answered, is_left_out, is_pending, left_values, next_ticket, paired, pending_calls, returns_from}
+use Rattle.history_merge.proofs.Turns.{one_event_more, pending_in, turns_push, TurnsSoFar}
+use Rattle.completions.specs.Completed.{answers_to, calls_dequeue, completed, enqueue_answer, is_left_out, is_pending, left_values, next_ticket, paired, pending_calls, returns_from}
 use Rattle.completions.specs.declared.answers.Answer.{Answer}
 use Rattle.completions.specs.Faults.{IsBeyondLimits}
 use Rattle.completions.specs.Pending.{IsHistoryFrom, TakesTurnsSoFar}
-use Rattle.completions.proofs.Whole.{filter_all, pending_by_test, turns_append}
+use Rattle.completions.proofs.Whole.{filter_all, pending_by_test}
 
 -- ---- turns so far
 
@@ -161,9 +161,10 @@ when_ok (Err e) P Q each is = is
 -- a completion that isn't beyond the limits has tickets and events within them
 pub within_limits : (initial : List ℕ) (events : List Event) → ¬ (IsBeyondLimits initial events)
     → (length (completed initial events) ≤ MAX_EVENTS) × (next_ticket events + length (answers_to initial events) ≤ MAX_TICKET + 1)
-within_limits initial events within =
-    (elim (cases_lt MAX_EVENTS (length (completed initial events))) [ inl more ↦ absurd (within (inl more)) | inr few ↦ few ],
-    elim (cases_lt (MAX_TICKET + 1) (next_ticket events + length (answers_to initial events))) [ inl more ↦ absurd (within (inr more)) | inr few ↦ few ])
+within_limits initial events within = (
+  elim (cases_lt MAX_EVENTS (length (completed initial events))) [ inl more ↦ absurd (within (inl more)) | inr few ↦ few ],
+  elim (cases_lt (MAX_TICKET + 1) (next_ticket events + length (answers_to initial events))) [ inl more ↦ absurd (within (inr more)) | inr few ↦ few ],
+)
 
 pub when_both : {T E : Type 0} (r : Result T E) (P P' Q : T → Type 0) → ((x : T) → P x → P' x → Q x) → IfOk r P → IfOk r P' → IfOk r Q
 when_both (Ok x) P P' Q each is also = each x is also

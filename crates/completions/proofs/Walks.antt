@@ -1,13 +1,13 @@
 -- Walks over events: what is kept of each thread, and the lists that come of it.
-use Rattle.std.proofs.Common.{◌≡◌, ◌≢◌, ℕ, zero, suc, ◌+◌, ◌-◌, ◌<◌, ◌≤◌, ◌⊎◌, ◌++◌, inl, inr, Bool, true, false, List, [], ◌∷◌, length, get_or, set, take, Option, Some, None, Result, Ok, Err, refl, ap, sym, subst, ◌∙◌, arith}
+use Rattle.std.proofs.Common.{◌≡◌, ℕ, zero, suc, ◌+◌, ◌-◌, ◌<◌, ◌≤◌, ◌⊎◌, ◌++◌, inl, inr, Bool, true, false, List, [], ◌∷◌, length, get_or, set, take, Option, Some, None, Result, Ok, Err, refl, ap, sym, subst, ◌∙◌, arith}
 use Rattle.std.proofs.Common.{ap₂, get_or-set_other, get_or-set_same, length-set}
 use Rattle.std.proofs.lemmas.List.{take_more}
-use Rattle.std.specs.Prelude.{Contains, filter, filter_map, is_ok, option_to_list, IsPermutation, MatchResult, nat_eq, slice_get, slice_index_or}
-use Rattle.std.specs.List.{cons_option, last_or, list_any}
+use Rattle.std.specs.Prelude.{Contains, filter, filter_map, is_ok, option_to_list, IsPermutation, MatchResult, nat_eq, slice_get}
+use Rattle.std.specs.List.{cons_option, last_or}
 use Rattle.std.specs.List.Sorted.{IsBinarySearchResult, IsNonDecreasingBy}
 use Rattle.std.specs.Ordering.{nat_cmp}
 use Rattle.std.proofs.lemmas.List.{append_assoc, append-nil, get_or_default, length-take-le}
-use Rattle.std.proofs.lemmas.Bool.{cases_Bool, cases_eq, cases_lt, eq-eqb, eqb-true, ne_eqb, false≢true}
+use Rattle.std.proofs.lemmas.Bool.{cases_Bool, cases_eq, cases_lt, eq-eqb, eqb-true, ne_eqb}
 use Rattle.std.proofs.lemmas.List.Elements.{filter-append, filter_map-append}
 use Rattle.std.proofs.lemmas.List.Folds.{Any-from_list_any, list_any_at}
 use Rattle.std.proofs.lemmas.List.Sorted.{Contains-permutation, IsPermutation-sym, searched}
@@ -30,21 +30,24 @@ past_end = record { ticket = 0; thread = 0; what = CallEnq 0 }
 -- one event more
 pub noted : (events : List Event) (last : List (Option Event)) (e : Event) (t : ℕ) → t ≡ e.thread → t < MAX_THREADS → AreLast events last
     → AreLast (events ++ e ∷ []) (set last t (Some e))
-noted events last e t is below are = (length-set last t (Some e) ∙ are.0, λ thread inside. elim (cases_eq thread t) [
-  | inl same ↦
-      let threads : thread ≡ e.thread = same ∙ is in
-      let read : get_or (set last t (Some e)) thread None ≡ Some e =
-      ap (λ n. get_or (set last t (Some e)) n None) same ∙ get_or-set_same last t (Some e) None (omega (arith, below, are.0)) in
-      let own : last_or None (projection thread (events ++ e ∷ [])) ≡ Some e =
-      ap (λ n. last_or None (projection n (events ++ e ∷ []))) threads ∙ ap (last_or None) (projection-push_own events e)
-      ∙ last_or-push None (projection e.thread events) e in
-      read ∙ sym own
-  | inr other ↦
-      let read : get_or (set last t (Some e)) thread None ≡ get_or last thread None = get_or-set_other last t thread (Some e) None other in
-      let rest : projection thread (events ++ e ∷ []) ≡ projection thread events =
-      projection-push_other events e thread (ne_eqb e.thread thread (λ s. other (sym s ∙ sym is))) in
-      read ∙ are.1 thread inside ∙ sym (ap (last_or None) rest)
-])
+noted events last e t is below are = (
+  length-set last t (Some e) ∙ are.0,
+  λ thread inside. elim (cases_eq thread t) [
+    | inl same ↦
+        let threads : thread ≡ e.thread = same ∙ is in
+        let read : get_or (set last t (Some e)) thread None ≡ Some e =
+        ap (λ n. get_or (set last t (Some e)) n None) same ∙ get_or-set_same last t (Some e) None (omega (arith, below, are.0)) in
+        let own : last_or None (projection thread (events ++ e ∷ [])) ≡ Some e =
+        ap (λ n. last_or None (projection n (events ++ e ∷ []))) threads ∙ ap (last_or None) (projection-push_own events e)
+        ∙ last_or-push None (projection e.thread events) e in
+        read ∙ sym own
+    | inr other ↦
+        let read : get_or (set last t (Some e)) thread None ≡ get_or last thread None = get_or-set_other last t thread (Some e) None other in
+        let rest : projection thread (events ++ e ∷ []) ≡ projection thread events =
+        projection-push_other events e thread (ne_eqb e.thread thread (λ s. other (sym s ∙ sym is))) in
+        read ∙ are.1 thread inside ∙ sym (ap (last_or None) rest)
+  ],
+)
 
 -- whether a binary search finds a value
 pub found_if_given : (events : List Event) (given : List ℕ) (v : ℕ) (r : Result ℕ ℕ) → AreGiven events given
@@ -114,10 +117,13 @@ not_given RetEmpty other = refl
 -- sorted, they are those that were given
 pub sorted_are_given : (events : List Event) (given sorted : List ℕ) → given ≡ given_values events → IsPermutation given sorted
     → IsNonDecreasingBy (λ x. x) sorted → AreGiven events sorted
-sorted_are_given events given sorted is moved rises =
-    (λ v. (λ among. Contains-permutation given sorted v moved (subst (λ (l : List ℕ). Contains l v) (sym is) among),
-    λ among. subst (λ (l : List ℕ). Contains l v) is (Contains-permutation sorted given v (IsPermutation-sym given sorted moved) among)),
-    λ i j near inside. rises i j 0 near inside)
+sorted_are_given events given sorted is moved rises = (
+  λ v. (
+    λ among. Contains-permutation given sorted v moved (subst (λ (l : List ℕ). Contains l v) (sym is) among),
+    λ among. subst (λ (l : List ℕ). Contains l v) is (Contains-permutation sorted given v (IsPermutation-sym given sorted moved) among),
+  ),
+  λ i j near inside. rises i j 0 near inside,
+)
 
 -- the values that are taken by one event more
 taken_push : (before xs : List Event) (e : Event) → taken_values before (xs ++ e ∷ []) ≡ taken_values before xs ++ option_to_list (taken_value (before ++ xs) e)

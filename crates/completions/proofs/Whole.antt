@@ -1,26 +1,26 @@
 -- Events with answers to pending calls are a complete history.
 use Rattle.std.proofs.Common.{◌≡◌, ◌≢◌, ℕ, zero, suc, ◌+◌, ◌<◌, ◌≤◌, ◌⊎◌, ◌++◌, inl, inr, Bool, true, false, not, List, [], ◌∷◌, length, Option, Some, None, refl, ap, sym, subst, ◌∙◌, arith}
 use Rattle.std.proofs.Common.{length-append, get_or}
-use Rattle.std.specs.Prelude.{All, AllPairs, Contains, IsTrue, filter, filter_map, nat_eq, ◌&&◌, ⊤}
-use Rattle.std.specs.List.{last_or, list_any}
+use Rattle.std.specs.Prelude.{All, AllPairs, Contains, filter, filter_map, nat_eq, ◌&&◌}
+use Rattle.std.specs.List.{last_or}
 use Rattle.std.specs.Option.{option_map_or}
-use Rattle.std.proofs.lemmas.Bool.{cases_Bool, cases_lt, cases_order, eq-eqb, eqb-true, ne_eqb, false≢true}
+use Rattle.std.proofs.lemmas.Bool.{cases_Bool, eq-eqb, eqb-true, ne_eqb}
 use Rattle.std.proofs.lemmas.List.{append_assoc, append-nil, get_or_append_left}
-use Rattle.std.proofs.lemmas.List.Elements.{All-append, All-contains, All-filter, Contains-get_or, Contains-append_cases, Contains-append_left, Contains-append_right, filter-append, filter_map-append}
+use Rattle.std.proofs.lemmas.List.Elements.{All-append, All-contains, All-filter, Contains-get_or, Contains-append_left, Contains-append_right, filter-append, filter_map-append}
 use Rattle.std.proofs.lemmas.List.Folds.{Any-from_list_any, list_any_at}
 use Rattle.std.proofs.lemmas.List.Kept.{AllPairs-cons, AllPairs-filter}
 use Rattle.event_records.specs.declared.event.Event.{Event}
 use Rattle.event_records.specs.declared.event.What.{What}
-use Rattle.event_records.specs.declared.event.What.TheVariants.{CallEnq, CallDeq, RetEnq, RetNot, RetDeq, RetEmpty}
+use Rattle.event_records.specs.declared.event.What.TheVariants.{CallEnq}
 use Rattle.event_records.specs.declared.limits.TheConstants.{MAX_THREAD, MAX_TICKET}
 use Rattle.event_records.specs.Projection.{projection}
 use Rattle.event_records.specs.Turns.{answers, is_call, TakesTurns, TicketsRise}
-use Rattle.history_merge.specs.Complete.{AreDistinct, called_value, called_values, IsCompleteHistory}
+use Rattle.history_merge.specs.Complete.{AreDistinct, called_value, called_values}
 use Rattle.history_merge.specs.Faults.{pending_call}
 use Rattle.history_merge.specs.Initial.{IsCompleteFrom}
-use Rattle.history_merge.proofs.Distinct.{contains_cons, contains_at, not_in_none, pairs_at, place_of, rises_later}
-use Rattle.history_merge.proofs.Turns.{answer_is_return, nothing_after_turns, pending_in}
-use Rattle.value_match.proofs.Lists.{keeps, kept, passed_filter, passes_filter}
+use Rattle.history_merge.proofs.Distinct.{contains_cons, not_in_none, pairs_at, place_of, rises_later}
+use Rattle.history_merge.proofs.Turns.{answer_is_return, nothing_after_turns}
+use Rattle.value_match.proofs.Lists.{keeps, kept, passed_filter}
 use Rattle.completions.specs.declared.answers.Answer.{Answer}
 use Rattle.completions.specs.Pending.{IsHistoryFrom, IsPendingCall, TakesTurnsSoFar}
 use Rattle.completions.specs.Completed.{completed_by, is_answered, is_left_out, is_pending, next_ticket, returns_from}

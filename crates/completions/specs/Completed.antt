@@ -1,11 +1,11 @@
 -- The completion that decides a history with pending calls.
-use Rattle.std.specs.Prelude.{ℕ, ◌+◌, ◌++◌, ◌&&◌, ◌||◌, Bool, true, false, not, nat_eq, List, [], ◌∷◌, filter, filter_map, map, length, Option, Some, None, zip}
+use Rattle.std.specs.Prelude.{ℕ, ◌+◌, ◌++◌, ◌&&◌, Bool, true, false, not, nat_eq, List, [], ◌∷◌, filter, filter_map, Option, Some, None}
 use Rattle.std.specs.Prelude.{option_and_then, if◌then◌else◌}
 use Rattle.std.specs.List.{cons_option, last_or, list_any}
 use Rattle.std.specs.Option.{option_map_or}
 use Rattle.event_records.specs.declared.event.Event.{Event}
 use Rattle.event_records.specs.declared.event.What.{What}
-use Rattle.event_records.specs.declared.event.What.TheVariants.{CallEnq, RetEnq, RetNot, CallDeq, RetDeq, RetEmpty}
+use Rattle.event_records.specs.declared.event.What.TheVariants.{RetEnq, CallDeq, RetDeq}
 use Rattle.event_records.specs.Projection.{projection}
 use Rattle.event_records.specs.Turns.{is_call}
 use Rattle.history_merge.specs.Complete.{called_value}

@@ -32,7 +32,11 @@ fn enqueue_answer(call: Event, given: &[u64]) -> Option<Answer>
 }
 
 /// Returns the answers to pending enqueues.
-pub(crate) fn enqueue_answers(alloc: Global, calls: &[Event], given: &[u64]) -> Result<Vec<Answer>, AllocError>
+pub(crate) fn enqueue_answers(
+    alloc: Global,
+    calls: &[Event],
+    given: &[u64],
+) -> Result<Vec<Answer>, AllocError>
     ensures { IfOk result (λ answers. (events : List Event) → AreGiven events given.now
         → answers.items ≡ filter_map (enqueue_answer events) calls.now) }
 {
@@ -60,7 +64,11 @@ pub(crate) fn dequeue_calls(alloc: Global, calls: &[Event]) -> Result<Vec<Event>
 }
 
 /// Adds the answers of these dequeues, which give these values in their order, as far as there are values.
-pub(crate) fn push_dequeue_answers(answers: &mut Vec<Answer>, calls: &[Event], values: &[u64]) -> Result<(), AllocError>
+pub(crate) fn push_dequeue_answers(
+    answers: &mut Vec<Answer>,
+    calls: &[Event],
+    values: &[u64],
+) -> Result<(), AllocError>
     ensures { OnOk result (answers.new.items ≡ answers.old.items ++ paired calls.now values.now) }
 {
     let count = calls.len().min(values.len());
@@ -77,7 +85,9 @@ pub(crate) fn push_dequeue_answers(answers: &mut Vec<Answer>, calls: &[Event], v
 pub(crate) fn is_answered(answers: &[Answer], call: Event) -> bool
     ensures { result ≡ is_answered answers.now call }
 {
-    answers.iter().any(|answer| answer.call.ticket == call.ticket)
+    answers
+        .iter()
+        .any(|answer| answer.call.ticket == call.ticket)
 }
 
 /// Returns the answers to pending calls.

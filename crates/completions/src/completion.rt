@@ -136,13 +136,14 @@ fn complete_history(
 /// Completes a history whose calls may be pending, of a queue that holds these values first (Herlihy and Wing 1990,
 /// section 2.2): the completion has a linearization if and only if some completion has one.
 ///
-/// A pending enqueue returns as taken if a dequeue gave its value; otherwise its call is left out. The pending dequeues give, in the
-/// order of their calls, the values that no dequeue gave: the initial ones first, in their order, and then those of successful
-/// enqueues by their returns. Dequeues for which none is left are left out. All these returns come after the last event, the
-/// enqueues' first. A complete history comes back as it is.
+/// A pending enqueue returns as taken if a dequeue gave its value; otherwise its call is left out. The pending dequeues
+/// give, in the order of their calls, the values that no dequeue gave: the initial ones first, in their order, and then
+/// those of successful enqueues by their returns. A dequeue for which no value remains is left out. These returns come
+/// after the last event, those of enqueues first. A complete history comes back as it is.
 ///
-/// `History` has the first fault as [`history_merge::history_from`] names it, but for `Pending`. `Limit` comes if the completion has more
-/// than `MAX_EVENTS` events or a ticket above `MAX_TICKET`. Time O(n log n) for n events and initial values, and memory in proportion.
+/// `History` has the first fault as [`history_merge::history_from`] names it, but for `Pending`. `Limit` comes if the
+/// completion has more than `MAX_EVENTS` events or a ticket above `MAX_TICKET`. Time O(n log n) for n events and initial
+/// values, and memory in proportion.
 pub fn complete(
     alloc: Global,
     initial: &[u64],

@@ -40,7 +40,11 @@ pub(crate) fn pending_of(last: &[Option<Event>], thread: u8) -> Option<Event>
     ensures { (events : List Event) → AreLast events last.now → result ≡ pending_call thread events }
 {
     let event = last[usize::from(thread)]?;
-    if is_call(event.what) { Some(event) } else { None }
+    if is_call(event.what) {
+        Some(event)
+    } else {
+        None
+    }
 }
 
 /// Returns the last event of each thread.

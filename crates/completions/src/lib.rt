@@ -10,6 +10,5 @@ mod left;
 mod pending;
 
 pub use answers::Answer;
-
 pub use completion::complete;
 pub use fault::CompletionFault;

@@ -24,7 +24,11 @@ pub(crate) fn is_pending(last: &[Option<Event>], event: Event) -> bool
 }
 
 /// Returns the pending calls, in their order.
-pub(crate) fn pending_calls(alloc: Global, events: &[Event], last: &[Option<Event>]) -> Result<Vec<Event>, AllocError>
+pub(crate) fn pending_calls(
+    alloc: Global,
+    events: &[Event],
+    last: &[Option<Event>],
+) -> Result<Vec<Event>, AllocError>
     requires threads { All (λ e. e.thread ≤ MAX_THREAD) events.now }
     requires last { AreLast events.now last.now }
     ensures { IfOk result (λ calls. calls.items ≡ pending_calls events.now) }

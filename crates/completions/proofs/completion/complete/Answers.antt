@@ -1,4 +1,4 @@
-use Rattle.std.proofs.Common.{◌≡◌, ◌∙◌, subst, sym, ap, arith, length, List}
+use Rattle.std.proofs.Common.{◌∙◌, subst, sym, ap, arith, length, List}
 use Rattle.event_records.specs.declared.event.Event.{Event}
 use Rattle.completions.specs.Pending.{IsDeciding}
 use Rattle.completions.proofs.Sound.{complete_stays, when_both, when_ok, within_limits}
@@ -12,15 +12,15 @@ returns-clause-same c = when_ok c.complete_history.result _ _ (λ full is whole.
 pub returns-clause-few : goal.returns-clause-few
 returns-clause-few c =
     when_both c.complete_history.result _ _ _ (λ full is within.
-        let most = (within_limits c.args.initial.now c.args.events.now within).0 in
-        let long = ap (λ (es : List Event). length es) is in
-        omega (arith, most, long))
+    let most = (within_limits c.args.initial.now c.args.events.now within).0 in
+    let long = ap (λ (es : List Event). length es) is in
+    omega (arith, most, long))
     c.complete_history.ensures.completed c.complete_history.ensures.within
 
 pub returns-clause-deciding : goal.returns-clause-deciding
 returns-clause-deciding c =
     when_both c.complete_history.result _ _ _ (λ full is within.
-        subst (IsDeciding c.args.initial.now c.args.events.now) (sym is)
-        (decides c.args.initial.now c.args.events.now c.in_ok-check_history.ensures.history c.requires.few_initial
-        (within_limits c.args.initial.now c.args.events.now within).1))
+    subst (IsDeciding c.args.initial.now c.args.events.now) (sym is)
+    (decides c.args.initial.now c.args.events.now c.in_ok-check_history.ensures.history c.requires.few_initial
+    (within_limits c.args.initial.now c.args.events.now within).1))
     c.complete_history.ensures.completed c.complete_history.ensures.within

@@ -1,4 +1,4 @@
-use Rattle.std.proofs.Common.{◌∙◌, ap, arith, inl, inr, not, subst, sym, length, List}
+use Rattle.std.proofs.Common.{◌∙◌, ap, arith, inl, inr, not, length, List}
 use Rattle.std.specs.Prelude.{filter}
 use Rattle.event_records.specs.declared.event.Event.{Event}
 use Rattle.completions.specs.declared.answers.Answer.{Answer}
@@ -14,13 +14,15 @@ returns-then-saturating_add-gt-MAX_EVENTS-clause-fault c =
     let whole = length_completed c.args.initial.now events in
     let answers = ap (λ (l : List Answer). length l) c.in_ok-answers.ensures in
     let kept = ap (λ (l : List Event). length l) (c.in_ok-full.ensures
-    ∙ ap (λ (l : List Answer). filter (λ e. not (is_left_out c.args.events.now l e)) c.args.events.now) (c.as_slice.ensures.value ∙ c.in_ok-answers.ensures)) in
-    (c.requires.history, elim c.then-saturating_add-gt-MAX_EVENTS.branch [
-      | then-saturating_add-gt-MAX_EVENTS-via-then-saturating_add-gt-MAX_EVENTS w ↦
-          inl (omega (arith, w.if-saturating_add-gt-MAX_EVENTS.true, whole, answers, kept, c.saturating_add.ensures, c.len.ensures, c.len-count.ensures))
-      | then-saturating_add-gt-MAX_EVENTS-via-else-saturating_add-gt-MAX_EVENTS+then-ticket-count w ↦
-          inr (omega (arith, answers, c.next_ticket-ticket.ensures.next, c.len-count.ensures))
-    ])
+    ∙ ap (λ (l : List Answer). filter (λ e. not (is_left_out c.args.events.now l e)) c.args.events.now) (c.as_slice.ensures.value ∙ c.in_ok-answers.ensures)) in (
+      c.requires.history,
+      elim c.then-saturating_add-gt-MAX_EVENTS.branch [
+        | then-saturating_add-gt-MAX_EVENTS-via-then-saturating_add-gt-MAX_EVENTS w ↦
+            inl (omega (arith, w.if-saturating_add-gt-MAX_EVENTS.true, whole, answers, kept, c.saturating_add.ensures, c.len.ensures, c.len-count.ensures))
+        | then-saturating_add-gt-MAX_EVENTS-via-else-saturating_add-gt-MAX_EVENTS+then-ticket-count w ↦
+            inr (omega (arith, answers, c.next_ticket-ticket.ensures.next, c.len-count.ensures))
+      ],
+    )
 
 pub returns-clause-within : goal.returns-clause-within
 returns-clause-within c =

@@ -1,5 +1,4 @@
-use Rattle.std.proofs.Common.{◌+◌, ap, sym}
-use Rattle.event_records.specs.declared.event.Event.{Event}
+use Rattle.std.proofs.Common.{sym}
 use Rattle.completions.proofs.Walks.{after_last_read}
 use Rattle.completions.proofs.completion.next_ticket.Goals as goal
 
