@@ -1,5 +1,8 @@
 mod comparing;
+mod completing;
 mod histories;
+mod pending_calls;
+mod plain_completions;
 mod plain_gaps;
 mod plain_order;
 mod plain_pairs;

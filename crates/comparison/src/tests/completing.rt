@@ -1,0 +1,59 @@
+//! The completion of a history with pending calls beside each of its completions.
+
+use crate::tests::pending_calls::{initial_values, seeded_events};
+use crate::tests::plain_completions::{is_linearizable, is_some_linearizable, pending_calls};
+use completions::complete;
+use event_records::{MAX_EVENTS, MAX_INITIAL};
+use std::alloc::Global;
+use std::process::Abort;
+use std::test::Fail;
+
+/// The histories that are made.
+const SEEDS: u64 = 8_000;
+
+/// The histories with pending calls, and those of them that have a linearization.
+#[derive(Clone, Copy, Debug, Default)]
+struct Tried {
+    pending: u32,
+    linearizable: u32,
+}
+
+/// Whether the history of a seed has a linearization by `complete`, by each completion, and the number of its pending
+/// calls.
+fn compared(alloc: Global, seed: u64) -> Result<(bool, bool, usize), Fail> {
+    let initial = initial_values(alloc, seed)?;
+    let events = seeded_events(alloc, seed, &initial)?;
+    if initial.len() > MAX_INITIAL || events.len() > MAX_EVENTS {
+        return Err(Fail::from("too many values or events"));
+    }
+    let full = complete(alloc, &initial, &events)?;
+    let decided = is_linearizable(alloc, &initial, &full)?;
+    let searched = is_some_linearizable(alloc, &initial, &events)?;
+    Ok((decided, searched, pending_calls(alloc, &events)?.len()))
+}
+
+/// Compares the histories of all seeds.
+fn compare_all(rt: &(impl Abort + AllocGlobal)) -> Result<Tried, Fail> {
+    let mut tried = Tried::default();
+    for seed in 0..SEEDS {
+        let (decided, searched, pending) = compared(rt.alloc(), seed)?;
+        assert!(rt; decided == searched, "seed {seed}: {decided}, {searched}");
+        if pending > 0 {
+            tried.pending = tried.pending.saturating_add(1);
+            tried.linearizable = tried.linearizable.saturating_add(u32::from(decided));
+        }
+    }
+    Ok(tried)
+}
+
+#[test]
+fn a_completion_decides_as_all_completions_together(rt: HostRuntime) -> Result<(), Fail> {
+    let tried = compare_all(&rt)?;
+    assert!(rt; tried.pending >= 5_000, "{tried:?}");
+    assert!(rt; tried.linearizable >= 1_000, "{tried:?}");
+    assert!(rt;
+        tried.pending.saturating_sub(tried.linearizable) >= 1_000,
+        "{tried:?}"
+    );
+    Ok(())
+}
