@@ -1,5 +1,5 @@
 -- The way of the argument, from numbers to histories:
--- Counting: different places below a bound are at most so many.
+-- Counting: a list of different places below a bound is no longer than the bound.
 -- Deciding: a violation of the chosen completion is one of each completion.
 pub mod Counting
 pub mod Deciding

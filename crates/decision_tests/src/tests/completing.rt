@@ -97,7 +97,7 @@ fn completion_of(
     Ok(complete(alloc, initial, &events))
 }
 
-/// Whether these are the first so many of some marks, and then others.
+/// Whether these are the first `kept` of some marks, and then others.
 fn are_completed(full: &[Event], marks: &[Mark], kept: usize, returns: &[Mark]) -> bool {
     let mut wanted = marks.iter().take(kept).chain(returns.iter());
     for event in full {
