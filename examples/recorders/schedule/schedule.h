@@ -60,8 +60,8 @@ enum { FIFOBENCH_MAX_THREADS = 64 };
 
 // Of code with points that is linked with the sanitizer's library in place of schedule.c.
 #define FIFOBENCH_LACKS_SCHEDULE \
-    "fifobench: this is compiled with -fsanitize=thread, but schedule.o (made from schedule/schedule.c) isn't linked: " \
-    "no schedule is chosen, and runs are free\n"
+    "fifobench: this is compiled with -fsanitize=thread, but schedule.o (made from schedule/schedule.c) isn't " \
+    "linked: no schedule is chosen, and runs are free\n"
 
 // One run.
 struct fifobench_schedule {
