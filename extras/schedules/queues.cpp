@@ -116,7 +116,7 @@ Pattern pattern(const std::string& word) {
 
 void set(fifobench::Settings& settings, const std::string& option, const std::string& word) {
     if (option == "--runs") settings.runs = static_cast<unsigned>(number(word, 1, 1'000'000));
-    else if (option == "--threads") settings.threads = static_cast<unsigned>(number(word, 1, 64));
+    else if (option == "--threads") settings.threads = static_cast<unsigned>(number(word, 1, 1000));
     else if (option == "--ops") settings.operations = number(word, 0, 1'000'000);
     else if (option == "--pattern") settings.pattern = pattern(word);
     else if (option == "--percent") settings.percent = static_cast<unsigned>(number(word, 0, 100));

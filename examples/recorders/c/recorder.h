@@ -44,7 +44,7 @@
 #include <sys/wait.h>
 #include <time.h>
 
-enum { RECORDER_MAX_THREADS = 64, RECORDER_MAX_EVENTS = 2000000, RECORDER_MAX_INITIAL = 100000, RECORDER_OPERATIONS = 500 };
+enum { RECORDER_MAX_THREADS = 64, RECORDER_MAX_EVENTS = 2000000, RECORDER_MAX_INITIAL = 100000 };
 
 // Which operations a thread makes. Alternate: enqueue, dequeue, and so on. Mix: a percentage of enqueues, by the
 // seed. Bursts: 1 to 32 enqueues, by the seed, and then as many dequeues. Roles: threads of even number enqueue, the
@@ -75,7 +75,7 @@ struct recorder_settings {
 static inline struct recorder_settings recorder_defaults(void)
 {
     return (struct recorder_settings){
-        .threads = 4, .operations = RECORDER_OPERATIONS, .pattern = RECORDER_BY_SEED, .percent = 50, .seed = 1,
+        .threads = 4, .operations = 500, .pattern = RECORDER_BY_SEED, .percent = 50, .seed = 1,
         .timeout = 30, .drain = true, .choose = true, .folder = "fifobench-runs"};
 }
 
@@ -92,12 +92,7 @@ struct recorder_queue {
 };
 
 enum recorder_what {
-    RECORDER_CALL_ENQ,
-    RECORDER_RET_ENQ,
-    RECORDER_RET_NOT,
-    RECORDER_CALL_DEQ,
-    RECORDER_RET_DEQ,
-    RECORDER_RET_EMPTY
+    RECORDER_CALL_ENQ, RECORDER_RET_ENQ, RECORDER_RET_NOT, RECORDER_CALL_DEQ, RECORDER_RET_DEQ, RECORDER_RET_EMPTY
 };
 
 struct recorder_event {
@@ -114,8 +109,7 @@ struct recorder_thread {
     struct recorder *recorder;
     unsigned number; // from 0
     uint64_t asked;
-    size_t taken; // values that the queue took
-    size_t given; // values that it gave
+    int64_t stay; // values that the queue took, less those that it gave
     atomic_size_t count;
     size_t room;
     struct recorder_event *events;
@@ -156,12 +150,10 @@ struct recorder {
 #endif
 #ifndef RECORDER_IF_CHOSEN // the folder schedule isn't there: threads run as the system lets them
 #define RECORDER_IF_CHOSEN(call) ((void)0)
-#define recorder_points_chosen(choose) (false && (choose))
-#define recorder_points_disturb() ((void)0)
-#define recorder_points_returns() ((void)0)
-#define recorder_points_noted(is_call, what, value) ((void)(is_call))
-#define recorder_points_begin(settings) ((settings) != NULL)
-#define recorder_points_search(settings, calls) 2
+#define recorder_points_begin(recorder) (recorder)
+#define recorder_points_notes(what) ((void)0)
+#define recorder_points_noted(what, value) ((void)0)
+#define recorder_points_search(settings, calls, answer) false
 #endif
 
 static inline uint64_t recorder_value(const struct recorder_settings *settings, unsigned thread, uint64_t n)
@@ -177,10 +169,7 @@ static inline uint64_t recorder_value(const struct recorder_settings *settings, 
 // room that was asked for end the program: a history without them would be another one.
 static inline void recorder_note(struct recorder_thread *thread, enum recorder_what what, uint64_t value)
 {
-    bool is_call = what == RECORDER_CALL_ENQ || what == RECORDER_CALL_DEQ;
-    if (!is_call) {
-        recorder_points_returns();
-    }
+    recorder_points_notes(what);
     uint64_t ticket = atomic_fetch_add(&thread->recorder->tickets, 1);
     size_t count = atomic_load_explicit(&thread->count, memory_order_relaxed);
     if (count == thread->room) {
@@ -189,7 +178,7 @@ static inline void recorder_note(struct recorder_thread *thread, enum recorder_w
     }
     thread->events[count] = (struct recorder_event){ticket, value, thread->number, what};
     atomic_store_explicit(&thread->count, count + 1, memory_order_release);
-    recorder_points_noted(is_call, what, value);
+    recorder_points_noted(what, value);
 }
 
 // Just before the queue's enqueue. Gives its value, which no other call has.
@@ -204,7 +193,7 @@ static inline uint64_t recorder_call_enqueue(struct recorder_thread *thread)
 static inline void recorder_return_enqueue(struct recorder_thread *thread, bool taken)
 {
     recorder_note(thread, taken ? RECORDER_RET_ENQ : RECORDER_RET_NOT, 0);
-    thread->taken += taken;
+    thread->stay += taken;
 }
 
 // Just before the queue's dequeue.
@@ -218,7 +207,7 @@ static inline void recorder_call_dequeue(struct recorder_thread *thread)
 static inline void recorder_return_dequeue(struct recorder_thread *thread, bool found, uint64_t value)
 {
     recorder_note(thread, found ? RECORDER_RET_DEQ : RECORDER_RET_EMPTY, found ? value : 0);
-    thread->given += found;
+    thread->stay -= found;
 }
 
 static inline void recorder_free(struct recorder *recorder)
@@ -231,8 +220,7 @@ static inline void recorder_free(struct recorder *recorder)
     free(recorder);
 }
 
-// The events by ticket, up to the first that isn't published: of a run that has ended all. For free; NULL without
-// memory.
+// The events by ticket up to the first that isn't published, all once a run has ended. For free; NULL: no memory.
 static inline const struct recorder_event **recorder_events(struct recorder *recorder, size_t *count)
 {
     size_t total = atomic_load(&recorder->tickets);
@@ -262,21 +250,17 @@ static inline bool recorder_is_call(const struct recorder_event *event)
     return event->what == RECORDER_CALL_ENQ || event->what == RECORDER_CALL_DEQ;
 }
 
-// The calls without a return, one place for each thread, and how many there are.
+// The calls without a return, each in the place of its thread, and their number.
 static inline unsigned recorder_open(const struct recorder_event *const *events, size_t count,
                                      const struct recorder_event *open[RECORDER_MAX_THREADS])
 {
-    unsigned found = 0;
-    for (unsigned number = 0; number < RECORDER_MAX_THREADS; number++) {
-        open[number] = NULL;
-    }
+    unsigned pending = 0;
     for (size_t place = 0; place < count; place++) {
-        open[events[place]->thread] = recorder_is_call(events[place]) ? events[place] : NULL;
+        bool is_call = recorder_is_call(events[place]);
+        open[events[place]->thread] = is_call ? events[place] : NULL;
+        pending += is_call ? 1 : -1;
     }
-    for (unsigned number = 0; number < RECORDER_MAX_THREADS; number++) {
-        found += open[number] != NULL;
-    }
-    return found;
+    return pending;
 }
 
 static inline void recorder_write_initial(const struct recorder *recorder, FILE *to)
@@ -294,7 +278,7 @@ static inline void recorder_write_initial(const struct recorder *recorder, FILE 
 static inline bool recorder_write(struct recorder *recorder, FILE *to)
 {
     static const char *const words[] = {"call-enq", "ret-enq", "ret-not", "call-deq", "ret-deq", "ret-empty"};
-    const struct recorder_event *open[RECORDER_MAX_THREADS];
+    const struct recorder_event *open[RECORDER_MAX_THREADS] = {NULL};
     size_t count = 0;
     const struct recorder_event **events = recorder_events(recorder, &count);
     if (events == NULL) {
@@ -365,11 +349,11 @@ static inline bool recorder_has_met(struct recorder *recorder, unsigned number)
 static inline void recorder_meet(struct recorder *recorder, unsigned number)
 {
     atomic_fetch_add(&recorder->arrived, 1);
-    while (!recorder->is_chosen && atomic_load(&recorder->arrived) < recorder->threads && !atomic_load(&recorder->open)) {
+    while (atomic_load(&recorder->arrived) < recorder->threads && !atomic_load(&recorder->open)) {
         sched_yield();
     }
     double until = recorder_seconds() + 0.1;
-    while (!recorder->is_chosen && recorder->threads > 1 && !atomic_load(&recorder->open) && !recorder_has_met(recorder, number) &&
+    while (recorder->threads > 1 && !atomic_load(&recorder->open) && !recorder_has_met(recorder, number) &&
            recorder_seconds() < until) {
         sched_yield();
     }
@@ -384,7 +368,6 @@ static inline bool recorder_prepare(struct recorder *recorder, unsigned number)
         calls->enter(recorder->queue, number);
     }
     for (size_t j = 0; calls != NULL && number == 0 && j < recorder->settings.initial; j++) {
-        RECORDER_IF_CHOSEN(initial(recorder_value(&recorder->settings, RECORDER_MAX_THREADS, j)));
         bool (*put)(void *, uint64_t) = calls->preload != NULL ? calls->preload : calls->enqueue;
         if (!put(recorder->queue, recorder_value(&recorder->settings, RECORDER_MAX_THREADS, j))) {
             return false;
@@ -397,7 +380,7 @@ static inline bool recorder_prepare(struct recorder *recorder, unsigned number)
 static inline void recorder_drain(struct recorder_thread *thread)
 {
     struct recorder *recorder = thread->recorder;
-    size_t taken = recorder->settings.initial, given = 0;
+    int64_t stay = (int64_t)recorder->settings.initial;
     bool found = true;
     RECORDER_IF_CHOSEN(alone());
     pthread_mutex_lock(&recorder->lock);
@@ -406,10 +389,9 @@ static inline void recorder_drain(struct recorder_thread *thread)
     }
     pthread_mutex_unlock(&recorder->lock);
     for (unsigned number = 0; number < recorder->threads; number++) {
-        taken += recorder->of_thread[number].taken;
-        given += recorder->of_thread[number].given;
+        stay += recorder->of_thread[number].stay;
     }
-    for (size_t bound = taken > given ? taken - given + 1 : 1; found && bound > 0; bound--) {
+    for (int64_t bound = stay > 0 ? stay + 1 : 1; found && bound > 0; bound--) {
         uint64_t value = 0;
         recorder_call_dequeue(thread);
         found = recorder->calls->dequeue(recorder->queue, &value);
@@ -466,14 +448,12 @@ static inline bool recorder_write_file(struct recorder *recorder, const char *pa
 {
     mkdir(recorder->settings.folder, 0777);
     FILE *file = path != NULL ? fopen(path, "wb") : NULL;
-    bool written = file != NULL && recorder_write(recorder, file);
-    if (file != NULL && fclose(file) != 0) {
-        written = false;
-    }
-    if (!written) {
+    bool is_written = file != NULL && recorder_write(recorder, file);
+    is_written = file != NULL && fclose(file) == 0 && is_written;
+    if (!is_written) {
         fprintf(stderr, "fifobench: can't write %s\n", path != NULL ? path : "a file");
     }
-    return written;
+    return is_written;
 }
 
 // The threads can't be ended, so the process is.
@@ -543,7 +523,8 @@ static inline const char *recorder_fault(const struct recorder_settings *setting
 
 // A recorder whose threads have room for their operations, thread 0 also for a drain. NULL: the settings are out of
 // range, or there is no memory.
-static inline struct recorder *recorder_new(const struct recorder_settings *settings, bool drains)
+static inline struct recorder *recorder_new(const struct recorder_settings *settings,
+                                            const struct recorder_queue *calls, void *queue)
 {
     struct recorder *recorder = recorder_fault(settings) == NULL ? calloc(1, sizeof *recorder) : NULL;
     if (recorder == NULL) {
@@ -553,12 +534,14 @@ static inline struct recorder *recorder_new(const struct recorder_settings *sett
     pthread_cond_init(&recorder->changed, NULL);
     recorder->settings = *settings;
     recorder->threads = settings->threads;
+    recorder->calls = calls;
+    recorder->queue = queue;
     for (unsigned number = 0; number < settings->threads; number++) {
         struct recorder_thread *thread = &recorder->of_thread[number];
         thread->recorder = recorder;
         thread->number = number;
         thread->room = 2 * settings->operations;
-        if (drains && number == 0) {
+        if (calls != NULL && settings->drain && number == 0) {
             thread->room += 2 * (settings->threads * settings->operations + settings->initial + 1);
         }
         thread->events = malloc((thread->room + 1) * sizeof *thread->events);
@@ -569,22 +552,20 @@ static inline struct recorder *recorder_new(const struct recorder_settings *sett
         // The pages are there before the run.
         memset(thread->events, 0, 2 * settings->operations * sizeof *thread->events);
     }
-    return recorder;
+    return recorder_points_begin(recorder);
 }
 
-// Runs its threads. NULL, and the recorder is free, if one can't be started or the queue doesn't take an initial
-// value.
+// Runs its threads, if there is a recorder. NULL, and it is free, if one can't be started or the queue doesn't take an
+// initial value.
 static inline struct recorder *recorder_go(struct recorder *recorder, recorder_work *work, void *argument)
 {
     pthread_t running[RECORDER_MAX_THREADS];
     unsigned started = 0;
-    recorder->work = work;
-    recorder->argument = argument;
-    recorder->is_chosen = recorder_points_chosen(recorder->settings.choose);
-    if (recorder->is_chosen && !recorder_points_begin(&recorder->settings)) {
-        recorder_free(recorder);
+    if (recorder == NULL) {
         return NULL;
     }
+    recorder->work = work;
+    recorder->argument = argument;
     while (started < recorder->threads &&
            pthread_create(&running[started], NULL, recorder_start, &recorder->of_thread[started]) == 0) {
         RECORDER_IF_CHOSEN(started(started));
@@ -615,8 +596,7 @@ static inline struct recorder *recorder_go(struct recorder *recorder, recorder_w
 static inline struct recorder *recorder_record(const struct recorder_settings *settings, recorder_work *work,
                                                void *argument)
 {
-    struct recorder *recorder = recorder_new(settings, false);
-    return recorder != NULL ? recorder_go(recorder, work, argument) : NULL;
+    return recorder_go(recorder_new(settings, NULL, NULL), work, argument);
 }
 
 static inline struct recorder *recorder_run(unsigned threads, size_t operations, recorder_work *work, void *argument)
@@ -668,10 +648,11 @@ static inline bool recorder_next_is_enqueue(struct recorder_plan *plan)
     return plan->made++ < plan->length;
 }
 
-static inline void recorder_play_thread(struct recorder_thread *thread, void *argument)
+static inline void recorder_play_thread(struct recorder_thread *thread, void *unused)
 {
-    const struct recorder *recorder = argument;
+    const struct recorder *recorder = thread->recorder;
     const struct recorder_settings *settings = &recorder->settings;
+    (void)unused;
     struct recorder_plan plan = {recorder_pattern_of(settings), settings->percent, thread->number,
                                  settings->seed * 64 + thread->number, 0, 0};
     if (plan.pattern == RECORDER_ROLES && settings->threads == 1) {
@@ -695,47 +676,30 @@ static inline void recorder_play_thread(struct recorder_thread *thread, void *ar
 static inline struct recorder *recorder_play(const struct recorder_settings *settings,
                                              const struct recorder_queue *calls, void *queue)
 {
-    struct recorder *recorder = recorder_new(settings, settings->drain);
-    if (recorder == NULL) {
-        return NULL;
-    }
-    recorder->calls = calls;
-    recorder->queue = queue;
-    return recorder_go(recorder, recorder_play_thread, recorder);
+    return recorder_go(recorder_new(settings, calls, queue), recorder_play_thread, NULL);
 }
 
 // The status of `PROGRAM COMMAND` in a shell, from and to a file; or -1.
 static inline int recorder_ask(const char *program, const char *command, const char *from, const char *to)
 {
-    size_t room = strlen(program) + strlen(command) + strlen(from) + strlen(to) + 64;
-    char *line = malloc(room);
-    if (line == NULL) {
-        return -1;
-    }
-    snprintf(line, room, "'%s' %s <'%s' >'%s' 2>/dev/null", program, command, from, to);
-    int status = system(line);
-    free(line);
+    char line[16384]; // more than three of the longest paths
+    int length = snprintf(line, sizeof line, "'%s' %s <'%s' >'%s' 2>/dev/null", program, command, from, to);
+    int status = length > 0 && (size_t)length < sizeof line ? system(line) : -1;
     return status != -1 && WIFEXITED(status) ? WEXITSTATUS(status) : -1;
-}
-
-static inline void recorder_first_line(const char *path, char line[80])
-{
-    FILE *file = fopen(path, "r");
-    if (file == NULL || fgets(line, 80, file) == NULL) {
-        line[0] = '\0';
-    }
-    line[strcspn(line, "\n")] = '\0';
-    if (file != NULL) {
-        fclose(file);
-    }
 }
 
 // The verdict of a run whose history is in a file: 0, 1 or 2.
 static inline int recorder_judge_file(const struct recorder_settings *one, const char *path, const char *report)
 {
-    char verdict[80];
+    char verdict[80] = "";
     int status = recorder_ask(one->program, "check", path, report);
-    recorder_first_line(report, verdict);
+    FILE *answer = fopen(report, "r");
+    if (answer != NULL && fgets(verdict, sizeof verdict, answer) != NULL) {
+        verdict[strcspn(verdict, "\n")] = '\0';
+    }
+    if (answer != NULL) {
+        fclose(answer);
+    }
     if (status == 0 && strcmp(verdict, "YES") == 0) {
         remove(path);
         remove(report);
@@ -796,32 +760,29 @@ static inline int recorder_search_one(const struct recorder_settings *one, const
     return answer;
 }
 
-// Runs the pattern of the settings over a fresh queue for one seed after another, until a run shows a violation. 0:
-// none shows one; 1: one does; 2: something is wrong, which standard error names.
+// Makes runs by the pattern of the settings, each over a fresh queue, until one shows a violation: 0, 1 or 2.
 static inline int recorder_search(const struct recorder_settings *settings, const struct recorder_queue *calls)
 {
     struct recorder_settings one = *settings;
     const char *named = getenv("FIFOBENCH");
     size_t operations = 0, overlapping = 0;
+    int answer = 0;
     if (recorder_fault(settings) != NULL) {
         fprintf(stderr, "fifobench: %s\n", recorder_fault(settings));
         return 2;
     }
-    if (recorder_points_chosen(settings->choose)) {
-        return recorder_points_search(settings, calls);
+    if (recorder_points_search(settings, calls, &answer)) {
+        return answer;
     }
-    if (one.program == NULL) {
-        one.program = named != NULL && *named != '\0' ? named : "fifobench";
-    }
+    one.program = one.program != NULL ? one.program : named != NULL && *named != '\0' ? named : "fifobench";
     bool judges = recorder_ask(one.program, "--version", "/dev/null", "/dev/null") == 0;
     if (!judges) {
         fprintf(stderr, "fifobench: no program '%s': nothing is judged; the histories are kept in %s\n", one.program,
                 one.folder);
     }
-    recorder_points_disturb();
     one.runs = settings->runs != 0 ? settings->runs : 100;
     for (unsigned made = 0; made < one.runs; made++, one.seed++) {
-        int answer = recorder_search_one(&one, calls, judges, &operations, &overlapping);
+        answer = recorder_search_one(&one, calls, judges, &operations, &overlapping);
         if (answer != 0) {
             return answer;
         }

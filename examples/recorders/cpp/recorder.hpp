@@ -18,17 +18,7 @@
 //     void leave(unsigned thread)           in each thread after its last call
 //     bool preload(std::uint64_t value)     puts a value in before the run; without it `enqueue` does
 //
-// A loop of your own, recorded once:
-//
-//     auto history = fifobench::record(4, 1000, [&](fifobench::Thread& thread) {
-//         for (int i = 0; i < 500; ++i) {
-//             thread.enqueue([&](std::uint64_t value) { return queue.push(value); });
-//             thread.dequeue([&] { return queue.try_pop(); });
-//         }
-//     });
-//     history.write(std::cout);
-//
-// docs/RECORDING.md has the rules that this header keeps, kinds.cpp how queues of other kinds are called.
+// docs/RECORDING.md has a loop of your own and the rules that this header keeps, kinds.cpp queues of other kinds.
 #ifndef FIFOBENCH_RECORDER_HPP
 #define FIFOBENCH_RECORDER_HPP
 
@@ -49,7 +39,6 @@
 #include <memory>
 #include <mutex>
 #include <optional>
-#include <ostream>
 #include <stdexcept>
 #include <string>
 #include <system_error>
@@ -64,10 +53,11 @@
 
 #if __has_include("schedule/for_recorder.hpp")
 #include "schedule/for_recorder.hpp"
-#define FIFOBENCH_HAS_POINTS
 #elif __has_include("../schedule/for_recorder.hpp")
 #include "../schedule/for_recorder.hpp"
-#define FIFOBENCH_HAS_POINTS
+#else    // threads run as the system lets them
+#define FIFOBENCH_POINTS(call) ((void)0)
+#define FIFOBENCH_IF_CHOSEN(call) ((void)0)
 #endif
 
 namespace fifobench {
@@ -118,27 +108,6 @@ struct Settings {
 
     Pattern pattern_of_seed() const { return pattern.value_or(static_cast<Pattern>((seed + 3) % 4)); }
 };
-
-#ifndef FIFOBENCH_HAS_POINTS
-namespace detail::points {    // the folder schedule isn't there: threads run as the system lets them
-
-inline bool are_chosen() { return false; }
-inline void disturb() {}
-inline void begin(std::uint64_t, unsigned, std::size_t, const std::string&) {}
-inline void started(unsigned) {}
-inline void open(std::size_t) {}
-inline void enter(unsigned) {}
-inline void alone() {}
-inline void leave() {}
-inline void end() {}
-inline void initial(std::uint64_t) {}
-inline void returns() {}
-inline void noted(bool, unsigned, std::uint64_t) {}
-template <class RunOne>
-int search(const Settings&, RunOne&) { return 2; }
-
-}    // namespace detail::points
-#endif
 
 namespace detail {
 
@@ -276,16 +245,13 @@ private:
     // The ticket is drawn first: of a call before the queue is asked, of a return after it has answered. What came
     // before a return is seen by every call of a greater ticket, since the order is sequentially consistent.
     void note(What what, std::uint64_t value) {
-        const bool is_call = what == What::CallEnq || what == What::CallDeq;
-        if (!is_call) {
-            detail::points::returns();
-        }
+        FIFOBENCH_POINTS(notes(what));
         const std::uint64_t ticket = tickets_->fetch_add(1, std::memory_order_seq_cst);
         if (ticket >= max_events) {
             throw std::length_error("a history has at most 2000000 events");
         }
         log_.append(Event{ticket, value, what});
-        detail::points::noted(is_call, static_cast<unsigned>(what), value);
+        FIFOBENCH_POINTS(noted(what, value));
     }
 
     std::atomic<std::uint64_t>* tickets_;
@@ -395,6 +361,7 @@ public:
     explicit Start(unsigned threads) : threads_(threads) {}
 
     void open() { open_.store(true); }
+    bool is_open() const { return open_.load(); }
 
     void wait(unsigned number) {
         arrived_.fetch_add(1);
@@ -447,15 +414,11 @@ class Run {
 public:
     Run(const Settings& settings, Hooks hooks)
         : settings_(settings), hooks_(std::move(hooks)), start_(settings.threads) {
-        if (settings_.threads == 0 || settings_.threads > max_threads) {
-            throw std::invalid_argument("1 to 64 threads");
-        }
-        if (settings_.operations > max_events / 2 / settings_.threads) {
-            throw std::invalid_argument("at most 1000000 operations together");
-        }
-        if (settings_.percent > 100 || settings_.initial > max_initial) {
-            throw std::invalid_argument("at most 100 percent are enqueues, and at most 100000 values initial");
-        }
+        const auto require = [](bool is_met, const char* why) { if (!is_met) throw std::invalid_argument(why); };
+        require(settings_.threads >= 1 && settings_.threads <= max_threads, "1 to 64 threads");
+        require(settings_.operations <= max_events / 2 / settings_.threads, "at most 1000000 operations together");
+        require(settings_.percent <= 100 && settings_.initial <= max_initial,
+                "at most 100 percent are enqueues, and at most 100000 values initial");
         for (std::size_t j = 0; j < settings_.initial; ++j) {
             initial_.push_back(settings_.value_of(max_threads, j));
         }
@@ -468,25 +431,23 @@ public:
     History record(Work& work) {
         std::vector<std::thread> running;
         running.reserve(settings_.threads);
-        if (is_chosen_) {
-            points::begin(settings_.seed, settings_.threads, settings_.operations, settings_.folder);
-        }
+        FIFOBENCH_POINTS(begin(settings_, initial_, start_, is_chosen_));
         try {
             for (Thread& thread : recorded_) {
                 running.emplace_back([this, &thread, &work] { run_thread(thread, work); });
-                if (is_chosen_) points::started(thread.number());
+                FIFOBENCH_IF_CHOSEN(started(thread.number()));
             }
         } catch (const std::system_error&) {
             guarded(running.size(), [] { throw std::runtime_error("it can't be started"); });
             is_refused_.store(true);
             start_.open();
         }
-        if (is_chosen_) points::open(running.size());
+        FIFOBENCH_IF_CHOSEN(open(static_cast<unsigned>(running.size())));
         wait(running.size());
         for (std::thread& thread : running) {
             thread.join();
         }
-        if (is_chosen_) points::end();
+        FIFOBENCH_IF_CHOSEN(end());
         if (is_refused_.load()) {
             throw std::runtime_error("before the start: " + failures_.front());
         }
@@ -507,18 +468,12 @@ private:
     template <class Work>
     void run_thread(Thread& thread, Work& work) {
         const unsigned number = thread.number();
-        const bool is_ready = guarded(number, [&] {
-            hooks_.enter(number);
-            if (number == 0) {
-                preload();
-            }
-        });
-        if (!is_ready) {
+        if (!guarded(number, [&] { prepare(number); })) {
             is_refused_.store(true);
         }
-        is_chosen_ ? points::enter(number) : start_.wait(number);
+        FIFOBENCH_IF_CHOSEN(enter(number));
+        start_.wait(number);
         if (!is_refused_.load()) {
-            has_begun_.store(true);
             guarded(number, [&] { work(thread); });
             worked_.fetch_add(1);
             if (number == 0 && hooks_.drain) {
@@ -526,24 +481,25 @@ private:
             }
             guarded(number, [&] { hooks_.leave(number); });
         }
-        if (is_chosen_) points::leave();
+        FIFOBENCH_IF_CHOSEN(leave());
         const std::lock_guard<std::mutex> guard(lock_);
         ++ended_;
         has_ended_.notify_all();
     }
 
-    void preload() {
-        for (const std::uint64_t value : initial_) {
-            if (is_chosen_) points::initial(value);
-            if (hooks_.preload && !hooks_.preload(value)) {
-                throw std::runtime_error("the queue doesn't take the initial value " + std::to_string(value));
+    // What a thread does before the start, thread 0 also for the queue.
+    void prepare(unsigned number) {
+        hooks_.enter(number);
+        for (std::size_t j = 0; number == 0 && hooks_.preload && j < initial_.size(); ++j) {
+            if (!hooks_.preload(initial_[j])) {
+                throw std::runtime_error("the queue doesn't take the initial value " + std::to_string(initial_[j]));
             }
         }
     }
 
     // In the seat of thread 0 once all others have ended. No sound queue gives more values than went in.
     void drain(Thread& thread) {
-        if (is_chosen_) points::alone();
+        FIFOBENCH_IF_CHOSEN(alone());
         while (!is_chosen_ && worked_.load() < settings_.threads) {
             std::this_thread::sleep_for(std::chrono::microseconds(50));
         }
@@ -609,7 +565,7 @@ private:
         for (const auto& [thread, call] : history.open()) {
             std::cerr << "fifobench: " << described(thread, call) << '\n';
         }
-        if (!has_begun_.load()) {
+        if (!start_.is_open()) {
             std::cerr << "fifobench: not all threads have begun" << std::endl;
             std::_Exit(2);
         }
@@ -623,7 +579,7 @@ private:
     }
 
     const Settings settings_;
-    const bool is_chosen_ = settings_.choose && points::are_chosen();
+    bool is_chosen_ = false;    // the schedule
     const Hooks hooks_;
     std::vector<std::uint64_t> initial_;
     alignas(64) std::atomic<std::uint64_t> tickets_{0};
@@ -632,7 +588,6 @@ private:
     std::atomic<unsigned> worked_{0};
     std::atomic<bool> has_failed_{false};
     std::atomic<bool> is_refused_{false};
-    std::atomic<bool> has_begun_{false};
     bool has_surplus_ = false;
     std::mutex lock_;
     std::condition_variable has_ended_;
@@ -654,9 +609,9 @@ Hooks hooks_of(Queue& queue, const Settings& settings) {
         hooks.leave = [&queue, leave](unsigned thread) { leave(queue, thread); };
     }
     if constexpr (std::is_invocable_v<decltype(preload), Queue&, std::uint64_t>) {
-        hooks.preload = [&queue, preload](std::uint64_t value) { return took([&] { return preload(queue, value); }); };
+        hooks.preload = [&queue, preload](std::uint64_t v) { return took([&] { return preload(queue, v); }); };
     } else {
-        hooks.preload = [&queue](std::uint64_t value) { return took([&] { return queue.enqueue(value); }); };
+        hooks.preload = [&queue](std::uint64_t v) { return took([&] { return queue.enqueue(v); }); };
     }
     if (settings.drain) {
         hooks.drain = [&queue] { return queue.dequeue(); };
@@ -664,58 +619,11 @@ Hooks hooks_of(Queue& queue, const Settings& settings) {
     return hooks;
 }
 
-}    // namespace detail
-
-// Runs `work(thread)` in each of the threads, which begin together, and gives what they recorded. Memory is taken ahead
-// for the operations of the settings; more are recorded too. An exception that leaves `work` ends its thread alone:
-// History::notes has it. A run that hangs ends the process with status 2, and leaves a pending text. Throws
-// std::invalid_argument if the settings are out of range, std::runtime_error if a thread can't be started.
-template <class Work>
-History record(const Settings& settings, Work work) {
-    return detail::Run(settings, {}).record(work);
-}
-
-template <class Work>
-History record(unsigned threads, std::size_t operations, Work work) {
-    Settings settings;
-    settings.threads = threads;
-    settings.operations = operations;
-    return record(settings, std::move(work));
-}
-
-// Runs the pattern of the settings over a queue.
-template <class Queue>
-History run(const Settings& settings, Queue& queue) {
-    const auto work = [&](Thread& thread) {
-        detail::Plan plan(settings, thread.number());
-        for (std::size_t n = 0; n < settings.operations; ++n) {
-            if (plan.next_is_enqueue()) {
-                thread.enqueue([&](std::uint64_t value) { return queue.enqueue(value); });
-            } else {
-                thread.dequeue([&] { return queue.dequeue(); });
-            }
-        }
-    };
-    return detail::Run(settings, detail::hooks_of(queue, settings)).record(work);
-}
-
-namespace detail {
-
 inline std::string shell_word(std::string word) {
     for (std::size_t at = 0; (at = word.find('\'', at)) != std::string::npos; at += 4) {
         word.replace(at, 1, "'\\''");
     }
     return "'" + word + "'";
-}
-
-// The status of a shell's command, or what is none.
-inline int status_of(const std::string& command) {
-    const int status = std::system(command.c_str());
-#ifdef WIFEXITED
-    return WIFEXITED(status) ? WEXITSTATUS(status) : -1;
-#else
-    return status;
-#endif
 }
 
 // The runs of a search, one seed after another.
@@ -726,7 +634,7 @@ public:
         const char* const named = std::getenv("FIFOBENCH");
         program_ = !program_.empty() ? program_ : named != nullptr && *named != '\0' ? named : "fifobench";
         std::filesystem::create_directories(settings_.folder);
-        judges_ = status_of(shell_word(program_) + " --version >/dev/null 2>&1") == 0;
+        judges_ = ask("--version 2>/dev/null", "/dev/null", "/dev/null") == 0;
         if (!judges_) {
             std::cerr << "fifobench: no program '" << program_ << "': nothing is judged; the histories are kept in "
                       << settings_.folder << std::endl;
@@ -735,7 +643,6 @@ public:
 
     template <class RunOne>
     int all(RunOne& run_one) {
-        points::disturb();
         for (unsigned made = 0; made < settings_.runs; ++made) {
             Settings one = settings_;
             one.seed += made;
@@ -805,9 +712,15 @@ private:
         return status == 1 ? 1 : 2;
     }
 
-    // The status of a command of the program.
-    int ask(const char* command, const std::string& from, const std::string& to) const {
-        return status_of(shell_word(program_) + " " + command + " <" + shell_word(from) + " >" + shell_word(to));
+    // The status of a command of the program, or what is none.
+    int ask(const std::string& command, const std::string& from, const std::string& to) const {
+        const std::string files = " <" + shell_word(from) + " >" + shell_word(to);
+        const int status = std::system((shell_word(program_) + " " + command + files).c_str());
+#ifdef WIFEXITED
+        return WIFEXITED(status) ? WEXITSTATUS(status) : -1;
+#else
+        return status;
+#endif
     }
 
     Settings settings_;
@@ -819,15 +732,47 @@ private:
 
 }    // namespace detail
 
+// Runs `work(thread)` in each of the threads, which begin together, and gives what they recorded. Memory is taken
+// ahead for the operations of the settings; more are recorded too. An exception that leaves `work` ends its thread
+// alone: History::notes has it. A run that hangs ends the process with status 2, and leaves a pending text. Throws
+// std::invalid_argument if the settings are out of range, std::runtime_error if a thread can't be started.
+template <class Work>
+History record(const Settings& settings, Work work) {
+    return detail::Run(settings, {}).record(work);
+}
+
+template <class Work>
+History record(unsigned threads, std::size_t operations, Work work) {
+    Settings settings;
+    settings.threads = threads;
+    settings.operations = operations;
+    return record(settings, std::move(work));
+}
+
+// Runs the pattern of the settings over a queue.
+template <class Queue>
+History run(const Settings& settings, Queue& queue) {
+    const auto work = [&](Thread& thread) {
+        detail::Plan plan(settings, thread.number());
+        for (std::size_t n = 0; n < settings.operations; ++n) {
+            if (plan.next_is_enqueue()) {
+                thread.enqueue([&](std::uint64_t value) { return queue.enqueue(value); });
+            } else {
+                thread.dequeue([&] { return queue.dequeue(); });
+            }
+        }
+    };
+    return detail::Run(settings, detail::hooks_of(queue, settings)).record(work);
+}
+
 // Judges what `run_one(settings)` records, for one seed after another, until one run shows a violation; the settings
 // are those of the one run. 0: none shows one; 1: one does; 2: something is wrong, which standard error names.
 template <class RunOne>
 int search_runs(const Settings& settings, RunOne run_one) {
     try {
-        if (settings.choose && detail::points::are_chosen()) {
-            return detail::points::search(settings, run_one);
-        }
-        return detail::Search(settings).all(run_one);
+        std::optional<int> answer;
+        FIFOBENCH_POINTS(search(settings, run_one, answer));
+        return answer ? *answer : detail::Search(settings).all(run_one);
     } catch (const std::exception& exception) {
         std::cerr << "fifobench: " << exception.what() << std::endl;
         return 2;

@@ -8,6 +8,11 @@
 // Where `recorder` is a run: calls this function of schedule.h, if the run's schedule is chosen.
 #define RECORDER_IF_CHOSEN(call) (recorder->is_chosen ? fifobench_schedule_##call : (void)0)
 
+static inline struct recorder *recorder_play(const struct recorder_settings *, const struct recorder_queue *, void *);
+static inline enum recorder_pattern recorder_pattern_of(const struct recorder_settings *);
+static inline uint64_t recorder_value(const struct recorder_settings *, unsigned, uint64_t);
+static inline void recorder_free(struct recorder *);
+
 static inline bool recorder_points_linked(void)
 {
     return fifobench_schedule_begin != NULL;
@@ -18,48 +23,48 @@ static inline bool recorder_points_chosen(bool choose)
     return choose && recorder_points_linked() && fifobench_schedule_is_chosen();
 }
 
-static inline void recorder_points_disturb(void)
+// Before the ticket of an event is drawn.
+static inline void recorder_points_notes(enum recorder_what what)
 {
-    if (recorder_points_linked()) {
-        fifobench_schedule_disturb();
-    }
-}
-
-// Before the ticket of a return is drawn.
-static inline void recorder_points_returns(void)
-{
-    if (recorder_points_linked()) {
+    bool is_call = what == RECORDER_CALL_ENQ || what == RECORDER_CALL_DEQ;
+    if (recorder_points_linked() && !is_call) {
         fifobench_schedule_returns();
     }
 }
 
-// After a ticket was drawn.
-static inline void recorder_points_noted(bool is_call, unsigned what, uint64_t value)
+// After it was drawn.
+static inline void recorder_points_noted(enum recorder_what what, uint64_t value)
 {
+    bool is_call = what == RECORDER_CALL_ENQ || what == RECORDER_CALL_DEQ;
     if (recorder_points_linked()) {
         (is_call ? fifobench_schedule_called : fifobench_schedule_returned)(what, value);
     }
 }
 
-// False, and said: schedules can't be chosen.
-static inline bool recorder_points_begin(const struct recorder_settings *settings)
+// Begins a run whose schedule is chosen; another one is left as it is. Returns the recorder; or NULL, and it is free,
+// if the schedule can't be chosen, which is said.
+static inline struct recorder *recorder_points_begin(struct recorder *recorder)
 {
+    const struct recorder_settings *settings = &recorder->settings;
     struct fifobench_schedule schedule = {settings->seed, settings->threads, settings->operations, settings->folder};
-    const char *fault = fifobench_schedule_begin(&schedule);
+    recorder->is_chosen = recorder_points_chosen(settings->choose);
+    const char *fault = recorder->is_chosen ? fifobench_schedule_begin(&schedule) : NULL;
     if (fault != NULL) {
         fprintf(stderr, "fifobench: %s\n", fault);
+        recorder_free(recorder);
+        return NULL;
     }
-    return fault == NULL;
+    atomic_store(&recorder->open, recorder->is_chosen); // the schedule says who begins
+    for (size_t place = 0; recorder->is_chosen && place < settings->initial; place++) {
+        fifobench_schedule_initial(recorder_value(settings, RECORDER_MAX_THREADS, place));
+    }
+    return recorder;
 }
 
 struct recorder_points_context {
     const struct recorder_settings *settings;
     const struct recorder_queue *calls;
 };
-
-static inline struct recorder *recorder_play(const struct recorder_settings *, const struct recorder_queue *, void *);
-static inline enum recorder_pattern recorder_pattern_of(const struct recorder_settings *);
-static inline void recorder_free(struct recorder *);
 
 // One run of a search, in its child process.
 static inline void recorder_points_run(void *argument, uint64_t seed, size_t operations)
@@ -88,15 +93,36 @@ static inline const char *recorder_points_pattern(void *argument, uint64_t seed)
     return recorder_pattern_names[recorder_pattern_of(&one)];
 }
 
-static inline int recorder_points_search(const struct recorder_settings *settings, const struct recorder_queue *calls)
+// Before a search of free runs. Says once if schedule.o is missing, unless free runs are asked for.
+static inline void recorder_points_free_runs(bool choose)
 {
+    static atomic_flag is_told = ATOMIC_FLAG_INIT;
+    const char *wanted = getenv("FIFOBENCH_SCHEDULES");
+    bool is_asked_for = !choose || (wanted != NULL && strcmp(wanted, "free") == 0);
+    if (recorder_points_linked()) {
+        fifobench_schedule_disturb();
+    } else if (FIFOBENCH_HAS_POINTS && !is_asked_for && !atomic_flag_test_and_set(&is_told)) {
+        fputs(FIFOBENCH_LACKS_SCHEDULE, stderr);
+    }
+}
+
+// Makes the runs of a search whose schedules are chosen, and gives its answer. False if they aren't: the caller makes
+// free runs, which points disturb.
+static inline bool recorder_points_search(const struct recorder_settings *settings, const struct recorder_queue *calls,
+                                          int *answer)
+{
+    if (!recorder_points_chosen(settings->choose)) {
+        recorder_points_free_runs(settings->choose);
+        return false;
+    }
     struct recorder_points_context context = {settings, calls};
     struct fifobench_search chosen = {
         .program = settings->program, .folder = settings->folder, .seed = settings->seed, .runs = settings->runs,
         .threads = settings->threads, .seconds = settings->timeout, .run = recorder_points_run,
         .pattern = recorder_points_pattern, .context = &context,
-        .operations = settings->operations == RECORDER_OPERATIONS ? 0 : settings->operations};
-    return fifobench_search_runs(&chosen);
+        .operations = settings->operations == recorder_defaults().operations ? 0 : settings->operations};
+    *answer = fifobench_search_runs(&chosen);
+    return true;
 }
 
 #endif

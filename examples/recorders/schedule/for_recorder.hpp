@@ -4,44 +4,75 @@
 
 #include "schedule.h"
 
+#include <atomic>
 #include <cstddef>
 #include <cstdint>
+#include <cstdlib>
+#include <exception>
+#include <iostream>
+#include <optional>
 #include <stdexcept>
 #include <string>
+#include <vector>
+
+// Calls a function of this file.
+#define FIFOBENCH_POINTS(call) (::fifobench::detail::points::call)
+
+// Within a run: calls this function of schedule.h, if the run's schedule is chosen.
+#define FIFOBENCH_IF_CHOSEN(call) (is_chosen_ ? fifobench_schedule_##call : (void)0)
 
 namespace fifobench::detail::points {
 
 inline bool are_linked() { return fifobench_schedule_begin != nullptr; }
 inline bool are_chosen() { return are_linked() && fifobench_schedule_is_chosen() != 0; }
 
-inline void disturb() {
-    if (are_linked()) fifobench_schedule_disturb();
-}
-
-inline void begin(std::uint64_t seed, unsigned threads, std::size_t operations, const std::string& folder) {
-    const struct fifobench_schedule schedule {seed, threads, operations, folder.c_str()};
+// Begins a run, whose start is open if its schedule is chosen: the schedule says who begins.
+template <class Settings, class Start>
+void begin(const Settings& settings, const std::vector<std::uint64_t>& initial, Start& start, bool& is_chosen) {
+    is_chosen = settings.choose && are_chosen();
+    if (!is_chosen) {
+        return;
+    }
+    const struct fifobench_schedule schedule {settings.seed, settings.threads, settings.operations,
+                                              settings.folder.c_str()};
     if (const char* const fault = fifobench_schedule_begin(&schedule)) {
         throw std::runtime_error(fault);
     }
+    for (const std::uint64_t value : initial) {
+        fifobench_schedule_initial(value);
+    }
+    start.open();
 }
 
-inline void started(unsigned thread) { fifobench_schedule_started(thread); }
-inline void open(std::size_t threads) { fifobench_schedule_open(static_cast<unsigned>(threads)); }
-inline void enter(unsigned thread) { fifobench_schedule_enter(thread); }
-inline void alone() { fifobench_schedule_alone(); }
-inline void leave() { fifobench_schedule_leave(); }
-inline void end() { fifobench_schedule_end(); }
+template <class What>
+bool is_call(What what) { return what == What::CallEnq || what == What::CallDeq; }
 
-inline void initial(std::uint64_t value) { fifobench_schedule_initial(value); }
-
-// Before the ticket of a return is drawn.
-inline void returns() {
-    if (are_linked()) fifobench_schedule_returns();
+// Before the ticket of an event is drawn.
+template <class What>
+void notes(What what) {
+    if (are_linked() && !is_call(what)) {
+        fifobench_schedule_returns();
+    }
 }
 
-// After a ticket was drawn.
-inline void noted(bool is_call, unsigned what, std::uint64_t value) {
-    if (are_linked()) (is_call ? fifobench_schedule_called : fifobench_schedule_returned)(what, value);
+// After it was drawn.
+template <class What>
+void noted(What what, std::uint64_t value) {
+    if (are_linked()) {
+        (is_call(what) ? fifobench_schedule_called : fifobench_schedule_returned)(static_cast<unsigned>(what), value);
+    }
+}
+
+// Before a search of free runs. Says once if schedule.o is missing, unless free runs are asked for.
+inline void free_runs(bool choose) {
+    static std::atomic_flag is_told = ATOMIC_FLAG_INIT;
+    const char* const wanted = std::getenv("FIFOBENCH_SCHEDULES");
+    const bool is_asked_for = !choose || (wanted != nullptr && std::string(wanted) == "free");
+    if (are_linked()) {
+        fifobench_schedule_disturb();
+    } else if (FIFOBENCH_HAS_POINTS != 0 && !is_asked_for && !is_told.test_and_set()) {
+        std::cerr << FIFOBENCH_LACKS_SCHEDULE;
+    }
 }
 
 // The settings of one run of a search. Those of recorder.hpp, as all of these types are.
@@ -53,9 +84,14 @@ Settings settings_of(Settings one, std::uint64_t seed, std::size_t operations) {
     return one;
 }
 
-// Has `run_one(settings)` make the runs of a search, each in a child process. Returns as search_runs does.
+// Has `run_one(settings)` make the runs of a search whose schedules are chosen, each in a child process; the answer is
+// that of search_runs. There is none if they aren't chosen: the caller makes free runs.
 template <class Settings, class RunOne>
-int search(const Settings& settings, RunOne& run_one) {
+void search(const Settings& settings, RunOne& run_one, std::optional<int>& answer) {
+    if (!settings.choose || !are_chosen()) {
+        free_runs(settings.choose);
+        return;
+    }
     struct Context {
         const Settings& settings;
         RunOne& run_one;
@@ -83,7 +119,7 @@ int search(const Settings& settings, RunOne& run_one) {
     chosen.pattern = [](void* of, std::uint64_t seed) {
         return name_of(*settings_of(static_cast<Context*>(of)->settings, seed, 0).pattern);
     };
-    return fifobench_search_runs(&chosen);
+    answer = fifobench_search_runs(&chosen);
 }
 
 }    // namespace fifobench::detail::points

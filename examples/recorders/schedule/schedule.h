@@ -46,6 +46,23 @@ enum fifobench_what {
 
 enum { FIFOBENCH_MAX_THREADS = 64 };
 
+// Whether the code that includes this was compiled with points.
+#if defined __SANITIZE_THREAD__
+#define FIFOBENCH_HAS_POINTS 1
+#elif defined __has_feature
+#if __has_feature(thread_sanitizer)
+#define FIFOBENCH_HAS_POINTS 1
+#endif
+#endif
+#ifndef FIFOBENCH_HAS_POINTS
+#define FIFOBENCH_HAS_POINTS 0
+#endif
+
+// Of code with points that is linked with the sanitizer's library in place of schedule.c.
+#define FIFOBENCH_LACKS_SCHEDULE \
+    "fifobench: this is compiled with -fsanitize=thread, but schedule.o (made from schedule/schedule.c) isn't " \
+    "linked: no schedule is chosen, and runs are free\n"
+
 // One run.
 struct fifobench_schedule {
     uint64_t seed;

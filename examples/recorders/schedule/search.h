@@ -261,6 +261,10 @@ int fifobench_search_runs(const struct fifobench_search *settings)
     unsigned runs = settings->runs != 0 ? settings->runs : DEFAULT_RUNS;
     uint64_t seed = first_seed(settings->seed);
     size_t operations = settings->operations != 0 ? settings->operations : 100;
+    if (settings->threads == 0 || settings->threads > FIFOBENCH_MAX_THREADS) {
+        fprintf(stderr, "fifobench: schedules are chosen for 1 to 64 threads\n");
+        return 2;
+    }
     tape = new_tape(4 * settings->threads * (operations + 1) + 2 * MAX_INITIAL_VALUES);
     if (tape == NULL) {
         fprintf(stderr, "fifobench: there is no memory for chosen schedules\n");

@@ -22,12 +22,14 @@ static bool find_object(uintptr_t address, char file[MAX_PATH_BYTES], uintptr_t 
     return true;
 }
 
-// Whether a file is one of the language's own library, whose lines say less than that of the caller.
+// Whether a file is one of the language's own library, or schedule.rs with its atomics and locks: its lines say less
+// than that of the caller.
 static bool is_library(const char *path)
 {
     return strstr(path, "/c++/") != NULL || strstr(path, "/lib/gcc/") != NULL || strstr(path, "/lib/clang/") != NULL ||
            strstr(path, "/lib/llvm") != NULL || strstr(path, "/library/core/") != NULL ||
-           strstr(path, "/library/std/") != NULL || strstr(path, "/library/alloc/") != NULL;
+           strstr(path, "/library/std/") != NULL || strstr(path, "/library/alloc/") != NULL ||
+           strstr(path, "/schedule.rs") != NULL;
 }
 
 // Reads what addr2line says of one address: pairs of a function and a line, the innermost first. Takes the first that
