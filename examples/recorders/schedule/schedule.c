@@ -18,7 +18,8 @@
 //
 // One thread runs at a time, and all are kept on one core, so that a switch wakes no other core. Which thread goes on
 // is drawn from the seed by splitmix64. Nothing depends on the clock or on an address, but that accesses of a
-// thread's own stack are no points.
+// thread's own stack are no points. Since a queue may depend on addresses, the program begins once more with those that
+// are the same in each process (personality), where the system allows it.
 //
 // Store buffers. In some of the runs an atomic store that isn't sequentially consistent may wait in its thread's
 // list. The thread's own loads look there first. Stores leave the list in order: some points later, or before the
@@ -31,7 +32,7 @@
 #define FIFOBENCH_SCHEDULE_SOURCE
 #include "schedule.h"
 
-#if defined __SANITIZE_THREAD__
+#if FIFOBENCH_HAS_POINTS
 #error "schedule.c is compiled without -fsanitize=thread"
 #endif
 
@@ -53,6 +54,7 @@
 #include <stdlib.h>
 #include <string.h>
 #include <sys/mman.h>
+#include <sys/personality.h>
 #include <sys/stat.h>
 #include <sys/syscall.h>
 #include <sys/wait.h>

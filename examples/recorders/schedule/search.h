@@ -288,3 +288,21 @@ int fifobench_search_runs(const struct fifobench_search *settings)
     tape = NULL;
     return answer;
 }
+
+// Addresses are drawn anew for each process, and a queue that hashes one would make another run in each. So a program
+// that chooses schedules begins once more without that, before anything of it has run. Where the system doesn't allow
+// this, it goes on as it is.
+__attribute__((constructor)) static void fix_addresses(int count, char **words, char **environment)
+{
+    char path[MAX_PATH_BYTES];
+    int now = personality(0xffffffff);
+    (void)count;
+    if (now == -1 || (now & ADDR_NO_RANDOMIZE) != 0 || !fifobench_schedule_is_chosen()) {
+        return;
+    }
+    ssize_t length = readlink("/proc/self/exe", path, sizeof path - 1);
+    if (length > 0 && personality((unsigned long)now | ADDR_NO_RANDOMIZE) != -1) {
+        path[length] = '\0';
+        execve(path, words, environment);
+    }
+}
