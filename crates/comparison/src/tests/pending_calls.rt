@@ -20,7 +20,7 @@ enum Doing {
     Answered(What),
 }
 
-/// A history in the making: what each thread does, and the values that the queue holds.
+/// A history that grows: what each thread does, and the values that the queue holds.
 #[derive(Drop)]
 struct Making {
     events: Vec<Event>,
@@ -52,7 +52,7 @@ fn effect(doing: Doing, values: &mut Vec<u64>) -> Result<Doing, AllocError> {
 
 /// An answer that the queue didn't give, now and then.
 fn told(words: &mut Words, what: What, enqueued: u64) -> What {
-    if words.below(12) > 0 {
+    if words.below(6) > 0 {
         return what;
     }
     match what {
