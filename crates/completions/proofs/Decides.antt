@@ -1,5 +1,6 @@
 -- The chosen completion decides.
-use Rattle.std.proofs.Common.{◌≡◌, ◌≢◌, ℕ, zero, suc, ◌+◌, ◌-◌, ◌<◌, ◌≤◌, ◌⊎◌, ◌++◌, inl, inr, Bool, true, false, not, List, [], ◌∷◌, length, map, Option, Some, None, refl, ap, sym, subst, ◌∙◌, arith}
+use Rattle.std.proofs.Common.{◌≡◌, ◌≢◌, ℕ, zero, suc, ◌+◌, ◌-◌, ◌<◌, ◌≤◌, ◌⊎◌, ◌++◌, inl, inr, Bool, true, false, not, List, [], ◌∷◌, length, map}
+use Rattle.std.proofs.Common.{Option, Some, None, refl, ap, sym, subst, ◌∙◌, arith}
 use Rattle.std.proofs.Common.{ap₂, get_or, take, drop}
 use Rattle.std.specs.Prelude.{AllPairs, Contains, filter, filter_map, option_map, slice_get, ◌&&◌}
 use Rattle.std.specs.List.{last_or}
@@ -25,11 +26,14 @@ use Rattle.value_match.proofs.Lists.{keeps, kept, mapped_from, mapped_to, passed
 use Rattle.verdicts.proofs.Exactly.{linearizable_without, violation_excludes_order}
 use Rattle.completions.specs.declared.answers.Answer.{Answer}
 use Rattle.completions.specs.Pending.{IsCompletion, IsDeciding, IsHistoryFrom, IsPendingCall}
-use Rattle.completions.specs.Completed.{is_answered, answers_to, calls_dequeue, completed, enqueue_answer, is_given, is_left_out, left_values, next_ticket, paired, pending_calls, returns_from, is_pending}
+use Rattle.completions.specs.Completed.{is_answered, answers_to, calls_dequeue, completed, enqueue_answer, is_given, is_left_out, left_values}
+use Rattle.completions.specs.Completed.{next_ticket, paired, pending_calls, returns_from, is_pending}
 use Rattle.completions.proofs.Followed.{keeping, last_above, last_in, last_of, last_of-append, one_by_ticket, operations_keep, operations_made, pending_is_last}
 use Rattle.completions.proofs.Completing.{completed_or_ended, same_operations}
-use Rattle.completions.proofs.Whole.{after_last, test_of_pending, AreAnswers, below_next, is_answer, is_complete, no_return, only_pending, only_returns, pairs_across, pairs_append, pairs_made, pending_by_test, return_of, returns-append, tickets_rise}
-use Rattle.completions.proofs.Answering.{enqueue_answer_is, enqueue_answered, taken_rises, value_in, given_by, given_value_is, left_are, left_enqueues, OtherThread, paired_apart, paired_at, paired_from, taken_all, taken_from, taken_in, value_of}
+use Rattle.completions.proofs.Whole.{after_last, test_of_pending, AreAnswers, below_next, is_answer, is_complete, no_return, only_pending}
+use Rattle.completions.proofs.Whole.{only_returns, pairs_across, pairs_append, pairs_made, pending_by_test, return_of, returns-append, tickets_rise}
+use Rattle.completions.proofs.Answering.{enqueue_answer_is, enqueue_answered, taken_rises, value_in, given_by, given_value_is, left_are}
+use Rattle.completions.proofs.Answering.{left_enqueues, OtherThread, paired_apart, paired_at, paired_from, taken_all, taken_from, taken_in, value_of}
 use Rattle.completions.proofs.Deciding.{Chosen, Completes, Ends, EnqueuesGiven, GivesLeft, NoViolation, ours_has_none}
 
 -- ---- the timeline

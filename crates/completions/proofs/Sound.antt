@@ -1,5 +1,6 @@
 -- Events without a fault but pending calls are a history.
-use Rattle.std.proofs.Common.{◌≡◌, ℕ, zero, suc, ◌+◌, ◌<◌, ◌≤◌, ◌++◌, inl, inr, Bool, true, false, not, List, [], ◌∷◌, length, get_or, take, Option, Some, None, refl, ap, sym, subst, ◌∙◌, arith, length-append}
+use Rattle.std.proofs.Common.{◌≡◌, ℕ, zero, suc, ◌+◌, ◌<◌, ◌≤◌, ◌++◌, inl, inr, Bool, true, false, not, List, [], ◌∷◌, length, get_or, take, Option}
+use Rattle.std.proofs.Common.{Some, None, refl, ap, sym, subst, ◌∙◌, arith, length-append}
 use Rattle.std.specs.Prelude.{Contains, filter, filter_map, IfOk, OnOk, MatchOption, ⊤, Result, Ok, Err}
 use Rattle.std.specs.List.{last_or}
 use Rattle.std.proofs.lemmas.List.{append-nil, take_all}
@@ -23,7 +24,8 @@ use Rattle.history_merge.specs.declared.fault.HistoryFault.TheVariants.{Pending}
 use Rattle.history_merge.proofs.Distinct.{distinct_push}
 use Rattle.history_merge.proofs.Faults.{IsSound, MayFollow, may_follow, nothing_pending_in_complete}
 use Rattle.history_merge.proofs.Turns.{one_event_more, pending_in, turns_push, TurnsSoFar}
-use Rattle.completions.specs.Completed.{answers_to, calls_dequeue, completed, enqueue_answer, is_left_out, is_pending, left_values, next_ticket, paired, pending_calls, returns_from}
+use Rattle.completions.specs.Completed.{answers_to, calls_dequeue, completed, enqueue_answer, is_left_out, is_pending, left_values, next_ticket}
+use Rattle.completions.specs.Completed.{paired, pending_calls, returns_from}
 use Rattle.completions.specs.declared.answers.Answer.{Answer}
 use Rattle.completions.specs.Faults.{IsBeyondLimits}
 use Rattle.completions.specs.Pending.{IsHistoryFrom, TakesTurnsSoFar}
