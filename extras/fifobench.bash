@@ -21,13 +21,13 @@ _fifobench() {
         value=1
     fi
     if [ "$COMP_CWORD" -eq 1 ]; then
-        _fifobench_words 'check shrink verify draw convert stats sim stress help -h --help -V --version' "$word"
+        _fifobench_words 'check shrink verify draw convert complete stats sim stress help -h --help -V --version' "$word"
         return
     fi
     case $command in
         help)
             if [ "$COMP_CWORD" -eq 2 ]; then
-                _fifobench_words 'check shrink verify draw convert stats sim stress help' "$word"
+                _fifobench_words 'check shrink verify draw convert complete stats sim stress help' "$word"
             fi
             ;;
         check | shrink | sim)
@@ -35,6 +35,9 @@ _fifobench() {
             ;;
         verify | convert | stats)
             _fifobench_words '-h --help' "$word"
+            ;;
+        complete)
+            _fifobench_words '--cut -h --help' "$word"
             ;;
         draw)
             [ "$before" = --around ] || _fifobench_words '--text --html --around --all -h --help' "$word"

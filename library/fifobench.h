@@ -63,6 +63,10 @@ uint8_t fifobench_draw(const uint8_t *text, size_t length, uint8_t *answer, size
 /* `fifobench draw --text`: the same in lines of ASCII. */
 uint8_t fifobench_draw_text(const uint8_t *text, size_t length, uint8_t *answer, size_t capacity, size_t *needed);
 
+/* `fifobench complete`: the text of a history whose calls may be pending, or a pending text. Returns the text of a completion,
+ * which is linearizable if and only if some completion is. */
+uint8_t fifobench_complete(const uint8_t *text, size_t length, uint8_t *answer, size_t capacity, size_t *needed);
+
 /* `fifobench stats`: the text of a history. Returns a line for each number. */
 uint8_t fifobench_stats(const uint8_t *text, size_t length, uint8_t *answer, size_t capacity, size_t *needed);
 

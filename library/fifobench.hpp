@@ -60,9 +60,9 @@ Answer answer(std::size_t room, Call call) {
     }
 }
 
-using Judge = std::uint8_t(const std::uint8_t*, std::size_t, std::uint8_t*, std::size_t, std::size_t*);
+using TextJudge = std::uint8_t(const std::uint8_t*, std::size_t, std::uint8_t*, std::size_t, std::size_t*);
 
-inline Answer judge(Judge* function, std::string_view text) {
+inline Answer judge(TextJudge* function, std::string_view text) {
     const auto* const bytes = reinterpret_cast<const std::uint8_t*>(text.data());
     return answer(text.size() + 64, [&](std::uint8_t* buffer, std::size_t capacity, std::size_t* needed) {
         return function(bytes, text.size(), buffer, capacity, needed);
@@ -83,6 +83,9 @@ inline Answer verify(std::string_view text) { return detail::judge(fifobench_ver
 // The picture of a history, and of a verdict if one follows, as an SVG document or in lines of characters.
 inline Answer draw(std::string_view text) { return detail::judge(fifobench_draw, text); }
 inline Answer draw_text(std::string_view text) { return detail::judge(fifobench_draw_text, text); }
+
+// The completion of a history whose calls may be pending: it is linearizable if and only if some completion is.
+inline Answer complete(std::string_view text) { return detail::judge(fifobench_complete, text); }
 
 // How far the operations of a history overlap, and other counts: a line for each number.
 inline Answer stats(std::string_view text) { return detail::judge(fifobench_stats, text); }

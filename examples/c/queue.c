@@ -80,13 +80,13 @@ static struct fifobench_event *events_of(struct recorder *recorder, size_t *coun
 {
     static const uint32_t kinds[] = {FIFOBENCH_CALL_ENQ, FIFOBENCH_RET_ENQ, FIFOBENCH_RET_NOT,
                                      FIFOBENCH_CALL_DEQ, FIFOBENCH_RET_DEQ, FIFOBENCH_RET_EMPTY};
-    const struct recorder_event **recorded = recorder_events(recorder, count);
-    struct fifobench_event *events = recorded != NULL ? calloc(*count + 1, sizeof *events) : NULL;
+    *count = recorder_sum_up(recorder).events;
+    struct fifobench_event *events = calloc(*count + 1, sizeof *events);
+    struct recorder_merge merge = {.recorder = recorder};
     for (size_t place = 0; events != NULL && place < *count; place++) {
-        const struct recorder_event *from = recorded[place];
+        const struct recorder_event *from = recorder_next(&merge);
         events[place] = (struct fifobench_event){from->ticket, from->value, from->thread, kinds[from->what]};
     }
-    free(recorded);
     return events;
 }
 

@@ -108,8 +108,8 @@ static struct text *read_all(char **names, int count)
 
 typedef uint8_t judge_text(const uint8_t *, size_t, uint8_t *, size_t, size_t *);
 
-static judge_text *const judges[] = {fifobench_check, fifobench_shrink, fifobench_verify};
-static const char *const commands[] = {"check", "shrink", "verify"};
+static judge_text *const judges[] = {fifobench_check, fifobench_shrink, fifobench_verify, fifobench_complete};
+static const char *const commands[] = {"check", "shrink", "verify", "complete"};
 
 struct answer {
     uint8_t *text;

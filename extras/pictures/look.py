@@ -106,6 +106,13 @@ def box(element):
     return x, y, x + int(element.get("width")), y + int(element.get("height"))
 
 
+def frame(group):
+    """The edges of a bar. The lower one of an operation that never returned is cut off by a window."""
+    left, upper, right, lower = box(next(group.iter(NAME + "rect")))
+    window = group.find(NAME + "svg")
+    return left, upper, right, lower if window is None else min(lower, int(window.get("height")))
+
+
 def meet(a, b):
     return a[0] < b[2] and b[0] < a[2] and a[1] < b[3] and b[1] < a[3]
 
@@ -132,7 +139,7 @@ def faults(picture, operations, held):
     if len(bars) != held + operations:
         found.append(f"{len(bars)} bars of {held} values and {operations} operations")
     values = [g for g in bars if g.find(NAME + "title").text.startswith("init ")]
-    tops = [box(next(g.iter(NAME + "rect"))) for g in values + [g for g in bars if g not in values]]
+    tops = [frame(g) for g in values + [g for g in bars if g not in values]]
     for i in range(held):
         if any(tops[i][3] > later[1] for later in tops[i + 1:]):
             found.append(f"value {i} doesn't stand above what comes later")
@@ -150,7 +157,7 @@ def faults(picture, operations, held):
     if len(pills) != len(numbers):
         found.append(f"{len(pills)} pills and {len(numbers)} numbers")
     for group in bars:
-        bar = box(next(group.iter(NAME + "rect")))
+        bar = frame(group)
         label = next((box(t), t.text) for t in group.iter(NAME + "text"))
         if not within(label[0], bar):
             found.append(f"not in its bar: {label[1]}")

@@ -285,8 +285,11 @@ all_answer_well = (
             (
               (λ name rest a n e. inr (inr (inr (inr (inr (inr (inl refl))))))),
               (
-                (λ name rest a n e. inr (inr (inr (inr (inr (inr (inr (refl, has_settings rest e)))))))),
-                ((λ name rest a n e. absurd (not_help name a n)), tt),
+                (λ name rest a n e. inr (inr (inr (inr (inr (inr (inr (inl refl)))))))),
+                (
+                  (λ name rest a n e. inr (inr (inr (inr (inr (inr (inr (inr (refl, has_settings rest e))))))))),
+                  ((λ name rest a n e. absurd (not_help name a n)), tt),
+                ),
               ),
             ),
           ),

@@ -42,7 +42,8 @@ named name rows (inr (inr (inr (inl draw)))) = rw draw.0 (near (has_flag (codes 
 named name rows (inr (inr (inr (inr (inl is))))) = rw is tt
 named name rows (inr (inr (inr (inr (inr (inl is)))))) = rw is tt
 named name rows (inr (inr (inr (inr (inr (inr (inl is))))))) = rw is tt
-named name rows (inr (inr (inr (inr (inr (inr (inr stress))))))) = rw stress.0 (within_ranges rows stress.1)
+named name rows (inr (inr (inr (inr (inr (inr (inr (inl is)))))))) = rw is tt
+named name rows (inr (inr (inr (inr (inr (inr (inr (inr stress)))))))) = rw stress.0 (within_ranges rows stress.1)
 
 -- what can be answered is a request in its ranges
 pub answerable_is_asked : (met : Option (Text × List Row)) → IsAnswerable met → IsSomeAnd (request_of_subcommand met) IsInRange

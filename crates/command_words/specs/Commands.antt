@@ -6,7 +6,8 @@ use Rattle.clap.specs.Faults.{fault_of}
 use Rattle.clap.specs.Kinds.{Kinds}
 use Rattle.clap.specs.Simple.{App, new_shape, subcommand_of}
 use Rattle.clap.specs.Walk.{Row, Text}
-use Rattle.command_words.specs.Options.{IsWithinRanges, Settings, drawing_in, is_quiet, settings_in, settings_of, the_draw, the_judging, the_stress}
+use Rattle.command_words.specs.Options.{IsWithinRanges, Settings, drawing_in, is_quiet, settings_in, settings_of, takes_cut, the_complete, the_draw}
+use Rattle.command_words.specs.Options.{the_judging, the_stress}
 use Rattle.command_words.specs.declared.options.DrawOptions.{DrawOptions}
 use Rattle.command_words.specs.declared.options.TheConstants.{MAX_AROUND}
 use Rattle.command_words.specs.declared.tasks.Task.{Task}
@@ -21,7 +22,7 @@ abbrev pub the_program : App
 the_program = record {
   top = record the_program_alone.top { is_leaf = false };
   subs = the_judging (codes "check") ∷ the_judging (codes "shrink") ∷ new_shape (codes "verify")
-      ∷ the_draw ∷ new_shape (codes "convert") ∷ new_shape (codes "stats") ∷ the_judging (codes "sim") ∷ the_stress ∷ [];
+      ∷ the_draw ∷ new_shape (codes "convert") ∷ the_complete ∷ new_shape (codes "stats") ∷ the_judging (codes "sim") ∷ the_stress ∷ [];
 }
 
 -- what is wrong with the words, or which help they ask for: nothing where they are a command
@@ -35,6 +36,8 @@ pub data Request : Type 0 where
   verify : Request
   draw : DrawOptions → Request
   convert : Request
+  -- whether a text that is cut off is taken too
+  complete : Bool → Request
   stats : Request
   sim : Request
   stress : Settings → Request
@@ -47,6 +50,7 @@ request_named name rows =
     else if bytes_eq name (codes "verify") then Some verify
     else if bytes_eq name (codes "draw") then Some (draw (drawing_in rows))
     else if bytes_eq name (codes "convert") then Some convert
+    else if bytes_eq name (codes "complete") then Some (complete (takes_cut rows))
     else if bytes_eq name (codes "stats") then Some stats
     else if bytes_eq name (codes "sim") then Some sim
     else if bytes_eq name (codes "stress") then Some (stress (settings_in rows)) else None
@@ -74,6 +78,7 @@ request_of task.Shrink = shrink
 request_of task.Verify = verify
 request_of (task.Draw options) = draw options
 request_of task.Convert = convert
+request_of (task.Complete cut) = complete cut
 request_of task.Stats = stats
 request_of task.Sim = sim
 request_of (task.Stress options) = stress (settings_of options)

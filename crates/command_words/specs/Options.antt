@@ -1,4 +1,4 @@
--- The options of `draw` and `stress`.
+-- The options of `draw`, `complete` and `stress`.
 use Rattle.std.specs.Prelude.{◌≤◌, ℕ, Bool, true, false, List, [], ◌∷◌, Option, Some, None, codes, unwrap_or, if◌then◌else◌}
 use Rattle.std.specs.Str.{bytes_eq}
 use Rattle.std.specs.Str.Parse.{digits_value, without_leading_plus}
@@ -60,6 +60,10 @@ draw_rules =
 abbrev pub the_draw : Shape
 the_draw = record (new_shape (codes "draw")) { rules = draw_rules }
 
+-- `complete` with its flag
+abbrev pub the_complete : Shape
+the_complete = record (new_shape (codes "complete")) { rules = flag_rule (codes "cut") ∷ [] }
+
 -- the options in the order of the help: ranges and defaults
 abbrev pub stress_rules : List Rule
 stress_rules = queue_rule ∷ number_rule (codes "threads") 1 MAX_WORKERS (codes "2")
@@ -117,6 +121,10 @@ has_flag name rows = is_given (first_of name rows)
 -- the flag for a quiet answer was given
 abbrev pub is_quiet : List Row → Bool
 is_quiet rows = has_flag (codes "quiet") rows
+
+-- the flag for texts that are cut off was given
+abbrev pub takes_cut : List Row → Bool
+takes_cut rows = has_flag (codes "cut") rows
 
 -- the form of a picture that clap's matches of `draw` ask for: characters if that flag was given, else a page, else SVG
 abbrev pub form_in : List Row → PictureForm

@@ -4,8 +4,8 @@ ghost use Rattle.clap.specs.Simple.{Shape, app_of, new_app, shape_of, with_subco
 ghost use Rattle.clap.specs.Walk.{rule_of};
 ghost use Rattle.clap.specs.declared.builder.command.Command.TheViews.{out-Command};
 ghost use Rattle.command_words.specs.Commands.{the_program, the_program_alone};
-ghost use Rattle.command_words.specs.Inner.Built.{with_first_four, with_last_four, with_plan, with_sizes};
-ghost use Rattle.command_words.specs.Options.{flag_rule, number_rule, queue_rule, quiet_rule, the_draw, the_judging, the_stress};
+ghost use Rattle.command_words.specs.Inner.Built.{with_first_four, with_last_five, with_plan, with_sizes};
+ghost use Rattle.command_words.specs.Options.{flag_rule, number_rule, queue_rule, quiet_rule, the_complete, the_draw, the_judging, the_stress};
 
 use crate::help;
 use crate::options::MAX_AROUND;
@@ -21,7 +21,7 @@ pub(crate) fn the_command<'a>(alloc: Global) -> Result<Command<'a>, AllocError>
     ensures { IfOk result (λ c. app_of c ≡ the_program) }
 {
     let half = with_first_four(alloc, program_alone(alloc))?;
-    with_last_four(alloc, half)
+    with_last_five(alloc, half)
 }
 
 // The program with the first four of its subcommands.
@@ -37,14 +37,15 @@ fn with_first_four<'a>(alloc: Global, app: Command<'a>) -> Result<Command<'a>, A
     with(with_verify, draw_command(alloc))
 }
 
-// The program with the last four too.
-fn with_last_four<'a>(alloc: Global, app: Command<'a>) -> Result<Command<'a>, AllocError>
-    ensures { IfOk result (λ c. app_of c ≡ with_last_four (app_of app.entry)) }
+// The program with the last five too.
+fn with_last_five<'a>(alloc: Global, app: Command<'a>) -> Result<Command<'a>, AllocError>
+    ensures { IfOk result (λ c. app_of c ≡ with_last_five (app_of app.entry)) }
 {
     let convert = plain_command(alloc, "convert", help::CONVERT_ABOUT, help::CONVERT_LONG);
     let with_convert = with(app, Ok(convert))?;
+    let with_complete = with(with_convert, complete_command(alloc))?;
     let stats = plain_command(alloc, "stats", help::STATS_ABOUT, help::STATS_LONG);
-    let with_stats = with(with_convert, Ok(stats))?;
+    let with_stats = with(with_complete, Ok(stats))?;
     let sim = judging_command(alloc, "sim", help::SIM_ABOUT, help::SIM_LONG);
     let with_sim = with(with_stats, sim)?;
     with(with_sim, stress_command(alloc))
@@ -118,6 +119,17 @@ fn draw_command<'a>(alloc: Global) -> Result<Command<'a>, AllocError>
         .arg(flag_option(alloc, "html", help::HTML_HELP))?
         .arg(number_option(alloc, "around", (0, MAX_AROUND), "0", help::AROUND_HELP))?
         .arg(flag_option(alloc, "all", help::ALL_HELP))
+}
+
+fn complete_command<'a>(alloc: Global) -> Result<Command<'a>, AllocError>
+    ensures shape { IfOk result (λ c. shape_of c ≡ the_complete) }
+    ensures local { IfOk result (λ c. (out-Command c).has_globals ≡ false) }
+{
+    plain_command(alloc, "complete", help::COMPLETE_ABOUT, help::COMPLETE_LONG).arg(flag_option(
+        alloc,
+        "cut",
+        help::CUT_HELP,
+    ))
 }
 
 fn flag_option<'a>(alloc: Global, name: &'a str, about: &'a str) -> Arg<'a>

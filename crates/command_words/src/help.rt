@@ -212,6 +212,44 @@ Example:
   end 2
 ";
 
+pub(crate) const COMPLETE_ABOUT: &str = "Completes a history whose calls may be pending";
+
+pub(crate) const COMPLETE_LONG: &str = "\
+Input: the text of a history, as for `check`, in which calls may have no return;
+or a pending text, as recorders write it of a run that didn't end: its first
+line is `fifo-pending 1` or `fifo-pending 2`, and before its last line a line
+`open N` counts the calls without a return. With `--cut` also such a text that
+ends early: after its last whole line, calls without a return are pending.
+
+Output: the text of a completion, of the input's version. It is linearizable if
+and only if some completion is (Herlihy and Wing 1990): a pending enqueue
+returns if its value was dequeued, else its call is left out; pending dequeues
+return, in the order of their calls, the values that no dequeue returned,
+initial values first, the others by the returns of their enqueues; a dequeue for
+which no value is left is left out. Added returns stand after the last event. A
+history without pending calls comes out as it is.
+
+So `fifobench complete | fifobench check` judges a history with pending calls:
+`NO` means that no way in which they may end makes it linearizable.
+
+Status:
+  0  completed
+  2  refused: the input (REFUSED ..), or the words of the command
+  3  failed: a read, a write, or memory (FAULT ..)
+
+Example:
+  $ printf '%s\\n' 'fifo-pending 1' '0 0 call-enq 7' '1 1 call-deq' \\
+      '2 1 ret-deq 7' 'open 1' 'end 3' | fifobench complete
+  fifo-history 1
+  0 0 call-enq 7
+  1 1 call-deq
+  2 1 ret-deq 7
+  3 0 ret-enq
+  end 4
+";
+
+pub(crate) const CUT_HELP: &str = "Takes a text that ends early, as far as its lines go";
+
 pub(crate) const STATS_ABOUT: &str = "Counts how far a history's operations overlap, and more";
 
 pub(crate) const STATS_LONG: &str = "\

@@ -1,9 +1,9 @@
-//! The options of `draw` and `stress`.
+//! The options of `draw`, `complete` and `stress`.
 ghost use Rattle.std.specs.Prelude.{◌≡◌, ◌≤◌, ℕ, Some, IfSome};
 ghost use Rattle.clap.specs.Matches.{found_of};
 ghost use Rattle.clap.specs.Walk.{rows_of};
 ghost use Rattle.command_words.specs.Options.{IsWithinRanges, around_in, drawing_as, drawing_in, form_in, has_flag, is_given, is_quiet};
-ghost use Rattle.command_words.specs.Options.{number_in, settings_in, settings_of};
+ghost use Rattle.command_words.specs.Options.{number_in, settings_in, settings_of, takes_cut};
 ghost use Rattle.command_words.specs.Inner.Options.{HasDistance, HasNumber, HasSettings};
 
 use clap::ArgMatches;
@@ -84,6 +84,13 @@ pub(crate) fn is_quiet(matches: &ArgMatches<'_>) -> bool
     ensures { result ≡ is_quiet (rows_of (found_of matches.now)) }
 {
     has_flag(matches, "quiet")
+}
+
+/// Whether the flag for texts that are cut off is among the matches of `complete`.
+pub(crate) fn takes_cut(matches: &ArgMatches<'_>) -> bool
+    ensures { result ≡ takes_cut (rows_of (found_of matches.now)) }
+{
+    has_flag(matches, "cut")
 }
 
 fn has_flag(matches: &ArgMatches<'_>, name: &str) -> bool

@@ -6,7 +6,9 @@ ghost use Rattle.command_words.specs.Commands.{IsInRange, faults_in, is_quiet_in
 ghost use Rattle.command_words.specs.Inner.Commands.{IsAnswerable};
 
 use crate::commands::the_command;
-use crate::options::{DrawOptions, StressOptions, draw_options, is_quiet, stress_options};
+use crate::options::{
+    DrawOptions, StressOptions, draw_options, is_quiet, stress_options, takes_cut,
+};
 use clap::{ArgMatches, Error};
 use std::alloc::Global;
 use std::convert::AsStr;
@@ -24,6 +26,11 @@ pub enum Task<'a> {
     Draw(DrawOptions),
     /// Read a history of either version of the text, and write it in version 2.
     Convert,
+    /// Read a history whose calls may be pending, and write its completion.
+    Complete {
+        /// Whether a text that is cut off is read as far as it goes.
+        takes_cut: bool,
+    },
     /// Read a history and print its statistics.
     Stats,
     /// Read a schedule, run it on the recorder's machine, and print what it recorded and the verdict.
@@ -89,6 +96,9 @@ fn task_of<'a>(matches: &ArgMatches<'a>) -> Task<'a>
         "verify" => Task::Verify,
         "draw" => Task::Draw(draw_options(options)),
         "convert" => Task::Convert,
+        "complete" => Task::Complete {
+            takes_cut: takes_cut(options),
+        },
         "stats" => Task::Stats,
         "sim" => Task::Sim,
         "stress" => Task::Stress(stress_options(options)),

@@ -20,6 +20,11 @@ use Rattle.history_text.proofs.OneHistory as histories
 use Rattle.history_text.proofs.OneSchedule as schedules
 use Rattle.text_lines.specs.declared.fault.TextFault.TheVariants as text
 use Rattle.history_text.proofs.OneVerdict as verdict_texts
+use Rattle.history_text.proofs.OnePending as pendings
+use Rattle.history_text.specs.Pending.{HasPendingText, IsCutText, IsPendingTextFault, NoRoomForPending, pending_text}
+use Rattle.history_text.specs.declared.pending_text.PendingText.{PendingText}
+use Rattle.commands.specs.Completing.{IsFaultOfPendingInput, IsPendingOf}
+use Rattle.std.proofs.Common.{Bool, true}
 
 -- ---- what was taken of the input
 
@@ -148,6 +153,44 @@ one_history = one_text NoRoomForText histories.judged
 -- an input is one schedule, or has one fault
 pub one_schedule : SaysOneThing IsScheduleOf IsFaultOfScheduleInput
 one_schedule = one_text NoRoomForSchedule schedules.judged
+
+-- ---- a history whose calls may be pending
+
+module _ (takes_cut : Bool) where
+  -- an input is one such text, whole
+  abbrev one_pending_text : SaysOneThing (λ input x. HasPendingText x × IsWhole (pending_text x) input) (IsFaultOfPendingInput takes_cut)
+  one_pending_text = one_text NoRoomForPending (pendings.judged takes_cut)
+
+  -- a text is whole, or cut off
+  not_both_pending : (input : Ahead) (x y : PendingText) → HasPendingText x → IsWhole (pending_text x) input → IsCutText 0 input y → ⊥
+  not_both_pending input x y has whole cut = pendings.whole_or_cut 0 input x y [] has (whole.bytes ∙ sym (append-nil (pending_text x))) cut
+
+  one_value_pending : (input : Ahead) (x y : PendingText) → IsPendingOf takes_cut input x → IsPendingOf takes_cut input y → x ≡ y
+  one_value_pending input x y (inl is_x) (inl is_y) = one_pending_text.one_value input x y is_x is_y
+  one_value_pending input x y (inl is_x) (inr is_y) = absurd (not_both_pending input x y is_x.0 is_x.1 is_y.1)
+  one_value_pending input x y (inr is_x) (inl is_y) = absurd (not_both_pending input y x is_y.0 is_y.1 is_x.1)
+  one_value_pending input x y (inr is_x) (inr is_y) = pendings.one_cut 0 input x y is_x.1 is_y.1
+
+  cut_has_no_fault : (input : Ahead) (x : PendingText) (fault : TextFault) → takes_cut ≡ true → IsCutText 0 input x
+      → IsFault HasPendingText pending_text (IsPendingTextFault takes_cut) NoRoomForPending (λ _. IsFaultOfEnd) (λ _ _. ⊥) input fault → ⊥
+  cut_has_no_fault input x fault allowed cut (inl first) =
+      pendings.cut_or_fault 0 input x fault cut (subst (λ b. IsPendingTextFault b 0 input.ending input.bytes fault) allowed first)
+  cut_has_no_fault input x fault allowed cut (inr after) = pendings.whole_or_cut 0 input after.value x after.rest after.has after.front cut
+
+  only_memory_pending : (input : Ahead) (x : PendingText) (fault : TextFault) → IsPendingOf takes_cut input x → fault ≢ text.Memory
+      → IsFaultOfPendingInput takes_cut input fault → ⊥
+  only_memory_pending input x fault (inl whole) known faulty = one_pending_text.only_memory input x fault whole known faulty
+  only_memory_pending input x fault (inr cut) known faulty = cut_has_no_fault input x fault cut.0 cut.1 (known_fault
+      (Lacks HasPendingText pending_text (IsPendingTextFault takes_cut) NoRoomForPending (λ _. IsFaultOfEnd) (λ _ _. ⊥) input)
+      (IsFault HasPendingText pending_text (IsPendingTextFault takes_cut) NoRoomForPending (λ _. IsFaultOfEnd) (λ _ _. ⊥) input) fault known faulty)
+
+  -- an input is one such text, or what comes of one, or has one fault
+  pub one_pending : SaysOneThing (IsPendingOf takes_cut) (IsFaultOfPendingInput takes_cut)
+  one_pending = record {
+    one_value = one_value_pending;
+    only_memory = only_memory_pending;
+    one_fault = one_pending_text.one_fault;
+  }
 
 -- ---- a history, and a verdict on it
 

@@ -1,5 +1,6 @@
 -- The way of the argument, from an input to what is printed:
 -- Inputs: what an input is, or its fault. An input says one thing, or has one first fault.
+-- Completions: what `complete` answers, and what `check` answers of that.
 -- OneAnswer: from what was read, played, searched, run or wrong in the words to the answer. What is written, read again, is a claim
 -- that is true. Out of memory aside an input has one answer. So a text and its conversion are answered alike, `check` finds the
 -- verdict that `shrink` wrote, and a history on its own is drawn as if its verdict followed it. An honest schedule that is done is
@@ -7,3 +8,4 @@
 mod Common
 pub mod Inputs
 pub mod OneAnswer
+pub mod Completions

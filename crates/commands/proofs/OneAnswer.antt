@@ -237,7 +237,7 @@ pub faulty_or : {P : Type 0} (history : HistoryView) (answer : Reply) → Answer
 faulty_or history answer answered = ⊎_map inl (λ memory. memory) answered
 
 -- a history that has a fault isn't complete
-not_both : (history : HistoryView) (answer : Reply) → IsFaulty history answer → IsSound history → ⊥
+pub not_both : (history : HistoryView) (answer : Reply) → IsFaulty history answer → IsSound history → ⊥
 not_both history answer faulty complete = grind (arith, complete_has_no_fault)
 
 -- a history is answered in one way where a complete one is
@@ -249,7 +249,7 @@ one_of_history history a b one (inr x) (inl y) = absurd (not_both history b y x.
 one_of_history history a b one (inr x) (inr y) = one x.0 x.1 y.1
 
 -- what follows whether P holds or not follows
-one_by_whether : {P V W X Y Z : Type 0} → (V → X → Z) → (W → Y → Z) → (P × V) ⊎ ((¬ P) × W) → (P × X) ⊎ ((¬ P) × Y) → Z
+pub one_by_whether : {P V W X Y Z : Type 0} → (V → X → Z) → (W → Y → Z) → (P × V) ⊎ ((¬ P) × W) → (P × X) ⊎ ((¬ P) × Y) → Z
 one_by_whether first second (inl x) (inl y) = first x.1 y.1
 one_by_whether first second (inl x) (inr y) = absurd (y.0 x.0)
 one_by_whether first second (inr x) (inl y) = absurd (x.0 y.0)
@@ -264,7 +264,7 @@ by_validity false is = inr ((λ p. let no = is.1 p in cc), refl)
 same : {A : Type 0} {x y z : A} → x ≡ z → y ≡ z → x ≡ y
 same p q = p ∙ sym q
 
-have_lines : (version : Version) (initial : List ℕ) → HaveValueLines version initial → HaveLines value_format initial
+pub have_lines : (version : Version) (initial : List ℕ) → HaveValueLines version initial → HaveLines value_format initial
 have_lines One initial none = rw none (record { each = tt; few = omega arith })
 have_lines Two initial have = have
 
@@ -410,11 +410,11 @@ stats_has_one = one_answer one_history Counts (λ input text a b is. one_countin
 
 -- ---- what isn't a failure was found of a history
 
-text_fault_fails : (fault : TextFault) → 2 ≤ answer_status (answer_of_text_fault fault)
+pub text_fault_fails : (fault : TextFault) → 2 ≤ answer_status (answer_of_text_fault fault)
 text_fault_fails text.Memory = omega arith
 text_fault_fails fault = omega arith
 
-history_fault_fails : (fault : HistoryFault) → 2 ≤ answer_status (answer_of_history_fault fault)
+pub history_fault_fails : (fault : HistoryFault) → 2 ≤ answer_status (answer_of_history_fault fault)
 history_fault_fails Memory = omega arith
 history_fault_fails fault = omega arith
 

@@ -1,17 +1,21 @@
 -- An input has one answer. What one command writes, another answers alike: every answer is evidence, and what
 -- `convert` writes stands for the history that it read.
-use Rattle.std.specs.Prelude.{◌≡◌, ℕ, List, ◌++◌, ◌⊎◌, true}
+use Rattle.std.specs.Prelude.{◌≡◌, ◌↔◌, ℕ, Bool, List, ◌++◌, ◌⊎◌, true, ⊤}
 use Rattle.text_lines.specs.Input.{Ahead, EndOfInput}
 use Rattle.history_text.specs.Claims.{HasVerdictText}
 use Rattle.history_text.specs.Verdicts.{verdict_text}
 use Rattle.history_text.specs.Versions.{HistoryText, text_of}
 use Rattle.history_text.specs.declared.version.Version.TheVariants.{Two}
 use Rattle.verdicts.specs.declared.verifying.Claimed.{Claimed}
-use Rattle.command_words.specs.Commands.{check, shrink, verify, draw, convert, stats, Request}
+use Rattle.verdicts.specs.declared.verifying.Claimed.TheVariants as claim
+use Rattle.completions.specs.Pending.{CompletesLinearizably}
+use Rattle.history_text.specs.declared.pending_text.PendingText.{PendingText}
+use Rattle.command_words.specs.Commands.{check, shrink, verify, draw, convert, complete, stats, Request}
 use Rattle.command_words.specs.declared.options.DrawOptions.{DrawOptions}
 use Rattle.commands.specs.Answers.{Reply, judged, shown, verified, memory_fault, answer_text, converted}
 use Rattle.commands.specs.Inputs.{IsHistoryOf}
-use Rattle.commands.specs.Judging.{said_by}
+use Rattle.commands.specs.Completing.{IsPendingOf}
+use Rattle.commands.specs.Judging.{IsSound, said_by}
 use Rattle.commands.specs.Running.{AnswersOf}
 
 -- an input of these bytes and nothing more
@@ -55,6 +59,29 @@ ShrunkIsChecked = (bytes : List ℕ) (small : HistoryText) (claimed : Claimed) (
 abbrev pub DrawnAsChecked : DrawOptions → Type 0
 DrawnAsChecked options = (bytes : List ℕ) (claimed : Claimed) (a b : Reply) → AnswersOf check (input_of bytes) (judged claimed)
     → AnswersOf (draw options) (input_of bytes) a → AnswersOf (draw options) (input_of (bytes ++ answer_text (judged claimed))) b → SameOrNoMemory a b
+
+-- ---- completions
+
+-- what `complete` answers with is the text of a complete history
+abbrev pub CompletedIsHistory : Bool → Type 0
+CompletedIsHistory takes_cut = (bytes : List ℕ) (to : HistoryText) → AnswersOf (complete takes_cut) (input_of bytes) (converted to)
+    → IsHistoryOf (input_of (text_of to)) to × IsSound (said_by to)
+
+-- the verdict is that there is a linearization
+abbrev pub IsYes : Claimed → Type 0
+IsYes (claim.Yes operations) = ⊤
+IsYes (claim.No kind lines) = ⊥
+
+-- `check` answers it with a `YES` if and only if some completion of the history that was read has a linearization
+abbrev pub CompletedIsDecided : Bool → Type 0
+CompletedIsDecided takes_cut = (bytes : List ℕ) (text : PendingText) (to : HistoryText) (claimed : Claimed)
+    → IsPendingOf takes_cut (input_of bytes) text → AnswersOf (complete takes_cut) (input_of bytes) (converted to)
+    → AnswersOf check (input_of (text_of to)) (judged claimed) → IsYes claimed ↔ CompletesLinearizably text.initial text.events
+
+-- a complete history comes out as it is
+abbrev pub CompletedIsKept : Bool → Type 0
+CompletedIsKept takes_cut = (bytes : List ℕ) (text to : HistoryText) → IsHistoryOf (input_of bytes) text → IsSound (said_by text)
+    → AnswersOf (complete takes_cut) (input_of bytes) (converted to) → text_of to ≡ bytes
 
 -- ---- conversions
 

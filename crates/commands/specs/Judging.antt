@@ -1,5 +1,5 @@
 -- What the commands that read answer of what they read.
-use Rattle.std.specs.Prelude.{◌≡◌, ◌≢◌, ◌≤◌, false, true, List, [], length, ◌⊎◌, ℕ}
+use Rattle.std.specs.Prelude.{◌≡◌, ◌≢◌, ◌≤◌, false, true, List, [], length, ◌⊎◌, ℕ, None}
 use Rattle.event_records.specs.declared.event.Event.{Event}
 use Rattle.history_merge.specs.declared.fault.HistoryFault.{HistoryFault}
 use Rattle.history_merge.specs.declared.fault.HistoryFault.TheVariants.{Memory}
@@ -152,7 +152,7 @@ picture_in Terminal scene = terminal_picture scene
 
 -- the picture of a history and a claim: of what is drawn of them, in the form that is asked for
 abbrev pub picture_of : DrawOptions → HistoryView → Claimed → List ℕ
-picture_of options history claimed = picture_in options.form (scene_of history claimed (drawn_operations history claimed options.around))
+picture_of options history claimed = picture_in options.form (scene_of history claimed (drawn_operations history claimed options.around) None)
 
 -- of a complete history: the picture with the claim, where they are small and the claim is evidence
 abbrev pub DrawsSound : DrawOptions → ClaimOnText → Reply → Type 0

@@ -7,11 +7,14 @@ use Rattle.event_records.specs.declared.event.Event.{Event}
 use Rattle.history_merge.specs.Clashes.{IsClash, fault_of}
 use Rattle.history_merge.specs.Names as history_names
 use Rattle.history_merge.specs.Operations.{operations_of}
+use Rattle.completions.specs.declared.fault.CompletionFault.{CompletionFault}
+use Rattle.completions.specs.declared.fault.CompletionFault.TheVariants as completion
 use Rattle.stress_run.specs.Faults as run_names
 use Rattle.verdicts.specs.Claiming.{claim_of, IsWithin}
 use Rattle.std.specs.declared.result.Result.{Result}
 use Rattle.commands.specs.declared.outcome.Report.{Report}
-use Rattle.commands.specs.declared.outcome.Report.TheVariants.{Judged, Shown, LeftOpen, Played, Verified, Converted, Counted, Drawn}
+use Rattle.commands.specs.declared.outcome.Report.TheVariants.{Judged, Shown, LeftOpen, Played, Verified, Converted, Completed, Counted}
+use Rattle.commands.specs.declared.outcome.Report.TheVariants.{Drawn}
 use Rattle.commands.specs.declared.outcome.Fault.{Fault}
 use Rattle.commands.specs.declared.outcome.Fault.TheVariants.{Text, History, Size, Queue, Limit, Memory, Run}
 use Rattle.commands.specs.Answers.{Reply, judged, shown, left_open, played, verified, converted, counted, drawn, refused_size}
@@ -27,6 +30,7 @@ answer_of_report (Played rejections history verdict) =
     played rejections history.events (claim_of history.initial (operations_of history.events) verdict)
 answer_of_report (Verified valid) = verified valid
 answer_of_report (Converted history) = converted (said_in Two history)
+answer_of_report (Completed version history) = converted (said_in version history)
 answer_of_report (Counted statistics) = counted statistics
 answer_of_report (Drawn picture) = drawn picture.items
 
@@ -39,6 +43,11 @@ answer_of_fault Queue = refused_queue
 answer_of_fault Limit = refused_limit
 answer_of_fault Memory = memory_fault
 answer_of_fault (Run fault) = run_fault fault
+
+-- why a command finds nothing where a history has no completion
+abbrev pub fault_of_completion : CompletionFault → Fault
+fault_of_completion (completion.History fault) = History (record { fault = fault; clash = None })
+fault_of_completion completion.Limit = Limit
 
 -- if a fault names what clashes, that clashes in this history, and explains the fault
 abbrev pub NamesClash : List ℕ → List Event → Fault → Type 0
@@ -73,6 +82,7 @@ abbrev pub HasPlaces : Report → Type 0
 HasPlaces (Judged history verdict) = IsWithin history.initial (operations_of history.events) verdict
 HasPlaces (Shown version history verdict) =
     IsWithin history.initial (operations_of history.events) verdict × (version ≡ One → history.initial ≡ [])
+HasPlaces (Completed version history) = version ≡ One → history.initial ≡ []
 HasPlaces (Played rejections history verdict) = IsWithin history.initial (operations_of history.events) verdict × (history.initial ≡ [])
 HasPlaces _ = ⊤
 

@@ -8,10 +8,11 @@ use Rattle.messages.specs.Messages.{IsMessage}
 use Rattle.clap.specs.Kinds.{Kinds, IsAmong}
 use Rattle.clap.specs.declared.error.kind.ErrorKind.{ErrorKind}
 use Rattle.clap.specs.declared.error.kind.ErrorKind.TheVariants as kind
-use Rattle.command_words.specs.Commands.{Request, check, shrink, verify, draw, convert, stats, sim, stress}
+use Rattle.command_words.specs.Commands.{Request, check, shrink, verify, draw, convert, complete, stats, sim, stress}
 use Rattle.commands.specs.Answers.{Reply, memory_fault, answer_text, answer_status, said_text}
 use Rattle.commands.specs.Inputs.{IsHistoryOf, IsFaultOfHistoryInput, IsScheduleOf, IsFaultOfScheduleInput, IsClaimOf, IsFaultOfClaimInput}
 use Rattle.commands.specs.Inputs.{IsDrawableOf, IsFaultOfDrawableInput}
+use Rattle.commands.specs.Completing.{Completes, IsFaultOfPendingInput, IsPendingOf}
 use Rattle.commands.specs.Judging.{AnswersFor, Judges, Shrinks, Verifies, Draws, Converts, Counts, Simulates}
 
 -- where the writer refused nothing the text is written whole, with this status; else a prefix of it is, and the status is 3
@@ -48,6 +49,7 @@ AnswersOf shrink input answer = AnswersFor IsHistoryOf IsFaultOfHistoryInput Shr
 AnswersOf verify input answer = AnswersFor IsClaimOf IsFaultOfClaimInput Verifies input answer
 AnswersOf (draw options) input answer = AnswersFor IsDrawableOf IsFaultOfDrawableInput (Draws options) input answer
 AnswersOf convert input answer = AnswersFor IsHistoryOf IsFaultOfHistoryInput Converts input answer
+AnswersOf (complete takes_cut) input answer = AnswersFor (IsPendingOf takes_cut) (IsFaultOfPendingInput takes_cut) Completes input answer
 AnswersOf stats input answer = AnswersFor IsHistoryOf IsFaultOfHistoryInput Counts input answer
 AnswersOf sim input answer = AnswersFor IsScheduleOf IsFaultOfScheduleInput Simulates input answer
 AnswersOf (stress settings) input answer = Unit {0}

@@ -60,6 +60,7 @@ fn reads_of(command: &str) -> Option<Reads> {
         "check" | "shrink" | "convert" | "stats" => Some(Reads::History),
         "verify" => Some(Reads::Claim),
         "draw" => Some(Reads::Drawable),
+        "complete" => Some(Reads::Pending),
         "sim" => Some(Reads::Schedule),
         _ => None,
     }
@@ -73,6 +74,7 @@ fn name_of(task: &Task<'_>) -> &'static str {
         Task::Verify => "verify",
         Task::Draw(_) => "draw",
         Task::Convert => "convert",
+        Task::Complete { .. } => "complete",
         Task::Stats => "stats",
         Task::Sim => "sim",
         Task::Stress(_) => "stress",
@@ -118,6 +120,7 @@ fn complaint_of<'a>(
             threads: options.threads as u64,
             operations: options.operations as u64,
         },
+        (Fault::Limit, Task::Complete { .. }) => Complaint::Completion,
         (Fault::Run(fault), _) => Complaint::Run(fault),
         _ => Complaint::Memory,
     }

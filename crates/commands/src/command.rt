@@ -10,6 +10,7 @@ ghost use Rattle.commands.specs.Stressing.{Stresses};
 ghost use Rattle.clap.specs.Values.{kind_of};
 
 use crate::beside::{Ended, Terminals, greet, say_at_end, say_mistake};
+use crate::complete::complete;
 use crate::draw::draw;
 use crate::histories::{check, convert, shrink, stats, verify};
 use crate::outcome::Outcome;
@@ -190,6 +191,7 @@ where
         Task::Verify => return verify(rt.alloc(), reader),
         Task::Draw(options) => return draw(rt.alloc(), reader, options),
         Task::Convert => return convert(rt.alloc(), reader),
+        Task::Complete { takes_cut } => return complete(rt.alloc(), reader, takes_cut),
         Task::Stats => return stats(rt.alloc(), reader),
         Task::Sim => return sim(rt.alloc(), reader),
         Task::Stress(options) => return stress(rt, rt.alloc(), shelf, &options),

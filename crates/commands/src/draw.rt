@@ -128,7 +128,7 @@ fn draw_evidence(
         → AnswersOrNoMemory (DrawsSound options) (claim_on (said_in version history.now) claimed.now) (answer_of result) }
     ensures places { NamesPlaces result }
 {
-    let scene = scene_of(alloc, history, claimed, drawn)?;
+    let scene = scene_of(alloc, history, claimed, drawn, None)?;
     let picture = picture_in(alloc, &scene, options.form)?;
     Ok(Report::Drawn(picture))
 }

@@ -3,7 +3,9 @@ ghost use Rattle.std.specs.Prelude.{◌≡◌, ℕ, List, IfOk, IfErr, IfSome};
 ghost use Rattle.event_records.specs.declared.event.Event.{Event};
 ghost use Rattle.history_merge.specs.Clashes.{IsClash};
 ghost use Rattle.history_merge.specs.Initial.{IsCompleteFrom};
-ghost use Rattle.history_text.specs.Versions.{HasText, HistoryText, IsReadAs, said_in};
+ghost use Rattle.history_text.specs.Histories.{HasHistoryText};
+ghost use Rattle.commands.specs.Completing.{IsFaultOfPendingInput, IsPendingOf};
+ghost use Rattle.history_text.specs.Versions.{HasText, HaveValueLines, HistoryText, IsReadAs, said_in};
 ghost use Rattle.history_text.specs.Schedules.{IsSetting};
 ghost use Rattle.commands.specs.Inputs.{IsHistoryOf, IsFaultOfHistoryInput, IsScheduleOf, IsFaultOfScheduleInput, IsClaimOf, IsFaultOfClaimInput};
 ghost use Rattle.commands.specs.Inputs.{IsDrawableOf, IsFaultOfDrawableInput, drawable};
@@ -14,8 +16,8 @@ ghost use Rattle.commands.specs.Outcomes.{NamesClash, answer_of_fault};
 use crate::outcome::{Fault, Incomplete};
 use history_merge::{Clash, History, HistoryBuilder, HistoryFault};
 use history_text::{
-    Schedule, TextFault, TextReader, TextSource, Version, at_end, is_at_end, read_history,
-    read_schedule, read_verdict,
+    PendingText, Schedule, TextFault, TextReader, TextSource, Version, at_end, is_at_end,
+    read_history, read_pending, read_schedule, read_verdict,
 };
 use std::alloc::Global;
 use verdicts::Claimed;
@@ -33,6 +35,24 @@ fn gathered_of<S: TextSource + Drop>(alloc: Global, reader: S) -> Result<Gathere
     let gathered = read_history(alloc, &mut texts)?;
     at_end(&mut texts)?;
     Ok(gathered)
+}
+
+/// What the one text says that the reader gives, of a history whose calls may be pending; with `takes_cut` as far as it goes.
+pub(crate) fn pending_of<S: TextSource + Drop>(
+    alloc: Global,
+    reader: S,
+    takes_cut: bool,
+) -> Result<PendingText, TextFault>
+    ensures text { IfOk result (λ text. IfSome (S.ahead reader) (λ input. IsPendingOf takes_cut input text)) }
+    ensures lines { IfOk result (λ text. HaveValueLines text.version text.initial × HasHistoryText text.events) }
+    ensures fault { IfErr result (λ fault. IfSome (S.ahead reader) (λ input. IsFaultOfPendingInput takes_cut input fault)) }
+{
+    let mut texts = TextReader::new(reader);
+    let (text, is_whole) = read_pending(alloc, &mut texts, takes_cut)?;
+    if is_whole {
+        at_end(&mut texts)?;
+    }
+    Ok(text)
 }
 
 /// The text of a history, and what the verdict text after it claims of it.

@@ -1,5 +1,5 @@
 //! What holds of the program's answers. These functions do nothing; the law is what each of them ensures.
-ghost use Rattle.std.specs.Prelude.{◌≡◌, ◌≤◌, List};
+ghost use Rattle.std.specs.Prelude.{◌≡◌, ◌≤◌, Bool, List};
 ghost use Rattle.history_merge.specs.declared.operation.Operation.{Operation};
 ghost use Rattle.event_records.specs.declared.event.Event.{Event};
 ghost use Rattle.event_records.specs.declared.limits.TheConstants.{MAX_THREADS};
@@ -10,9 +10,10 @@ ghost use Rattle.recorder_core.specs.Replay.{IsHonest};
 ghost use Rattle.simulation.specs.Simulations.{rejections};
 ghost use Rattle.verdicts.specs.declared.verifying.Claimed.TheVariants.{Yes};
 ghost use Rattle.command_words.specs.declared.options.DrawOptions.{DrawOptions};
-ghost use Rattle.command_words.specs.Commands.{check, shrink, verify, draw, convert, stats, sim};
+ghost use Rattle.command_words.specs.Commands.{check, shrink, verify, draw, convert, complete, stats, sim};
 ghost use Rattle.command_words.specs.Options.{Settings};
 ghost use Rattle.commands.specs.Answers.{Reply, ShowsNoViolation, played};
+ghost use Rattle.commands.specs.Evidence.{CompletedIsDecided, CompletedIsHistory, CompletedIsKept};
 ghost use Rattle.commands.specs.Evidence.{CheckedIsValid, ConvertedIsChecked, ConvertedIsCounted, ConvertedIsKept, ConvertedIsSameHistory};
 ghost use Rattle.commands.specs.Evidence.{ConvertedIsVerified, DrawnAsChecked, HasOneAnswer, ShrunkIsChecked, ShrunkIsValid};
 ghost use Rattle.commands.specs.Judging.{SimulatesIn};
@@ -34,6 +35,7 @@ pub fn one_answer()
     ensures verify { HasOneAnswer verify }
     ensures draw { (options : DrawOptions) → HasOneAnswer (draw options) }
     ensures convert { HasOneAnswer convert }
+    ensures complete { (takes_cut : Bool) → HasOneAnswer (complete takes_cut) }
     ensures stats { HasOneAnswer stats }
     ensures sim { HasOneAnswer sim }
 {}
@@ -54,6 +56,15 @@ pub fn every_answer_is_evidence()
     ensures shrunk { ShrunkIsValid }
     ensures checked_again { ShrunkIsChecked }
     ensures drawn { (options : DrawOptions) → DrawnAsChecked options }
+{}
+
+/// What `complete` writes is the text of a complete history, which every other command reads. `check` answers it with a
+/// `YES` if and only if some completion of the history that was read has a linearization. A complete history comes out
+/// as it is. Or memory runs out.
+pub fn completion_decides()
+    ensures history { (takes_cut : Bool) → CompletedIsHistory takes_cut }
+    ensures decided { (takes_cut : Bool) → CompletedIsDecided takes_cut }
+    ensures kept { (takes_cut : Bool) → CompletedIsKept takes_cut }
 {}
 
 /// The text of a history and what `convert` writes of it stand for one history: `check` answers both alike, and so

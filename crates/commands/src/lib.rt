@@ -3,6 +3,7 @@
 
 mod beside;
 mod command;
+mod complete;
 mod draw;
 mod faults;
 mod histories;
@@ -21,14 +22,15 @@ mod words;
 pub use beside::Terminals;
 pub use command::{run_command, run_over};
 pub use laws::{
-    conversion_keeps_answers, every_answer_is_evidence, honest_schedules_get_a_yes, one_answer,
-    runs_of_the_proved_queue_are_linearizable,
+    completion_decides, conversion_keeps_answers, every_answer_is_evidence,
+    honest_schedules_get_a_yes, one_answer, runs_of_the_proved_queue_are_linearizable,
 };
 pub use outcome::{Fault, Outcome, Report};
 pub use print::status_of;
 pub use shelf::{BuiltIn, built_ins};
 pub use stress::{NamedQueue, TRIES};
 pub use texts::{
-    check_text, draw_text, judge_gathered, shrink_text, stats_text, text_of_outcome, verify_text,
+    check_text, complete_text, draw_text, judge_gathered, shrink_text, stats_text, text_of_outcome,
+    verify_text,
 };
 pub use words::{StartFault, print_start_fault, words_of};

@@ -28,6 +28,8 @@ pub enum Report {
     Verified(bool),
     /// A history on its own, to be shown in version 2.
     Converted(History),
+    /// A completed history on its own, to be shown in a version.
+    Completed(Version, History),
     /// The statistics of a history.
     Counted(Statistics),
     /// A picture, in lines of characters.
@@ -52,7 +54,7 @@ pub enum Fault {
     Size,
     /// No queue has the name that was asked for.
     Queue,
-    /// More operations were asked for than a run may have.
+    /// More operations were asked for than a run may have, or a completion is beyond the limits of a history.
     Limit,
     /// Memory ran out.
     Memory,

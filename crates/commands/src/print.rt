@@ -38,6 +38,7 @@ pub(crate) fn write_outcome<W: TextSink>(
             return write_shown(Version::One, history, verdict, writer);
         }
         Ok(Report::Converted(history)) => return write_history(Version::Two, history, writer),
+        Ok(Report::Completed(version, history)) => return write_history(*version, history, writer),
         Ok(Report::Verified(true)) => return write_piece(b"VALID\n", writer),
         Ok(Report::Verified(false)) => return write_piece(b"INVALID\n", writer),
         Ok(Report::Counted(statistics)) => return write_statistics(statistics, writer),
@@ -63,7 +64,7 @@ pub fn status_of(outcome: &Outcome) -> u8
         Ok(Report::Judged(_, verdict)) => return status_of_verdict(verdict),
         Ok(Report::Shown(_, _, verdict)) => return status_of_verdict(verdict),
         Ok(Report::Played(_, _, verdict)) => return status_of_verdict(verdict),
-        Ok(Report::LeftOpen(_) | Report::Converted(_)) => return 0,
+        Ok(Report::LeftOpen(_) | Report::Converted(_) | Report::Completed(..)) => return 0,
         Ok(Report::Counted(_) | Report::Drawn(_)) => return 0,
         Ok(Report::Verified(true)) => return 0,
         Ok(Report::Verified(false)) => return 1,
@@ -121,6 +122,7 @@ fn write_said<W: TextSink>(
         Ok(Report::Played(_, _, verdict)) => return write_piece(head_of(verdict), writer),
         Ok(Report::LeftOpen(_)) => return write_piece(b"OPEN\n", writer),
         Ok(Report::Converted(_) | Report::Verified(_)) => return write_outcome(outcome, writer),
+        Ok(Report::Completed(..)) => return write_outcome(outcome, writer),
         Ok(Report::Counted(_) | Report::Drawn(_)) => return write_outcome(outcome, writer),
         Err(fault) => return write_fault(*fault, writer),
     }

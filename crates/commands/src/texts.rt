@@ -1,13 +1,14 @@
 //! What the commands find in a text in memory, all in the caller's thread: nothing is read, printed or started.
 ghost use Rattle.std.specs.Prelude.{◌≡◌, IfOk};
 ghost use Rattle.history_merge.specs.Initial.{HistoryView};
-ghost use Rattle.command_words.specs.Commands.{check, draw, shrink, stats, verify};
+ghost use Rattle.command_words.specs.Commands.{check, complete, draw, shrink, stats, verify};
 ghost use Rattle.commands.specs.Answers.{answer_text};
 ghost use Rattle.commands.specs.Evidence.{input_of};
 ghost use Rattle.commands.specs.Judging.{JudgesHistory, IsGathered, AnswersOrNoMemory};
 ghost use Rattle.commands.specs.Outcomes.{answer_of, NamesPlaces};
 ghost use Rattle.commands.specs.Running.{AnswersOf};
 
+use crate::complete::complete;
 use crate::draw::draw;
 use crate::histories::{shrink, stats, verify};
 use crate::input::given_history;
@@ -51,6 +52,14 @@ pub fn draw_text(alloc: Global, text: &[u8], options: DrawOptions) -> Outcome
     ensures places { NamesPlaces result }
 {
     draw(alloc, MemorySource::new(text), options)
+}
+
+/// What `complete` finds in a text; with `takes_cut` in one that is cut off too.
+pub fn complete_text(alloc: Global, text: &[u8], takes_cut: bool) -> Outcome
+    ensures found { AnswersOf (complete takes_cut) (input_of text.now) (answer_of result) }
+    ensures places { NamesPlaces result }
+{
+    complete(alloc, MemorySource::new(text), takes_cut)
 }
 
 /// What `stats` finds in a text.

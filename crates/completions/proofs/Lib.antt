@@ -8,6 +8,7 @@
 -- Decides: the completion that is given decides.
 -- Walks: walks over the events, with the last event of each thread.
 -- Sound: events without a fault are a complete history.
+-- Within: a completion within the limits decides.
 pub mod Counting
 pub mod Deciding
 pub mod Followed
@@ -17,3 +18,4 @@ pub mod Answering
 pub mod Decides
 pub mod Walks
 pub mod Sound
+pub mod Within

@@ -27,7 +27,7 @@ use Rattle.history_merge.proofs.Turns.{one_event_more, pending_in, turns_push, T
 use Rattle.completions.specs.Completed.{answers_to, calls_dequeue, completed, enqueue_answer, is_left_out, is_pending, left_values, next_ticket}
 use Rattle.completions.specs.Completed.{paired, pending_calls, returns_from}
 use Rattle.completions.specs.declared.answers.Answer.{Answer}
-use Rattle.completions.specs.Faults.{IsBeyondLimits}
+use Rattle.completions.specs.Faults.{IsBeyondLimits, MayBePending}
 use Rattle.completions.specs.Pending.{IsHistoryFrom, TakesTurnsSoFar}
 use Rattle.completions.proofs.Whole.{filter_all, pending_by_test}
 
@@ -179,3 +179,25 @@ on_ok (Err e) P Q then is = is
 pub if_pending_history : (initial : List ℕ) (events : List Event) (fault : HistoryFault) → IsFirstFault initial events fault
     → ((ticket : ℕ) × (fault ≡ Pending ticket)) → IsHistoryFrom initial events
 if_pending_history initial events fault first (ticket, is) = pending_is_history initial events ticket (subst (IsFirstFault initial events) is first)
+
+-- so are events whose first fault, if there is one, is that a call is pending
+pub may_be_pending : (initial : List ℕ) (events : List Event) → MayBePending initial events → IsHistoryFrom initial events
+may_be_pending initial events (inl whole) = complete_is_history initial events whole
+may_be_pending initial events (inr (ticket, first)) = pending_is_history initial events ticket first
+
+pub if_may_be_pending : (initial : List ℕ) (events : List Event) (fault : HistoryFault) → IsFirstFault initial events fault
+    → ((ticket : ℕ) × (fault ≡ Pending ticket)) → MayBePending initial events
+if_may_be_pending initial events fault first (ticket, is) = inr (ticket, subst (IsFirstFault initial events) is first)
+
+pub taken_may_be_pending : (initial : List ℕ) (events : List Event) (made : HistoryView) → (made.initial ≡ initial) × (made.events ≡ events)
+    → IsCompleteFrom made.initial made.events → MayBePending initial events
+taken_may_be_pending initial events made is whole =
+    inl (subst (λ (es : List Event). IsCompleteFrom initial es) is.1 (subst (λ (vs : List ℕ). IsCompleteFrom vs made.events) is.0 whole))
+
+pub when_known : {T E : Type 0} (r : Result T E) (P : Type 0) → OnOk r P → IfOk r (λ _. P)
+when_known (Ok x) P is = is
+when_known (Err e) P is = is
+
+pub known_ok : {T E : Type 0} (r : Result T E) (P : Type 0) → P → OnOk r P
+known_ok (Ok x) P is = is
+known_ok (Err e) P is = tt

@@ -7,7 +7,7 @@ use Rattle.std.specs.Prelude.{Contains, filter, filter_map, is_ok, option_to_lis
 use Rattle.std.specs.List.{cons_option, last_or}
 use Rattle.std.specs.List.Sorted.{IsBinarySearchResult, IsNonDecreasingBy}
 use Rattle.std.specs.Ordering.{nat_cmp}
-use Rattle.std.proofs.lemmas.List.{append_assoc, append-nil, get_or_default, length-take-le}
+use Rattle.std.proofs.lemmas.List.{append_assoc, append-nil, get_or_default, length-append, length-take-le}
 use Rattle.std.proofs.lemmas.Bool.{cases_Bool, cases_eq, cases_lt, eq-eqb, eqb-true, ne_eqb}
 use Rattle.std.proofs.lemmas.List.Elements.{filter-append, filter_map-append}
 use Rattle.std.proofs.lemmas.List.Folds.{Any-from_list_any, list_any_at}
@@ -95,6 +95,18 @@ pub filtered_same : (p : Event → Bool) (xs : List Event) (i : ℕ) (d : Event)
     → filter p (take (i + 1) xs) ≡ filter p (take i xs)
 filtered_same p xs i d below is =
     ap (filter p) (take_more xs i d below) ∙ filter-append p (take i xs) (get_or xs i d ∷ []) ∙ rw is (append-nil (filter p (take i xs)))
+
+-- one more is counted
+pub counted_more : (p : Event → Bool) (xs : List Event) (i : ℕ) (d : Event) (n : ℕ) → i < length xs → p (get_or xs i d) ≡ true
+    → n ≡ length (filter p (take i xs)) → n + 1 ≡ length (filter p (take (i + 1) xs))
+counted_more p xs i d n below is counted =
+    let more = ap (λ (l : List Event). length l) (filtered_more p xs i d below is) in
+    omega (arith, more, counted, length-append (filter p (take i xs)) (get_or xs i d ∷ []))
+
+-- none is counted
+pub counted_same : (p : Event → Bool) (xs : List Event) (i : ℕ) (d : Event) (n : ℕ) → i < length xs → p (get_or xs i d) ≡ false
+    → n ≡ length (filter p (take i xs)) → n ≡ length (filter p (take (i + 1) xs))
+counted_same p xs i d n below is counted = counted ∙ ap (λ (l : List Event). length l) (sym (filtered_same p xs i d below is))
 
 -- what is made of one event more
 pub made_more : {X Y : Type 0} (h : X → Option Y) (xs : List X) (i : ℕ) (d : X) (y : Y) → i < length xs → h (get_or xs i d) ≡ Some y

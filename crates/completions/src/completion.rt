@@ -6,7 +6,7 @@ ghost use Rattle.history_merge.specs.declared.fault.HistoryFault.TheVariants.{Pe
 ghost use Rattle.completions.specs.declared.fault.CompletionFault.TheVariants.{History};
 ghost use Rattle.event_records.specs.declared.event.Event.{Event};
 ghost use Rattle.completions.specs.Completed.{completed, is_left_out, next_ticket, returns_from};
-ghost use Rattle.completions.specs.Faults.{IsBeyondLimits, IsCompletionFault};
+ghost use Rattle.completions.specs.Faults.{IsBeyondLimits, IsCompletionFault, MayBePending};
 ghost use Rattle.completions.specs.Inner.Walk.{AreLast};
 ghost use Rattle.completions.specs.Pending.{IsDeciding, IsHistoryFrom};
 
@@ -100,6 +100,7 @@ fn check_history(alloc: Global, initial: &[u64], events: &[Event]) -> Result<(),
     requires few_initial { length initial.now ≤ MAX_INITIAL }
     requires few_events { length events.now ≤ MAX_EVENTS }
     ensures history { OnOk result (IsHistoryFrom initial.now events.now) }
+    ensures found { OnOk result (MayBePending initial.now events.now) }
     ensures fault { IfErr result (IsCompletionFault initial.now events.now) }
 {
     let values = copied(alloc, initial)?;
@@ -117,8 +118,9 @@ fn complete_history(
 ) -> Result<Vec<Event>, CompletionFault>
     requires few_initial { length initial.now ≤ MAX_INITIAL }
     requires history { IsHistoryFrom initial.now events.now }
+    requires found { MayBePending initial.now events.now }
     ensures completed { IfOk result (λ full. full.items ≡ completed initial.now events.now) }
-    ensures within { IfOk result (λ full. ¬ (IsBeyondLimits initial.now events.now)) }
+    ensures within { OnOk result (¬ (IsBeyondLimits initial.now events.now)) }
     ensures fault { IfErr result (IsCompletionFault initial.now events.now) }
 {
     let last = last_events(events);
@@ -154,6 +156,8 @@ pub fn complete(
     ensures deciding { IfOk result (λ full. IsDeciding initial.now events.now full.items) }
     ensures completed { IfOk result (λ full. full.items ≡ completed initial.now events.now) }
     ensures few { IfOk result (λ full. length full.items ≤ MAX_EVENTS) }
+    ensures within { OnOk result (¬ (IsBeyondLimits initial.now events.now)) }
+    ensures found { OnOk result (MayBePending initial.now events.now) }
     ensures same { IfOk result (λ full. IsCompleteFrom initial.now events.now → full.items ≡ events.now) }
     ensures fault { IfErr result (IsCompletionFault initial.now events.now) }
 {

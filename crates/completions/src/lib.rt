@@ -6,9 +6,12 @@ mod completion;
 mod fault;
 mod given;
 mod last;
+mod laws;
 mod left;
 mod pending;
 
 pub use answers::Answer;
 pub use completion::complete;
 pub use fault::CompletionFault;
+pub use laws::the_completion_decides;
+pub use pending::count_pending;

@@ -147,7 +147,7 @@ fn terminal_picture_example(rt: HostRuntime) -> Result<(), Fail> {
     let verdict = decide(alloc, &history)?;
     let claimed = claim(alloc, &history, &verdict)?;
     let drawn = drawn_operations(alloc, &history, &claimed, None)?;
-    let scene = scene_of(alloc, &history, &claimed, drawn)?;
+    let scene = scene_of(alloc, &history, &claimed, drawn, None)?;
     let mut picture = Vec::new(alloc);
     if count_of_lines(&claimed) <= MOST_DRAWN {
         picture = terminal_picture(alloc, &scene)?;

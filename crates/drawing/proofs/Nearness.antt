@@ -13,9 +13,11 @@ use Rattle.drawing.proofs.Common.{slice_get-get_or, slice_get_within, Some, stan
 use Rattle.drawing.proofs.Common.{suc, sum_by-cons, sym, traced, true, Yes, zero, [], ℕ, ◌<◌, ◌||◌, ◌∙◌, ◌∷◌, ◌≡◌, ◌≤◌}
 use Rattle.std.proofs.lemmas.List.Folds.{Any-from_list_any, find_at, list_any-from_Any}
 use Rattle.std.specs.List.Sorted.{IsPartitionedBy}
+use Rattle.drawing.specs.Pending.{is_added}
 use Rattle.event_records.specs.Turns.{TicketsRise}
 use Rattle.verdicts.specs.declared.verifying.ClaimLine.TheVariants.{Initial}
-use Rattle.drawing.specs.Laws.{LinesAreOfHistory, LinesHaveNumbers, NoOtherBars, NoOthersAreDrawn, NumbersAreOfLines}
+use Rattle.drawing.specs.Laws.{LastsTo, LinesAreOfHistory, LinesHaveNumbers, NoCallsAreAdded, NoOtherBars, NoOthersAreDrawn}
+use Rattle.drawing.specs.Laws.{NumbersAreOfLines}
 use Rattle.drawing.proofs.Below.{fewer, one_fewer}
 use Rattle.std.proofs.lemmas.List.Quantifiers.{position-Some}
 use Rattle.verdicts.proofs.ShownLines.{each_there}
@@ -150,15 +152,20 @@ found p (y ∷ ys) x among passes = cond_both (p y) (Some y) (find p ys) (λ f. 
 
 -- what stands in a lane is the bar of an operation of its thread
 pub no_other_bars : NoOtherBars
-no_other_bars operations thread ticket o is =
-    let first = found_first (is_under_way thread ticket) operations o is in
+no_other_bars added_from operations thread ticket o is =
+    let first = found_first (is_under_way added_from thread ticket) operations o is in
     let passes = first.passes in
     record {
       among = contains_at operations first.place o first.at;
       own = grind (arith, nat_tests);
       called = grind (arith, nat_tests);
-      returns = grind (arith, nat_tests);
+      lasts = grind (arith, nat_tests);
     }
+
+-- a ticket that was not added is none above one that was
+pub seen_before_added : (added_from : Option ℕ) (seen added : ℕ) → is_added added_from seen ≡ false → is_added added_from added ≡ true → seen ≤ added
+seen_before_added None seen added before from = cc
+seen_before_added (Some first) seen added before from = grind (arith, nat_tests)
 
 -- ---- one operation at a time
 
@@ -167,29 +174,35 @@ module _ (events : List Event) (complete : IsCompleteHistory events) where
   all = operations_are_complete events complete
 
   -- an operation of a thread that is called after another is so after its return
-  not_both : (x y : Operation) (tx : IsTraced events x) (ty : IsTraced events y) (c : ℕ) → Contains (operations_of events) x
-      → Contains (operations_of events) y → x.thread ≡ y.thread → tx.called_at < ty.called_at → y.call ≤ c → c ≤ x.ret → ⊥
-  not_both x y tx ty c in_x in_y threads below from to = elim (cases_lt ty.called_at tx.returned_at) [
+  not_both : (x y : Operation) (tx : IsTraced events x) (ty : IsTraced events y) → Contains (operations_of events) x
+      → Contains (operations_of events) y → x.thread ≡ y.thread → tx.called_at < ty.called_at → y.call ≤ x.ret → ⊥
+  not_both x y tx ty in_x in_y threads below no_later = elim (cases_lt ty.called_at tx.returned_at) [
     | inl less ↦
         let apart = tx.none_between ty.called_at ty.call below less ty.at_call in
         let same : ty.call.thread ≡ tx.call.thread = sym ty.made.same_thread ∙ sym threads ∙ tx.made.same_thread in
         let clash : true ≡ false = sym (eq-eqb ty.call.thread tx.call.thread same) ∙ apart in
         cc
     | inr above ↦
-        let no_later = no_earlier_ticket events complete.tickets_rise _ _ tx.answer ty.call tx.at_return ty.at_call above in
+        let no_earlier = no_earlier_ticket events complete.tickets_rise _ _ tx.answer ty.call tx.at_return ty.at_call above in
         returns_at_no_call events x y complete in_x in_y (omega (arith, tx.made.returned, ty.made.called))
   ]
 
+  -- an operation that lasts to a ticket returns no earlier than others are called up to that ticket
+  lasts_over : (added_from : Option ℕ) (x y : Operation) (c : ℕ) → NoCallsAreAdded added_from (operations_of events) → Contains (operations_of events) y
+      → LastsTo added_from c x → y.call ≤ c → y.call ≤ x.ret
+  lasts_over added_from x y c no_calls in_y (inl to) from = omega arith
+  lasts_over added_from x y c no_calls in_y (inr pending) from = seen_before_added added_from y.call x.ret (no_calls y in_y) pending
+
   -- one operation of a thread at most is under way at a ticket
-  one_bar : (x y : Operation) (c : ℕ) → Contains (operations_of events) x → Contains (operations_of events) y → x.thread ≡ y.thread → x.call ≤ c
-      → c ≤ x.ret → y.call ≤ c → c ≤ y.ret → x ≡ y
-  one_bar x y c in_x in_y threads x_from x_to y_from y_to =
+  one_bar : (x y : Operation) → Contains (operations_of events) x → Contains (operations_of events) y → x.thread ≡ y.thread → y.call ≤ x.ret
+      → x.call ≤ y.ret → x ≡ y
+  one_bar x y in_x in_y threads x_lasts y_lasts =
       let tx = traced events x in_x in
       let ty = traced events y in_y in
       elim (cases_lt tx.called_at ty.called_at) [
-        | inl below ↦ absurd (not_both x y tx ty c in_x in_y threads below y_from x_to)
+        | inl below ↦ absurd (not_both x y tx ty in_x in_y threads below x_lasts)
         | inr above ↦ elim (cases_lt ty.called_at tx.called_at) [
-          | inl less ↦ absurd (not_both y x ty tx c in_y in_x (sym threads) less x_from y_to)
+          | inl less ↦ absurd (not_both y x ty tx in_y in_x (sym threads) less y_lasts)
           | inr not_less ↦
               let here : tx.called_at ≡ ty.called_at = omega arith in
               let one = one_at events ty.called_at tx.call ty.call (subst (λ i. slice_get events i ≡ Some tx.call) here tx.at_call) ty.at_call in
@@ -199,12 +212,15 @@ module _ (events : List Event) (complete : IsCompleteHistory events) where
 
 -- each operation has its bar
 pub bars_are_of_operations : BarsAreOfOperations
-bars_are_of_operations history claimed around o ticket complete among called returns =
+bars_are_of_operations history claimed around added_from o ticket complete no_calls among called lasts =
     let drawn = drawn_operations history claimed around in
-    let some = found (is_under_way o.thread ticket) drawn o among (grind (arith, nat_tests)) in
-    let bar = no_other_bars drawn o.thread ticket some.0 some.1 in
-    let same = one_bar history.events complete some.0 o ticket (among_operations history claimed around some.0 bar.among)
-    (among_operations history claimed around o among) bar.own bar.called bar.returns called returns in
+    let some = found (is_under_way added_from o.thread ticket) drawn o among (grind (arith, nat_tests, lasts)) in
+    let bar = no_other_bars added_from drawn o.thread ticket some.0 some.1 in
+    let in_o = among_operations history claimed around o among in
+    let in_bar = among_operations history claimed around some.0 bar.among in
+    let same = one_bar history.events complete some.0 o in_bar in_o bar.own
+    (lasts_over history.events complete added_from some.0 o ticket no_calls in_o bar.lasts called)
+    (lasts_over history.events complete added_from o some.0 ticket no_calls in_bar lasts bar.called) in
     some.1 ∙ ap (λ x. Some x) same
 
 -- ---- the numbers of a claim, and its lines of evidence, which are operations and initial values of the history

@@ -1,5 +1,5 @@
 -- The words of a picture: its headline, and what it shows in a sentence.
-use Rattle.std.specs.Prelude.{ℕ, ◌+◌, Option, Some, None, List, [], ◌∷◌, ◌++◌, codes, decimal}
+use Rattle.std.specs.Prelude.{ℕ, ◌+◌, Bool, true, false, Option, Some, None, List, [], ◌∷◌, ◌++◌, codes, decimal}
 use Rattle.std.specs.List.{concat}
 use Rattle.history_merge.specs.declared.operation.OpKind.{OpKind}
 use Rattle.history_merge.specs.declared.operation.OpKind.TheVariants as kind
@@ -13,6 +13,7 @@ use Rattle.text_lines.specs.Lines.{line}
 use Rattle.drawing.specs.Claim.{line_kind, line_call, line_return}
 use Rattle.drawing.specs.Names.{value_text}
 use Rattle.drawing.specs.Bands.{line_value}
+use Rattle.drawing.specs.Pending.{is_pending}
 use Rattle.drawing.specs.declared.captions.TheConstants.{WITNESS_WORDS, YES_CAPTION}
 
 -- what a picture shows, in a line
@@ -52,11 +53,27 @@ unfoldable pub overtaking_caption : ClaimLine → ClaimLine → List ℕ → Lis
 overtaking_caption a b between end =
     concat (line_text a ∷ before_words a ∷ line_text b ∷ line (codes " (2),") ∷ codes "but " ∷ line_text b ∷ between ∷ line_text a ∷ end ∷ [])
 
+-- the operation of a line never returned
+abbrev pub never_returned : Option ℕ → ClaimLine → Bool
+never_returned added_from (Op o) = is_pending added_from o
+never_returned added_from (Initial v) = false
+
+-- the words between b and a where a was dequeued after b, or by a call that never returned
+abbrev pub between_words : Bool → List ℕ
+between_words false = codes " was dequeued (3) before "
+between_words true = codes " was dequeued (3), and "
+
+-- the words after a there
+abbrev pub end_words : Bool → List ℕ
+end_words false = line (codes " (4).")
+end_words true = line (codes " only by a call that never returned (4).")
+
 -- that the values of a and of the lines after it were dequeued against the order of their enqueues
-abbrev pub order_caption : ClaimLine → List ClaimLine → List ℕ
-order_caption a (b ∷ deq_b ∷ []) = overtaking_caption a b (codes " was dequeued (3) and ") (line (codes " never was."))
-order_caption a (b ∷ deq_b ∷ deq_a ∷ rest) = overtaking_caption a b (codes " was dequeued (3) before ") (line (codes " (4)."))
-order_caption a _ = []
+abbrev pub order_caption : Option ℕ → ClaimLine → List ClaimLine → List ℕ
+order_caption added_from a (b ∷ deq_b ∷ []) = overtaking_caption a b (codes " was dequeued (3) and ") (line (codes " never was."))
+order_caption added_from a (b ∷ deq_b ∷ deq_a ∷ rest) =
+    overtaking_caption a b (between_words (never_returned added_from deq_a)) (end_words (never_returned added_from deq_a))
+order_caption added_from a _ = []
 
 -- a moment: that of a ticket, or the one before all tickets
 abbrev pub moment_text : Option ℕ → List ℕ
@@ -83,14 +100,14 @@ unfoldable pub witness_words : List ℕ
 witness_words = WITNESS_WORDS.now
 
 -- what these lines of a `NO` say
-abbrev pub lines_caption : List ClaimLine → ViolationKind → List ℕ
-lines_caption [] kind = []
-lines_caption (deq ∷ rest) VFresh = concat (line_text deq ∷ fresh_words rest ∷ [])
-lines_caption (enq ∷ rest) VRepeat = concat (line_text enq ∷ repeat_words enq ∷ [])
-lines_caption (a ∷ later) VOrd = order_caption a later
-lines_caption (empty ∷ cover) VWit = witness_words ++ cover_caption 2 cover
+abbrev pub lines_caption : Option ℕ → List ClaimLine → ViolationKind → List ℕ
+lines_caption added_from [] kind = []
+lines_caption added_from (deq ∷ rest) VFresh = concat (line_text deq ∷ fresh_words rest ∷ [])
+lines_caption added_from (enq ∷ rest) VRepeat = concat (line_text enq ∷ repeat_words enq ∷ [])
+lines_caption added_from (a ∷ later) VOrd = order_caption added_from a later
+lines_caption added_from (empty ∷ cover) VWit = witness_words ++ cover_caption 2 cover
 
--- what a claim says, in sentences
-unfoldable pub caption : Claimed → List ℕ
-caption (Yes order) = YES_CAPTION.now
-caption (No kind lines) = lines_caption lines kind
+-- what a claim says, in sentences, where returns from this ticket on were added
+unfoldable pub caption : Option ℕ → Claimed → List ℕ
+caption added_from (Yes order) = YES_CAPTION.now
+caption added_from (No kind lines) = lines_caption added_from lines kind

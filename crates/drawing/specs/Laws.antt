@@ -1,5 +1,5 @@
 -- What holds of pictures.
-use Rattle.std.specs.Prelude.{◌≡◌, ℕ, ◌+◌, ◌^◌, ◌<◌, ◌≤◌, ◌↔◌, true, List, Option, Some, Contains, length, slice_get, sum_by}
+use Rattle.std.specs.Prelude.{◌≡◌, ℕ, ◌+◌, ◌^◌, ◌<◌, ◌≤◌, ◌↔◌, ◌⊎◌, true, false, List, Option, Some, Contains, length, slice_get, sum_by}
 use Rattle.event_records.specs.declared.event.Event.{Event}
 use Rattle.event_records.specs.declared.limits.TheConstants.{MAX_INITIAL}
 use Rattle.history_merge.specs.declared.operation.Operation.{Operation}
@@ -16,6 +16,7 @@ use Rattle.verdicts.specs.Claims.{IsTrueClaim}
 use Rattle.drawing.specs.declared.columns.Columns.{Columns}
 use Rattle.drawing.specs.Drawn.{drawn_operations}
 use Rattle.drawing.specs.Names.{value_text}
+use Rattle.drawing.specs.Pending.{is_added, is_pending}
 use Rattle.drawing.specs.Layout.{initial_label, under_way, place_in, point}
 use Rattle.drawing.specs.Scene.{rows_of, row_number, stands_above}
 use Rattle.drawing.specs.Terminal.{lane_column}
@@ -57,24 +58,33 @@ LanesAreApart =
 
 -- ---- bars
 
--- from its call to its return, each operation that is drawn is what stands in its thread's lane
+-- no call was added: a completion adds returns alone
+abbrev pub NoCallsAreAdded : Option ℕ → List Operation → Type 0
+NoCallsAreAdded added_from operations = (o : Operation) → Contains operations o → is_added added_from o.call ≡ false
+
+-- the operation has not returned before this ticket, or never did
+abbrev pub LastsTo : Option ℕ → ℕ → Operation → Type 0
+LastsTo added_from ticket o = (ticket ≤ o.ret) ⊎ (is_pending added_from o ≡ true)
+
+-- from its call to its return, or to the end if it is pending, each operation that is drawn is what stands in its thread's lane
 abbrev pub BarsAreOfOperations : Type 0
 BarsAreOfOperations =
-    (history : HistoryView) (claimed : Claimed) (around : Option ℕ) (o : Operation) (ticket : ℕ) → IsCompleteHistory history.events
-    → Contains (drawn_operations history claimed around) o → o.call ≤ ticket → ticket ≤ o.ret
-    → under_way (drawn_operations history claimed around) o.thread ticket ≡ Some o
+    (history : HistoryView) (claimed : Claimed) (around added_from : Option ℕ) (o : Operation) (ticket : ℕ) → IsCompleteHistory history.events
+    → NoCallsAreAdded added_from (operations_of history.events) → Contains (drawn_operations history claimed around) o → o.call ≤ ticket
+    → LastsTo added_from ticket o → under_way added_from (drawn_operations history claimed around) o.thread ticket ≡ Some o
 
--- the operation is of this thread, and the ticket lies from its call to its return
-pub record HasBarAt (operations : List Operation) (thread ticket : ℕ) (o : Operation) : Type 0 where
+-- the operation is of this thread, and the ticket lies from its call to its return, or to the end if it is pending
+pub record HasBarAt (added_from : Option ℕ) (operations : List Operation) (thread ticket : ℕ) (o : Operation) : Type 0 where
   pub among : Contains operations o
   pub own : o.thread ≡ thread
   pub called : o.call ≤ ticket
-  pub returns : ticket ≤ o.ret
+  pub lasts : LastsTo added_from ticket o
 
 -- nothing else stands in a lane
 abbrev pub NoOtherBars : Type 0
 NoOtherBars =
-    (operations : List Operation) (thread ticket : ℕ) (o : Operation) → under_way operations thread ticket ≡ Some o → HasBarAt operations thread ticket o
+    (added_from : Option ℕ) (operations : List Operation) (thread ticket : ℕ) (o : Operation) → under_way added_from operations thread ticket ≡ Some o
+    → HasBarAt added_from operations thread ticket o
 
 -- ---- the order of a `YES`
 

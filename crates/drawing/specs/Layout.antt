@@ -1,5 +1,5 @@
 -- What stands in a picture: labels, threads, tickets, the operations in rows, numbers and points of effect.
-use Rattle.std.specs.Prelude.{ℕ, ◌+◌, ◌-◌, ◌++◌, codes, max, ◌&&◌, if◌then◌else◌, nat_le, nat_eq, Bool, false}
+use Rattle.std.specs.Prelude.{ℕ, ◌+◌, ◌-◌, ◌++◌, codes, max, ◌&&◌, ◌||◌, if◌then◌else◌, nat_le, nat_eq, Bool, false}
 use Rattle.std.specs.Prelude.{Option, Some, None, List, [], filter, find, map}
 use Rattle.std.specs.Prelude.{length, take, decimal, replicate, fold}
 use Rattle.std.specs.List.{list_any, range_with_len, position}
@@ -11,6 +11,7 @@ use Rattle.verdicts.specs.declared.verifying.ClaimLine.{ClaimLine}
 use Rattle.verdicts.specs.declared.verifying.ClaimLine.TheVariants.{Op, Initial}
 use Rattle.verdicts.specs.declared.verifying.Claimed.{Claimed}
 use Rattle.drawing.specs.Claim.{lines_in}
+use Rattle.drawing.specs.Pending.{is_pending}
 use Rattle.drawing.specs.declared.scene.Row.{Row}
 use Rattle.drawing.specs.declared.scene.Row.TheVariants as row
 use Rattle.drawing.specs.Names.{value_text, name_of, initial_text}
@@ -74,13 +75,13 @@ label_width initial operations =
 
 -- ---- operations in rows
 
--- the operation is of this thread, has been called by this ticket and has not returned before it
-abbrev pub is_under_way : ℕ → ℕ → Operation → Bool
-is_under_way thread ticket o = nat_eq o.thread thread && (nat_le o.call ticket && nat_le ticket o.ret)
+-- the operation is of this thread, has been called by this ticket and has not returned before it, or never did
+abbrev pub is_under_way : Option ℕ → ℕ → ℕ → Operation → Bool
+is_under_way added_from thread ticket o = nat_eq o.thread thread && (nat_le o.call ticket && (nat_le ticket o.ret || is_pending added_from o))
 
 -- the operation of this thread that is under way at a ticket
-abbrev pub under_way : List Operation → ℕ → ℕ → Option Operation
-under_way operations thread ticket = find (is_under_way thread ticket) operations
+abbrev pub under_way : Option ℕ → List Operation → ℕ → ℕ → Option Operation
+under_way added_from operations thread ticket = find (is_under_way added_from thread ticket) operations
 
 -- the operation that is called at this ticket
 abbrev pub called_at : List Operation → ℕ → Option Operation

@@ -6,6 +6,7 @@ pub mod Captions
 pub mod Signs
 pub mod Claim
 pub mod Drawn
+pub mod Pending
 pub mod Scene
 pub mod Terminal
 pub mod Laws

@@ -13,12 +13,14 @@ use Rattle.verdicts.specs.declared.verifying.ViolationKind.TheVariants.{VRepeat}
 use Rattle.drawing.specs.Claim.{order_of, line_kind}
 use Rattle.drawing.specs.Layout.{threads_of, point, stands_in}
 use Rattle.drawing.specs.Bands.{bands_of, gap_time}
+use Rattle.drawing.specs.Pending.{is_added}
 use Rattle.drawing.specs.declared.bands.Band.{Band}
 use Rattle.drawing.specs.declared.scene.Row.{Row}
 use Rattle.drawing.specs.declared.scene.Row.TheVariants.{Head, Initial, Ticket, LeftOut, Effect}
 use Rattle.drawing.specs.declared.sheet.Scene.{Scene}
 
--- what a picture shows: what the queue holds first, the operations that are drawn, the claim, their threads, bands and rows
+-- what a picture shows: what the queue holds first, the operations that are drawn, the claim, their threads, bands and rows, and the
+-- ticket from which returns were added, if some were
 pub record SceneView : Type 0 where
   pub initial : List ℕ
   pub operations : List Operation
@@ -26,6 +28,7 @@ pub record SceneView : Type 0 where
   pub threads : List ℕ
   pub bands : List Band
   pub rows : List Row
+  pub added_from : Option ℕ
 
 -- the scene that a value of the program stands for
 abbrev pub scene_on : Scene → SceneView
@@ -36,6 +39,7 @@ scene_on scene = record {
   threads = scene.threads.items;
   bands = scene.bands.items;
   rows = scene.rows.items;
+  added_from = scene.added_from;
 }
 
 -- ---- rows
@@ -80,15 +84,16 @@ rows_after drawn order count last (e ∷ later) =
 unfoldable pub rows_of : HistoryView → Claimed → List Operation → List Row
 rows_of history claimed drawn = initial_rows history.initial ++ rows_after drawn (order_of claimed) 0 0 history.events
 
--- the scene of a history of which these operations are drawn, and what is claimed of it
-unfoldable pub scene_of : HistoryView → Claimed → List Operation → SceneView
-scene_of history claimed drawn = record {
+-- the scene of a history of which these operations are drawn, what is claimed of it, and the ticket from which its returns were added
+unfoldable pub scene_of : HistoryView → Claimed → List Operation → Option ℕ → SceneView
+scene_of history claimed drawn added_from = record {
   initial = history.initial;
   operations = drawn;
   claimed = claimed;
   threads = threads_of drawn;
   bands = bands_of claimed;
   rows = rows_of history claimed drawn;
+  added_from = added_from;
 }
 
 -- ---- where a row stands
@@ -123,16 +128,16 @@ row_number rows row = count_by (λ other. stands_above other row) rows
 
 -- ---- words of a row
 
--- the words of a row in the column of tickets: its ticket, or how many events are left out
-abbrev pub ticket_words : Row → List ℕ
-ticket_words (Ticket ticket) = decimal ticket
-ticket_words (LeftOut count last) =
+-- the words of a row in the column of tickets: its ticket, that its return was added, or how many events are left out
+abbrev pub ticket_words : Option ℕ → Row → List ℕ
+ticket_words added_from (Ticket ticket) = if is_added added_from ticket then codes "pending" else decimal ticket
+ticket_words added_from (LeftOut count last) =
     concat (codes "... " ∷ decimal count ∷ (if count == 1 then codes " event ..." else codes " events ...") ∷ [])
-ticket_words r = []
+ticket_words added_from r = []
 
 -- how wide that column is: for the word above it, and for what stands in it
-abbrev pub ticket_width : List Row → ℕ
-ticket_width rows = fold (λ widest r. max widest (length (ticket_words r))) 6 rows
+abbrev pub ticket_width : Option ℕ → List Row → ℕ
+ticket_width added_from rows = fold (λ widest r. max widest (length (ticket_words added_from r))) 6 rows
 
 -- whether the value of a line goes in or out, by what it says that was done
 abbrev pub way : Option OpKind → List ℕ

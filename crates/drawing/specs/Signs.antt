@@ -5,8 +5,9 @@ use Rattle.verdicts.specs.declared.verifying.Claimed.{Claimed}
 use Rattle.verdicts.specs.declared.verifying.Claimed.TheVariants.{Yes, No}
 use Rattle.verdicts.specs.declared.verifying.ViolationKind.TheVariants.{VFresh, VRepeat, VOrd, VWit}
 use Rattle.drawing.specs.declared.signs.Sign.{Sign}
-use Rattle.drawing.specs.declared.signs.Sign.TheVariants.{First, InOrder, OfOperations, OfValues, Present, Absent, Dequeued, InAndOut, SaidEmpty, Away}
+use Rattle.drawing.specs.declared.signs.Sign.TheVariants.{First, InOrder, OfOperations, OfValues, Present, Absent, Dequeued, InAndOut, SaidEmpty, Away, Pending}
 use Rattle.drawing.specs.Drawn.{is_away}
+use Rattle.drawing.specs.Pending.{is_pending}
 use Rattle.drawing.specs.Scene.{SceneView}
 
 -- the sign of initial values, where there are some, and that of numbers
@@ -24,11 +25,15 @@ band_signs (No VRepeat lines) = []
 band_signs (No VOrd lines) = Present ∷ InAndOut ∷ []
 band_signs (No VWit lines) = Present ∷ SaidEmpty ∷ []
 
--- the signs of a picture, the last where some operation overlaps none of those that show a `NO`
+-- the signs of the operations: if one overlaps none of those that show a `NO`, and if one never returned
+abbrev pub operation_signs : SceneView → List Sign
+operation_signs scene =
+    (if list_any (is_away scene.claimed) scene.operations then Away ∷ [] else [])
+    ++ (if list_any (is_pending scene.added_from) scene.operations then Pending ∷ [] else [])
+
+-- the signs of a picture
 unfoldable pub signs_of : SceneView → List Sign
-signs_of scene =
-    number_signs scene.claimed scene.initial
-    ++ (band_signs scene.claimed ++ (if list_any (is_away scene.claimed) scene.operations then Away ∷ [] else []))
+signs_of scene = number_signs scene.claimed scene.initial ++ (band_signs scene.claimed ++ operation_signs scene)
 
 -- what a sign means
 abbrev pub meaning : Sign → List ℕ
@@ -42,3 +47,4 @@ meaning Dequeued = codes "within this time it was dequeued nevertheless."
 meaning InAndOut = codes "within this time the later value went in and out."
 meaning SaidEmpty = codes "within this time the queue was said to be empty."
 meaning Away = codes "an operation that overlaps none of those with numbers"
+meaning Pending = codes "to the end: a call that never returned; a completion gave its answer"

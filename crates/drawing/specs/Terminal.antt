@@ -1,5 +1,5 @@
 -- A scene as lines of characters: a line for each row.
-use Rattle.std.specs.Prelude.{ℕ, ◌+◌, ◌-◌, ◌*◌, ◌/◌, ◌%◌, ◌==◌, ◌&&◌, nat_lt, max, Bool, true}
+use Rattle.std.specs.Prelude.{ℕ, ◌+◌, ◌-◌, ◌*◌, ◌/◌, ◌%◌, ◌==◌, ◌&&◌, not, nat_lt, max, Bool, true}
 use Rattle.std.specs.Prelude.{false, if◌then◌else◌, Option, Some, None, List, [], ◌∷◌, ◌++◌, map}
 use Rattle.std.specs.Prelude.{length, codes, decimal, unwrap_or}
 use Rattle.std.specs.List.{flat_map, range_with_len, enumerate_from}
@@ -13,6 +13,7 @@ use Rattle.drawing.specs.declared.bands.Band.{Band}
 use Rattle.drawing.specs.Layout.{digits, label, numbered, initial_label, label_width, under_way, called_at, place_in, number_at}
 use Rattle.drawing.specs.Bands.{head_text, form_at}
 use Rattle.drawing.specs.Drawn.{is_away}
+use Rattle.drawing.specs.Pending.{is_pending}
 use Rattle.drawing.specs.Scene.{SceneView, gap_of, ticket_words, ticket_width, way_in, lanes_before}
 use Rattle.drawing.specs.declared.scene.Row.{Row}
 use Rattle.drawing.specs.declared.scene.Row.TheVariants as row
@@ -20,7 +21,7 @@ use Rattle.drawing.specs.Words.{Word, line_of}
 use Rattle.drawing.specs.Captions.{headline, caption}
 use Rattle.drawing.specs.Signs.{signs_of, meaning}
 use Rattle.drawing.specs.declared.signs.Sign.{Sign}
-use Rattle.drawing.specs.declared.signs.Sign.TheVariants.{First, InOrder, OfOperations, OfValues, Present, Absent, Away}
+use Rattle.drawing.specs.declared.signs.Sign.TheVariants.{First, InOrder, OfOperations, OfValues, Present, Absent, Away, Pending}
 use Rattle.drawing.specs.declared.columns.TheConstants.{ROWS_UNDER_HEADS, WIDE_LANES}
 use Rattle.drawing.specs.declared.terminal.TheConstants.{LANE_MEANINGS}
 
@@ -52,7 +53,7 @@ columns_for ticket room lane lanes = record {
 -- the columns of a scene
 abbrev pub columns_of : SceneView → Columns
 columns_of scene =
-    columns_for (ticket_width scene.rows) (room_beside scene.claimed (label_width scene.initial scene.operations) (length scene.bands))
+    columns_for (ticket_width scene.added_from scene.rows) (room_beside scene.claimed (label_width scene.initial scene.operations) (length scene.bands))
     (lane_width (length scene.threads) (count_of_lines scene.claimed)) (length scene.threads)
 
 -- a thread's lane stands to the right of those of lower threads
@@ -65,20 +66,24 @@ lane_column columns threads thread = columns.lanes + lane_place columns.lane (la
 abbrev pub one_of : Bool → List ℕ → List ℕ → List ℕ
 one_of away round square = if away then round else square
 
+-- an operation returns at this ticket; one that is pending never does
+abbrev pub returns_at : SceneView → ℕ → Operation → Bool
+returns_at scene ticket o = o.ret == ticket && not (is_pending scene.added_from o)
+
 -- what stands in a lane in the row of an event: a call with its number where lanes have room for it, a return, or that an operation is under way
 abbrev pub event_sign : Columns → SceneView → ℕ → Operation → List ℕ
 event_sign columns scene ticket o =
     let away = is_away scene.claimed o in
     let shown = if columns.lane == 1 then [] else shown_by scene.claimed in
     if o.call == ticket then one_of away (codes "(") (codes "[") ++ number_at (place_in shown (row.Ticket o.call))
-    else (if o.ret == ticket then one_of away (codes ")") (codes "]") else one_of away (codes ":") (codes "|"))
+    else (if returns_at scene ticket o then one_of away (codes ")") (codes "]") else one_of away (codes ":") (codes "|"))
 
 -- what stands in a lane in a row, where this operation is under way: in the row of an effect its sign, or that another is under way
 abbrev pub lane_sign : Columns → SceneView → Row → Option Operation → List ℕ
 lane_sign columns scene (row.Ticket ticket) (Some o) = event_sign columns scene ticket o
 lane_sign columns scene (row.LeftOut count last) (Some o) = one_of (is_away scene.claimed o) (codes ":") (codes "|")
 lane_sign columns scene (row.Effect effect number point) (Some o) =
-    if o.call == effect.call then (if columns.lane == 1 then codes "*" else decimal number) else (if o.ret == point then [] else codes "|")
+    if o.call == effect.call then (if columns.lane == 1 then codes "*" else decimal number) else (if returns_at scene point o then [] else codes "|")
 lane_sign columns scene r under = []
 
 -- the words in the lanes in a row
@@ -86,7 +91,7 @@ abbrev pub lane_words : Columns → SceneView → Row → List Word
 lane_words columns scene r =
     map (λ thread. record {
       column = lane_column columns scene.threads thread;
-      bytes = lane_sign columns scene r (under_way scene.operations thread (unwrap_or (gap_of r) 0));
+      bytes = lane_sign columns scene r (under_way scene.added_from scene.operations thread (unwrap_or (gap_of r) 0));
     }) scene.threads
 
 -- ---- rows
@@ -108,12 +113,17 @@ abbrev pub beside_words : Claimed → Row → List ℕ
 beside_words claimed (row.Effect effect number point) = numbered (digits (count_of_lines claimed)) (decimal number) (label effect.kind)
 beside_words claimed r = way_in claimed r
 
+-- the label of an operation, and that its call is pending if it is
+abbrev pub operation_label : SceneView → Operation → List ℕ
+operation_label scene o = label o.kind ++ (if is_pending scene.added_from o then codes " (pending)" else [])
+
 -- the label of what is called, where something is; after its number, where lanes have no room for that
 abbrev pub call_label : Columns → SceneView → Option Operation → List ℕ
 call_label columns scene None = []
 call_label columns scene (Some o) =
     let shown = shown_by scene.claimed in
-    if columns.lane == 1 then numbered (digits (length shown)) (number_at (place_in shown (row.Ticket o.call))) (label o.kind) else label o.kind
+    if columns.lane == 1 then numbered (digits (length shown)) (number_at (place_in shown (row.Ticket o.call))) (operation_label scene o)
+    else operation_label scene o
 
 -- the words right of the bands or of the lanes: the head of the initial values, such a value with its number, or a label
 abbrev pub told_word : Columns → SceneView → Row → Word
@@ -131,7 +141,7 @@ told_word columns scene r = record { column = columns.label; bytes = [] }
 -- the words in a row
 unfoldable pub row_words : Columns → SceneView → Row → List Word
 row_words columns scene r =
-    record { column = columns.ticket - length (ticket_words r); bytes = ticket_words r }
+    record { column = columns.ticket - length (ticket_words scene.added_from r); bytes = ticket_words scene.added_from r }
     ∷ record { column = columns.beside; bytes = beside_words scene.claimed r }
     ∷ (band_words columns scene.bands (gap_of r) ++ (lane_words columns scene r ++ told_word columns scene r ∷ []))
 
@@ -193,6 +203,7 @@ sign_text OfValues = codes "1    "
 sign_text Present = codes "###  "
 sign_text Absent = codes "xxx  "
 sign_text Away = codes "(:)  "
+sign_text Pending = codes "|    "
 sign_text sign = codes ":::  "
 
 -- a sign, and what it means
@@ -212,7 +223,7 @@ legend columns scene =
 -- what stands above the rows
 unfoldable pub words : Columns → SceneView → List ℕ
 words columns scene =
-    line (headline scene.claimed) ++ (caption scene.claimed ++ (line [] ++ (legend columns scene ++ line [])))
+    line (headline scene.claimed) ++ (caption scene.added_from scene.claimed ++ (line [] ++ (legend columns scene ++ line [])))
 
 -- the picture of a scene in lines of characters: what stands above the rows, the heads, and the rows
 unfoldable pub terminal_picture : SceneView → List ℕ

@@ -2,12 +2,14 @@
 ghost use Rattle.std.specs.Prelude.{◌≡◌, ◌++◌, ◌+◌, ◌≤◌, OnOk, length};
 ghost use Rattle.drawing.specs.Claim.{count_of_lines};
 ghost use Rattle.drawing.specs.Captions.{headline, fresh_words, repeat_words, before_words, overtaking_caption, order_caption};
+ghost use Rattle.drawing.specs.Captions.{never_returned, between_words, end_words};
 ghost use Rattle.drawing.specs.Captions.{cover_from, one_of_cover, cover_caption, witness_words, caption};
 
 use crate::bands::{line_value, push_named};
 use crate::claim::{line_call, line_kind, line_return};
 use crate::columns::MOST_DRAWN;
 use crate::line::{Added, push_moment, push_number};
+use crate::pending::is_pending;
 use history_merge::OpKind;
 use verdicts::{ClaimLine, Claimed, ViolationKind};
 
@@ -84,15 +86,50 @@ fn push_overtaking_caption<'x>(
     push_named(text, line_value(a), end)
 }
 
-fn push_order_caption(text: &mut Vec<u8>, a: ClaimLine, later: &[ClaimLine]) -> Added
-    ensures { OnOk result (text.new.items ≡ text.old.items ++ order_caption a later.now) }
+fn never_returned(added_from: Option<u64>, line: ClaimLine) -> bool
+    ensures { result ≡ never_returned added_from line }
+{
+    match line {
+        ClaimLine::Op(operation) => is_pending(added_from, operation),
+        ClaimLine::Initial(_) => false,
+    }
+}
+
+fn between_words(never: bool) -> &'static [u8]
+    ensures { result.now ≡ between_words never }
+{
+    if never {
+        b" was dequeued (3), and "
+    } else {
+        b" was dequeued (3) before "
+    }
+}
+
+fn end_words(never: bool) -> &'static [u8]
+    ensures { result.now ≡ end_words never }
+{
+    if never {
+        b" only by a call that never returned (4).\n"
+    } else {
+        b" (4).\n"
+    }
+}
+
+fn push_order_caption(
+    text: &mut Vec<u8>,
+    added_from: Option<u64>,
+    a: ClaimLine,
+    later: &[ClaimLine],
+) -> Added
+    ensures { OnOk result (text.new.items ≡ text.old.items ++ order_caption added_from a later.now) }
 {
     match later {
         [b, _] => {
             push_overtaking_caption(text, a, *b, b" was dequeued (3) and ", b" never was.\n")
         }
-        [b, _, _, ..] => {
-            push_overtaking_caption(text, a, *b, b" was dequeued (3) before ", b" (4).\n")
+        [b, _, deq_a, ..] => {
+            let never = never_returned(added_from, *deq_a);
+            push_overtaking_caption(text, a, *b, between_words(never), end_words(never))
         }
         _ => Ok(()),
     }
@@ -146,11 +183,11 @@ fn witness_words() -> &'static [u8]
     WITNESS_WORDS
 }
 
-/// Adds what a claim says, in sentences, each line with its line feed.
+/// Adds what a claim says, in sentences, each line with its line feed. Returns from `added_from` on were added by a completion.
 #[tactic(auto, using(crate::proofs::Loops::covers), unfolding(crate::specs::Captions::caption))]
-pub fn push_caption(text: &mut Vec<u8>, claimed: &Claimed) -> Added
+pub fn push_caption(text: &mut Vec<u8>, added_from: Option<u64>, claimed: &Claimed) -> Added
     requires { count_of_lines claimed.now ≤ MOST_DRAWN }
-    ensures { OnOk result (text.new.items ≡ text.old.items ++ caption claimed.now) }
+    ensures { OnOk result (text.new.items ≡ text.old.items ++ caption added_from claimed.now) }
 {
     match claimed {
         Claimed::Yes(_) => text.extend_from_slice(YES_CAPTION),
@@ -163,7 +200,7 @@ pub fn push_caption(text: &mut Vec<u8>, claimed: &Claimed) -> Added
                     line_value(*first),
                     repeat_words(*first),
                 ),
-                ViolationKind::VOrd => push_order_caption(text, *first, rest),
+                ViolationKind::VOrd => push_order_caption(text, added_from, *first, rest),
                 ViolationKind::VWit => {
                     text.extend_from_slice(witness_words())?;
                     push_cover_caption(text, 2, rest)

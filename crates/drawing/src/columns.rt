@@ -114,7 +114,7 @@ pub(crate) fn sheet_of<'a>(alloc: Global, scene: &'a Scene<'a>) -> Sheet<'a>
     ensures columns { result.columns ≡ columns_of (scene_on scene.now) }
     ensures scene { result.scene.now ≡ scene.now }
 {
-    let ticket = usize::from(ticket_width(scene.rows.as_slice()));
+    let ticket = usize::from(ticket_width(scene.added_from, scene.rows.as_slice()));
     let widest_label = label_width(scene.initial, scene.operations.as_slice());
     let room = match scene.claimed {
         Claimed::Yes(order) => {

@@ -12,9 +12,8 @@ pub fn what_matters_is_drawn()
     ensures listed { LinesAreDrawn }
 {}
 
-/// The bars in the lanes are the operations that are drawn, each in the lane of its thread, from its call to its return. The laws are the
-/// contract; the body is empty.
-#[tactic(auto, using(crate::proofs::Nearness::bars_are_of_operations, crate::proofs::Nearness::no_other_bars))]
+/// The bars in the lanes are the operations that are drawn, each in the lane of its thread, from its call to its return, or to the end of
+/// the lane if it is pending. The laws are the contract; the body is empty.
 pub fn bars_are_the_operations()
     ensures each { BarsAreOfOperations }
     ensures none_else { NoOtherBars }

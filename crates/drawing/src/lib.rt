@@ -10,6 +10,7 @@ mod laws;
 mod line;
 mod lookup;
 mod names;
+mod pending;
 mod scene;
 mod sheet;
 mod signs;
@@ -28,6 +29,7 @@ pub use laws::{
 pub use line::{Added, push_line};
 pub use lookup::{place_in, place_of};
 pub use names::initial_label;
+pub use pending::is_pending;
 pub use scene::{Row, lanes_before, row_number, scene_of, ticket_width, ticket_words, way_in};
 pub use sheet::Scene;
 pub use signs::{Sign, meaning, signs_of};

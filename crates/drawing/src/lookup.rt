@@ -1,18 +1,36 @@
 //! Which operation is in a row, and its number in the claim.
 ghost use Rattle.std.specs.Prelude.{◌≡◌, ◌<◌, IfSome, length, map};
 ghost use Rattle.std.specs.List.{find};
-ghost use Rattle.drawing.specs.Layout.{under_way, called_at, stands_in, place_in, place_of};
+ghost use Rattle.drawing.specs.Layout.{is_under_way, under_way, called_at, stands_in, place_in, place_of};
 ghost use Rattle.drawing.specs.Claim.{count_of_lines};
 
+use crate::pending::is_pending;
 use crate::scene::Row;
 use history_merge::Operation;
 use verdicts::{ClaimLine, Claimed};
 
-/// The operation of this thread that has been called by this ticket and has not returned before it.
-pub(crate) fn under_way(operations: &[Operation], thread: u8, ticket: u64) -> Option<Operation>
-    ensures { result ≡ under_way operations.now thread ticket }
+/// Returns whether an operation is of this thread, has been called by this ticket and has not returned before it, or never did.
+fn is_under_way(added_from: Option<u64>, thread: u8, ticket: u64, operation: Operation) -> bool
+    ensures { result ≡ is_under_way added_from thread ticket operation }
 {
-    operations.iter().copied().find(|o| o.thread == thread && (o.call <= ticket && ticket <= o.ret))
+    operation.thread == thread
+        && operation.call <= ticket
+        && (ticket <= operation.ret || is_pending(added_from, operation))
+}
+
+/// Returns the operation of this thread that is under way at this ticket.
+pub(crate) fn under_way(
+    added_from: Option<u64>,
+    operations: &[Operation],
+    thread: u8,
+    ticket: u64,
+) -> Option<Operation>
+    ensures { result ≡ under_way added_from operations.now thread ticket }
+{
+    operations
+        .iter()
+        .copied()
+        .find(|o| is_under_way(added_from, thread, ticket, *o))
 }
 
 /// The operation that is called at this ticket.

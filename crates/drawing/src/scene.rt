@@ -8,6 +8,7 @@ use crate::claim::{line_kind, order_of};
 use crate::columns::{digits, events_of, threads_of};
 use crate::line::{Added, push_number};
 use crate::lookup::line_in;
+use crate::pending::is_added;
 use crate::sheet::Scene;
 use event_records::{Event, MAX_THREADS};
 use history_merge::{History, OpKind, Operation};
@@ -103,6 +104,9 @@ fn push_rows_of_events(
 
 /// The scene of a history of which these operations are drawn ([`drawn_operations`](crate::drawn_operations)), and what is claimed of it.
 ///
+/// If the history is the completion of one with pending calls, `added_from` is the ticket of the first return that was added, and an
+/// operation that returns at it or later is drawn as one that never returned. `None` if nothing was added.
+///
 /// Time O(n d) for n events of which d have rows; memory for the events. `AllocError` comes only where a growth was refused.
 #[tactic(auto, unfolding(crate::specs::Scene::scene_of, crate::specs::Scene::rows_of))]
 pub fn scene_of<'a>(
@@ -110,8 +114,9 @@ pub fn scene_of<'a>(
     history: &'a History,
     claimed: &'a Claimed,
     drawn: Vec<Operation>,
+    added_from: Option<u64>,
 ) -> Result<Scene<'a>, AllocError>
-    ensures scene { IfOk result (λ scene. scene_on scene ≡ scene_of history.now claimed.now drawn.items) }
+    ensures scene { IfOk result (λ scene. scene_on scene ≡ scene_of history.now claimed.now drawn.items added_from) }
     ensures claimed { IfOk result (λ scene. scene.claimed.now ≡ claimed.now) }
 {
     let events = events_of(alloc, history)?;
@@ -132,6 +137,7 @@ pub fn scene_of<'a>(
         threads,
         bands,
         rows,
+        added_from,
     })
 }
 
@@ -182,12 +188,13 @@ fn events_word(count: usize) -> &'static [u8]
     }
 }
 
-/// The words of a row in the column of tickets: its ticket, or how many events are left out.
-pub fn ticket_words(alloc: Global, row: Row) -> Result<Vec<u8>, AllocError>
-    ensures { IfOk result (λ words. words.items ≡ ticket_words row) }
+/// Returns the words of a row in the column of tickets: its ticket, that its return was added, or how many events are left out.
+pub fn ticket_words(alloc: Global, added_from: Option<u64>, row: Row) -> Result<Vec<u8>, AllocError>
+    ensures { IfOk result (λ words. words.items ≡ ticket_words added_from row) }
 {
     let mut words = Vec::new(alloc);
     match row {
+        Row::Ticket(ticket) if is_added(added_from, ticket) => words.extend_from_slice(b"pending")?,
         Row::Ticket(ticket) => push_number(&mut words, ticket)?,
         Row::LeftOut(count, _) => {
             words.extend_from_slice(b"... ")?;
@@ -199,10 +206,11 @@ pub fn ticket_words(alloc: Global, row: Row) -> Result<Vec<u8>, AllocError>
     Ok(words)
 }
 
-fn ticket_words_len(row: Row) -> u8
-    ensures { result ≡ length (ticket_words row) }
+fn ticket_words_len(added_from: Option<u64>, row: Row) -> u8
+    ensures { result ≡ length (ticket_words added_from row) }
 {
     match row {
+        Row::Ticket(ticket) if is_added(added_from, ticket) => 7,
         Row::Ticket(ticket) => digits(ticket),
         Row::LeftOut(count, _) => 4 + digits(count as u64) + events_word(count).len() as u8,
         _ => 0,
@@ -210,11 +218,13 @@ fn ticket_words_len(row: Row) -> u8
 }
 
 /// How wide the column of tickets is, in characters.
-pub fn ticket_width(rows: &[Row]) -> u8
-    ensures { result ≡ ticket_width rows.now }
+pub fn ticket_width(added_from: Option<u64>, rows: &[Row]) -> u8
+    ensures { result ≡ ticket_width added_from rows.now }
 {
-    rows.iter()
-        .fold(6, |widest, row| widest.max(ticket_words_len(*row)))
+    rows.iter().fold(
+        6,
+        |widest, row| widest.max(ticket_words_len(added_from, *row)),
+    )
 }
 
 /// How many lanes stand to the left of a thread's.

@@ -25,6 +25,8 @@ pub struct Scene<'a> {
     pub bands: Vec<Band>,
     /// From top to bottom.
     pub rows: Vec<Row>,
+    /// The ticket of the first return that a completion added, or none if nothing was added.
+    pub added_from: Option<u64>,
     ghost few_threads: { vec_len threads ≤ MAX_THREADS },
     ghost few_bands: { vec_len bands ≤ count_of_lines claimed.now + 2 },
 }

@@ -1,9 +1,11 @@
 //! How to read a picture.
-ghost use Rattle.std.specs.Prelude.{◌≡◌, IfOk};
-ghost use Rattle.drawing.specs.Signs.{number_signs, band_signs, signs_of, meaning};
+ghost use Rattle.std.specs.Prelude.{◌≡◌, ◌++◌, IfOk, OnOk};
+ghost use Rattle.drawing.specs.Signs.{number_signs, band_signs, operation_signs, signs_of, meaning};
 ghost use Rattle.drawing.specs.Scene.{scene_on};
 
 use crate::drawn::is_any_away;
+use crate::line::Added;
+use crate::pending::is_any_pending;
 use crate::sheet::Scene;
 use std::alloc::{AllocError, Global};
 use verdicts::{Claimed, ViolationKind};
@@ -31,6 +33,8 @@ pub enum Sign {
     SaidEmpty,
     /// An operation that overlaps none of those that show a `NO`.
     Away,
+    /// An operation that never returned.
+    Pending,
 }
 
 fn number_signs(claimed: &Claimed, initial: &[u64]) -> &'static [Sign]
@@ -55,6 +59,19 @@ fn band_signs(claimed: &Claimed) -> &'static [Sign]
     }
 }
 
+/// Adds the signs of the operations.
+fn push_operation_signs(signs: &mut Vec<Sign>, scene: &Scene<'_>) -> Added
+    ensures { OnOk result (signs.new.items ≡ signs.old.items ++ operation_signs (scene_on scene.now)) }
+{
+    if is_any_away(scene.claimed, scene.operations.as_slice()) {
+        signs.push(Sign::Away)?;
+    }
+    if is_any_pending(scene.added_from, scene.operations.as_slice()) {
+        signs.push(Sign::Pending)?;
+    }
+    Ok(())
+}
+
 /// The signs of a picture, from top to bottom.
 #[tactic(auto, unfolding(crate::specs::Signs::signs_of))]
 pub fn signs_of(alloc: Global, scene: &Scene<'_>) -> Result<Vec<Sign>, AllocError>
@@ -62,9 +79,7 @@ pub fn signs_of(alloc: Global, scene: &Scene<'_>) -> Result<Vec<Sign>, AllocErro
 {
     let mut signs = Vec::from_slice(alloc, number_signs(scene.claimed, scene.initial))?;
     signs.extend_from_slice(band_signs(scene.claimed))?;
-    if is_any_away(scene.claimed, scene.operations.as_slice()) {
-        signs.push(Sign::Away)?;
-    }
+    push_operation_signs(&mut signs, scene)?;
     Ok(signs)
 }
 
@@ -83,5 +98,6 @@ pub fn meaning(sign: Sign) -> &'static [u8]
         Sign::InAndOut => b"within this time the later value went in and out.",
         Sign::SaidEmpty => b"within this time the queue was said to be empty.",
         Sign::Away => b"an operation that overlaps none of those with numbers",
+        Sign::Pending => b"to the end: a call that never returned; a completion gave its answer",
     }
 }

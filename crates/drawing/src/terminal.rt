@@ -7,8 +7,8 @@ ghost use Rattle.drawing.specs.Layout.{kind_word, told, label, numbered, number_
 ghost use Rattle.drawing.specs.Scene.{scene_on};
 ghost use Rattle.drawing.specs.Signs.{signs_of};
 ghost use Rattle.drawing.specs.Words.{placed, with_words, line_of};
-ghost use Rattle.drawing.specs.Terminal.{one_of, event_sign, lane_sign, lane_column, lane_words, band_words, beside_words, call_label};
-ghost use Rattle.drawing.specs.Terminal.{told_word, row_words, strokes, under, thread_digits, lane_names, name_words};
+ghost use Rattle.drawing.specs.Terminal.{one_of, returns_at, event_sign, lane_sign, lane_column, lane_words, band_words, beside_words};
+ghost use Rattle.drawing.specs.Terminal.{operation_label, call_label, told_word, row_words, strokes, under, thread_digits, lane_names, name_words};
 ghost use Rattle.drawing.specs.Terminal.{heads, numbered_row, sign_text, sign_line, effect_meaning};
 ghost use Rattle.drawing.specs.Terminal.{legend, words, terminal_picture};
 
@@ -20,6 +20,7 @@ use crate::drawn::is_away;
 use crate::line::{Added, place, push_line, push_number};
 use crate::lookup::{called_at, place_in, under_way};
 use crate::names::{initial_label, push_value};
+use crate::pending::is_pending;
 use crate::scene::{Row, gap_of, lanes_before, ticket_words, way_in};
 use crate::sheet::{Scene, Sheet};
 use crate::signs::{Sign, meaning, signs_of};
@@ -100,6 +101,13 @@ fn one_of(away: bool, round: &'static [u8], square: &'static [u8]) -> &'static [
     if away { round } else { square }
 }
 
+/// Returns whether an operation returns at this ticket; one that is pending never does.
+fn returns_at(scene: &Scene<'_>, ticket: u64, operation: Operation) -> bool
+    ensures { result ≡ returns_at (scene_on scene.now) ticket operation }
+{
+    operation.ret == ticket && !is_pending(scene.added_from, operation)
+}
+
 /// A call with its number, a return, or that an operation is under way.
 fn event_sign(sheet: &Sheet<'_>, ticket: u64, operation: Operation) -> Result<Vec<u8>, AllocError>
     ensures { IfOk result (λ word. word.items ≡ event_sign sheet.now.columns (scene_on sheet.now.scene.now) ticket operation) }
@@ -113,7 +121,7 @@ fn event_sign(sheet: &Sheet<'_>, ticket: u64, operation: Operation) -> Result<Ve
         let mut word = Vec::from_slice(sheet.alloc, one_of(away, b"(", b"["))?;
         word.extend_from_slice(number.as_slice())?;
         Ok(word)
-    } else if operation.ret == ticket {
+    } else if returns_at(sheet.scene, ticket, operation) {
         Vec::from_slice(sheet.alloc, one_of(away, b")", b"]"))
     } else {
         Vec::from_slice(sheet.alloc, one_of(away, b":", b"|"))
@@ -134,7 +142,11 @@ fn lane_sign(sheet: &Sheet<'_>, row: Row, under: Option<Operation>) -> Result<Ve
             let mut buffer = Buffer::new();
             let number = buffer.format(number).as_bytes();
             let sign: &[u8] = if operation.call != effect.call {
-                if operation.ret == point { b"" } else { b"|" }
+                if returns_at(sheet.scene, point, operation) {
+                    b""
+                } else {
+                    b"|"
+                }
             } else if sheet.columns.lane == 1 {
                 b"*"
             } else {
@@ -162,7 +174,7 @@ fn place_lanes(line: &mut Vec<u8>, sheet: &Sheet<'_>, row: Row) -> Added
     let threads = sheet.scene.threads.as_slice();
     let ticket = gap_of(row).unwrap_or(0);
     for thread in threads {
-        let operation = under_way(operations, *thread, ticket);
+        let operation = under_way(sheet.scene.added_from, operations, *thread, ticket);
         let word = lane_sign(sheet, row, operation)?;
         place(line, lane_column(sheet, *thread), word.as_slice())?;
     }
@@ -197,6 +209,17 @@ fn beside_words(alloc: Global, claimed: &Claimed, row: Row) -> Result<Vec<u8>, A
     }
 }
 
+/// Returns the label of an operation, and that its call is pending if it is.
+fn operation_label(sheet: &Sheet<'_>, operation: Operation) -> Result<Vec<u8>, AllocError>
+    ensures { IfOk result (λ word. word.items ≡ operation_label (scene_on sheet.now.scene.now) operation) }
+{
+    let mut word = label_of(sheet.alloc, operation.kind)?;
+    if is_pending(sheet.scene.added_from, operation) {
+        word.extend_from_slice(b" (pending)")?;
+    }
+    Ok(word)
+}
+
 /// The label of what is called, where something is; after its number, where lanes have no room for that.
 fn call_label(sheet: &Sheet<'_>, called: Option<Operation>) -> Result<Vec<u8>, AllocError>
     ensures { IfOk result (λ word. word.items ≡ call_label sheet.now.columns (scene_on sheet.now.scene.now) called) }
@@ -204,7 +227,7 @@ fn call_label(sheet: &Sheet<'_>, called: Option<Operation>) -> Result<Vec<u8>, A
     let Some(operation) = called else {
         return Ok(Vec::new(sheet.alloc));
     };
-    let label = label_of(sheet.alloc, operation.kind)?;
+    let label = operation_label(sheet, operation)?;
     if sheet.columns.lane == 1 {
         let shown = shown_by(sheet.scene.claimed);
         let number = number_at(sheet.alloc, place_in(shown, Row::Ticket(operation.call)))?;
@@ -344,7 +367,7 @@ fn push_heads(text: &mut Vec<u8>, sheet: &Sheet<'_>) -> Added
 fn place_row(line: &mut Vec<u8>, sheet: &Sheet<'_>, row: Row) -> Added
     ensures { OnOk result (line.new.items ≡ with_words line.old.items (row_words sheet.now.columns (scene_on sheet.now.scene.now) row)) }
 {
-    let tickets = ticket_words(sheet.alloc, row)?;
+    let tickets = ticket_words(sheet.alloc, sheet.scene.added_from, row)?;
     let column = sheet.columns.ticket.saturating_sub(tickets.len());
     place(line, column, tickets.as_slice())?;
     let beside = beside_words(sheet.alloc, sheet.scene.claimed, row)?;
@@ -375,6 +398,7 @@ fn sign_text(sign: Sign) -> &'static [u8]
         Sign::Present => b"###  ",
         Sign::Absent => b"xxx  ",
         Sign::Away => b"(:)  ",
+        Sign::Pending => b"|    ",
         _ => b":::  ",
     }
 }
@@ -417,7 +441,7 @@ fn push_words(text: &mut Vec<u8>, sheet: &Sheet<'_>) -> Added
     ensures { OnOk result (text.new.items ≡ text.old.items ++ words sheet.now.columns (scene_on sheet.now.scene.now)) }
 {
     push_line(text, headline(sheet.scene.claimed))?;
-    push_caption(text, sheet.scene.claimed)?;
+    push_caption(text, sheet.scene.added_from, sheet.scene.claimed)?;
     push_line(text, b"")?;
     push_legend(text, sheet)?;
     push_line(text, b"")
@@ -431,7 +455,7 @@ fn push_words(text: &mut Vec<u8>, sheet: &Sheet<'_>) -> Added
 /// let verdict = decide(alloc, &history)?;
 /// let claimed = claim(alloc, &history, &verdict)?;
 /// let drawn = drawn_operations(alloc, &history, &claimed, None)?;
-/// let scene = scene_of(alloc, &history, &claimed, drawn)?;
+/// let scene = scene_of(alloc, &history, &claimed, drawn, None)?;
 /// let mut picture = Vec::new(alloc);
 /// if count_of_lines(&claimed) <= MOST_DRAWN {
 ///     picture = terminal_picture(alloc, &scene)?;

@@ -1,9 +1,9 @@
 -- The names that most proofs of this crate cite, passed on from one place. Declares nothing.
-pub use Rattle.std.proofs.Common.{[], ◌++◌, ◌+◌, ◌<◌, ◌∙◌, ◌∷◌, ◌≡◌, ◌⊎◌, add-one, ap, arith, drop, get_or, inl, inr}
+pub use Rattle.std.proofs.Common.{[], ◌++◌, ◌+◌, ◌<◌, ◌∙◌, ◌∷◌, ◌≡◌, ◌⊎◌, add-one, ap, arith, drop, false, get_or, inl, inr}
 pub use Rattle.std.proofs.Common.{length, length-take-le, List, map, None, Option, refl, slice_get, Some, subst, suc}
 pub use Rattle.std.proofs.Common.{sym, take, take-suc, zero, ℕ}
 pub use Rattle.event_records.specs.declared.event.Event.{Event}
-pub use Rattle.command_words.specs.Commands.{check, draw, shrink, stats, verify}
+pub use Rattle.command_words.specs.Commands.{check, complete, draw, shrink, stats, verify}
 pub use Rattle.command_words.specs.Options.{drawing_as}
 pub use Rattle.commands.specs.Evidence.{input_of}
 pub use Rattle.commands.specs.Judging.{AnswersOrNoMemory, from_none, JudgesHistory}

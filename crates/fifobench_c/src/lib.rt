@@ -10,10 +10,10 @@ mod recorded;
 #[cfg(test)]
 mod tests;
 
-ghost use Rattle.std.specs.Prelude.{◌≡◌, ◌<◌, ◌≤◌, ◌⊎◌, List, ℕ, length};
+ghost use Rattle.std.specs.Prelude.{◌≡◌, ◌<◌, ◌≤◌, ◌⊎◌, false, List, ℕ, length};
 ghost use Rattle.event_records.specs.declared.event.Event.{Event};
 ghost use Rattle.event_records.specs.declared.limits.TheConstants.{MAX_EVENTS};
-ghost use Rattle.command_words.specs.Commands.{check, draw, shrink, stats, verify};
+ghost use Rattle.command_words.specs.Commands.{check, complete, draw, shrink, stats, verify};
 ghost use Rattle.command_words.specs.Options.{drawing_as};
 ghost use Rattle.command_words.specs.declared.options.PictureForm.TheVariants.{Svg, Terminal};
 ghost use Rattle.commands.specs.Answers.{refused_limit, memory_fault};
@@ -27,7 +27,8 @@ use crate::filling::{tell, tell_bad_what};
 use crate::recorded::gathered;
 use command_words::{DrawOptions, PictureForm};
 use commands::{
-    Fault, check_text, draw_text, judge_gathered, shrink_text, stats_text, verify_text,
+    Fault, check_text, complete_text, draw_text, judge_gathered, shrink_text, stats_text,
+    verify_text,
 };
 use event_records::MAX_EVENTS;
 pub use laws::events_and_their_text_agree;
@@ -104,6 +105,19 @@ pub extern "C" fn fifobench_draw_text(
 {
     let options = DrawOptions::new(PictureForm::Terminal);
     tell(alloc, &draw_text(alloc, text, options), answer, needed)
+}
+
+/// What `complete` answers of the text: the completion of a history whose calls may be pending.
+#[unsafe(no_mangle)]
+pub extern "C" fn fifobench_complete(
+    alloc: Global,
+    text: &[u8],
+    answer: &mut [u8],
+    needed: &mut usize,
+) -> u8
+    ensures { TellsOneOf (AnswersOrNoMemory (AnswersOf (complete false)) (input_of text.now)) answer.old answer.new needed.new result }
+{
+    tell(alloc, &complete_text(alloc, text, false), answer, needed)
 }
 
 /// What `stats` answers of the text.

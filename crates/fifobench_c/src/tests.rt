@@ -1,7 +1,7 @@
 use crate::{
     CALL_DEQ, CALL_ENQ, RET_DEQ, RET_EMPTY, RET_ENQ, RET_NOT, RecordedEvent, fifobench_check,
-    fifobench_check_events, fifobench_draw, fifobench_draw_text, fifobench_shrink, fifobench_stats,
-    fifobench_verify,
+    fifobench_check_events, fifobench_complete, fifobench_draw, fifobench_draw_text,
+    fifobench_shrink, fifobench_stats, fifobench_verify,
 };
 use event_records::MAX_EVENTS;
 use std::alloc::{AllocError, Global};
@@ -32,6 +32,7 @@ enum Command {
     Draw,
     DrawText,
     Stats,
+    Complete,
 }
 
 fn call(alloc: Global, command: Command, text: &str, answer: &mut [u8], needed: &mut usize) -> u8 {
@@ -42,6 +43,7 @@ fn call(alloc: Global, command: Command, text: &str, answer: &mut [u8], needed: 
         Command::Draw => fifobench_draw(alloc, text.as_bytes(), answer, needed),
         Command::DrawText => fifobench_draw_text(alloc, text.as_bytes(), answer, needed),
         Command::Stats => fifobench_stats(alloc, text.as_bytes(), answer, needed),
+        Command::Complete => fifobench_complete(alloc, text.as_bytes(), answer, needed),
     }
 }
 
@@ -60,12 +62,18 @@ fn is_filled(answer: &[u8], needed: usize, wanted: &str) -> bool {
         && answer.iter().skip(needed).all(|byte| *byte == b'-')
 }
 
+const PENDING: &str =
+    "fifo-pending 1\n0 0 call-enq 7\n1 1 call-deq\n2 1 ret-deq 7\nopen 1\nend 3\n";
+
+const COMPLETED: &str =
+    "fifo-history 1\n0 0 call-enq 7\n1 1 call-deq\n2 1 ret-deq 7\n3 0 ret-enq\nend 4\n";
+
 const EMPTY: &str = "fifo-history 1\nend 0\n";
 
 const UNSHOWN: &str = "fifo-history 1\n0 0 call-deq\n1 0 ret-empty\nend 2\nYES\n";
 
 /// What is called, the text, the answer and the status.
-static ANSWERED: [(Command, &str, &str, u8); 14] = [
+static ANSWERED: [(Command, &str, &str, u8); 16] = [
     (Command::Check, EMPTY, "YES\n", 0),
     (Command::Check, OVERTAKEN, ITS_VERDICT, 1),
     (Command::Check, "", "REFUSED Cut\n", 2),
@@ -90,6 +98,8 @@ static ANSWERED: [(Command, &str, &str, u8); 14] = [
     (Command::DrawText, UNSHOWN, "INVALID\n", 1),
     (Command::Draw, "", "REFUSED Cut\n", 2),
     (Command::Stats, EMPTY, COUNTED, 0),
+    (Command::Complete, PENDING, COMPLETED, 0),
+    (Command::Complete, UNSHOWN, "REFUSED Trailing\n", 2),
 ];
 
 #[test]

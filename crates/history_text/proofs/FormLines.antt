@@ -32,7 +32,7 @@ use Rattle.event_records.specs.declared.kind.Answer.TheVariants as reply
 
 -- ---- the first line, an item's and the last one, read from what is written of them, whatever comes after
 
-end_is_part : (k : ℕ) → k < 2 ^ 64 → IsPartOfLine (codes "end " ++ decimal k)
+pub end_is_part : (k : ℕ) → k < 2 ^ 64 → IsPartOfLine (codes "end " ++ decimal k)
 end_is_part k small = grind (arith, field_is_clean, number_is_field, length-decimal-le)
 
 -- the last line is read
@@ -174,7 +174,7 @@ pub event_spells : Spells event_format event_forms event_of
 event_spells = grind (arith, event_row)
 
 module _ (t th : ℕ) (a : t ≤ MAX_TICKET) (b : th ≤ MAX_THREAD) where
-  event_back : (what : What) → HasValueInRange what
+  pub event_back : (what : What) → HasValueInRange what
       → IsReadAs event_in (decimal t ∷ decimal th ∷ what_fields what) (record { ticket = t; thread = th; what = what })
   event_back (CallEnq v) r =
       row_back event_forms event_of (CallEnq 0) (valued_event (codes "call-enq")) (t ∷ th ∷ v ∷ []) refl refl (λ n. refl) (search rules)

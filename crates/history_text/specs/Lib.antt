@@ -5,4 +5,5 @@ pub mod Schedules
 pub mod Verdicts
 pub mod Claims
 pub mod Reading
+pub mod Pending
 pub mod Inner

@@ -1,5 +1,5 @@
 //! Laws of texts. The functions do nothing when they run.
-ghost use Rattle.std.specs.Prelude.{◌≡◌, ◌≤◌, ◌++◌, ℕ, List, [], length};
+ghost use Rattle.std.specs.Prelude.{◌≡◌, ◌≤◌, ◌++◌, ℕ, Bool, true, List, [], length};
 ghost use Rattle.event_records.specs.declared.limits.TheConstants.{MAX_CLAIM_LINES};
 ghost use Rattle.history_merge.specs.Operations.{operations_of};
 ghost use Rattle.verdicts.specs.declared.verifying.Claimed.{Claimed};
@@ -10,7 +10,9 @@ ghost use Rattle.history_text.specs.Verdicts.{claim_of, verdict_places, verdict_
 ghost use Rattle.history_text.specs.Claims.{HasVerdictText, IsVerdictTextFault};
 ghost use Rattle.history_text.specs.Versions.{HasText, HistoryText, text_of, IsTextFault};
 ghost use Rattle.history_text.specs.Schedules.{HasScheduleText, schedule_text, IsScheduleTextFault};
-ghost use Rattle.text_lines.specs.Input.{Ending, EndOfInput};
+ghost use Rattle.history_text.specs.declared.pending_text.PendingText.{PendingText};
+ghost use Rattle.history_text.specs.Pending.{HasPendingText, IsCutText, IsPendingTextFault, as_pending, pending_text};
+ghost use Rattle.text_lines.specs.Input.{Ahead, Ending, EndOfInput};
 
 /// Proves that a text of a history says one thing: it has one version, one list of initial values, and one of events.
 pub fn a_text_has_one_history()
@@ -69,4 +71,29 @@ pub fn a_text_has_no_fault()
         → IsScheduleTextFault lines ending (schedule_text schedule ++ rest) fault → ⊥ }
     ensures verdict { (lines : ℕ) (claimed : Claimed) (fault : TextFault) → HasVerdictText claimed
         → IsVerdictTextFault lines EndOfInput (verdict_text claimed) fault → ⊥ }
+{}
+
+/// Proves that an input is read in one way where calls may be pending: a text says one thing, and none begins another;
+/// what comes of a text before the input ends is one thing too, and then no whole text stands there; and an input has one
+/// first fault, and none if it is read.
+///
+/// So `read_pending` returns a fault if and only if no text stands there, nor what comes of one, or memory runs out.
+pub fn one_pending_text()
+    ensures whole { (first second : PendingText) (more : List ℕ) → HasPendingText first → HasPendingText second
+        → pending_text first ++ more ≡ pending_text second → (first ≡ second) × (more ≡ []) }
+    ensures cut { (lines : ℕ) (input : Ahead) (first second : PendingText) → IsCutText lines input first → IsCutText lines input second
+        → first ≡ second }
+    ensures whole_or_cut { (lines : ℕ) (input : Ahead) (first second : PendingText) (rest : List ℕ) → HasPendingText first
+        → input.bytes ≡ pending_text first ++ rest → IsCutText lines input second → ⊥ }
+    ensures whole_or_fault { (takes_cut : Bool) (lines : ℕ) (ending : Ending) (text : PendingText) (rest : List ℕ) (fault : TextFault)
+        → HasPendingText text → IsPendingTextFault takes_cut lines ending (pending_text text ++ rest) fault → ⊥ }
+    ensures cut_or_fault { (lines : ℕ) (input : Ahead) (text : PendingText) (fault : TextFault) → IsCutText lines input text
+        → IsPendingTextFault true lines input.ending input.bytes fault → ⊥ }
+    ensures fault { (takes_cut : Bool) (lines : ℕ) (ending : Ending) (bytes : List ℕ) (f g : TextFault)
+        → IsPendingTextFault takes_cut lines ending bytes f → IsPendingTextFault takes_cut lines ending bytes g → f ≡ g }
+{}
+
+/// Proves that the text of a history is read as itself where calls may be pending.
+pub fn a_history_text_is_read_as_itself()
+    ensures { (text : HistoryText) → HasText text → HasPendingText (as_pending text) × (pending_text (as_pending text) ≡ text_of text) }
 {}

@@ -13,6 +13,8 @@ mod item;
 mod laws;
 mod lines;
 mod operation_line;
+mod pending_line;
+mod pending_text;
 mod reader;
 mod schedule;
 mod source_end;
@@ -24,11 +26,14 @@ mod version;
 pub use event_records::MAX_STEPS;
 pub use history_writer::write_history;
 pub use laws::{
-    a_claim_on_a_text_has_a_text, a_text_has_no_fault, a_text_has_one_claim,
-    a_text_has_one_history, a_text_has_one_schedule, no_schedule_text_begins_another,
-    no_text_begins_another, one_first_fault,
+    a_claim_on_a_text_has_a_text, a_history_text_is_read_as_itself, a_text_has_no_fault,
+    a_text_has_one_claim, a_text_has_one_history, a_text_has_one_schedule,
+    no_schedule_text_begins_another, no_text_begins_another, one_first_fault, one_pending_text,
 };
-pub use reader::{TextReader, at_end, is_at_end, read_history, read_schedule, read_verdict};
+pub use pending_text::{EventList, PendingText, Values};
+pub use reader::{
+    TextReader, at_end, is_at_end, read_history, read_pending, read_schedule, read_verdict,
+};
 pub use schedule::{MOST_DRAINED, Schedule, Steps};
 pub use text_lines::{
     Buffered, MemorySource, ReadFailed, TextFault, TextSink, TextSource, Watched, WriteFault,

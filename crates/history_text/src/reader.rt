@@ -16,7 +16,12 @@ ghost use Rattle.history_text.specs.Reading.{HasTextFault, HasScheduleTextFault,
 ghost use Rattle.history_text.specs.Reading.{BeginsWith, IsAll};
 ghost use Rattle.history_text.specs.Inner.Taking.{TakesLine, FaultAtFront, BrokenLineFault, NoLineFault, TakesItem, TakesItems};
 ghost use Rattle.history_text.specs.Inner.Taking.{HasItemsFault, HasFaultAmong, IsOfInput};
+ghost use Rattle.history_text.specs.Inner.Pending.{NoRoomForValues, ValuesFault};
+ghost use Rattle.history_text.specs.Pending.{value_lines};
+ghost use Rattle.history_text.specs.Reading.{HasFirstFault};
 ghost use Rattle.text_lines.specs.Inner.Lines.{IsPartOfLine};
+
+mod pending;
 
 use crate::collecting::Collects;
 use crate::item::{Item, ROOM, item_in};
@@ -26,6 +31,7 @@ use crate::source_end::{BUFFER_LEN, SourceEnd, read_at};
 use crate::value_line::version_in;
 use crate::version::Version;
 use history_merge::HistoryBuilder;
+pub use pending::read_pending;
 use std::alloc::Global;
 use std::marker::Model;
 use text_lines::{LONGEST_LINE, Line, ReadFailed, TextFault, TextSource};
@@ -346,14 +352,25 @@ impl<R: TextSource> TextReader<R> {
         ensures few { IfOk result (λ p. length p.1.items ≤ MAX_INITIAL) }
     {
         let version = self.version()?;
-        let initial = match version {
-            Version::One => Vec::new(alloc),
+        let initial = self.initial_values(alloc, version)?;
+        Ok((version, initial))
+    }
+
+    /// Returns the initial values, which version 2 has.
+    fn initial_values(&mut self, alloc: Global, version: Version) -> Result<Vec<u64>, TextFault>
+        requires { self.old.lines < 2 ^ 63 + 1 }
+        ensures values { IfOk result (λ v. HaveValueLines version v.items × Takes self.old.left self.new.left (value_lines version v.items)) }
+        ensures fault { IfErr result (HasFirstFault (ValuesFault version (self.old.lines + 1)) (NoRoomForValues version) self.old.left) }
+        ensures lines { IfOk result (λ v. self.new.lines + 1 ≡ self.old.lines + count_before_events version v.items) }
+        ensures few { IfOk result (λ v. length v.items ≤ MAX_INITIAL) }
+    {
+        match version {
+            Version::One => return Ok(Vec::new(alloc)),
             Version::Two => {
                 let count: usize = self.required_item()?;
-                self.required_items(alloc, count)?
+                return self.required_items(alloc, count);
             }
-        };
-        Ok((version, initial))
+        }
     }
 
     /// Returns the version of the history's text that the input begins with, and the builder of its history.

@@ -12,6 +12,8 @@ pub enum Reads {
     Claim,
     /// A history, and a verdict where anything follows.
     Drawable,
+    /// A history whose calls may be pending, or a pending text.
+    Pending,
     /// A schedule.
     Schedule,
 }
@@ -40,6 +42,8 @@ pub enum Complaint<'a> {
     Queue { name: &'a str, names: &'a [&'a str] },
     /// This many threads, with this many operations each, are more than a run may have.
     Limit { threads: u64, operations: u64 },
+    /// The completion of a history has more events than a history may have, or a ticket above the greatest.
+    Completion,
     /// Memory ran out.
     Memory,
     /// A run gave no history.

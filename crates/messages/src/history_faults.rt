@@ -17,7 +17,7 @@ const DISTINCT: &str =
 
 /// How calls come to have returns.
 const OPEN_CALLS: &str =
-    "a history has the return of each call: wait for all threads before it is written";
+    "a history has the return of each call: fifobench complete < FILE | fifobench check judges one with pending calls";
 
 /// The line of the initial value at a place from 0.
 fn initial_line(place: usize) -> u64 {

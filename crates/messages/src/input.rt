@@ -16,6 +16,8 @@ pub(crate) enum Part {
     InitialValue,
     /// An event of a history.
     Event,
+    /// The line of a pending text that counts its pending calls.
+    Open,
     /// The last line of a history or a schedule.
     End,
     /// The first line of a verdict.
@@ -63,7 +65,10 @@ pub(crate) fn number_of(field: &[u8]) -> Option<u64> {
 
 /// How many values the queue holds first.
 fn initial_count(front: &[u8]) -> u64 {
-    let Some(rest) = front.strip_prefix(b"fifo-history 2\ninitial ") else {
+    let Some(rest) = front
+        .strip_prefix(b"fifo-history 2\ninitial ")
+        .or_else(|| front.strip_prefix(b"fifo-pending 2\ninitial "))
+    else {
         return 0;
     };
     let field = rest.split(|byte| *byte == b'\n').next();
@@ -78,7 +83,9 @@ pub(crate) fn lines_before(given: &Given<'_>) -> u64 {
     if given.reads == Reads::Schedule {
         return 2;
     }
-    if given.front.starts_with(b"fifo-history 2\n") {
+    if given.front.starts_with(b"fifo-history 2\n")
+        || given.front.starts_with(b"fifo-pending 2\n")
+    {
         initial_count(given.front).saturating_add(2)
     } else {
         1
@@ -90,6 +97,31 @@ pub(crate) fn end_line(given: &Given<'_>) -> Option<u64> {
     first_line(given.front, |line| line.starts_with(b"end "))
 }
 
+/// The number of the line that counts pending calls, where it is kept.
+pub(crate) fn open_line(given: &Given<'_>) -> Option<u64> {
+    if !given.front.starts_with(b"fifo-pending ") {
+        return None;
+    }
+    first_line(given.front, |line| line.starts_with(b"open "))
+}
+
+/// The number of events or steps before the last line, which has this number.
+pub(crate) fn counted(given: &Given<'_>, end: u64) -> u64 {
+    let others = u64::from(open_line(given).is_some());
+    end.saturating_sub(1)
+        .saturating_sub(lines_before(given))
+        .saturating_sub(others)
+}
+
+/// Whether the last line counts what stands before it.
+pub(crate) fn counts_events(given: &Given<'_>) -> bool {
+    let Some(end) = end_line(given) else {
+        return false;
+    };
+    let field = line_of(given, end).and_then(|line| field_of(line, 1));
+    field.and_then(number_of) == Some(counted(given, end))
+}
+
 /// What the line of this number, after those of the history's initial values, should be.
 fn part_behind(given: &Given<'_>, number: u64) -> Part {
     let item = if given.reads == Reads::Schedule {
@@ -97,6 +129,9 @@ fn part_behind(given: &Given<'_>, number: u64) -> Part {
     } else {
         Part::Event
     };
+    if open_line(given) == Some(number) {
+        return Part::Open;
+    }
     match end_line(given) {
         Some(end) if number == end => Part::End,
         Some(end) if number == end.saturating_add(1) => Part::Answer,

@@ -74,6 +74,7 @@ fn in_step(first: &[u8], place: usize) -> Option<Ranged> {
 fn ranged_at(part: Part, first: &[u8], place: usize) -> Option<Ranged> {
     match (part, place) {
         (Part::InitialCount, 1) => up_to("<k>", MAX_INITIAL as u64),
+        (Part::Open, 1) => up_to("<number of pending calls>", MAX_THREADS as u64),
         (Part::InitialValue, 0) => up_to("<value>", u64::MAX),
         (Part::Event, _) => in_event(place),
         (Part::Operation, _) => in_operation(first, place),

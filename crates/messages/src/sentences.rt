@@ -8,7 +8,7 @@ use crate::message::Blank::{Number, Shown, Words};
 use crate::message::{Message, filled};
 use crate::quoting::printable;
 use crate::text_faults::text_message;
-use event_records::MAX_OPERATIONS;
+use event_records::{MAX_EVENTS, MAX_OPERATIONS, MAX_TICKET};
 use std::alloc::{AllocError, Global};
 use stress_run::RunFault;
 use strsim::levenshtein;
@@ -91,8 +91,17 @@ fn content(reads: Reads) -> &'static str {
         Reads::History => "a history",
         Reads::Claim => "a history and a verdict",
         Reads::Drawable => "a history, and a verdict if there is one,",
+        Reads::Pending => "a history, whose calls may be pending,",
         Reads::Schedule => "a schedule",
     }
+}
+
+/// A completion is beyond the limits of a history.
+fn completion_message(alloc: Global) -> Result<Message, AllocError> {
+    let blanks = [Number(MAX_EVENTS as u64), Number(MAX_TICKET)];
+    let sentence =
+        "with the returns that are added, there are more than {} events, or a ticket is above {}";
+    Message::of(alloc, sentence, &blanks, "")
 }
 
 /// More operations than a run may have.
@@ -137,6 +146,7 @@ fn message_of(alloc: Global, complaint: &Complaint<'_>) -> Result<Message, Alloc
             threads,
             operations,
         } => limit_message(alloc, *threads, *operations),
+        Complaint::Completion => completion_message(alloc),
         Complaint::Memory => Message::of(alloc, "memory ran out", &[], ""),
         Complaint::Run(fault) => run_message(alloc, *fault),
         Complaint::Write => Message::of(alloc, "standard output couldn't be written", &[], ""),

@@ -1,7 +1,7 @@
 //! Messages about inputs that aren't the texts that they should be.
 use crate::complaints::{Given, Reads};
 use crate::ends::{counted_in, cut_message, trailing_message};
-use crate::input::{Part, end_line, line_of, lines_before, part_of};
+use crate::input::{Part, counted, counts_events, end_line, line_of, open_line, part_of};
 use crate::message::Blank::{Number, Shown, Words};
 use crate::message::Message;
 use crate::ranges::{Ranged, first_wrong};
@@ -17,6 +17,7 @@ const CARRIAGE_RETURNS: &str =
 fn first_line_of(reads: Reads) -> &'static str {
     match reads {
         Reads::Schedule => "fifo-schedule 1",
+        Reads::Pending => "fifo-history 1 or 2, or fifo-pending 1 or 2",
         _ => "fifo-history 1 or fifo-history 2",
     }
 }
@@ -28,6 +29,7 @@ fn form_of(part: Part, reads: Reads) -> &'static str {
         Part::InitialCount => "initial <k>",
         Part::InitialValue => "<value>",
         Part::Event => "<ticket> <thread> <what>",
+        Part::Open => "open <number of pending calls>",
         Part::End if reads == Reads::Schedule => "end <number of steps>",
         Part::End => "end <number of events>",
         Part::Answer => "YES or NO <kind>",
@@ -81,7 +83,7 @@ fn header_hint(reads: Reads, line: &[u8]) -> &'static str {
     if line.ends_with(b"\r") {
         CARRIAGE_RETURNS
     } else if line.starts_with(b"fifo-pending") {
-        "a history with open calls: examples/pending writes the histories that it can mean"
+        "a history with pending calls: fifobench complete < FILE | fifobench check judges it"
     } else if line.starts_with(b"fifo-schedule") {
         "a schedule goes to fifobench sim"
     } else if line.starts_with(b"fifo-history") && reads == Reads::Schedule {
@@ -204,14 +206,29 @@ fn limit_message(alloc: Global, number: u64, given: &Given<'_>) -> Result<Messag
     }
 }
 
-/// The last line counts something else.
+/// The line that counts pending calls doesn't count them.
+fn open_message(alloc: Global, number: u64, given: &Given<'_>) -> Result<Message, AllocError> {
+    let line = line_of(given, number).unwrap_or(b"");
+    let sentence = "line {}: '{}' doesn't count the calls without a return";
+    Message::of(alloc, sentence, &[Number(number), Shown(line)], "")
+}
+
+/// A line that counts something counts something else.
 fn count_message(alloc: Global, given: &Given<'_>) -> Result<Message, AllocError> {
+    match open_line(given) {
+        Some(open) if counts_events(given) => open_message(alloc, open, given),
+        _ => end_message(alloc, given),
+    }
+}
+
+/// The last line counts something else.
+fn end_message(alloc: Global, given: &Given<'_>) -> Result<Message, AllocError> {
     let things = Words(counted_in(given.reads));
     let Some(end) = end_line(given) else {
         let sentence = "the last line doesn't count the {} before it";
         return Message::of(alloc, sentence, &[things], "");
     };
-    let count = end.saturating_sub(1).saturating_sub(lines_before(given));
+    let count = counted(given, end);
     let line = line_of(given, end).unwrap_or(b"");
     let blanks = [Number(end), Shown(line), things, Number(count)];
     let sentence = "line {}: '{}' doesn't count the {} before it, of which there are {}";

@@ -1,5 +1,5 @@
 -- The names that most proofs of this crate cite, passed on from one place. Declares nothing.
-pub use Rattle.std.proofs.Common.{[], ◌&&◌, ◌*◌, ◌++◌, ◌+◌, ◌<◌, ◌∙◌, ◌∷◌, ◌≡◌, ap, append-nil, append_assoc, ap₂}
+pub use Rattle.std.proofs.Common.{[], ◌&&◌, ◌*◌, ◌++◌, ◌+◌, ◌<◌, ◌↔◌, ◌∙◌, ◌∷◌, ◌≡◌, ap, append-nil, append_assoc, ap₂}
 pub use Rattle.std.proofs.Common.{arith, Err, flat_map, get_or, inl, inr, length, List, map, mul-le-mul_left, Ok}
 pub use Rattle.std.proofs.Common.{OnOk, refl, rules, sym, take, true, ℕ}
 pub use Rattle.std.proofs.lemmas.List.{take_more}

@@ -1,6 +1,6 @@
 -- The elements of a picture.
 use Rattle.std.specs.Prelude.{ℕ, ◌+◌, ◌*◌, List, [], ◌∷◌, length, codes}
-use Rattle.svg_picture.specs.Markup.{Content, Nothing, Words, Element, Then, Style, Pattern, Text, Rect, Line, group}
+use Rattle.svg_picture.specs.Markup.{Content, Nothing, Words, Element, Then, Style, Pattern, Window, Text, Rect, Line, group}
 use Rattle.svg_picture.specs.Layout.{parts}
 use Rattle.svg_picture.specs.declared.words.TheConstants.{LIGHT, DARK}
 
@@ -11,6 +11,10 @@ text_at char class x y bytes = Element (Text x y (char * length bytes) class) (W
 -- a rectangle of a class, with round corners
 unfoldable pub rect : List ℕ → ℕ → ℕ → ℕ → ℕ → ℕ → Content
 rect class round x y wide high = Element (Rect x y wide high round class) (Words [])
+
+-- a rectangle of a class without its lower edge: it ends below a window that has room for its other edges
+unfoldable pub open_rect : List ℕ → ℕ → ℕ → ℕ → ℕ → ℕ → Content
+open_rect class round x y wide high = Element (Window (x + wide + 6) (y + high)) (rect class round x y wide (high + 20))
 
 -- a straight line of a class
 unfoldable pub stroke : List ℕ → ℕ → ℕ → ℕ → ℕ → Content

@@ -1,16 +1,17 @@
 -- What holds of SVG pictures.
-use Rattle.std.specs.Prelude.{◌≡◌, ℕ, ◌+◌, ◌<◌, ◌≤◌, ◌↔◌, ◌&&◌, ◌||◌, not}
-use Rattle.std.specs.Prelude.{nat_le, ⊤, Bool, true, List, [], ◌∷◌, ◌++◌, map, codes, Contains}
+use Rattle.std.specs.Prelude.{◌≡◌, ℕ, ◌+◌, ◌<◌, ◌≤◌, ◌↔◌, ◌&&◌, ◌||◌, not, Option}
+use Rattle.std.specs.Prelude.{nat_le, ⊤, Bool, true, false, List, [], ◌∷◌, ◌++◌, map, codes, Contains}
 use Rattle.std.specs.List.{list_all, list_any}
 use Rattle.std.specs.Str.{bytes_eq}
 use Rattle.history_merge.specs.declared.operation.Operation.{Operation}
 use Rattle.history_merge.specs.Operations.{Precedes, operations_of}
 use Rattle.history_merge.specs.Initial.{HistoryView}
 use Rattle.verdicts.specs.declared.verifying.Claimed.{Claimed}
+use Rattle.drawing.specs.Pending.{is_added}
 use Rattle.drawing.specs.Scene.{SceneView, scene_of, stands_above}
 use Rattle.drawing.specs.declared.scene.Row.{Row}
 use Rattle.svg_picture.specs.Markup.{Named, is_plain, declaration, start_tag, end_tag}
-use Rattle.svg_picture.specs.Layout.{Page, lane_width, thread_x, row_y, call_y, ret_y}
+use Rattle.svg_picture.specs.Layout.{Page, lane_width, thread_x, row_y, call_y, bar_end}
 use Rattle.svg_picture.specs.Picture.{page_of, svg_picture}
 
 -- ---- well-formed text
@@ -75,11 +76,13 @@ abbrev pub RowsAreApart : Type 0
 RowsAreApart =
     (page : Page) (other row : Row) → Contains page.scene.rows other → stands_above other row ≡ true → row_y page other + 20 ≤ row_y page row
 
--- a bar ends above another begins if and only if its operation precedes the other: so bars share a height if and only if operations overlap
+-- a bar ends above another begins if and only if its operation precedes the other, whose call was not added: so bars share a height if and
+-- only if operations overlap
 abbrev pub BarsOverlapInTime : Type 0
 BarsOverlapInTime =
-    (history : HistoryView) (claimed : Claimed) (drawn : List Operation) (x y : Operation) → Contains (operations_of history.events) x → Contains drawn x
-    → Precedes x y ↔ (ret_y (page_of (scene_of history claimed drawn)) x.ret < call_y (page_of (scene_of history claimed drawn)) y.call)
+    (history : HistoryView) (claimed : Claimed) (drawn : List Operation) (added_from : Option ℕ) (x y : Operation)
+    → Contains (operations_of history.events) x → Contains drawn x → is_added added_from y.call ≡ false
+    → let page = page_of (scene_of history claimed drawn added_from) in Precedes x y ↔ (bar_end page x < call_y page y.call)
 
 -- ---- lanes
 

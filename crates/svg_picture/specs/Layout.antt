@@ -2,6 +2,8 @@
 use Rattle.std.specs.Prelude.{ℕ, ◌+◌, ◌*◌, max, if◌then◌else◌, List, [], ◌∷◌, length, count_by}
 use Rattle.std.specs.List.{slice_split}
 use Rattle.text_lines.specs.Lines.{is_line_feed}
+use Rattle.history_merge.specs.declared.operation.Operation.{Operation}
+use Rattle.drawing.specs.Pending.{is_pending}
 use Rattle.drawing.specs.Scene.{SceneView, scene_on, row_number, lanes_before}
 use Rattle.drawing.specs.declared.scene.Row.{Row}
 use Rattle.drawing.specs.declared.scene.Row.TheVariants.{Ticket}
@@ -80,6 +82,10 @@ ret_y page ticket = row_y page (Ticket ticket) + 17
 -- where the last row ends, which has the word `end`
 unfoldable pub bottom : Measures → ℕ
 bottom m = top m + 20 * (m.rows + 1)
+
+-- the lower edge of the bar of an operation; that of a pending one goes on to the end of its lane
+abbrev pub bar_end : Page → Operation → ℕ
+bar_end page o = if is_pending page.scene.added_from o then bottom page.measures else ret_y page o.ret
 
 -- below the last row the threads are named again
 abbrev pub height : Measures → ℕ

@@ -9,7 +9,8 @@ pub record Named : Type 0 where
   pub name : List ℕ
   pub value : List ℕ
 
--- the tag of an element: the picture itself, words on it, a pattern, bars that belong together, words, a rectangle, a straight line
+-- the tag of an element: the picture itself, words on it, a pattern, bars that belong together, a window from the upper left corner of
+-- the picture on, which cuts off what goes further, words, a rectangle, a straight line
 pub data Tag : Type 0 where
   Svg : (width height : ℕ) (view_box : List ℕ) → Tag
   Title : Tag
@@ -18,6 +19,7 @@ pub data Tag : Type 0 where
   Defs : Tag
   Pattern : (id : List ℕ) (y width height : ℕ) → Tag
   Group : (class : List ℕ) → Tag
+  Window : (width height : ℕ) → Tag
   Text : (x y width : ℕ) (class : List ℕ) → Tag
   Rect : (x y width height round : ℕ) (class : List ℕ) → Tag
   Line : (x1 y1 x2 y2 : ℕ) (class : List ℕ) → Tag
@@ -62,6 +64,7 @@ tag_name Style = codes "style"
 tag_name Defs = codes "defs"
 tag_name (Pattern id y width height) = codes "pattern"
 tag_name (Group class) = codes "g"
+tag_name (Window width height) = codes "svg"
 tag_name (Text x y width class) = codes "text"
 tag_name (Rect x y width height round class) = codes "rect"
 tag_name (Line x1 y1 x2 y2 class) = codes "line"
@@ -79,6 +82,7 @@ tag_attributes (Pattern id y width height) =
     words (codes "id") id ∷ number (codes "x") 0 ∷ number (codes "y") y ∷ number (codes "width") width ∷ number (codes "height") height
     ∷ words (codes "patternUnits") (codes "userSpaceOnUse") ∷ []
 tag_attributes (Group class) = words (codes "class") class ∷ []
+tag_attributes (Window width height) = number (codes "width") width ∷ number (codes "height") height ∷ []
 tag_attributes (Text x y width class) =
     number (codes "x") x ∷ number (codes "y") y ∷ number (codes "textLength") width ∷ words (codes "class") class ∷ []
 tag_attributes (Rect x y width height round class) =

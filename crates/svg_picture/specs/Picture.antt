@@ -15,19 +15,20 @@ use Rattle.drawing.specs.Layout.{digits, kind_word, told, label, numbered, initi
 use Rattle.drawing.specs.Bands.{form_words, head_text}
 use Rattle.drawing.specs.Captions.{headline, caption}
 use Rattle.drawing.specs.Drawn.{is_away}
+use Rattle.drawing.specs.Pending.{is_pending}
 use Rattle.drawing.specs.Scene.{SceneView, ticket_words, ticket_width, way_in}
 use Rattle.drawing.specs.declared.scene.Row.{Row}
 use Rattle.drawing.specs.declared.scene.Row.TheVariants.{Head, Initial, Ticket, Effect}
 use Rattle.drawing.specs.Signs.{signs_of, meaning}
 use Rattle.drawing.specs.declared.signs.Sign.{Sign}
-use Rattle.drawing.specs.declared.signs.Sign.TheVariants.{First, InOrder, OfOperations, OfValues, Present, Absent, Away}
+use Rattle.drawing.specs.declared.signs.Sign.TheVariants.{First, InOrder, OfOperations, OfValues, Present, Absent, Away, Pending}
 use Rattle.svg_picture.specs.declared.bars.Bar.{Bar}
 use Rattle.svg_picture.specs.declared.sheet.Measures.{Measures}
 use Rattle.svg_picture.specs.Markup.{Content, Nothing, Words, Element, Svg, Title, Desc, Defs, Pattern, Group, each, group, document}
-use Rattle.svg_picture.specs.Layout.{Page, shown, left, number_x, bar_width, thread_x, band_x, width, legend_y, top, row_y, call_y, ret_y, bottom, height}
+use Rattle.svg_picture.specs.Layout.{Page, shown, left, number_x, bar_width, thread_x, band_x, width, legend_y, top, row_y, call_y, ret_y, bar_end, bottom, height}
 use Rattle.svg_picture.specs.Layout.{line_count, parts, longest}
 use Rattle.svg_picture.specs.declared.words.TheConstants.{READING}
-use Rattle.svg_picture.specs.Elements.{text_at, rect, stroke, lines_at, samples, hatch, style_element}
+use Rattle.svg_picture.specs.Elements.{text_at, rect, open_rect, stroke, lines_at, samples, hatch, style_element}
 
 -- ---- what characters don't have
 
@@ -58,11 +59,15 @@ abbrev pub number_words : Option ℕ → List ℕ
 number_words None = []
 number_words (Some place) = codes ", number " ++ decimal (place + 1)
 
--- the title of a bar: its thread, what it did, its tickets, and its number
-unfoldable pub bar_words : Operation → Option ℕ → List ℕ
-bar_words o place =
-    concat (codes "thread " ∷ decimal o.thread ∷ codes ": " ∷ told true o.kind ∷ codes ", tickets " ∷ decimal o.call ∷ codes " to " ∷ decimal o.ret
-    ∷ number_words place ∷ [])
+-- the tickets of an operation, in words; a pending one has that of its call alone
+abbrev pub tickets_words : Bool → Operation → List ℕ
+tickets_words false o = concat (codes ", tickets " ∷ decimal o.call ∷ codes " to " ∷ decimal o.ret ∷ [])
+tickets_words true o = concat (codes ", ticket " ∷ decimal o.call ∷ codes ", never returned" ∷ [])
+
+-- the title of a bar: its thread, what it did, its tickets if it is pending or not, and its number
+unfoldable pub bar_words : Bool → Operation → Option ℕ → List ℕ
+bar_words pending o place =
+    concat (codes "thread " ∷ decimal o.thread ∷ codes ": " ∷ told true o.kind ∷ tickets_words pending o ∷ number_words place ∷ [])
 
 -- a number in a pill
 unfoldable pub pill : ℕ → ℕ → ℕ → Content
@@ -74,21 +79,28 @@ unfoldable pub bar_number : Measures → ℕ → ℕ → Option ℕ → Content
 bar_number m x y None = Nothing
 bar_number m x y (Some place) = pill (x + number_x m) y (place + 1)
 
+-- the frame of a bar, without a lower edge if it is pending
+abbrev pub bar_frame : Measures → Bar → Content
+bar_frame m b =
+    if b.is_pending then open_rect (kind_word b.kind) (corner b.kind) (b.x + 3) b.y (bar_width m) b.height
+    else rect (kind_word b.kind) (corner b.kind) (b.x + 3) b.y (bar_width m) b.height
+
 -- a bar with its mark, its title, its label and its number
 unfoldable pub marked_bar : Measures → List ℕ → List ℕ → List ℕ → Bar → Content
 marked_bar m class title words b =
-    Element (Group class) (group (Element Title (Words title) ∷ rect (kind_word b.kind) (corner b.kind) (b.x + 3) b.y (bar_width m) b.height
+    Element (Group class) (group (Element Title (Words title) ∷ bar_frame m b
     ∷ text_at 7 (codes "label") (b.x + 9) b.base words ∷ bar_number m b.x (b.base - 12) b.place ∷ []))
 
--- where the bar of an operation stands, from its call to its return; the number of a `YES` stands where it takes effect
+-- where the bar of an operation stands, from its call to its end; the number of a `YES` stands where it takes effect
 abbrev pub bar_of : Page → Operation → Bar
 bar_of page o = record {
   x = thread_x page o.thread;
   y = call_y page o.call;
-  height = ret_y page o.ret - call_y page o.call;
+  height = bar_end page o - call_y page o.call;
   base = row_y page (Ticket o.call) + 24;
   kind = o.kind;
   place = place_in (shown_by page.scene.claimed) (Ticket o.call);
+  is_pending = is_pending page.scene.added_from o;
 }
 
 -- the bar of an operation
@@ -96,7 +108,7 @@ unfoldable pub bar : Page → Operation → Content
 bar page o =
     let claimed = page.scene.claimed in
     let place = place_of claimed (Ticket o.call) in
-    marked_bar page.measures (mark claimed (is_away claimed o) place) (bar_words o place) (label o.kind) (bar_of page o)
+    marked_bar page.measures (mark claimed (is_away claimed o) place) (bar_words (is_pending page.scene.added_from o) o place) (label o.kind) (bar_of page o)
 
 -- the bars of the operations
 unfoldable pub bars : Page → Content
@@ -161,7 +173,7 @@ initial_words v place = concat (codes "init " ∷ decimal v ∷ codes ", in the 
 unfoldable pub placed_initial : Page → ℕ → Row → ℕ → Content
 placed_initial page y r v =
     let place = place_in (shown_by page.scene.claimed) r in
-    let b : Bar = record { x = left page.measures; y = y + 2; height = 16; base = y + 14; kind = kind.Enq v; place = place } in
+    let b : Bar = record { x = left page.measures; y = y + 2; height = 16; base = y + 14; kind = kind.Enq v; place = place; is_pending = false } in
     marked_bar page.measures (mark page.scene.claimed false place) (initial_words v place) (initial_label v) b
 
 -- ---- rows
@@ -198,7 +210,7 @@ row_own page y r = Nothing
 -- what stands in a row: words in the column of tickets, the word `in` or `out` of a value that was dequeued twice, and its own
 unfoldable pub row_parts : Page → Row → Content
 row_parts page r =
-    group (in_tickets page.measures (row_y page r + 14) (ticket_words r)
+    group (in_tickets page.measures (row_y page r + 14) (ticket_words page.scene.added_from r)
     ∷ way_at page.measures (row_y page r + way_y r) (way_in page.scene.claimed r) ∷ row_own page (row_y page r) r ∷ [])
 
 -- the rows, under the words above their columns, and the word below them
@@ -245,6 +257,7 @@ sign OfValues y = pill 6 y 1
 sign Present y = rect (codes "sure") 0 6 (y + 1) 28 14
 sign Absent y = rect (codes "none") 0 6 (y + 1) 28 14
 sign Away y = rect (codes "far") 0 6 (y + 1) 28 14
+sign Pending y = open_rect (codes "enq") 0 6 (y + 1) 28 14
 sign others y = rect (codes "time") 0 6 (y + 1) 28 14
 
 -- sign i, and what it means
@@ -260,14 +273,14 @@ signs page = each (sign_at page.measures) (enumerate_from 0 (signs_of page.scene
 -- the words above: the headline, the caption, and how to read the picture
 unfoldable pub heading : Page → Content
 heading page =
-    group (text_at 9 (codes "head") 6 26 (headline page.scene.claimed) ∷ lines_at 8 (codes "say") 46 (caption page.scene.claimed)
+    group (text_at 9 (codes "head") 6 26 (headline page.scene.claimed) ∷ lines_at 8 (codes "say") 46 (caption page.scene.added_from page.scene.claimed)
     ∷ samples (legend_y page.measures) ∷ lines_at 7 (codes "dim") (legend_y page.measures + 35) READING.now
     ∷ signs page ∷ [])
 
 -- the words for those who don't see the picture, and its style
-unfoldable pub about : Claimed → Content
-about claimed =
-    group (Element Title (Words (headline claimed)) ∷ Element Desc (Words (caption claimed))
+unfoldable pub about : SceneView → Content
+about scene =
+    group (Element Title (Words (headline scene.claimed)) ∷ Element Desc (Words (caption scene.added_from scene.claimed))
     ∷ style_element ∷ [])
 
 -- the whole picture's own units
@@ -277,7 +290,7 @@ view_box m = concat (codes "0 0 " ∷ decimal (width m) ∷ codes " " ∷ decima
 -- what stands between the tags of the picture: above and under the lanes, and in them
 unfoldable pub inside : Page → Content
 inside page =
-    group (about page.scene.claimed ∷ background page.measures ∷ heading page ∷ names page.measures
+    group (about page.scene ∷ background page.measures ∷ heading page ∷ names page.measures
     ∷ threads page ∷ bands page ∷ bars page ∷ rows page ∷ [])
 
 -- the picture on a page
@@ -294,15 +307,15 @@ is_yes (No kind lines) = false
 -- how wide the parts of a picture are, in characters, and how many there are
 abbrev pub measures_of : SceneView → Measures
 measures_of scene = record {
-  ticket = ticket_width scene.rows;
+  ticket = ticket_width scene.added_from scene.rows;
   number = digits (count_of_lines scene.claimed);
   label = label_width scene.initial scene.operations;
   lanes = length scene.threads;
   rows = length scene.rows;
   heads = length scene.bands;
   head = longest (map (λ band. head_text band.head) scene.bands);
-  captions = line_count (caption scene.claimed);
-  caption = longest (parts (caption scene.claimed));
+  captions = line_count (caption scene.added_from scene.claimed);
+  caption = longest (parts (caption scene.added_from scene.claimed));
   legend = 2 + length (signs_of scene);
   is_yes = is_yes scene.claimed;
 }

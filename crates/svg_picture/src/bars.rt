@@ -2,17 +2,17 @@
 ghost use Rattle.std.specs.Prelude.{◌≡◌, ◌++◌, ◌≤◌, ◌^◌, OnOk, IfOk, IfSome};
 ghost use Rattle.svg_picture.specs.Markup.{text_of};
 ghost use Rattle.svg_picture.specs.Layout.{page_on};
-ghost use Rattle.svg_picture.specs.Picture.{mark, number_words, bar_words, pill, bar_number, marked_bar, bar, bars};
+ghost use Rattle.svg_picture.specs.Picture.{mark, number_words, tickets_words, bar_words, pill, bar_number, bar_frame, marked_bar, bar, bars};
 
-use crate::elements::{push_rect, push_text_at};
-use crate::layout::{bar_width, number_x, row_y, thread_x};
+use crate::elements::{push_open_rect, push_rect, push_text_at};
+use crate::layout::{bar_end, bar_width, number_x, row_y, thread_x};
 use crate::markup::Attribute::Words;
 use crate::markup::{push_element, push_end, push_number, push_start};
 use crate::sheet::{Measures, Sheet};
 use crate::words::corner;
 use drawing::{
-    Added, MOST_DRAWN, Row, digits, is_away, kind_word, label_of, place_in, place_of, push_told,
-    shown_by,
+    Added, MOST_DRAWN, Row, digits, is_away, is_pending, kind_word, label_of, place_in, place_of,
+    push_told, shown_by,
 };
 use history_merge::{OpKind, Operation};
 use itoa::Buffer;
@@ -44,23 +44,37 @@ pub(crate) fn push_number_words(text: &mut Vec<u8>, place: Option<usize>) -> Add
     }
 }
 
+/// Adds the tickets of an operation, in words; of a pending one that of its call alone.
+fn push_tickets_words(text: &mut Vec<u8>, pending: bool, operation: Operation) -> Added
+    ensures { OnOk result (text.new.items ≡ text.old.items ++ tickets_words pending operation) }
+{
+    if pending {
+        text.extend_from_slice(b", ticket ")?;
+        push_number(text, u128::from(operation.call))?;
+        text.extend_from_slice(b", never returned")
+    } else {
+        text.extend_from_slice(b", tickets ")?;
+        push_number(text, u128::from(operation.call))?;
+        text.extend_from_slice(b" to ")?;
+        push_number(text, u128::from(operation.ret))
+    }
+}
+
 /// The title of a bar.
 #[tactic(auto, unfolding(crate::specs::Picture::bar_words))]
 fn bar_words(
     alloc: Global,
+    pending: bool,
     operation: Operation,
     place: Option<usize>,
 ) -> Result<Vec<u8>, AllocError>
-    ensures { IfOk result (λ words. words.items ≡ bar_words operation place) }
+    ensures { IfOk result (λ words. words.items ≡ bar_words pending operation place) }
 {
     let mut words = Vec::from_slice(alloc, b"thread ")?;
     push_number(&mut words, u128::from(operation.thread))?;
     words.extend_from_slice(b": ")?;
     push_told(&mut words, true, operation.kind)?;
-    words.extend_from_slice(b", tickets ")?;
-    push_number(&mut words, u128::from(operation.call))?;
-    words.extend_from_slice(b" to ")?;
-    push_number(&mut words, u128::from(operation.ret))?;
+    push_tickets_words(&mut words, pending, operation)?;
     push_number_words(&mut words, place)?;
     Ok(words)
 }
@@ -93,7 +107,8 @@ fn push_bar_number(text: &mut Vec<u8>, m: Measures, x: u128, y: u128, place: Opt
     }
 }
 
-/// A bar: where its lane begins, its upper edge, its height, the base line of its label, what was done, and its place in a `NO`.
+/// A bar: where its lane begins, its upper edge, its height, the base line of its label, what was done, its place in a `NO`, and
+/// whether its call is pending.
 #[derive(Clone, Copy)]
 pub(crate) struct Bar {
     pub x: u128,
@@ -102,6 +117,22 @@ pub(crate) struct Bar {
     pub base: u128,
     pub kind: OpKind,
     pub place: Option<usize>,
+    pub is_pending: bool,
+}
+
+/// Adds the frame of a bar.
+fn push_bar_frame(text: &mut Vec<u8>, m: Measures, bar: Bar) -> Added
+    requires x { bar.x ≤ 2 ^ 91 }
+    requires y { bar.y ≤ 2 ^ 92 }
+    requires height { bar.height ≤ 2 ^ 92 }
+    ensures { OnOk result (text.new.items ≡ text.old.items ++ text_of (bar_frame m bar)) }
+{
+    let (at, size) = ((bar.x + 3, bar.y), (bar_width(m), bar.height));
+    if bar.is_pending {
+        push_open_rect(text, kind_word(bar.kind), corner(bar.kind), at, size)
+    } else {
+        push_rect(text, kind_word(bar.kind), corner(bar.kind), at, size)
+    }
 }
 
 /// Adds a bar with its mark, its title, its label and its number.
@@ -115,14 +146,15 @@ pub(crate) fn push_marked_bar(
     bar: Bar,
 ) -> Added
     requires x { bar.x ≤ 2 ^ 91 }
+    requires y { bar.y ≤ 2 ^ 92 }
+    requires height { bar.height ≤ 2 ^ 92 }
     requires base { bar.base ≤ 2 ^ 92 }
     requires place { IfSome bar.place (λ place. place ≤ MOST_DRAWN) }
     ensures { OnOk result (text.new.items ≡ text.old.items ++ text_of (marked_bar m class.now title.now label.now bar)) }
 {
     push_start(text, b"g", &[Words(b"class", class)])?;
     push_element(text, b"title", &[], title)?;
-    let (at, size) = ((bar.x + 3, bar.y), (bar_width(m), bar.height));
-    push_rect(text, kind_word(bar.kind), corner(bar.kind), at, size)?;
+    push_bar_frame(text, m, bar)?;
     push_text_at(text, 7, b"label", bar.x + 9, bar.base, label)?;
     push_bar_number(text, m, bar.x, bar.base.saturating_sub(12), bar.place)?;
     push_end(text, b"g")
@@ -137,17 +169,18 @@ fn push_bar(text: &mut Vec<u8>, sheet: &Sheet<'_>, operation: Operation) -> Adde
     let row = Row::Ticket(operation.call);
     let place = place_of(claimed, row);
     let class = mark(claimed, is_away(claimed, operation), place);
-    let title = bar_words(sheet.alloc, operation, place)?;
+    let pending = is_pending(sheet.scene.added_from, operation);
+    let title = bar_words(sheet.alloc, pending, operation, place)?;
     let label = label_of(sheet.alloc, operation.kind)?;
     let top = row_y(sheet, row);
-    let bottom = row_y(sheet, Row::Ticket(operation.ret)) + 17;
     let bar = Bar {
         x: thread_x(sheet, operation.thread),
         y: top + 3,
-        height: bottom.saturating_sub(top + 3),
+        height: bar_end(sheet, operation).saturating_sub(top + 3),
         base: top + 24,
         kind: operation.kind,
         place: place_in(shown_by(claimed), row),
+        is_pending: pending,
     };
     let (m, title, label) = (sheet.measures, title.as_slice(), label.as_slice());
     push_marked_bar(text, m, class, title, label, bar)

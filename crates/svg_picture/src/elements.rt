@@ -1,7 +1,7 @@
 //! The elements of a picture.
 ghost use Rattle.std.specs.Prelude.{◌≡◌, ◌+◌, ◌*◌, ◌++◌, ◌≤◌, ◌^◌, OnOk, codes, length};
 ghost use Rattle.svg_picture.specs.Markup.{text_of, start_tag, tag_attributes, Pattern};
-ghost use Rattle.svg_picture.specs.Elements.{text_at, rect, stroke, line_at, lines_at, sample, samples, hatch};
+ghost use Rattle.svg_picture.specs.Elements.{text_at, rect, open_rect, stroke, line_at, lines_at, sample, samples, hatch};
 
 use crate::lines::split_line;
 use crate::markup::Attribute::{Number, Words};
@@ -58,6 +58,30 @@ pub(crate) fn push_rect(
         ],
         b"",
     )
+}
+
+/// Adds a rectangle of a class without its lower edge, from a point on.
+#[tactic(auto, unfolding(crate::specs::Elements::open_rect))]
+pub(crate) fn push_open_rect(
+    text: &mut Vec<u8>,
+    class: &[u8],
+    round: u128,
+    at: (u128, u128),
+    size: (u128, u128),
+) -> Added
+    requires x { at.0 ≤ 2 ^ 92 }
+    requires y { at.1 ≤ 2 ^ 92 }
+    requires wide { size.0 ≤ 2 ^ 92 }
+    requires high { size.1 ≤ 2 ^ 92 }
+    ensures { OnOk result (text.new.items ≡ text.old.items ++ text_of (open_rect class.now round at.0 at.1 size.0 size.1)) }
+{
+    let window = [
+        Number(b"width", at.0 + size.0 + 6),
+        Number(b"height", at.1 + size.1),
+    ];
+    push_start(text, b"svg", &window)?;
+    push_rect(text, class, round, at, (size.0, size.1 + 20))?;
+    push_end(text, b"svg")
 }
 
 /// Adds a straight line of a class.

@@ -51,18 +51,19 @@ fn page_head() -> &'static [u8]
 }
 
 /// The end of the picture, and the script: the bars by their titles; what precedes an operation, overlaps it and follows it; the lines
-/// of the verdict, and the history as text; heads that stay, and zoom to fit.
+/// of the verdict, and the history as text, a pending one if a call never returned; heads that stay, and zoom to fit.
 pub(crate) const PAGE_FOOT: &[u8] = b"</main>\n\
 <script>\n\
 (() => { const by = id => document.getElementById(id); const svg = document.querySelector('svg');\n\
 const bars = [], first = []; for (const g of svg.querySelectorAll('g')) {\n\
 const told = g.querySelector('title').textContent;\n\
 const number = +(/, number ([0-9]+)$/.exec(told) || [])[1] || 0;\n\
-const o = /^thread ([0-9]+): (enq|deq|not|empty) ?([0-9]*), tickets ([0-9]+) to ([0-9]+)/.exec(told);\n\
+const o = /^thread ([0-9]+): (enq|deq|not|empty) ?([0-9]*), tickets? ([0-9]+)(?: to ([0-9]+))?/.exec(told);\n\
 const v = /^init ([0-9]+)/.exec(told); if (v) { first.push(v[1]);\n\
 bars.push({g, told, number, call: -1, ret: -1, line: v[0]}); } else {\n\
-const line = [o[4], o[5], o[1], o[2], o[3]].join(' ').trim();\n\
-bars.push({g, told, number, call: +o[4], ret: +o[5], thread: o[1], kind: o[2], value: o[3], line}); } }\n\
+const line = [o[4], o[5] || 'pending', o[1], o[2], o[3]].join(' ').trim();\n\
+const ret = o[5] ? +o[5] : Infinity;\n\
+bars.push({g, told, number, call: +o[4], ret, thread: o[1], kind: o[2], value: o[3], line}); } }\n\
 const mark = one => { const count = {before: 0, beside: 0, after: 0}; for (const b of bars) {\n\
 const how = b === one ? 'one' : b.ret < one.call ? 'before' : one.ret < b.call ? 'after' : 'beside';\n\
 b.g.dataset.how = how; count[how]++; }\n\
@@ -81,10 +82,13 @@ b.g.scrollIntoView({block: 'center', inline: 'center'}); b.g.focus({preventScrol
 line.append(button); by('lines').append(line); } const events = []; for (const b of bars) if (b.kind) {\n\
 const enq = b.kind === 'enq' || b.kind === 'not';\n\
 events.push([b.call, b.thread, enq ? 'call-enq ' + b.value : 'call-deq']);\n\
+if (b.ret < Infinity)\n\
 events.push([b.ret, b.thread, b.kind === 'deq' ? 'ret-deq ' + b.value : 'ret-' + b.kind]); }\n\
-events.sort((a, b) => a[0] - b[0]);\n\
-const head = first.length ? ['fifo-history 2', 'initial ' + first.length, ...first] : ['fifo-history 1'];\n\
-const texts = [...head, ...events.map(e => e.join(' ')), 'end ' + events.length, ''];\n\
+events.sort((a, b) => a[0] - b[0]); const open = bars.filter(b => b.ret === Infinity).length;\n\
+const name = open ? 'fifo-pending ' : 'fifo-history ';\n\
+const head = first.length ? [name + 2, 'initial ' + first.length, ...first] : [name + 1];\n\
+const foot = [...(open ? ['open ' + open] : []), 'end ' + events.length, ''];\n\
+const texts = [...head, ...events.map(e => e.join(' ')), ...foot];\n\
 by('text').value = texts.join(String.fromCharCode(10)); by('copy').addEventListener('click', () => {\n\
 by('text').select(); document.execCommand('copy'); });\n\
 const wide = svg.getAttribute('width'); const names = [...svg.querySelectorAll('text')];\n\

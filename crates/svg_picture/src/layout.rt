@@ -1,10 +1,11 @@
 //! Where things stand in a picture, in pixels.
 ghost use Rattle.std.specs.Prelude.{◌≡◌, ◌≤◌, ◌^◌};
 ghost use Rattle.svg_picture.specs.Layout.{page_on, shown, band_x, left, number_x, bar_width, lane_x, thread_x, width};
-ghost use Rattle.svg_picture.specs.Layout.{legend_y, top, row_y, bottom, height};
+ghost use Rattle.svg_picture.specs.Layout.{legend_y, top, row_y, bottom, bar_end, height};
 
 use crate::sheet::{Measures, Sheet};
-use drawing::{Row, lanes_before, row_number};
+use drawing::{Row, is_pending, lanes_before, row_number};
+use history_merge::Operation;
 
 /// Where the tickets end, with a gap.
 pub(crate) fn shown(m: Measures) -> u128
@@ -117,6 +118,18 @@ pub(crate) fn bottom(m: Measures) -> u128
     ensures below { 112 ≤ result }
 {
     top(m) + 20 * (m.rows as u128 + 1)
+}
+
+/// Returns the lower edge of the bar of an operation: in the row of its return, or at the end of its lane if it is pending.
+pub(crate) fn bar_end(sheet: &Sheet<'_>, operation: Operation) -> u128
+    ensures value { result ≡ bar_end (page_on sheet.now) operation }
+    ensures small { result ≤ 2 ^ 92 }
+{
+    if is_pending(sheet.scene.added_from, operation) {
+        bottom(sheet.measures)
+    } else {
+        row_y(sheet, Row::Ticket(operation.ret)) + 17
+    }
 }
 
 /// How high the picture is.

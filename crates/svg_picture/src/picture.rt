@@ -26,12 +26,12 @@ use drawing::{
 use std::alloc::{AllocError, Global};
 use verdicts::Claimed;
 
-fn caption_of(alloc: Global, claimed: &Claimed) -> Result<Vec<u8>, AllocError>
-    requires { count_of_lines claimed.now ≤ MOST_DRAWN }
-    ensures { IfOk result (λ words. words.items ≡ caption claimed.now) }
+fn caption_of(alloc: Global, scene: &Scene<'_>) -> Result<Vec<u8>, AllocError>
+    requires { count_of_lines scene.now.claimed.now ≤ MOST_DRAWN }
+    ensures { IfOk result (λ words. words.items ≡ caption scene.now.added_from scene.now.claimed.now) }
 {
     let mut words = Vec::new(alloc);
-    push_caption(&mut words, claimed)?;
+    push_caption(&mut words, scene.added_from, scene.claimed)?;
     Ok(words)
 }
 
@@ -42,7 +42,7 @@ fn push_heading(text: &mut Vec<u8>, sheet: &Sheet<'_>) -> Added
 {
     let y = legend_y(sheet.measures);
     push_text_at(text, 9, b"head", 6, 26, headline(sheet.scene.claimed))?;
-    let caption = caption_of(sheet.alloc, sheet.scene.claimed)?;
+    let caption = caption_of(sheet.alloc, sheet.scene)?;
     push_lines_at(text, 8, b"say", 46, caption.as_slice())?;
     push_samples(text, y)?;
     push_lines_at(text, 7, b"dim", y + 35, READING)?;
@@ -51,12 +51,12 @@ fn push_heading(text: &mut Vec<u8>, sheet: &Sheet<'_>) -> Added
 
 /// Adds the words for those who don't see the picture, and its style.
 #[tactic(auto, unfolding(crate::specs::Picture::about))]
-fn push_about(alloc: Global, text: &mut Vec<u8>, claimed: &Claimed) -> Added
-    requires { count_of_lines claimed.now ≤ MOST_DRAWN }
-    ensures { OnOk result (text.new.items ≡ text.old.items ++ text_of (about claimed.now)) }
+fn push_about(alloc: Global, text: &mut Vec<u8>, scene: &Scene<'_>) -> Added
+    requires { count_of_lines scene.now.claimed.now ≤ MOST_DRAWN }
+    ensures { OnOk result (text.new.items ≡ text.old.items ++ text_of (about (scene_on scene.now))) }
 {
-    push_element(text, b"title", &[], headline(claimed))?;
-    let caption = caption_of(alloc, claimed)?;
+    push_element(text, b"title", &[], headline(scene.claimed))?;
+    let caption = caption_of(alloc, scene)?;
     push_element(text, b"desc", &[], caption.as_slice())?;
     push_style(text)
 }
@@ -66,7 +66,7 @@ fn push_about(alloc: Global, text: &mut Vec<u8>, claimed: &Claimed) -> Added
 fn push_inside(text: &mut Vec<u8>, sheet: &Sheet<'_>) -> Added
     ensures { OnOk result (text.new.items ≡ text.old.items ++ text_of (inside (page_on sheet.now))) }
 {
-    push_about(sheet.alloc, text, sheet.scene.claimed)?;
+    push_about(sheet.alloc, text, sheet.scene)?;
     push_background(text, sheet.measures)?;
     push_heading(text, sheet)?;
     push_names(text, sheet.measures)?;
@@ -114,10 +114,10 @@ fn measures_of(alloc: Global, scene: &Scene<'_>) -> Result<Measures, AllocError>
     requires { count_of_lines scene.now.claimed.now ≤ MOST_DRAWN }
     ensures { IfOk result (λ m. m ≡ measures_of (scene_on scene.now)) }
 {
-    let caption = caption_of(alloc, scene.claimed)?;
+    let caption = caption_of(alloc, scene)?;
     let signs = signs_of(alloc, scene)?;
     Ok(Measures {
-        ticket: ticket_width(scene.rows.as_slice()),
+        ticket: ticket_width(scene.added_from, scene.rows.as_slice()),
         number: digits(count_of_lines(scene.claimed) as u64),
         label: label_width(scene.initial, scene.operations.as_slice()),
         lanes: scene.threads.len(),

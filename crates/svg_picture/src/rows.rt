@@ -45,6 +45,7 @@ fn push_initial(text: &mut Vec<u8>, sheet: &Sheet<'_>, y: u128, row: Row, value:
         base: y + 14,
         kind: OpKind::Enq(value),
         place,
+        is_pending: false,
     };
     let (m, title, label) = (sheet.measures, title.as_slice(), label.as_slice());
     push_marked_bar(text, m, class, title, label, bar)
@@ -124,7 +125,7 @@ fn push_row(text: &mut Vec<u8>, sheet: &Sheet<'_>, row: Row) -> Added
     ensures { OnOk result (text.new.items ≡ text.old.items ++ text_of (row_parts (page_on sheet.now) row)) }
 {
     let y = row_y(sheet, row);
-    let words = ticket_words(sheet.alloc, row)?;
+    let words = ticket_words(sheet.alloc, sheet.scene.added_from, row)?;
     push_in_tickets(text, sheet.measures, y + 14, words.as_slice())?;
     let below = match row {
         Row::Initial(_, _) => 10,

@@ -5,7 +5,7 @@ ghost use Rattle.svg_picture.specs.Layout.{page_on};
 ghost use Rattle.svg_picture.specs.Picture.{sign_at, signs};
 
 use crate::bars::push_pill;
-use crate::elements::{push_rect, push_text_at};
+use crate::elements::{push_open_rect, push_rect, push_text_at};
 use crate::layout::legend_y;
 use crate::sheet::{Measures, Sheet};
 use drawing::{Added, Sign, meaning, signs_of};
@@ -22,6 +22,7 @@ fn push_sign_at(text: &mut Vec<u8>, m: Measures, i: usize, sign: Sign) -> Added
         Sign::Present => push_rect(text, b"sure", 0, (6, y + 1), (28, 14))?,
         Sign::Absent => push_rect(text, b"none", 0, (6, y + 1), (28, 14))?,
         Sign::Away => push_rect(text, b"far", 0, (6, y + 1), (28, 14))?,
+        Sign::Pending => push_open_rect(text, b"enq", 0, (6, y + 1), (28, 14))?,
         _ => push_rect(text, b"time", 0, (6, y + 1), (28, 14))?,
     }
     push_text_at(text, 7, b"dim", 41, y + 12, meaning(sign))

@@ -14,7 +14,8 @@
 //
 // `recorder_search` makes 100 short runs of four threads, each over a fresh queue, and has each judged. It returns 0
 // if no run shows a violation; 1 if one does, whose files are in the folder fifobench-runs; 2 if something is wrong.
-// The program is that of the settings, else the environment's FIFOBENCH, else `fifobench` on the PATH.
+// The program is that of the settings, else the environment's FIFOBENCH, else `fifobench` on the PATH. With
+// recorder_crash.h beside this file a run that crashes or is killed leaves a text too.
 //
 // In a loop of your own, which recorder_run starts in each thread and recorder_write writes:
 //
@@ -29,6 +30,9 @@
 // docs/RECORDING.md has the rules that this file keeps, kinds.c how queues of other kinds are called.
 #ifndef FIFOBENCH_RECORDER_H
 #define FIFOBENCH_RECORDER_H
+#if defined __STRICT_ANSI__ && !defined _XOPEN_SOURCE
+#define _XOPEN_SOURCE 700 // for recorder_crash.h
+#endif
 
 #include <inttypes.h>
 #include <pthread.h>
@@ -40,11 +44,13 @@
 #include <stdio.h>
 #include <stdlib.h>
 #include <string.h>
+#include <sys/select.h>
 #include <sys/stat.h>
 #include <sys/wait.h>
 #include <time.h>
 
 enum { RECORDER_MAX_THREADS = 64, RECORDER_MAX_EVENTS = 2000000, RECORDER_MAX_INITIAL = 100000 };
+enum { RECORDER_PATH_BYTES = 4096, RECORDER_LINE_BYTES = 80, RECORDER_MAX_DRAWN = 400 };
 
 // Which operations a thread makes. Alternate: enqueue, dequeue, and so on. Mix: a percentage of enqueues, by the
 // seed. Bursts: 1 to 32 enqueues, by the seed, and then as many dequeues. Roles: threads of even number enqueue, the
@@ -65,6 +71,7 @@ struct recorder_settings {
     size_t initial;       // values that the queue is given before the run; before a loop of your own by you
     bool drain;           // at the end the queue is dequeued until it says that it is empty
     bool choose;          // schedules, if schedule.c is linked; else its points disturb the threads
+    bool journal;         // with recorder_crash.h: events reach a file while the run goes on
     const char *program;  // that judges, or NULL
     const char *folder;
     // The value of the n-th operation of a thread, and that of initial value n with the thread 64. All have to
@@ -102,8 +109,6 @@ struct recorder_event {
     enum recorder_what what;
 };
 
-struct recorder;
-
 // What one thread records. Only that thread may use it; what is counted others may read at any time.
 struct recorder_thread {
     struct recorder *recorder;
@@ -132,21 +137,18 @@ struct recorder {
     void *argument;
     const struct recorder_queue *calls; // NULL of a loop of one's own
     void *queue;
-    pthread_mutex_t lock;
-    pthread_cond_t changed;
-    unsigned worked; // how many threads have made their operations, under the lock
-    unsigned ended;
+    atomic_uint worked; // how many threads have made their operations
+    atomic_uint ended;
     bool has_surplus;
     bool is_chosen; // the schedule
+    struct recorder_crash *crash;
     struct recorder_thread of_thread[RECORDER_MAX_THREADS];
 };
 
-#ifdef __has_include
 #if __has_include("schedule/for_recorder.h")
 #include "schedule/for_recorder.h"
 #elif __has_include("../schedule/for_recorder.h")
 #include "../schedule/for_recorder.h"
-#endif
 #endif
 #ifndef RECORDER_IF_CHOSEN // the folder schedule isn't there: threads run as the system lets them
 #define RECORDER_IF_CHOSEN(call) ((void)0)
@@ -158,10 +160,8 @@ struct recorder {
 
 static inline uint64_t recorder_value(const struct recorder_settings *settings, unsigned thread, uint64_t n)
 {
-    if (settings->value != NULL) {
-        return settings->value(thread, n);
-    }
-    return ((uint64_t)thread << 32) + (thread < RECORDER_MAX_THREADS ? settings->first : 0) + n;
+    uint64_t first = thread < RECORDER_MAX_THREADS ? settings->first : 0;
+    return settings->value != NULL ? settings->value(thread, n) : ((uint64_t)thread << 32) + first + n;
 }
 
 // The ticket is drawn first: of a call before the queue is asked, of a return after it has answered. What came before
@@ -215,34 +215,30 @@ static inline void recorder_free(struct recorder *recorder)
     for (unsigned number = 0; number < recorder->threads; number++) {
         free(recorder->of_thread[number].events);
     }
-    pthread_mutex_destroy(&recorder->lock);
-    pthread_cond_destroy(&recorder->changed);
     free(recorder);
 }
 
-// The events by ticket up to the first that isn't published, all once a run has ended. For free; NULL: no memory.
-static inline const struct recorder_event **recorder_events(struct recorder *recorder, size_t *count)
+// The events by ticket, one after another. A thread may read those of others while they run.
+struct recorder_merge {
+    const struct recorder *recorder;
+    uint64_t ticket;                 // of the next event
+    size_t at[RECORDER_MAX_THREADS]; // the next event of each thread
+};
+
+// Returns the next event, or NULL if it isn't published. Tickets have no gap, so some thread has it next.
+static inline const struct recorder_event *recorder_next(struct recorder_merge *merge)
 {
-    size_t total = atomic_load(&recorder->tickets);
-    const struct recorder_event **events = calloc(total + 1, sizeof *events);
-    *count = 0;
-    if (events == NULL) {
-        return NULL;
-    }
-    for (unsigned number = 0; number < recorder->threads; number++) {
-        const struct recorder_thread *thread = &recorder->of_thread[number];
-        size_t published = atomic_load_explicit(&thread->count, memory_order_acquire);
-        for (size_t place = 0; place < published; place++) {
-            if (thread->events[place].ticket < total) {
-                events[thread->events[place].ticket] = &thread->events[place];
-            }
+    for (unsigned number = 0; number < merge->recorder->threads; number++) {
+        const struct recorder_thread *thread = &merge->recorder->of_thread[number];
+        const struct recorder_event *event = &thread->events[merge->at[number]];
+        bool is_published = merge->at[number] < atomic_load_explicit(&thread->count, memory_order_acquire);
+        if (is_published && event->ticket == merge->ticket) {
+            merge->ticket++;
+            merge->at[number]++;
+            return event;
         }
     }
-    // Tickets are drawn from 0 on without a gap, so a ticket is its event's place.
-    while (*count < total && events[*count] != NULL) {
-        ++*count;
-    }
-    return events;
+    return NULL;
 }
 
 static inline bool recorder_is_call(const struct recorder_event *event)
@@ -250,77 +246,68 @@ static inline bool recorder_is_call(const struct recorder_event *event)
     return event->what == RECORDER_CALL_ENQ || event->what == RECORDER_CALL_DEQ;
 }
 
-// The calls without a return, each in the place of its thread, and their number.
-static inline unsigned recorder_open(const struct recorder_event *const *events, size_t count,
-                                     const struct recorder_event *open[RECORDER_MAX_THREADS])
+// The sums over the events of a run.
+struct recorder_sums {
+    size_t events, calls, pending, overlapping; // operations that have returned and overlap another
+    const struct recorder_event *open[RECORDER_MAX_THREADS]; // of each thread the call without a return, or NULL
+};
+
+static inline struct recorder_sums recorder_sum_up(const struct recorder *recorder)
 {
-    unsigned pending = 0;
-    for (size_t place = 0; place < count; place++) {
-        bool is_call = recorder_is_call(events[place]);
-        open[events[place]->thread] = is_call ? events[place] : NULL;
-        pending += is_call ? 1 : -1;
+    struct recorder_sums sums = {0};
+    size_t calls_at[RECORDER_MAX_THREADS] = {0}, pending_at[RECORDER_MAX_THREADS] = {0};
+    struct recorder_merge merge = {.recorder = recorder};
+    for (const struct recorder_event *event; (event = recorder_next(&merge)) != NULL; sums.events++) {
+        unsigned thread = event->thread;
+        sums.open[thread] = recorder_is_call(event) ? event : NULL;
+        if (recorder_is_call(event)) {
+            calls_at[thread] = sums.calls++;
+            pending_at[thread] = sums.pending++;
+        } else {
+            sums.pending--;
+            sums.overlapping += pending_at[thread] > 0 || sums.calls - calls_at[thread] > 1;
+        }
     }
-    return pending;
+    return sums;
 }
 
-static inline void recorder_write_initial(const struct recorder *recorder, FILE *to)
+// Writes what stands before the events.
+static inline void recorder_write_head(const struct recorder *recorder, bool is_pending, FILE *to)
 {
-    if (recorder->settings.initial > 0) {
-        fprintf(to, "initial %zu\n", recorder->settings.initial);
+    size_t initial = recorder->settings.initial;
+    fprintf(to, "fifo-%s %d\n", is_pending ? "pending" : "history", initial == 0 ? 1 : 2);
+    if (initial > 0) {
+        fprintf(to, "initial %zu\n", initial);
     }
-    for (size_t j = 0; j < recorder->settings.initial; j++) {
+    for (size_t j = 0; j < initial; j++) {
         fprintf(to, "%" PRIu64 "\n", recorder_value(&recorder->settings, RECORDER_MAX_THREADS, j));
     }
 }
 
-// Writes a history, or a pending text (docs/RECORDING.md) if some call has no return. False if memory or a write is
-// refused.
-static inline bool recorder_write(struct recorder *recorder, FILE *to)
+static inline void recorder_write_event(const struct recorder_event *event, FILE *to)
 {
     static const char *const words[] = {"call-enq", "ret-enq", "ret-not", "call-deq", "ret-deq", "ret-empty"};
-    const struct recorder_event *open[RECORDER_MAX_THREADS] = {NULL};
-    size_t count = 0;
-    const struct recorder_event **events = recorder_events(recorder, &count);
-    if (events == NULL) {
-        return false;
+    fprintf(to, "%" PRIu64 " %u %s", event->ticket, event->thread, words[event->what]);
+    if (event->what == RECORDER_CALL_ENQ || event->what == RECORDER_RET_DEQ) {
+        fprintf(to, " %" PRIu64, event->value);
     }
-    unsigned pending = recorder_open(events, count, open);
-    fprintf(to, "fifo-%s %d\n", pending == 0 ? "history" : "pending", recorder->settings.initial == 0 ? 1 : 2);
-    recorder_write_initial(recorder, to);
-    for (size_t place = 0; place < count; place++) {
-        const struct recorder_event *event = events[place];
-        fprintf(to, "%" PRIu64 " %u %s", event->ticket, event->thread, words[event->what]);
-        if (event->what == RECORDER_CALL_ENQ || event->what == RECORDER_RET_DEQ) {
-            fprintf(to, " %" PRIu64, event->value);
-        }
-        fputc('\n', to);
-    }
-    if (pending > 0) {
-        fprintf(to, "open %u\n", pending);
-    }
-    fprintf(to, "end %zu\n", count);
-    free(events);
-    return fflush(to) == 0 && !ferror(to);
+    fputc('\n', to);
 }
 
-// Adds how many operations have returned, and how many of these overlap another.
-static inline void recorder_count_overlap(struct recorder *recorder, size_t *operations, size_t *overlapping)
+// Writes a history, or a pending text (docs/RECORDING.md) if some call has no return. False if a write is refused.
+static inline bool recorder_write(const struct recorder *recorder, FILE *to)
 {
-    size_t calls = 0, pending = 0, count = 0;
-    size_t calls_at[RECORDER_MAX_THREADS], pending_at[RECORDER_MAX_THREADS];
-    const struct recorder_event **events = recorder_events(recorder, &count);
-    for (size_t place = 0; place < count; place++) {
-        unsigned thread = events[place]->thread;
-        if (recorder_is_call(events[place])) {
-            calls_at[thread] = calls++;
-            pending_at[thread] = pending++;
-        } else {
-            pending--;
-            ++*operations;
-            *overlapping += pending_at[thread] > 0 || calls - calls_at[thread] > 1;
-        }
+    struct recorder_sums sums = recorder_sum_up(recorder);
+    struct recorder_merge merge = {.recorder = recorder};
+    recorder_write_head(recorder, sums.pending > 0, to);
+    while (merge.ticket < sums.events) {
+        recorder_write_event(recorder_next(&merge), to);
     }
-    free(events);
+    if (sums.pending > 0) {
+        fprintf(to, "open %zu\n", sums.pending);
+    }
+    fprintf(to, "end %zu\n", sums.events);
+    return fflush(to) == 0 && !ferror(to);
 }
 
 static inline double recorder_seconds(void)
@@ -330,14 +317,16 @@ static inline double recorder_seconds(void)
     return (double)now.tv_sec + (double)now.tv_nsec / 1e9;
 }
 
+static inline void recorder_nap(void)
+{
+    select(0, NULL, NULL, NULL, &(struct timeval){0, 100});
+}
+
 // Each leaves its number at each look. Who finds another's there 64 times isn't alone.
 static inline bool recorder_has_met(struct recorder *recorder, unsigned number)
 {
     unsigned met = 0;
-    for (unsigned look = 0; look < 1000 && met < 64; look++) {
-        if (atomic_load_explicit(&recorder->open, memory_order_relaxed)) {
-            return true;
-        }
+    for (unsigned look = 0; look < 1000 && met < 64 && !atomic_load(&recorder->open); look++) {
         met += atomic_exchange(&recorder->last, number) != number;
     }
     return met == 64;
@@ -352,9 +341,8 @@ static inline void recorder_meet(struct recorder *recorder, unsigned number)
     while (atomic_load(&recorder->arrived) < recorder->threads && !atomic_load(&recorder->open)) {
         sched_yield();
     }
-    double until = recorder_seconds() + 0.1;
-    while (recorder->threads > 1 && !atomic_load(&recorder->open) && !recorder_has_met(recorder, number) &&
-           recorder_seconds() < until) {
+    double until = recorder_seconds() + (recorder->threads > 1 ? 0.1 : 0);
+    while (!atomic_load(&recorder->open) && recorder_seconds() < until && !recorder_has_met(recorder, number)) {
         sched_yield();
     }
     atomic_store(&recorder->open, true);
@@ -376,6 +364,16 @@ static inline bool recorder_prepare(struct recorder *recorder, unsigned number)
     return true;
 }
 
+// Dequeues from the run's queue. Returns whether it gave a value.
+static inline bool recorder_dequeue(struct recorder_thread *thread)
+{
+    uint64_t value = 0;
+    recorder_call_dequeue(thread);
+    bool found = thread->recorder->calls->dequeue(thread->recorder->queue, &value);
+    recorder_return_dequeue(thread, found, value);
+    return found;
+}
+
 // In the seat of thread 0 once all others have made their operations. No sound queue gives more values than went in.
 static inline void recorder_drain(struct recorder_thread *thread)
 {
@@ -383,35 +381,171 @@ static inline void recorder_drain(struct recorder_thread *thread)
     int64_t stay = (int64_t)recorder->settings.initial;
     bool found = true;
     RECORDER_IF_CHOSEN(alone());
-    pthread_mutex_lock(&recorder->lock);
-    while (!recorder->is_chosen && recorder->worked < recorder->threads) {
-        pthread_cond_wait(&recorder->changed, &recorder->lock);
+    while (!recorder->is_chosen && atomic_load(&recorder->worked) < recorder->threads) {
+        recorder_nap();
     }
-    pthread_mutex_unlock(&recorder->lock);
     for (unsigned number = 0; number < recorder->threads; number++) {
         stay += recorder->of_thread[number].stay;
     }
     for (int64_t bound = stay > 0 ? stay + 1 : 1; found && bound > 0; bound--) {
-        uint64_t value = 0;
-        recorder_call_dequeue(thread);
-        found = recorder->calls->dequeue(recorder->queue, &value);
-        recorder_return_dequeue(thread, found, value);
+        found = recorder_dequeue(thread);
     }
     recorder->has_surplus = found;
 }
 
-static inline void recorder_tell(struct recorder *recorder, unsigned *counter)
+// Writes FOLDER/SEED.KIND.
+static inline void recorder_path(const struct recorder_settings *one, const char *kind, char path[RECORDER_PATH_BYTES])
 {
-    pthread_mutex_lock(&recorder->lock);
-    ++*counter;
-    pthread_cond_broadcast(&recorder->changed);
-    pthread_mutex_unlock(&recorder->lock);
+    snprintf(path, RECORDER_PATH_BYTES, "%s/%" PRIu64 ".%s", one->folder, one->seed, kind);
 }
+
+// Writes the text of a run. Replaces an older file, since a journal may still be written to it.
+static inline bool recorder_write_file(const struct recorder *recorder, const char *path)
+{
+    mkdir(recorder->settings.folder, 0777);
+    remove(path);
+    FILE *file = fopen(path, "wb");
+    bool is_written = file != NULL && recorder_write(recorder, file);
+    is_written = file != NULL && fclose(file) == 0 && is_written;
+    if (!is_written) {
+        fprintf(stderr, "fifobench: can't write %s\n", path);
+    }
+    return is_written;
+}
+
+static inline const char *recorder_program(const struct recorder_settings *settings)
+{
+    const char *named = getenv("FIFOBENCH");
+    return settings->program != NULL ? settings->program : named != NULL && *named != '\0' ? named : "fifobench";
+}
+
+// Runs `PROGRAM COMMAND` from and to a file. Returns its status, or -1, and the first line of its output.
+static inline int recorder_ask(const struct recorder_settings *settings, const char *command, const char *from,
+                               const char *to, char first[RECORDER_LINE_BYTES])
+{
+    char line[4 * RECORDER_PATH_BYTES]; // more than three of the longest paths
+    int length = snprintf(line, sizeof line, "'%s' %s <'%s' >'%s' 2>/dev/null", recorder_program(settings), command,
+                          from, to);
+    int status = length > 0 && (size_t)length < sizeof line ? system(line) : -1;
+    FILE *answer = fopen(to, "r");
+    if (answer == NULL || fgets(first, RECORDER_LINE_BYTES, answer) == NULL) {
+        first[0] = '\0';
+    }
+    first[strcspn(first, "\n")] = '\0';
+    if (answer != NULL) {
+        fclose(answer);
+    }
+    return status != -1 && WIFEXITED(status) ? WEXITSTATUS(status) : -1;
+}
+
+static inline enum recorder_pattern recorder_pattern_of(const struct recorder_settings *settings)
+{
+    enum recorder_pattern of_seed = (enum recorder_pattern)((settings->seed + 3) % 4);
+    return settings->pattern != RECORDER_BY_SEED ? settings->pattern : of_seed;
+}
+
+// Judges the history in a file, which may be a completion of pending calls. Returns 0, 1 or 2.
+static inline int recorder_judge_file(const struct recorder_settings *one, const char *history, bool is_completed)
+{
+    char report[RECORDER_PATH_BYTES], verdict[RECORDER_LINE_BYTES], ignored[RECORDER_LINE_BYTES];
+    const char *program = recorder_program(one), *pattern = recorder_pattern_names[recorder_pattern_of(one)];
+    recorder_path(one, "report", report);
+    int status = recorder_ask(one, "check", history, report, verdict);
+    if (status == 0 && strcmp(verdict, "YES") == 0) {
+        remove(history);
+        remove(report);
+        return 0;
+    }
+    if (status != 1 || strncmp(verdict, "NO ", 3) != 0) {
+        fprintf(stderr, "fifobench: %s says '%s' of %s\n", program, verdict, history);
+        return 2;
+    }
+    recorder_ask(one, "shrink", history, report, ignored);
+    printf("%s: seed %" PRIu64 ", %s%s\n", verdict, one->seed, pattern,
+           is_completed ? ": the queue is wrong, whatever the pending calls do" : "");
+    printf("  history: %s\n  report:  %s\n  see it:  %s draw --text < %s\n", history, report, program, report);
+    printf("  again:   seed %" PRIu64 ", pattern %s: the same plan, though threads may meet in another way\n",
+           one->seed, pattern);
+    return 1;
+}
+
+// Completes a pending text and judges that, or prints the command that does. Returns 1 or 2. `fault` follows YES.
+static inline int recorder_judge_pending(const struct recorder_settings *one, const char *pending, const char *fault,
+                                         size_t calls)
+{
+    char history[RECORDER_PATH_BYTES], first[RECORDER_LINE_BYTES], complete[RECORDER_PATH_BYTES + 20];
+    const char *program = recorder_program(one);
+    snprintf(complete, sizeof complete, "%s complete", program);
+    bool is_drawn = calls <= RECORDER_MAX_DRAWN && one->initial <= RECORDER_MAX_DRAWN;
+    recorder_path(one, "history", history);
+    int status = recorder_ask(one, "complete", pending, history, first);
+    if (status == 0) {
+        status = recorder_judge_file(one, history, true);
+        if (status == 0) {
+            char drawn[RECORDER_PATH_BYTES + 20];
+            snprintf(drawn, sizeof drawn, " | %s draw --text", program);
+            fprintf(stderr, "YES: a right queue can have behaved so until then. %s\n  see it:  %s < %s%s\n", fault,
+                    is_drawn ? complete : "tail -n 40", pending, is_drawn ? drawn : "");
+        }
+        return status == 1 ? 1 : 2;
+    }
+    remove(history);
+    if (strncmp(first, "REFUSED ", 8) == 0) {
+        fprintf(stderr, "fifobench: %s says '%s' of %s\n", program, first, pending);
+    } else if (status > 0 && status < 126) { // else the shell has found no program
+        fprintf(stderr, "fifobench: %s has no command complete, which a later version has\n", program);
+    }
+    fprintf(stderr, "  judge:   %s complete < %s | %s check\n", program, pending, program);
+    return 2;
+}
+
+// Keeps what there is of a run that ends early, says how it ended, and judges it. Returns 1 or 2.
+static inline int recorder_end_early(const struct recorder *recorder, const char *how, const char *fault)
+{
+    struct recorder_sums sums = recorder_sum_up(recorder);
+    char path[RECORDER_PATH_BYTES];
+    const char *between = "; ";
+    fprintf(stderr, "fifobench: seed %" PRIu64 ": %s", recorder->settings.seed, how);
+    for (unsigned number = 0; number < recorder->threads; number++) {
+        if (sums.open[number] != NULL) {
+            fprintf(stderr, "%sthread %u is inside ", between, number);
+            fprintf(stderr, sums.open[number]->what == RECORDER_CALL_ENQ ? "enqueue of %" PRIu64 : "dequeue",
+                    sums.open[number]->value);
+            between = ", ";
+        }
+    }
+    fputs(sums.pending == 0 ? "; no thread is inside a call\n" : "\n", stderr);
+    recorder_path(&recorder->settings, "pending", path);
+    if (!recorder_write_file(recorder, path)) {
+        return 2;
+    }
+    fprintf(stderr, "  pending: %s\n", path);
+    return recorder_judge_pending(&recorder->settings, path, fault, sums.calls);
+}
+
+// The threads can't be ended, so the process is.
+static inline _Noreturn void recorder_end_hung(const struct recorder *recorder)
+{
+    char how[RECORDER_LINE_BYTES];
+    snprintf(how, sizeof how, "hang: no event for %u s%s", recorder->settings.timeout,
+             atomic_load(&recorder->open) ? "" : "; not all threads have begun");
+    int status = recorder_end_early(recorder, how, "If the queue promises to return, the hang itself is the fault.");
+    fflush(NULL);
+    _Exit(status);
+}
+
+#if __has_include("recorder_crash.h")
+#include "recorder_crash.h"
+#else // a run that crashes or is killed leaves nothing
+#define RECORDER_CRASH(call) ((void)0)
+#define RECORDER_HAS_JOURNAL false
+#endif
 
 static inline void *recorder_start(void *argument)
 {
     struct recorder_thread *thread = argument;
     struct recorder *recorder = thread->recorder;
+    RECORDER_CRASH(enter(thread));
     if (!recorder_prepare(recorder, thread->number)) {
         fputs("fifobench: the queue doesn't take an initial value\n", stderr);
         atomic_store(&recorder->refused, true);
@@ -420,7 +554,7 @@ static inline void *recorder_start(void *argument)
     recorder_meet(recorder, thread->number);
     if (!atomic_load(&recorder->refused)) {
         recorder->work(thread, recorder->argument);
-        recorder_tell(recorder, &recorder->worked);
+        atomic_fetch_add(&recorder->worked, 1);
         if (thread->number == 0 && recorder->calls != NULL && recorder->settings.drain) {
             recorder_drain(thread);
         }
@@ -429,96 +563,40 @@ static inline void *recorder_start(void *argument)
         }
     }
     RECORDER_IF_CHOSEN(leave());
-    recorder_tell(recorder, &recorder->ended);
+    atomic_fetch_add(&recorder->ended, 1);
     return NULL;
 }
 
-// FOLDER/SEED.KIND, for free; NULL without memory.
-static inline char *recorder_path(const struct recorder_settings *settings, const char *kind)
-{
-    size_t room = strlen(settings->folder) + strlen(kind) + 32;
-    char *path = malloc(room);
-    if (path != NULL) {
-        snprintf(path, room, "%s/%" PRIu64 ".%s", settings->folder, settings->seed, kind);
-    }
-    return path;
-}
-
-static inline bool recorder_write_file(struct recorder *recorder, const char *path)
-{
-    mkdir(recorder->settings.folder, 0777);
-    FILE *file = path != NULL ? fopen(path, "wb") : NULL;
-    bool is_written = file != NULL && recorder_write(recorder, file);
-    is_written = file != NULL && fclose(file) == 0 && is_written;
-    if (!is_written) {
-        fprintf(stderr, "fifobench: can't write %s\n", path != NULL ? path : "a file");
-    }
-    return is_written;
-}
-
-// The threads can't be ended, so the process is.
-static inline _Noreturn void recorder_end_hung(struct recorder *recorder)
-{
-    const struct recorder_event *open[RECORDER_MAX_THREADS] = {NULL};
-    size_t count = 0;
-    const struct recorder_event **events = recorder_events(recorder, &count);
-    fprintf(stderr, "fifobench: seed %" PRIu64 " hangs: no event for %u s\n", recorder->settings.seed,
-            recorder->settings.timeout);
-    unsigned pending = events != NULL ? recorder_open(events, count, open) : 0;
-    for (unsigned number = 0; number < RECORDER_MAX_THREADS; number++) {
-        if (open[number] != NULL) {
-            fprintf(stderr, "fifobench: thread %u is inside %s, ticket %" PRIu64 "\n", number,
-                    open[number]->what == RECORDER_CALL_ENQ ? "an enqueue" : "a dequeue", open[number]->ticket);
-        }
-    }
-    char *path = recorder_path(&recorder->settings, pending > 0 ? "pending" : "history");
-    if (!atomic_load(&recorder->open)) {
-        fputs("fifobench: not all threads have begun\n", stderr);
-    } else if (recorder_write_file(recorder, path)) {
-        fprintf(stderr, "fifobench: what there is: %s\n", path);
-    }
-    fflush(NULL);
-    _Exit(2);
-}
-
-// Until this many threads have ended. A run in which no ticket is drawn for the time of the settings hangs.
+// Waits until this many threads have ended. A run in which no ticket is drawn for the time of the settings hangs.
 static inline void recorder_wait(struct recorder *recorder, unsigned threads)
 {
     uint64_t seen = atomic_load(&recorder->tickets);
     double since = recorder_seconds();
-    pthread_mutex_lock(&recorder->lock);
-    while (recorder->ended < threads) {
-        struct timespec until;
-        timespec_get(&until, TIME_UTC);
-        until.tv_sec += 1;
-        pthread_cond_timedwait(&recorder->changed, &recorder->lock, &until);
+    while (atomic_load(&recorder->ended) < threads) {
+        recorder_nap();
+        RECORDER_CRASH(look(recorder));
         uint64_t drawn = atomic_load(&recorder->tickets);
         if (drawn != seen) {
             seen = drawn;
             since = recorder_seconds();
-        } else if (recorder->ended < threads && recorder_seconds() - since >= recorder->settings.timeout) {
+        } else if (recorder_seconds() - since >= recorder->settings.timeout) {
             recorder_end_hung(recorder);
         }
     }
-    pthread_mutex_unlock(&recorder->lock);
 }
 
 // A sentence on what is out of range, or NULL.
 static inline const char *recorder_fault(const struct recorder_settings *settings)
 {
-    if (settings->threads == 0 || settings->threads > RECORDER_MAX_THREADS) {
-        return "1 to 64 threads";
-    }
-    if (settings->operations > RECORDER_MAX_EVENTS / 2 / settings->threads) {
-        return "at most 1000000 operations together";
-    }
-    if (settings->percent > 100 || settings->initial > RECORDER_MAX_INITIAL) {
-        return "at most 100 percent are enqueues, and at most 100000 values initial";
-    }
-    if (strchr(settings->folder, '\'') != NULL || strchr(settings->program ? settings->program : "", '\'') != NULL) {
-        return "no quote in the names of the folder and the program";
-    }
-    return NULL;
+    const char *program = settings->program != NULL ? settings->program : "";
+    return settings->threads == 0 || settings->threads > RECORDER_MAX_THREADS ? "1 to 64 threads"
+           : settings->operations > RECORDER_MAX_EVENTS / 2 / settings->threads ? "at most 1000000 operations together"
+           : settings->journal && !RECORDER_HAS_JOURNAL ? "the setting journal needs recorder_crash.h beside recorder.h"
+           : settings->percent > 100 || settings->initial > RECORDER_MAX_INITIAL
+               ? "at most 100 percent are enqueues, and at most 100000 values initial"
+           : strchr(settings->folder, '\'') != NULL || strchr(program, '\'') != NULL
+               ? "no quote in the names of the folder and the program"
+               : NULL;
 }
 
 // A recorder whose threads have room for their operations, thread 0 also for a drain. NULL: the settings are out of
@@ -530,8 +608,6 @@ static inline struct recorder *recorder_new(const struct recorder_settings *sett
     if (recorder == NULL) {
         return NULL;
     }
-    pthread_mutex_init(&recorder->lock, NULL);
-    pthread_cond_init(&recorder->changed, NULL);
     recorder->settings = *settings;
     recorder->threads = settings->threads;
     recorder->calls = calls;
@@ -566,6 +642,7 @@ static inline struct recorder *recorder_go(struct recorder *recorder, recorder_w
     }
     recorder->work = work;
     recorder->argument = argument;
+    RECORDER_CRASH(begin(recorder));
     while (started < recorder->threads &&
            pthread_create(&running[started], NULL, recorder_start, &recorder->of_thread[started]) == 0) {
         RECORDER_IF_CHOSEN(started(started));
@@ -582,6 +659,7 @@ static inline struct recorder *recorder_go(struct recorder *recorder, recorder_w
         pthread_join(running[number], NULL);
     }
     RECORDER_IF_CHOSEN(end());
+    RECORDER_CRASH(end(recorder));
     if (atomic_load(&recorder->refused)) {
         recorder_free(recorder);
         return NULL;
@@ -589,10 +667,9 @@ static inline struct recorder *recorder_go(struct recorder *recorder, recorder_w
     return recorder;
 }
 
-// Runs `work(thread, argument)` in each of the threads of the settings, which begin together. Each makes at most the
-// operations of the settings. Gives what they recorded, for recorder_write and recorder_free; or NULL if the settings
-// are out of range, there is no memory, or a thread can't be started. A run that hangs ends the process with status
-// 2, and leaves a pending text in the folder.
+// Runs `work(thread, argument)` in each of the threads, which begin together: at most the operations of the settings.
+// Gives what they recorded, for recorder_write and recorder_free; or NULL if the settings are out of range, there is no
+// memory, or a thread can't be started. A run that hangs ends the process with 1 or 2.
 static inline struct recorder *recorder_record(const struct recorder_settings *settings, recorder_work *work,
                                                void *argument)
 {
@@ -607,12 +684,6 @@ static inline struct recorder *recorder_run(unsigned threads, size_t operations,
     return recorder_record(&settings, work, argument);
 }
 
-static inline enum recorder_pattern recorder_pattern_of(const struct recorder_settings *settings)
-{
-    enum recorder_pattern of_seed = (enum recorder_pattern)((settings->seed + 3) % 4);
-    return settings->pattern != RECORDER_BY_SEED ? settings->pattern : of_seed;
-}
-
 // Vigna's splitmix64: a seed gives the same plan in each language's recorder.
 static inline uint64_t recorder_random(uint64_t *state)
 {
@@ -622,52 +693,39 @@ static inline uint64_t recorder_random(uint64_t *state)
     return z ^ (z >> 31);
 }
 
-// The operations of one thread by a pattern, one after another.
+// The state of a thread's pattern: random numbers, the first operation of the burst, and its length.
 struct recorder_plan {
-    enum recorder_pattern pattern;
-    unsigned percent;
-    unsigned thread;
-    uint64_t state;
-    uint64_t made;   // operations, of bursts those since the last began
-    uint64_t length; // of the burst
+    uint64_t state, begin, length;
 };
 
-static inline bool recorder_next_is_enqueue(struct recorder_plan *plan)
+// Returns whether the n-th operation of a thread is an enqueue.
+static inline bool recorder_enqueues(const struct recorder_thread *thread, struct recorder_plan *plan, uint64_t n)
 {
-    switch (plan->pattern) {
-    case RECORDER_ALTERNATE: return plan->made++ % 2 == 0;
-    case RECORDER_MIX: return recorder_random(&plan->state) % 100 < plan->percent;
-    case RECORDER_ROLES: return plan->thread % 2 == 0;
-    case RECORDER_BURSTS:
-    case RECORDER_BY_SEED: break;
+    const struct recorder_settings *settings = &thread->recorder->settings;
+    switch (recorder_pattern_of(settings)) {
+    case RECORDER_MIX: return recorder_random(&plan->state) % 100 < settings->percent;
+    case RECORDER_ROLES: return (settings->threads == 1 ? n : thread->number) % 2 == 0;
+    case RECORDER_BURSTS: break;
+    default: return n % 2 == 0;
     }
-    if (plan->made == 2 * plan->length) {
+    if (n == plan->begin + 2 * plan->length) {
+        plan->begin = n;
         plan->length = 1 + recorder_random(&plan->state) % 32;
-        plan->made = 0;
     }
-    return plan->made++ < plan->length;
+    return n < plan->begin + plan->length;
 }
 
 static inline void recorder_play_thread(struct recorder_thread *thread, void *unused)
 {
     const struct recorder *recorder = thread->recorder;
-    const struct recorder_settings *settings = &recorder->settings;
+    struct recorder_plan plan = {recorder->settings.seed * 64 + thread->number, 0, 0};
     (void)unused;
-    struct recorder_plan plan = {recorder_pattern_of(settings), settings->percent, thread->number,
-                                 settings->seed * 64 + thread->number, 0, 0};
-    if (plan.pattern == RECORDER_ROLES && settings->threads == 1) {
-        plan.pattern = RECORDER_ALTERNATE;
-    }
-    for (size_t n = 0; n < settings->operations; n++) {
-        if (recorder_next_is_enqueue(&plan)) {
+    for (size_t n = 0; n < recorder->settings.operations; n++) {
+        if (recorder_enqueues(thread, &plan, n)) {
             uint64_t value = recorder_call_enqueue(thread);
-            bool taken = recorder->calls->enqueue(recorder->queue, value);
-            recorder_return_enqueue(thread, taken);
+            recorder_return_enqueue(thread, recorder->calls->enqueue(recorder->queue, value));
         } else {
-            uint64_t value = 0;
-            recorder_call_dequeue(thread);
-            bool found = recorder->calls->dequeue(recorder->queue, &value);
-            recorder_return_dequeue(thread, found, value);
+            recorder_dequeue(thread);
         }
     }
 }
@@ -679,79 +737,25 @@ static inline struct recorder *recorder_play(const struct recorder_settings *set
     return recorder_go(recorder_new(settings, calls, queue), recorder_play_thread, NULL);
 }
 
-// The status of `PROGRAM COMMAND` in a shell, from and to a file; or -1.
-static inline int recorder_ask(const char *program, const char *command, const char *from, const char *to)
-{
-    char line[16384]; // more than three of the longest paths
-    int length = snprintf(line, sizeof line, "'%s' %s <'%s' >'%s' 2>/dev/null", program, command, from, to);
-    int status = length > 0 && (size_t)length < sizeof line ? system(line) : -1;
-    return status != -1 && WIFEXITED(status) ? WEXITSTATUS(status) : -1;
-}
-
-// The verdict of a run whose history is in a file: 0, 1 or 2.
-static inline int recorder_judge_file(const struct recorder_settings *one, const char *path, const char *report)
-{
-    char verdict[80] = "";
-    int status = recorder_ask(one->program, "check", path, report);
-    FILE *answer = fopen(report, "r");
-    if (answer != NULL && fgets(verdict, sizeof verdict, answer) != NULL) {
-        verdict[strcspn(verdict, "\n")] = '\0';
-    }
-    if (answer != NULL) {
-        fclose(answer);
-    }
-    if (status == 0 && strcmp(verdict, "YES") == 0) {
-        remove(path);
-        remove(report);
-        return 0;
-    }
-    if (status != 1 || strncmp(verdict, "NO ", 3) != 0) {
-        fprintf(stderr, "fifobench: %s says '%s' of %s\n", one->program, verdict, path);
-        return 2;
-    }
-    status = recorder_ask(one->program, "shrink", path, report);
-    const char *pattern = recorder_pattern_names[recorder_pattern_of(one)];
-    printf("%s: seed %" PRIu64 ", %s\n", verdict, one->seed, pattern);
-    printf("  history: %s\n  report:  %s\n", path, report);
-    printf("  see it:  %s draw --text < %s\n", one->program, report);
-    printf("  again:   seed %" PRIu64 ", pattern %s: the same plan, though threads may meet in another way\n",
-           one->seed, pattern);
-    if (status != 1) {
-        fprintf(stderr, "fifobench: %s can't shrink %s\n", one->program, path);
-    }
-    return status == 1 ? 1 : 2;
-}
-
-// Writes a run of a search, and has it judged if there is a program.
-static inline int recorder_judge(struct recorder *recorder, bool judges)
-{
-    const struct recorder_settings *one = &recorder->settings;
-    char *path = recorder_path(one, "history");
-    char *report = recorder_path(one, "report");
-    int answer = 2;
-    if (recorder->has_surplus) {
-        fprintf(stderr, "fifobench: seed %" PRIu64 ": the queue gave more values than went in\n", one->seed);
-    }
-    if (report != NULL && recorder_write_file(recorder, path)) {
-        answer = judges ? recorder_judge_file(one, path, report) : 0;
-    }
-    free(path);
-    free(report);
-    return answer;
-}
-
 // One run of a search, over a fresh queue: 0, 1 or 2.
 static inline int recorder_search_one(const struct recorder_settings *one, const struct recorder_queue *calls,
-                                      bool judges, size_t *operations, size_t *overlapping)
+                                      bool judges, struct recorder_sums *all)
 {
+    char path[RECORDER_PATH_BYTES];
     void *queue = calls->make(calls->context);
     struct recorder *recorder = queue != NULL ? recorder_play(one, calls, queue) : NULL;
     int answer = 2;
     if (recorder == NULL) {
         fputs(queue == NULL ? "fifobench: there is no queue\n" : "fifobench: there is no run\n", stderr);
     } else {
-        recorder_count_overlap(recorder, operations, overlapping);
-        answer = recorder_judge(recorder, judges);
+        struct recorder_sums sums = recorder_sum_up(recorder);
+        all->calls += sums.calls;
+        all->overlapping += sums.overlapping;
+        if (recorder->has_surplus) {
+            fprintf(stderr, "fifobench: seed %" PRIu64 ": the queue gave more values than went in\n", one->seed);
+        }
+        recorder_path(one, "history", path);
+        answer = !recorder_write_file(recorder, path) ? 2 : judges ? recorder_judge_file(one, path, false) : 0;
         recorder_free(recorder);
     }
     if (queue != NULL && calls->destroy != NULL) {
@@ -764,8 +768,8 @@ static inline int recorder_search_one(const struct recorder_settings *one, const
 static inline int recorder_search(const struct recorder_settings *settings, const struct recorder_queue *calls)
 {
     struct recorder_settings one = *settings;
-    const char *named = getenv("FIFOBENCH");
-    size_t operations = 0, overlapping = 0;
+    struct recorder_sums all = {0};
+    char first[RECORDER_LINE_BYTES];
     int answer = 0;
     if (recorder_fault(settings) != NULL) {
         fprintf(stderr, "fifobench: %s\n", recorder_fault(settings));
@@ -774,23 +778,24 @@ static inline int recorder_search(const struct recorder_settings *settings, cons
     if (recorder_points_search(settings, calls, &answer)) {
         return answer;
     }
-    one.program = one.program != NULL ? one.program : named != NULL && *named != '\0' ? named : "fifobench";
-    bool judges = recorder_ask(one.program, "--version", "/dev/null", "/dev/null") == 0;
+    bool judges = recorder_ask(settings, "--version", "/dev/null", "/dev/null", first) == 0;
     if (!judges) {
-        fprintf(stderr, "fifobench: no program '%s': nothing is judged; the histories are kept in %s\n", one.program,
-                one.folder);
+        fprintf(stderr, "fifobench: no program '%s': nothing is judged; the histories are kept in %s\n",
+                recorder_program(settings), one.folder);
     }
     one.runs = settings->runs != 0 ? settings->runs : 100;
-    for (unsigned made = 0; made < one.runs; made++, one.seed++) {
-        answer = recorder_search_one(&one, calls, judges, &operations, &overlapping);
-        if (answer != 0) {
-            return answer;
-        }
+    RECORDER_CRASH(watch(&one));
+    for (unsigned made = 0; made < one.runs && answer == 0; made++, one.seed++) {
+        answer = recorder_search_one(&one, calls, judges, &all);
+    }
+    RECORDER_CRASH(unwatch());
+    if (answer != 0) {
+        return answer;
     }
     remove(one.folder); // if it is empty
     printf("%s in %u runs (seeds %" PRIu64 " to %" PRIu64 "); %zu of 100 operations overlap another\n",
            judges ? "no violation" : "nothing judged", one.runs, settings->seed, one.seed - 1,
-           100 * overlapping / (operations + !operations));
+           100 * all.overlapping / (all.calls + !all.calls));
     return judges ? 0 : 2;
 }
 

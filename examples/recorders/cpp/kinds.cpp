@@ -6,6 +6,7 @@
 #include "recorder.hpp"
 
 #include <array>
+#include <condition_variable>
 #include <cstring>
 #include <deque>
 #include <iostream>

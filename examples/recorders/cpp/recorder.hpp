@@ -18,15 +18,15 @@
 //     void leave(unsigned thread)           in each thread after its last call
 //     bool preload(std::uint64_t value)     puts a value in before the run; without it `enqueue` does
 //
-// docs/RECORDING.md has a loop of your own and the rules that this header keeps, kinds.cpp queues of other kinds.
+// docs/RECORDING.md has a loop of your own and the rules that this header keeps, kinds.cpp queues of other kinds. With
+// recorder_crash.hpp beside this header a run that crashes or is killed leaves a text too.
 #ifndef FIFOBENCH_RECORDER_HPP
 #define FIFOBENCH_RECORDER_HPP
 
 #include <algorithm>
+#include <array>
 #include <atomic>
 #include <chrono>
-#include <condition_variable>
-#include <cstddef>
 #include <cstdint>
 #include <cstdlib>
 #include <deque>
@@ -36,9 +36,11 @@
 #include <functional>
 #include <iostream>
 #include <iterator>
+#include <map>
 #include <memory>
 #include <mutex>
 #include <optional>
+#include <sstream>
 #include <stdexcept>
 #include <string>
 #include <system_error>
@@ -46,10 +48,6 @@
 #include <type_traits>
 #include <utility>
 #include <vector>
-
-#if __has_include(<sys/wait.h>)
-#include <sys/wait.h>
-#endif
 
 #if __has_include("schedule/for_recorder.hpp")
 #include "schedule/for_recorder.hpp"
@@ -95,6 +93,7 @@ struct Settings {
     std::size_t initial = 0;             // values that the queue is given before the run; before your own loop by you
     bool drain = true;                   // at the end the queue is dequeued until it says that it is empty
     bool choose = true;                  // schedules, if schedule.c is linked; else its points disturb the threads
+    bool journal = false;                // with recorder_crash.hpp: events reach a file while the run goes on
     std::string program;                 // that judges
     std::string folder = "fifobench-runs";
 
@@ -105,7 +104,6 @@ struct Settings {
     std::uint64_t value_of(unsigned thread, std::uint64_t n) const {
         return value ? value(thread, n) : (std::uint64_t{thread} << 32) + (thread < max_threads ? first : 0) + n;
     }
-
     Pattern pattern_of_seed() const { return pattern.value_or(static_cast<Pattern>((seed + 3) % 4)); }
 };
 
@@ -114,26 +112,21 @@ namespace detail {
 // The operations of one thread by a pattern, one after another.
 class Plan {
 public:
-    Plan(const Settings& settings, unsigned thread)
-        : pattern_(settings.pattern_of_seed()), percent_(settings.percent), thread_(thread),
-          state_(settings.seed * 64 + thread) {
-        if (pattern_ == Pattern::Roles && settings.threads == 1) {
-            pattern_ = Pattern::Alternate;
-        }
-    }
+    Plan(const Settings& of, unsigned thread) : settings_(of), thread_(thread), state_(of.seed * 64 + thread) {}
 
     bool next_is_enqueue() {
-        switch (pattern_) {
-        case Pattern::Alternate: return made_++ % 2 == 0;
-        case Pattern::Mix: return random() % 100 < percent_;
-        case Pattern::Roles: return thread_ % 2 == 0;
+        const std::uint64_t n = made_++;
+        switch (settings_.pattern_of_seed()) {
+        case Pattern::Alternate: return n % 2 == 0;
+        case Pattern::Mix: return random() % 100 < settings_.percent;
+        case Pattern::Roles: return (settings_.threads == 1 ? n : thread_) % 2 == 0;
         case Pattern::Bursts: break;
         }
-        if (made_ == 2 * length_) {
+        if (n == begin_ + 2 * length_) {
+            begin_ = n;
             length_ = 1 + random() % 32;
-            made_ = 0;
         }
-        return made_++ < length_;
+        return n < begin_ + length_;
     }
 
 private:
@@ -145,12 +138,9 @@ private:
         return z ^ (z >> 31);
     }
 
-    Pattern pattern_;
-    unsigned percent_;
+    const Settings& settings_;
     unsigned thread_;
-    std::uint64_t state_;
-    std::uint64_t made_ = 0;      // operations, of bursts those since the last began
-    std::uint64_t length_ = 0;    // of the burst
+    std::uint64_t state_, made_ = 0, begin_ = 0, length_ = 0;    // the operations, and those of the burst
 };
 
 // Whether the queue took a value. A call without an answer took it.
@@ -164,44 +154,35 @@ bool took(Call call) {
     }
 }
 
-// The events of one thread. It alone appends. What it has published others may read at any time.
+// The events of one thread. It alone appends. What it has counted others may read at any time.
 class Log {
 public:
-    explicit Log(std::size_t room) : first_(&blocks_.emplace_back(room)), last_(first_) {}
+    explicit Log(std::size_t room) { blocks_[0].resize(std::max<std::size_t>(room, 64)); }
 
     void append(const Event& event) {
-        std::size_t count = last_->count.load(std::memory_order_relaxed);
-        if (count == last_->events.size()) {
-            Block* const more = &blocks_.emplace_back(1024);
-            last_->next.store(more, std::memory_order_release);
-            last_ = more;
-            count = 0;
+        if (place_ == blocks_[last_].size()) {
+            blocks_[++last_].resize(2 * place_);
+            place_ = 0;
         }
-        last_->events[count] = event;
-        last_->count.store(count + 1, std::memory_order_release);
+        blocks_[last_][place_++] = event;
+        count_.store(count_.load(std::memory_order_relaxed) + 1, std::memory_order_release);
     }
 
-    template <class Each>
-    void for_each(Each each) const {
-        for (const Block* block = first_; block != nullptr; block = block->next.load(std::memory_order_acquire)) {
-            const std::size_t count = block->count.load(std::memory_order_acquire);
-            for (std::size_t place = 0; place < count; ++place) {
-                each(block->events[place]);
-            }
+    std::size_t count() const { return count_.load(std::memory_order_acquire); }
+
+    // Returns the event at a place below the count.
+    const Event& operator[](std::size_t place) const {
+        const std::vector<Event>* block = blocks_.data();
+        for (; place >= block->size(); ++block) {
+            place -= block->size();
         }
+        return (*block)[place];
     }
 
 private:
-    struct Block {
-        explicit Block(std::size_t room) : events(room) {}
-        std::vector<Event> events;
-        std::atomic<std::size_t> count{0};
-        std::atomic<Block*> next{nullptr};
-    };
-
-    std::deque<Block> blocks_;
-    Block* const first_;
-    Block* last_;
+    std::array<std::vector<Event>, 20> blocks_;    // each twice as large as the one before
+    std::size_t last_ = 0, place_ = 0;
+    std::atomic<std::size_t> count_{0};
 };
 
 }    // namespace detail
@@ -238,10 +219,9 @@ public:
     }
 
     std::int64_t stay() const { return stay_; }    // values that the queue took from it, less those that it gave
+    const detail::Log& log() const { return log_; }
 
 private:
-    friend class History;
-
     // The ticket is drawn first: of a call before the queue is asked, of a return after it has answered. What came
     // before a return is seen by every call of a greater ticket, since the order is sequentially consistent.
     void note(What what, std::uint64_t value) {
@@ -266,10 +246,16 @@ private:
 class History {
 public:
     // While threads still run: the events up to the first that isn't published.
-    explicit History(const std::deque<Thread>& threads, std::vector<std::uint64_t> initial = {})
-        : initial_(std::move(initial)) {
+    explicit History(const std::deque<Thread>& threads, std::vector<std::uint64_t> initial = {},
+                     std::vector<std::string> failures = {}, bool has_surplus = false)
+        : initial_(std::move(initial)), notes_(std::move(failures)), has_failed_(!notes_.empty()) {
+        if (has_surplus) {
+            notes_.push_back("the queue gave more values than went in, and hasn't said that it is empty");
+        }
         for (const Thread& thread : threads) {
-            thread.log_.for_each([&](const Event& event) { events_.emplace_back(thread.number_, event); });
+            for (std::size_t place = 0, count = thread.log().count(); place < count; ++place) {
+                events_.emplace_back(thread.number(), thread.log()[place]);
+            }
         }
         const auto by_ticket = [](const auto& a, const auto& b) { return a.second.ticket < b.second.ticket; };
         std::sort(events_.begin(), events_.end(), by_ticket);
@@ -279,76 +265,78 @@ public:
             ++whole;
         }
         events_.resize(whole);
-        std::vector<std::pair<unsigned, Event>> last(max_threads, {0, Event{0, 0, What::RetEmpty}});
+        std::size_t calls = 0, pending = 0, calls_at[max_threads] = {}, pending_at[max_threads] = {};
         for (const auto& [thread, event] : events_) {
-            last[thread] = {thread, event};
+            if (event.what == What::CallEnq || event.what == What::CallDeq) {
+                calls_at[thread] = calls++;
+                pending_at[thread] = pending++;
+                open_[thread] = event;
+            } else {
+                --pending;
+                overlapping_ += pending_at[thread] > 0 || calls - calls_at[thread] > 1 ? 1 : 0;
+                open_.erase(thread);
+            }
         }
-        const auto is_open = [](const auto& of) { return is_call(of.second.what); };
-        std::copy_if(last.begin(), last.end(), std::back_inserter(open_), is_open);
     }
 
     // Writes a history, or a pending text (docs/RECORDING.md) if some call has no return.
     void write(std::ostream& to) const {
-        to << (open_.empty() ? "fifo-history " : "fifo-pending ") << (initial_.empty() ? 1 : 2) << '\n';
-        if (!initial_.empty()) {
-            to << "initial " << initial_.size() << '\n';
-            std::copy(initial_.begin(), initial_.end(), std::ostream_iterator<std::uint64_t>(to, "\n"));
-        }
+        write_head(to, open_.empty() ? "fifo-history " : "fifo-pending ", initial_);
         for (const auto& [thread, event] : events_) {
-            to << event.ticket << ' ' << thread << ' ' << words[static_cast<unsigned>(event.what)];
-            if (event.what == What::CallEnq || event.what == What::RetDeq) {
-                to << ' ' << event.value;
-            }
-            to << '\n';
+            write_event(to, thread, event);
         }
-        if (!open_.empty()) {
-            to << "open " << open_.size() << '\n';
-        }
-        to << "end " << events_.size() << '\n';
+        to << (open_.empty() ? "" : "open " + std::to_string(open_.size()) + '\n') << "end " << events_.size() << '\n';
         to.flush();
+    }
+
+    static void write_head(std::ostream& to, const char* name, const std::vector<std::uint64_t>& initial) {
+        to << name << (initial.empty() ? 1 : 2) << '\n';
+        if (!initial.empty()) {
+            to << "initial " << initial.size() << '\n';
+            std::copy(initial.begin(), initial.end(), std::ostream_iterator<std::uint64_t>(to, "\n"));
+        }
+    }
+
+    static void write_event(std::ostream& to, unsigned thread, const Event& event) {
+        to << event.ticket << ' ' << thread << ' ' << words[static_cast<unsigned>(event.what)];
+        if (event.what == What::CallEnq || event.what == What::RetDeq) {
+            to << ' ' << event.value;
+        }
+        to << '\n';
     }
 
     // The events by ticket, each with its thread, and the values that the queue held first.
     const std::vector<std::pair<unsigned, Event>>& events() const { return events_; }
     const std::vector<std::uint64_t>& initial() const { return initial_; }
 
-    // The calls without a return, each with its thread.
-    const std::vector<std::pair<unsigned, Event>>& open() const { return open_; }
+    // The calls without a return by their threads, and a sentence that names them.
+    const std::map<unsigned, Event>& open() const { return open_; }
+    std::string told_open() const {
+        std::string told;
+        for (const auto& [thread, call] : open_) {
+            told += (told.empty() ? "thread " : ", thread ") + std::to_string(thread) + " is inside " +
+                    (call.what == What::CallEnq ? "enqueue of " + std::to_string(call.value) : "dequeue");
+        }
+        return told.empty() ? "no thread is inside a call" : told;
+    }
 
     // What went wrong, a sentence for each thread that an exception ended, and one if the drain met its bound.
     const std::vector<std::string>& notes() const { return notes_; }
     bool has_failed() const { return has_failed_; }
 
-    void add_note(std::string sentence, bool is_failure) {
-        notes_.push_back(std::move(sentence));
-        has_failed_ = has_failed_ || is_failure;
-    }
-
     // How many operations have returned, and how many of these overlap another.
     std::size_t operations() const { return (events_.size() - open_.size()) / 2; }
+    std::size_t overlapping() const { return overlapping_; }
 
-    std::size_t overlapping() const {
-        std::size_t calls = 0, pending = 0, overlap = 0;
-        std::pair<std::size_t, std::size_t> at_call[max_threads] = {};
-        for (const auto& [thread, event] : events_) {
-            if (is_call(event.what)) {
-                at_call[thread] = {calls++, pending++};
-            } else {
-                --pending;
-                overlap += at_call[thread].second > 0 || calls - at_call[thread].first > 1 ? 1 : 0;
-            }
-        }
-        return overlap;
-    }
-
-    static bool is_call(What what) { return what == What::CallEnq || what == What::CallDeq; }
-
+    // Returns whether `draw` takes this many operations and initial values.
+    bool is_drawn() const { return operations() + open_.size() <= 400 && initial_.size() <= 400; }
 private:
     std::vector<std::pair<unsigned, Event>> events_;
     std::vector<std::uint64_t> initial_;
-    std::vector<std::pair<unsigned, Event>> open_;
+    std::map<unsigned, Event> open_;
     std::vector<std::string> notes_;
-    bool has_failed_ = false;
+    bool has_failed_;
+    std::size_t overlapping_ = 0;
 };
 
 namespace detail {
@@ -359,7 +347,6 @@ namespace detail {
 class Start {
 public:
     explicit Start(unsigned threads) : threads_(threads) {}
-
     void open() { open_.store(true); }
     bool is_open() const { return open_.load(); }
 
@@ -391,15 +378,126 @@ private:
     alignas(64) std::atomic<unsigned> last_{0};
 };
 
-inline std::string described(unsigned thread, const Event& call) {
-    const std::string name = call.what == What::CallEnq ? "the enqueue of " + std::to_string(call.value) : "a dequeue";
-    return "thread " + std::to_string(thread) + " is inside " + name + ", ticket " + std::to_string(call.ticket);
-}
+// The program, and the files of a run that it judges.
+class Judge {
+public:
+    explicit Judge(const Settings& of) : settings_(of), program_(of.program) {
+        const char* const named = std::getenv("FIFOBENCH");
+        program_ = !program_.empty() ? program_ : named != nullptr && *named != '\0' ? named : "fifobench";
+    }
 
-// Where the text of a run is kept.
-inline std::string path_of(const Settings& settings, const History& history) {
-    return settings.folder + "/" + std::to_string(settings.seed) + (history.open().empty() ? ".history" : ".pending");
-}
+    const std::string& program() const { return program_; }
+    bool is_there() const { return ask("--version", "/dev/null", "/dev/null").first == 0; }
+    std::string path(const char* kind) const { return settings_.folder + "/" + std::to_string(settings_.seed) + kind; }
+
+    // Writes the text of a run. Replaces an older file, since a journal may still be written to it.
+    std::string keep(const History& history, const char* kind) const {
+        std::error_code ignored;
+        std::filesystem::create_directories(settings_.folder, ignored);
+        std::filesystem::remove(path(kind), ignored);
+        std::ofstream file(path(kind), std::ios::binary);
+        history.write(file);
+        if (!file) {
+            throw std::runtime_error("can't write " + path(kind));
+        }
+        return path(kind);
+    }
+
+    // Keeps a run of a search, and has it judged. Returns 0, 1 or 2.
+    int answer(const History& history, bool judges) const {
+        if (history.has_failed()) {
+            const char* const fault = "If the queue promises not to throw, the exception itself is the fault.";
+            return end_early(history, history.notes().front(), fault);
+        }
+        for (const std::string& sentence : history.notes()) {
+            std::cerr << "fifobench: seed " << settings_.seed << ": " << sentence << std::endl;
+        }
+        keep(history, ".history");
+        return judges ? check(false) : 0;
+    }
+
+    // Judges the history that is kept, which may be a completion of pending calls. Returns 0, 1 or 2.
+    int check(bool is_completed) const {
+        const std::string history = path(".history"), report = path(".report");
+        const auto [status, verdict] = ask("check", history, report);
+        if (status == 0 && verdict == "YES") {
+            std::filesystem::remove(history);
+            std::filesystem::remove(report);
+            return 0;
+        }
+        if (status != 1 || verdict.rfind("NO ", 0) != 0) {
+            std::cerr << "fifobench: " << program_ << " says '" << verdict << "' of " << history << std::endl;
+            return 2;
+        }
+        ask("shrink", history, report);
+        const std::string seed = std::to_string(settings_.seed), pattern = name_of(settings_.pattern_of_seed());
+        std::cout << verdict << ": seed " << seed << ", " << pattern
+                  << (is_completed ? ": the queue is wrong, whatever the pending calls do" : "")
+                  << "\n  history: " << history << "\n  report:  " << report << "\n  see it:  " << program_
+                  << " draw --text < " << report << "\n  again:   seed " << seed << ", pattern " << pattern
+                  << ": the same plan, though threads may meet in another way" << std::endl;
+        return 1;
+    }
+
+    // Keeps what there is of a run that ends early, says how it ended, and judges it. Returns 1 or 2. The fault follows
+    // YES.
+    int end_early(const History& history, const std::string& how, const std::string& fault) const {
+        std::cerr << "fifobench: seed " << settings_.seed << ": " << how << "; " << history.told_open() << std::endl;
+        const std::string pending = keep(history, ".pending");
+        std::cerr << "  pending: " << pending << std::endl;
+        const auto [status, first] = ask("complete", pending, path(".history"));
+        if (status == 0) {
+            const int answer = check(true);
+            if (answer == 0) {
+                const std::string drawn = program_ + " complete < " + pending + " | " + program_ + " draw --text";
+                std::cerr << "YES: a right queue can have behaved so until then. " << fault << "\n  see it:  "
+                          << (history.is_drawn() ? drawn : "tail -n 40 < " + pending) << std::endl;
+            }
+            return answer == 1 ? 1 : 2;
+        }
+        std::filesystem::remove(path(".history"));
+        const bool is_refused = first.rfind("REFUSED ", 0) == 0;
+        if (is_refused || is_there()) {
+            std::cerr << "fifobench: " << program_
+                      << (is_refused ? " says '" + first + "' of " + pending
+                                     : std::string(" has no command complete, which a later version has")) << '\n';
+        }
+        std::cerr << "  judge:   " << program_ << " complete < " << pending << " | " << program_ << " check"
+                  << std::endl;
+        return 2;
+    }
+
+private:
+    // Runs a command of the program. Returns its status, or -1, and the first line of its output.
+    std::pair<int, std::string> ask(const std::string& command, const std::string& from, const std::string& to) const {
+        const std::string files = " <'" + from + "' >'" + to + "' 2>/dev/null", line = "'" + program_ + "' " + command;
+        const int status = std::system((line + files).c_str());
+        std::string first;
+        std::getline(std::ifstream(to), first);
+        return {status % 256 == 0 ? status / 256 : -1, first};    // as POSIX has it
+    }
+
+    const Settings settings_;
+    std::string program_;
+};
+
+}    // namespace detail
+}    // namespace fifobench
+
+#if __has_include("recorder_crash.hpp")
+#include "recorder_crash.hpp"
+#else    // a run that crashes or is killed leaves nothing
+namespace fifobench::detail {
+struct Crash {
+    template <class... Of> explicit Crash(const Of&...) {}
+    void enter(unsigned) const {}
+    void look() const {}
+};
+using Watch = Crash;
+}    // namespace fifobench::detail
+#endif
+
+namespace fifobench::detail {
 
 // What each thread does in a run beside its operations.
 struct Hooks {
@@ -419,6 +517,9 @@ public:
         require(settings_.operations <= max_events / 2 / settings_.threads, "at most 1000000 operations together");
         require(settings_.percent <= 100 && settings_.initial <= max_initial,
                 "at most 100 percent are enqueues, and at most 100000 values initial");
+        require(!settings_.journal || !std::is_empty_v<Crash>, "the setting journal needs recorder_crash.hpp");
+        require((settings_.folder + settings_.program).find('\'') == std::string::npos,
+                "no quote in the names of the folder and the program");
         for (std::size_t j = 0; j < settings_.initial; ++j) {
             initial_.push_back(settings_.value_of(max_threads, j));
         }
@@ -430,8 +531,8 @@ public:
     template <class Work>
     History record(Work& work) {
         std::vector<std::thread> running;
-        running.reserve(settings_.threads);
         FIFOBENCH_POINTS(begin(settings_, initial_, start_, is_chosen_));
+        crash_.emplace(settings_, recorded_, initial_, is_chosen_);
         try {
             for (Thread& thread : recorded_) {
                 running.emplace_back([this, &thread, &work] { run_thread(thread, work); });
@@ -451,17 +552,7 @@ public:
         if (is_refused_.load()) {
             throw std::runtime_error("before the start: " + failures_.front());
         }
-        History history(recorded_, initial_);
-        for (const std::string& sentence : failures_) {
-            history.add_note(sentence, true);
-        }
-        for (const auto& [thread, call] : history.open()) {
-            history.add_note(described(thread, call), true);
-        }
-        if (has_surplus_) {
-            history.add_note("the queue gave more values than went in, and hasn't said that it is empty", false);
-        }
-        return history;
+        return History(recorded_, initial_, failures_, has_surplus_);
     }
 
 private:
@@ -472,6 +563,7 @@ private:
             is_refused_.store(true);
         }
         FIFOBENCH_IF_CHOSEN(enter(number));
+        crash_->enter(number);
         start_.wait(number);
         if (!is_refused_.load()) {
             guarded(number, [&] { work(thread); });
@@ -482,9 +574,7 @@ private:
             guarded(number, [&] { hooks_.leave(number); });
         }
         FIFOBENCH_IF_CHOSEN(leave());
-        const std::lock_guard<std::mutex> guard(lock_);
-        ++ended_;
-        has_ended_.notify_all();
+        ended_.fetch_add(1);
     }
 
     // What a thread does before the start, thread 0 also for the queue.
@@ -501,7 +591,7 @@ private:
     void drain(Thread& thread) {
         FIFOBENCH_IF_CHOSEN(alone());
         while (!is_chosen_ && worked_.load() < settings_.threads) {
-            std::this_thread::sleep_for(std::chrono::microseconds(50));
+            nap();
         }
         if (has_failed_.load()) {
             return;
@@ -520,14 +610,14 @@ private:
     // Whether no exception leaves the work. One is noted.
     template <class Work>
     bool guarded(std::size_t thread, Work work) {
-        std::string sentence = "thread " + std::to_string(thread) + ": an exception: ";
+        std::string sentence = "exception: thread " + std::to_string(thread) + " threw ";
         try {
             work();
             return true;
         } catch (const std::exception& exception) {
             sentence += exception.what();
         } catch (...) {
-            sentence += "not a std::exception";
+            sentence += "what is no std::exception";
         }
         const std::lock_guard<std::mutex> guard(lock_);
         failures_.push_back(sentence);
@@ -535,19 +625,18 @@ private:
         return false;
     }
 
-    // Until this many threads have ended. A run in which no ticket is drawn for the time of the settings hangs.
+    static void nap() { std::this_thread::sleep_for(std::chrono::microseconds(100)); }
+    // Waits until this many threads have ended. A run in which no ticket is drawn for the time of the settings hangs.
     void wait(std::size_t threads) {
-        using clock = std::chrono::steady_clock;
-        std::uint64_t seen = tickets_.load();
-        auto since = clock::now();
-        std::unique_lock<std::mutex> guard(lock_);
-        const auto look = std::min(settings_.timeout, std::chrono::milliseconds(100));
-        while (!has_ended_.wait_for(guard, look, [&] { return ended_ == threads; })) {
+        std::uint64_t seen = 0;
+        auto since = std::chrono::steady_clock::now();
+        for (; ended_.load() < threads; nap()) {
+            crash_->look();
             const std::uint64_t drawn = tickets_.load();
-            if (drawn != seen) {
-                seen = drawn;
-                since = clock::now();
-            } else if (clock::now() - since >= settings_.timeout) {
+            const auto now = std::chrono::steady_clock::now();
+            since = drawn != seen ? now : since;
+            seen = drawn;
+            if (now - since >= settings_.timeout) {
                 end_hung();
             }
         }
@@ -555,31 +644,21 @@ private:
 
     // The threads can't be ended, so the process is.
     [[noreturn]] void end_hung() const {
-        const History history(recorded_, initial_);
-        const std::string path = path_of(settings_, history);
-        std::cerr << "fifobench: seed " << settings_.seed << " hangs: no event for " << settings_.timeout.count()
-                  << " ms\n";
+        std::ostringstream how;
+        how << "hang: no event for " << static_cast<double>(settings_.timeout.count()) / 1000 << " s"
+            << (start_.is_open() ? "" : "; not all threads have begun");
         for (const std::string& sentence : failures_) {
-            std::cerr << "fifobench: " << sentence << '\n';
+            how << "; " << sentence;
         }
-        for (const auto& [thread, call] : history.open()) {
-            std::cerr << "fifobench: " << described(thread, call) << '\n';
-        }
-        if (!start_.is_open()) {
-            std::cerr << "fifobench: not all threads have begun" << std::endl;
-            std::_Exit(2);
-        }
-        std::error_code ignored;
-        std::filesystem::create_directories(settings_.folder, ignored);
-        std::ofstream file(path, std::ios::binary);
-        history.write(file);
-        std::cerr << (file ? "fifobench: what there is: " : "fifobench: can't write ") << path << std::endl;
+        const char* const fault = "If the queue promises to return, the hang itself is the fault.";
+        const int status = Judge(settings_).end_early(History(recorded_, initial_), how.str(), fault);
         std::cout.flush();
-        std::_Exit(2);
+        std::_Exit(status);
     }
 
     const Settings settings_;
     bool is_chosen_ = false;    // the schedule
+    std::optional<Crash> crash_;
     const Hooks hooks_;
     std::vector<std::uint64_t> initial_;
     alignas(64) std::atomic<std::uint64_t> tickets_{0};
@@ -589,9 +668,8 @@ private:
     std::atomic<bool> has_failed_{false};
     std::atomic<bool> is_refused_{false};
     bool has_surplus_ = false;
+    std::atomic<std::size_t> ended_{0};
     std::mutex lock_;
-    std::condition_variable has_ended_;
-    std::size_t ended_ = 0;
     std::vector<std::string> failures_;
 };
 
@@ -619,123 +697,46 @@ Hooks hooks_of(Queue& queue, const Settings& settings) {
     return hooks;
 }
 
-inline std::string shell_word(std::string word) {
-    for (std::size_t at = 0; (at = word.find('\'', at)) != std::string::npos; at += 4) {
-        word.replace(at, 1, "'\\''");
+// Makes the runs of a search, one seed after another, and has each judged.
+template <class RunOne>
+int search_free(const Settings& settings, RunOne& run_one) {
+    const Judge program(settings);
+    const bool judges = program.is_there();
+    const unsigned runs = settings.runs != 0 ? settings.runs : 100;
+    std::size_t operations = 0, overlapping = 0;
+    if (!judges) {
+        std::cerr << "fifobench: no program '" << program.program()
+                  << "': nothing is judged; the histories are kept in " << settings.folder << std::endl;
     }
-    return "'" + word + "'";
+    const Watch watch(settings, runs);
+    for (unsigned made = 0; made < runs; ++made) {
+        Settings one = settings;
+        one.seed += made;
+        one.pattern = one.pattern_of_seed();
+        const History history = run_one(static_cast<const Settings&>(one));
+        operations += history.operations();
+        overlapping += history.overlapping();
+        if (const int answer = Judge(one).answer(history, judges); answer != 0) {
+            return answer;
+        }
+    }
+    std::error_code ignored;
+    std::filesystem::remove(settings.folder, ignored);    // if it is empty
+    std::cout << (judges ? "no violation" : "nothing judged") << " in " << runs << " runs (seeds " << settings.seed
+              << " to " << settings.seed + runs - 1 << "); "
+              << 100 * overlapping / std::max<std::size_t>(operations, 1) << " of 100 operations overlap another"
+              << std::endl;
+    return judges ? 0 : 2;
 }
 
-// The runs of a search, one seed after another.
-class Search {
-public:
-    explicit Search(const Settings& settings) : settings_(settings), program_(settings.program) {
-        settings_.runs = settings.runs != 0 ? settings.runs : 100;
-        const char* const named = std::getenv("FIFOBENCH");
-        program_ = !program_.empty() ? program_ : named != nullptr && *named != '\0' ? named : "fifobench";
-        std::filesystem::create_directories(settings_.folder);
-        judges_ = ask("--version 2>/dev/null", "/dev/null", "/dev/null") == 0;
-        if (!judges_) {
-            std::cerr << "fifobench: no program '" << program_ << "': nothing is judged; the histories are kept in "
-                      << settings_.folder << std::endl;
-        }
-    }
+}    // namespace fifobench::detail
 
-    template <class RunOne>
-    int all(RunOne& run_one) {
-        for (unsigned made = 0; made < settings_.runs; ++made) {
-            Settings one = settings_;
-            one.seed += made;
-            one.pattern = one.pattern_of_seed();
-            if (const int status = judge(one, run_one(static_cast<const Settings&>(one))); status != 0) {
-                return status;
-            }
-        }
-        std::error_code ignored;
-        std::filesystem::remove(settings_.folder, ignored);    // if it is empty
-        std::cout << (judges_ ? "no violation" : "nothing judged") << " in " << settings_.runs << " runs (seeds "
-                  << settings_.seed << " to " << settings_.seed + settings_.runs - 1 << "); "
-                  << 100 * overlapping_ / std::max<std::size_t>(operations_, 1)
-                  << " of 100 operations overlap another" << std::endl;
-        return judges_ ? 0 : 2;
-    }
-
-private:
-    int judge(const Settings& one, const History& history) {
-        const std::string path = path_of(one, history);
-        const std::string report = settings_.folder + "/" + std::to_string(one.seed) + ".report";
-        operations_ += history.operations();
-        overlapping_ += history.overlapping();
-        std::ofstream file(path, std::ios::binary);
-        history.write(file);
-        if (!file) {
-            throw std::runtime_error("can't write " + path);
-        }
-        for (const std::string& sentence : history.notes()) {
-            std::cerr << "fifobench: seed " << one.seed << ": " << sentence << std::endl;
-        }
-        if (history.has_failed()) {
-            std::cerr << "fifobench: what there is: " << path << std::endl;
-            return 2;
-        }
-        if (!judges_) {
-            return 0;
-        }
-        const int status = ask("check", path, report);
-        std::string verdict;
-        std::getline(std::ifstream(report), verdict);
-        if (status == 0 && verdict == "YES") {
-            std::filesystem::remove(path);
-            std::filesystem::remove(report);
-            return 0;
-        }
-        if (status != 1 || verdict.rfind("NO ", 0) != 0) {
-            std::cerr << "fifobench: " << program_ << " says '" << verdict << "' of " << path << std::endl;
-            return 2;
-        }
-        return tell(one, verdict, path, report);
-    }
-
-    int tell(const Settings& one, const std::string& verdict, const std::string& path,
-             const std::string& report) const {
-        const int status = ask("shrink", path, report);
-        const char* const pattern = name_of(*one.pattern);
-        std::cout << verdict << ": seed " << one.seed << ", " << pattern << '\n'
-                  << "  history: " << path << '\n'
-                  << "  report:  " << report << '\n'
-                  << "  see it:  " << program_ << " draw --text < " << report << '\n'
-                  << "  again:   seed " << one.seed << ", pattern " << pattern
-                  << ": the same plan, though threads may meet in another way" << std::endl;
-        if (status != 1) {
-            std::cerr << "fifobench: '" << program_ << "' can't shrink " << path << std::endl;
-        }
-        return status == 1 ? 1 : 2;
-    }
-
-    // The status of a command of the program, or what is none.
-    int ask(const std::string& command, const std::string& from, const std::string& to) const {
-        const std::string files = " <" + shell_word(from) + " >" + shell_word(to);
-        const int status = std::system((shell_word(program_) + " " + command + files).c_str());
-#ifdef WIFEXITED
-        return WIFEXITED(status) ? WEXITSTATUS(status) : -1;
-#else
-        return status;
-#endif
-    }
-
-    Settings settings_;
-    std::string program_;
-    bool judges_ = false;
-    std::size_t operations_ = 0;
-    std::size_t overlapping_ = 0;
-};
-
-}    // namespace detail
+namespace fifobench {
 
 // Runs `work(thread)` in each of the threads, which begin together, and gives what they recorded. Memory is taken
 // ahead for the operations of the settings; more are recorded too. An exception that leaves `work` ends its thread
-// alone: History::notes has it. A run that hangs ends the process with status 2, and leaves a pending text. Throws
-// std::invalid_argument if the settings are out of range, std::runtime_error if a thread can't be started.
+// alone: History::notes has it. A run that hangs ends the process with status 1 or 2. Throws std::invalid_argument if
+// the settings are out of range, std::runtime_error if a thread can't be started.
 template <class Work>
 History record(const Settings& settings, Work work) {
     return detail::Run(settings, {}).record(work);
@@ -772,7 +773,7 @@ int search_runs(const Settings& settings, RunOne run_one) {
     try {
         std::optional<int> answer;
         FIFOBENCH_POINTS(search(settings, run_one, answer));
-        return answer ? *answer : detail::Search(settings).all(run_one);
+        return answer ? *answer : detail::search_free(settings, run_one);
     } catch (const std::exception& exception) {
         std::cerr << "fifobench: " << exception.what() << std::endl;
         return 2;

@@ -1,6 +1,6 @@
 // Package fifobench records what goroutines do with a FIFO queue, and searches for a run that no FIFO queue can have
-// made. Go 1.19 or later with its standard library, this one file: copy it into a folder fifobench of your module. In
-// a test:
+// made. Go 1.19 or later with its standard library: copy this file and judge.go into a folder fifobench of your module.
+// In a test:
 //
 //	func TestMyQueue(t *testing.T) {
 //		answer := fifobench.Search(fifobench.Defaults(), func() fifobench.Queue { return NewMyQueue() })
@@ -20,8 +20,6 @@ import (
 	"fmt"
 	"io"
 	"os"
-	"os/exec"
-	"path/filepath"
 	"runtime"
 	"sort"
 	"strings"
@@ -91,6 +89,7 @@ type Options struct {
 	Folder     string                            // where histories and reports are kept
 	Program    string                            // if empty, that of the variable FIFOBENCH, else that on the PATH
 	Schedule   any                               // with schedule.go a Schedule; nil: if FIFOBENCH_SCHEDULE=1
+	Journal    bool                              // events reach Folder/SEED.pending while the run goes on
 	isQuiet    bool                              // what was said once isn't said again
 	tellAgain  func(kind string)                 // the last lines of a verdict, with chosen schedules
 }
@@ -292,17 +291,18 @@ type History struct {
 	events   []event
 	initial  []uint64
 	failures []string
-	hasEnded bool
+	ending   string // "", or how the run ended early: hang, panic, deadlock, livelock
+	answer   Answer // what was said of a run that hung
 }
 
 // IsComplete says whether every call has its return. If one has none, Write writes a pending text.
 func (history *History) IsComplete() bool {
-	return history.hasEnded && len(history.openCalls()) == 0
+	return len(history.openCalls()) == 0
 }
 
 // IsGivenUp says whether the run hung. What there was is kept in the folder; standard error says where.
 func (history *History) IsGivenUp() bool {
-	return !history.hasEnded
+	return history.ending == "hang"
 }
 
 // Failures says what went wrong: panics, or that the run hung.
@@ -331,20 +331,9 @@ func (history *History) Write(to io.Writer) error {
 	if !history.IsComplete() {
 		name = "fifo-pending"
 	}
-	if len(history.initial) == 0 {
-		fmt.Fprintln(out, name, 1)
-	} else {
-		fmt.Fprintf(out, "%s 2\ninitial %d\n", name, len(history.initial))
-	}
-	for _, value := range history.initial {
-		fmt.Fprintln(out, value)
-	}
-	for _, event := range history.events {
-		if event.what == callEnq || event.what == retDeq {
-			fmt.Fprintln(out, event.ticket, event.thread, event.what, event.value)
-		} else {
-			fmt.Fprintln(out, event.ticket, event.thread, event.what)
-		}
+	writeHead(out, name, history.initial)
+	for place := range history.events {
+		fmt.Fprintln(out, history.events[place].line()...)
 	}
 	if !history.IsComplete() {
 		fmt.Fprintln(out, "open", len(history.openCalls()))
@@ -352,6 +341,32 @@ func (history *History) Write(to io.Writer) error {
 	fmt.Fprintln(out, "end", len(history.events))
 	// A write that failed above is kept by the writer, and told here.
 	return out.Flush()
+}
+
+// Writes what stands before the events.
+func writeHead(to io.Writer, name string, initial []uint64) {
+	if len(initial) == 0 {
+		fmt.Fprintln(to, name, 1)
+	} else {
+		fmt.Fprintf(to, "%s 2\ninitial %d\n", name, len(initial))
+	}
+	for _, value := range initial {
+		fmt.Fprintln(to, value)
+	}
+}
+
+// Returns the fields of the event's line.
+func (event *event) line() []any {
+	if event.what == callEnq || event.what == retDeq {
+		return []any{event.ticket, event.thread, event.what, event.value}
+	}
+	return []any{event.ticket, event.thread, event.what}
+}
+
+func (history *History) text() []byte {
+	var text bytes.Buffer
+	_ = history.Write(&text) // a buffer takes each write
+	return text.Bytes()
 }
 
 // How many operations overlap another. Threads are bits.
@@ -414,7 +429,7 @@ func (run *run) makeSteps(thread *Thread, work func(thread *Thread), queue Queue
 	isOver := false
 	defer func() {
 		if !isOver {
-			run.fail(fmt.Sprintf("thread %d panicked: %v", thread.number, recover()))
+			run.fail(fmt.Sprintf("panic: thread %d panicked: %v", thread.number, recover()))
 		}
 	}()
 	registrar, registers := queue.(Registrar)
@@ -464,19 +479,28 @@ func (run *run) execute(work func(thread *Thread), queue Queue) *History {
 		close(over)
 	}()
 	if run.endsWith(over) {
-		return run.history(true)
+		return run.history("")
 	}
-	run.hasFailed.Store(true)
-	told := toldCalls(run.history(false).openCalls())
-	run.fail(fmt.Sprintf("no event for %v: %s", run.options.Timeout, told))
-	history := run.history(false)
-	history.keepFailed(&run.options)
+	run.fail(run.toldHang())
+	return run.endHung()
+}
+
+func (run *run) toldHang() string {
+	return fmt.Sprintf("hang: no event for %g s", run.options.Timeout.Seconds())
+}
+
+// Judges at once what there is of a run that hangs: its goroutines go on.
+func (run *run) endHung() *History {
+	history := run.history("hang")
+	history.answer = history.endEarly(&run.options)
 	return history
 }
 
 // Stays until the run is over; false if no ticket is drawn for the time of the options.
 func (run *run) endsWith(over <-chan struct{}) bool {
-	look := time.NewTicker(50 * time.Millisecond)
+	journal := newJournal(run)
+	defer journal.remove()
+	look := time.NewTicker(journal.often())
 	defer look.Stop()
 	seen, since := uint64(0), time.Now()
 	for {
@@ -484,6 +508,7 @@ func (run *run) endsWith(over <-chan struct{}) bool {
 		case <-over:
 			return true
 		case <-look.C:
+			journal.write()
 			drawn := run.tickets.Load()
 			if drawn != seen {
 				seen, since = drawn, time.Now()
@@ -495,7 +520,7 @@ func (run *run) endsWith(over <-chan struct{}) bool {
 }
 
 // While goroutines run, the events up to the first that isn't there yet.
-func (run *run) history(hasEnded bool) *History {
+func (run *run) history(ending string) *History {
 	var events []event
 	for _, thread := range run.threads {
 		count := thread.count.Load()
@@ -510,12 +535,15 @@ func (run *run) history(hasEnded bool) *History {
 	run.lock.Lock()
 	defer run.lock.Unlock()
 	failures := append([]string(nil), run.failures...)
-	return &History{events: events[:whole], initial: run.initial, failures: failures, hasEnded: hasEnded}
+	if ending == "" && len(failures) > 0 {
+		ending = "panic"
+	}
+	return &History{events: events[:whole], initial: run.initial, failures: failures, ending: ending}
 }
 
 // Takes out what is left, until the queue says that it is empty or has given more values than went in.
 func (run *run) drain(queue Queue) {
-	history := run.history(true)
+	history := run.history("")
 	left := len(run.initial) + history.count(retEnq) - history.count(retDeq)
 	if left < 0 {
 		left = 0
@@ -658,6 +686,7 @@ func search(options Options, makeQueue func() Queue) (Answer, error) {
 	if options.Runs == 0 {
 		options.Runs = 100
 	}
+	options.nameKilled()
 	operations, overlapping := 0, 0
 	isJudged := options.isFound()
 	for number := uint64(0); number < options.Runs; number++ {
@@ -687,113 +716,15 @@ func search(options Options, makeQueue func() Queue) (Answer, error) {
 }
 
 func (options *Options) answer(history *History, isJudged bool) (Answer, error) {
+	if history.IsGivenUp() {
+		return history.answer, nil
+	}
 	if len(history.failures) > 0 {
-		if history.hasEnded {
-			history.keepFailed(options)
-		}
-		return Wrong, nil
+		return history.endEarly(options), nil
 	}
 	if isJudged {
-		return options.judge(history)
+		return options.judge(history.text(), "")
 	}
-	_, err := history.keep(options, "history")
+	_, err := options.keep("history", history.text())
 	return NoViolation, err
-}
-
-func (options *Options) program() string {
-	if options.Program != "" {
-		return options.Program
-	}
-	if named := os.Getenv("FIFOBENCH"); named != "" {
-		return named
-	}
-	return "fifobench"
-}
-
-// Whether the program can be started; if it can't, a line says so.
-func (options *Options) isFound() bool {
-	var ended *exec.ExitError
-	err := exec.Command(options.program(), "help").Run()
-	if err == nil || errors.As(err, &ended) {
-		return true
-	}
-	say("no program %s: nothing is judged, and each history is kept in %s", options.program(), options.Folder)
-	return false
-}
-
-// What the program writes about this history, and its status.
-func (options *Options) ask(command string, history *History) ([]byte, int, error) {
-	var text, told bytes.Buffer
-	if err := history.Write(&text); err != nil {
-		return nil, 0, err
-	}
-	judge := exec.Command(options.program(), command)
-	judge.Stdin, judge.Stdout, judge.Stderr = &text, &told, os.Stderr
-	err := judge.Run()
-	var ended *exec.ExitError
-	if err != nil && !errors.As(err, &ended) {
-		return nil, 0, err
-	}
-	return told.Bytes(), judge.ProcessState.ExitCode(), nil
-}
-
-func (options *Options) judge(history *History) (Answer, error) {
-	verdict, status, err := options.ask("check", history)
-	if err != nil || status == 0 {
-		return NoViolation, err
-	}
-	kept, err := history.keep(options, "history")
-	if err != nil {
-		return Wrong, err
-	}
-	firstLine, _, _ := strings.Cut(string(verdict), "\n")
-	if status != 1 {
-		return Wrong, fmt.Errorf("seed %d: check answers %s to %s", options.Seed, firstLine, kept)
-	}
-	shrunk, _, err := options.ask("shrink", history)
-	if err != nil {
-		return Wrong, err
-	}
-	report := filepath.Join(options.Folder, fmt.Sprintf("%d.report", options.Seed))
-	if err := os.WriteFile(report, shrunk, 0o666); err != nil {
-		return Wrong, err
-	}
-	seed, pattern := options.Seed, options.PatternOf(options.Seed)
-	fmt.Printf("%s: seed %d, %s\n", firstLine, seed, pattern)
-	fmt.Printf("  history: %s\n  report:  %s\n", kept, report)
-	fmt.Printf("  see it:  %s draw --text < %s\n", options.program(), report)
-	if options.tellAgain != nil {
-		options.tellAgain(firstLine)
-		return Violation, nil
-	}
-	fmt.Printf("  again:   seed %d, pattern %s: the same plan, though threads may meet in another way\n", seed, pattern)
-	return Violation, nil
-}
-
-func (history *History) keep(options *Options, kind string) (string, error) {
-	if err := os.MkdirAll(options.Folder, 0o777); err != nil {
-		return "", err
-	}
-	path := filepath.Join(options.Folder, fmt.Sprintf("%d.%s", options.Seed, kind))
-	to, err := os.Create(path)
-	if err != nil {
-		return "", err
-	}
-	defer to.Close()
-	return path, history.Write(to)
-}
-
-// Keeps what there is, and says what happened.
-func (history *History) keepFailed(options *Options) {
-	say("seed %d: %s", options.Seed, strings.Join(history.failures, ", "))
-	kind := "pending"
-	if history.IsComplete() {
-		kind = "history"
-	}
-	path, err := history.keep(options, kind)
-	if err != nil {
-		say("can't keep what was recorded: %v", err)
-		return
-	}
-	say("what was recorded: %s", path)
 }

@@ -3,6 +3,7 @@ package fifobench
 // Searches with chosen schedules, and traces a violation to the few switches that it needs. Beside schedule.go.
 
 import (
+	"bytes"
 	"fmt"
 	"os"
 	"path/filepath"
@@ -87,9 +88,9 @@ func (scheduler *scheduler) waitForEnd(run *run, running *sync.WaitGroup) *Histo
 	}()
 	if run.endsWith(over) {
 		if scheduler.outcome != "" {
-			run.fail(scheduler.toldOutcome(run.history(true).openCalls()))
+			run.fail(scheduler.toldOutcome(run.history("").openCalls()))
 		}
-		return run.history(true)
+		return run.history(scheduler.outcome)
 	}
 	var told []string
 	for number, place := range scheduler.findPlaces() {
@@ -98,11 +99,9 @@ func (scheduler *scheduler) waitForEnd(run *run, running *sync.WaitGroup) *Histo
 		}
 	}
 	scheduler.abandon(nil)
-	run.fail(fmt.Sprintf("no event for %v: blocked outside of the schedule, as by sync.Mutex or a channel: %s",
-		run.options.Timeout, strings.Join(told, ", ")))
-	history := run.history(false)
-	history.keepFailed(&run.options)
-	return history
+	run.fail(fmt.Sprintf("%s: blocked outside of the schedule, as by sync.Mutex or a channel: %s", run.toldHang(),
+		strings.Join(told, ", ")))
+	return run.endHung()
 }
 
 // What one goroutine does; the first one drains when all others have left.
@@ -111,7 +110,7 @@ func (scheduler *scheduler) makeSteps(run *run, thread *Thread, queue Queue) {
 	isOver := false
 	defer func() {
 		if failure := recover(); !isOver && !scheduler.isOver.Load() {
-			run.fail(fmt.Sprintf("thread %d panicked: %v", thread.number, failure))
+			run.fail(fmt.Sprintf("panic: thread %d panicked: %v", thread.number, failure))
 		}
 		scheduler.leave(seat)
 	}()
@@ -255,27 +254,15 @@ func (scheduler *scheduler) makeOperations(thread *Thread, queue Queue) {
 
 func (search *searching) judge(made *made, isJudged bool) (Answer, error) {
 	history := made.history
-	if len(history.failures) > 0 {
-		if !history.hasEnded { // told already: its goroutines are left where they block
-			return Wrong, nil
-		}
-		history.keepFailed(&made.options)
-		if !isJudged {
-			return Wrong, nil
-		}
-		kind, err := made.kind()
-		if err == nil {
-			err = search.tellAgain(made, kind)
-		}
-		return Wrong, err
-	}
-	if !isJudged {
-		_, err := history.keep(&made.options, "history")
+	if !isJudged && len(history.failures) == 0 {
+		_, err := made.options.keep("history", history.text())
 		return NoViolation, err
 	}
 	var told error
-	made.options.tellAgain = func(kind string) { told = search.tellAgain(made, kind) }
-	answer, err := made.options.judge(history)
+	if isJudged {
+		made.options.tellAgain = func(kind string) { told = search.tellAgain(made, kind) }
+	}
+	answer, err := made.options.answer(history, isJudged)
 	if err == nil {
 		err = told
 	}
@@ -287,20 +274,13 @@ func (made *made) kind() (string, error) {
 	switch {
 	case made.outcome != "":
 		return made.outcome, nil
-	case !made.history.hasEnded:
+	case made.history.IsGivenUp():
 		return "a hang", nil
 	case len(made.history.failures) > 0:
 		return "a panic", nil
 	}
-	verdict, _, err := made.options.ask("check", made.history)
-	line, _, _ := strings.Cut(string(verdict), "\n")
-	return line, err
-}
-
-func (history *History) text() string {
-	var text strings.Builder
-	_ = history.Write(&text) // a strings.Builder fails at nothing
-	return text.String()
+	verdict, _, err := made.options.ask("check", made.history.text())
+	return firstLine(verdict), err
 }
 
 // Makes the run again, leaves out operations and switches, and prints what is left.
@@ -310,7 +290,7 @@ func (search *searching) tellAgain(first *made, kind string) error {
 	if err != nil {
 		return err
 	}
-	if again.history.text() != first.history.text() {
+	if !bytes.Equal(again.history.text(), first.history.text()) {
 		fmt.Printf("  again:   seed %d made another run the second time: something but the schedule plays a part, as "+
 			"clocks, orders of maps and of select, input, or goroutines of the queue's own\n", seed)
 		return nil
@@ -556,7 +536,7 @@ func (made *made) keptEvents() ([]event, error) {
 		sort.Slice(calls, func(one, other int) bool { return calls[one].ticket < calls[other].ticket })
 		return calls, nil
 	}
-	report, _, err := made.options.ask("shrink", made.history)
+	report, _, err := made.options.ask("shrink", made.history.text())
 	if err != nil {
 		return nil, err
 	}

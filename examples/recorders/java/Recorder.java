@@ -1,11 +1,13 @@
+import static java.util.stream.Collectors.joining;
+
 import java.io.BufferedWriter;
+import java.io.ByteArrayOutputStream;
 import java.io.IOException;
 import java.io.OutputStream;
 import java.io.OutputStreamWriter;
 import java.io.Writer;
-import java.lang.ProcessBuilder.Redirect;
+import java.math.BigDecimal;
 import java.nio.charset.StandardCharsets;
-import java.nio.file.Files;
 import java.nio.file.Path;
 import java.time.Duration;
 import java.util.ArrayList;
@@ -16,12 +18,11 @@ import java.util.Locale;
 import java.util.concurrent.atomic.AtomicInteger;
 import java.util.concurrent.atomic.AtomicLong;
 import java.util.function.BooleanSupplier;
-import java.util.function.Consumer;
 import java.util.function.Supplier;
 
 /**
  * Records what threads do with a FIFO queue, and searches for a run that no FIFO queue can have made. Java 17 with its
- * own library, this one file. In a test:
+ * own library; RecorderJudge.java lies beside this file. In a test:
  *
  * <pre>{@code
  * @Test
@@ -116,10 +117,11 @@ public final class Recorder implements AutoCloseable {
     private long first;
     int initial;
     boolean drains = true;
+    boolean hasJournal;
     Path folder = Path.of("fifobench-runs");
-    private String program;
+    String program;
     private Chooser chooser;
-    Consumer<String> tellAgain;    // the last lines of a verdict, with chosen schedules
+    final RecorderJudge judge = new RecorderJudge(this);
     boolean isQuiet;    // what was said once isn't said again
     private final List<Thread> hanging = new ArrayList<>();
 
@@ -189,6 +191,12 @@ public final class Recorder implements AutoCloseable {
         return this;
     }
 
+    /** Whether events reach FOLDER/SEED.pending while the run goes on, so that a killed run leaves them. */
+    public Recorder journal(boolean hasJournal) {
+        this.hasJournal = hasJournal;
+        return this;
+    }
+
     /** Where histories and reports are kept; {@code fifobench-runs} unless set. */
     public Recorder folder(Path folder) {
         this.folder = folder;
@@ -229,6 +237,11 @@ public final class Recorder implements AutoCloseable {
     record Event(long ticket, int thread, int what, long value) {
         boolean isCall() {
             return what == CALL_ENQ || what == CALL_DEQ;
+        }
+
+        String line() {
+            String text = ticket + " " + thread + " " + WORDS[what];
+            return what == CALL_ENQ || what == RET_DEQ ? text + " " + Long.toUnsignedString(value) : text;
         }
     }
 
@@ -293,11 +306,12 @@ public final class Recorder implements AutoCloseable {
             count.setRelease(place / 2 + 1);
         }
 
-        private void read(List<Event> events) {
+        // Appends the events from a place on that are published.
+        void read(int from, List<Event> events) {
             int published = count.getAcquire();
-            long[] from = noted;
-            for (int place = 0; place < 2 * published; place += 2) {
-                events.add(new Event(from[place] >>> 3, number, (int) (from[place] & 7), from[place + 1]));
+            long[] words = noted;
+            for (int place = 2 * from; place < 2 * published; place += 2) {
+                events.add(new Event(words[place] >>> 3, number, (int) (words[place] & 7), words[place + 1]));
             }
         }
     }
@@ -349,26 +363,28 @@ public final class Recorder implements AutoCloseable {
     public static final class History {
         final long seed;
         final List<Event> events;
-        private final List<Long> initial;
+        final List<Long> initial;
         final List<String> failures;
-        final boolean hasEnded;
+        final String ending;    // null, or how the run ended early: hang, exception, deadlock or livelock
+        final Answer answer;    // null, or what was said of a run that hung
 
-        private History(long seed, List<Event> events, List<Long> initial, List<String> failures, boolean hasEnded) {
-            this.seed = seed;
+        private History(Run run, List<Event> events) {
+            this.seed = run.seed;
             this.events = events;
-            this.initial = initial;
-            this.failures = failures;
-            this.hasEnded = hasEnded;
+            this.initial = run.initials;
+            this.failures = run.failures;
+            this.ending = run.ending;
+            this.answer = run.answer;
         }
 
         /** Whether every call has its return. If one has none, {@link #write} writes a pending text. */
         public boolean isComplete() {
-            return hasEnded && openCalls().isEmpty();
+            return openCalls().isEmpty();
         }
 
         /** Whether the run hung. What there was is kept in the folder; standard error says where. */
         public boolean isGivenUp() {
-            return !hasEnded;
+            return "hang".equals(ending);
         }
 
         /** What went wrong: exceptions in threads, or that the run hung. */
@@ -387,19 +403,25 @@ public final class Recorder implements AutoCloseable {
         /** Writes the text of the history: bytes of ASCII. */
         public void write(OutputStream to) throws IOException {
             Writer text = new BufferedWriter(new OutputStreamWriter(to, StandardCharsets.US_ASCII));
-            text.append(isComplete() ? "fifo-history " : "fifo-pending ");
-            text.append(initial.isEmpty() ? "1\n" : "2\ninitial " + initial.size() + "\n");
-            for (long value : initial) {
-                text.append(Long.toUnsignedString(value) + "\n");
-            }
+            text.append(head(isComplete() ? "fifo-history " : "fifo-pending ", initial));
             for (Event event : events) {
-                boolean hasValue = event.what == CALL_ENQ || event.what == RET_DEQ;
-                String value = hasValue ? " " + Long.toUnsignedString(event.value) : "";
-                text.append(event.ticket + " " + event.thread + " " + WORDS[event.what] + value + "\n");
+                text.append(event.line() + "\n");
             }
             text.append(isComplete() ? "" : "open " + openCalls().size() + "\n");
             text.append("end " + events.size() + "\n");
             text.flush();
+        }
+
+        byte[] text() throws IOException {
+            ByteArrayOutputStream text = new ByteArrayOutputStream();
+            write(text);
+            return text.toByteArray();
+        }
+
+        // Returns the lines before the events of a text.
+        static String head(String name, List<Long> initial) {
+            String values = initial.stream().map(value -> Long.toUnsignedString(value) + "\n").collect(joining());
+            return name + (initial.isEmpty() ? "1\n" : "2\ninitial " + initial.size() + "\n" + values);
         }
 
         // How many operations overlap another.
@@ -478,7 +500,8 @@ public final class Recorder implements AutoCloseable {
         final List<String> failures = new ArrayList<>();
         private final AtomicInteger ended = new AtomicInteger();
         private volatile boolean hasFailed;
-        boolean hasEnded = true;
+        String ending;
+        private Answer answer;
 
         Run(long seed, int initial) {
             checkSettings();
@@ -529,33 +552,50 @@ public final class Recorder implements AutoCloseable {
             }
             waitForEnd(running);
             hanging.addAll(running);
-            hasEnded = running.isEmpty();
-            hasFailed = hasFailed || !hasEnded;
+            hasFailed = hasFailed || !running.isEmpty();
             for (Worker worker : workers) {
                 if (worker.failure != null) {
-                    failures.add("thread " + worker.number + " failed: " + worker.failure);
+                    fail("exception", "thread " + worker.number + " threw " + worker.failure);
                 }
             }
-            if (!hasEnded) {
-                failures.add("no event for " + timeout.toSeconds() + " s");
-                history().openCalls().forEach(call -> failures.add(toldCall(call)));
-                keepFailed(history());
+            if (!running.isEmpty()) {
+                endHung("");
             }
+        }
+
+        // Notes what went wrong.
+        void fail(String ending, String told) {
+            this.ending = ending;
+            failures.add(ending + ": " + told);
+        }
+
+        // Judges at once what there is of a run that hangs: its threads go on.
+        void endHung(String where) {
+            BigDecimal seconds = BigDecimal.valueOf(timeout.toMillis(), 3).stripTrailingZeros();
+            fail("hang", "no event for " + seconds.toPlainString() + " s" + where);
+            answer = judge.endEarly(history());
         }
 
         // Stays until all have ended, or no ticket is drawn for the time of the settings. Who hangs stays in the list.
         private void waitForEnd(List<Thread> running) {
             boolean isInterrupted = false;
             long seen = 0, since = System.nanoTime();
+            RecorderJudge.Journal journal = judge.journal(this);
             while (!running.isEmpty() && System.nanoTime() - since < timeout.toNanos()) {
                 try {
-                    running.get(0).join(50);
+                    running.get(0).join(journal == null ? 50 : 5);
                 } catch (InterruptedException interrupted) {
                     isInterrupted = true;
+                }
+                if (journal != null) {
+                    journal.write();
                 }
                 running.removeIf(thread -> !thread.isAlive());
                 since = tickets.get() == seen ? since : System.nanoTime();
                 seen = tickets.get();
+            }
+            if (journal != null) {
+                journal.remove();
             }
             if (isInterrupted) {
                 Thread.currentThread().interrupt();
@@ -566,7 +606,7 @@ public final class Recorder implements AutoCloseable {
         History history() {
             List<Event> events = new ArrayList<>();
             for (Worker worker : workers) {
-                worker.read(events);
+                worker.read(0, events);
             }
             events.sort(Comparator.comparingLong(Event::ticket));
             // Tickets are drawn from 0 on, so a ticket is its event's place.
@@ -574,7 +614,7 @@ public final class Recorder implements AutoCloseable {
             while (whole < events.size() && events.get(whole).ticket == whole) {
                 whole++;
             }
-            return new History(seed, events.subList(0, whole), initials, failures, hasEnded);
+            return new History(this, events.subList(0, whole));
         }
 
         // Takes out what is left, until the queue says that it is empty or has given more values than went in.
@@ -590,7 +630,7 @@ public final class Recorder implements AutoCloseable {
                 }
             }
             if (room > left && !isQuiet) {
-                say("seed " + seed + ": the queue gave more values than went in");
+                RecorderJudge.say("seed " + seed + ": the queue gave more values than went in");
             }
         }
     }
@@ -666,7 +706,7 @@ public final class Recorder implements AutoCloseable {
             return searchRuns(makeQueue);
         } catch (Exception failure) {
             boolean isNamed = failure.getMessage() == null || failure instanceof ReflectiveOperationException;
-            say(isNamed ? failure.toString() : failure.getMessage());
+            RecorderJudge.say(isNamed ? failure.toString() : failure.getMessage());
             return Answer.WRONG;
         }
     }
@@ -680,21 +720,11 @@ public final class Recorder implements AutoCloseable {
             return chooser.search(this, makeQueue);
         }
         long all = 0, overlapping = 0, end = seed + (runs == 0 ? 100 : runs);
-        boolean isJudged = isFound();
+        boolean isJudged = judge.isFound();
+        judge.nameKilled(end);
         for (long ofRun = seed; ofRun < end; ofRun++) {
             History history = run(ofRun, makeQueue.get());
-            if (!history.failures.isEmpty()) {
-                if (history.hasEnded) {
-                    keepFailed(history);
-                }
-                return Answer.WRONG;
-            }
-            Answer answer = Answer.NO_VIOLATION;
-            if (isJudged) {
-                answer = judge(history);
-            } else {
-                keep(history, "history");
-            }
+            Answer answer = judge.answer(history, isJudged);
             if (answer != Answer.NO_VIOLATION) {
                 return answer;
             }
@@ -705,90 +735,6 @@ public final class Recorder implements AutoCloseable {
                 isJudged ? "no violation in" : "nothing judged in", end - seed, seed, end - 1,
                 all == 0 ? 0 : 100 * overlapping / all);
         return isJudged ? Answer.NO_VIOLATION : Answer.WRONG;
-    }
-
-    private String program() {
-        String set = program != null ? program : System.getenv("FIFOBENCH");
-        return set != null ? set : "fifobench";
-    }
-
-    // Whether the program can be started; if it can't, a line says so.
-    boolean isFound() {
-        try {
-            ProcessBuilder help = new ProcessBuilder(program(), "help");
-            help.redirectOutput(Redirect.DISCARD).redirectError(Redirect.DISCARD).start();
-            return true;
-        } catch (IOException failure) {
-            say("no program " + program() + ": nothing is judged, and each history is kept in " + folder);
-            return false;
-        }
-    }
-
-    record Told(byte[] text, int status) {}
-
-    // What the program writes about this history, and its status.
-    Told ask(String command, History history) throws IOException {
-        Process judge = new ProcessBuilder(program(), command).redirectError(Redirect.INHERIT).start();
-        try (OutputStream input = judge.getOutputStream()) {
-            history.write(input);
-        } catch (IOException refused) {
-            // The program reads all before it writes, unless it refuses the text; then its answer says why.
-        }
-        byte[] text = judge.getInputStream().readAllBytes();
-        try {
-            return new Told(text, judge.waitFor());
-        } catch (InterruptedException interrupted) {
-            Thread.currentThread().interrupt();
-            throw new IOException("interrupted", interrupted);
-        }
-    }
-
-    Answer judge(History history) throws IOException {
-        Told verdict = ask("check", history);
-        if (verdict.status == 0) {
-            return Answer.NO_VIOLATION;
-        }
-        Path kept = keep(history, "history");
-        String firstLine = new String(verdict.text, StandardCharsets.US_ASCII).lines().findFirst().orElse("no answer");
-        if (verdict.status != 1) {
-            throw new IOException("seed " + history.seed + ": check answers " + firstLine + " to " + kept);
-        }
-        long seed = history.seed;
-        Path report = folder.resolve(seed + ".report");
-        Files.write(report, ask("shrink", history).text);
-        Pattern pattern = patternOf(seed);
-        System.out.printf("%s: seed %d, %s%n  history: %s%n  report:  %s%n  see it:  %s draw --text < %s%n", firstLine,
-                seed, pattern, kept, report, program(), report);
-        if (tellAgain != null) {
-            tellAgain.accept(firstLine);
-        } else {
-            System.out.println("  again:   seed " + seed + ", pattern " + pattern
-                    + ": the same plan, though threads may meet in another way");
-        }
-        return Answer.VIOLATION;
-    }
-
-    Path keep(History history, String kind) throws IOException {
-        Files.createDirectories(folder);
-        Path path = folder.resolve(history.seed + "." + kind);
-        try (OutputStream to = Files.newOutputStream(path)) {
-            history.write(to);
-        }
-        return path;
-    }
-
-    // Keeps what there is, and says what happened.
-    void keepFailed(History history) {
-        say("seed " + history.seed + ": " + String.join(", ", history.failures));
-        try {
-            say("what was recorded: " + keep(history, history.isComplete() ? "history" : "pending"));
-        } catch (IOException failure) {
-            say("can't keep what was recorded: " + failure);
-        }
-    }
-
-    private static void say(String line) {
-        System.err.println("fifobench: " + line);
     }
 
     /** Interrupts the threads of runs that were given up as hanging. They are daemons, and hold no program up. */

@@ -1,6 +1,4 @@
-import java.io.ByteArrayOutputStream;
 import java.io.IOException;
-import java.nio.charset.StandardCharsets;
 import java.nio.file.Files;
 import java.nio.file.Path;
 import java.util.ArrayList;
@@ -58,7 +56,7 @@ final class ScheduledSearch {
         long first = Long.parseLong(environment.getOrDefault("FIFOBENCH_SEED", "" + recorder.seed));
         long runs = Long.parseLong(environment.getOrDefault("FIFOBENCH_RUNS", "" + MOST_RUNS));
         long end = first + (recorder.runs == 0 ? runs : recorder.runs);
-        boolean isJudged = recorder.isFound();
+        boolean isJudged = recorder.judge.isFound();
         try {
             for (long seed = first; seed < end; seed++) {
                 Recorder.Answer answer = judge(make(seed, Variant.NONE), isJudged);
@@ -68,7 +66,7 @@ final class ScheduledSearch {
             }
         } finally {
             recorder.operations = operations;
-            recorder.tellAgain = null;
+            recorder.judge.tellAgain = null;
             recorder.isQuiet = false;
         }
         System.out.printf("%s %d runs (seeds %d to %d), with chosen schedules%n",
@@ -133,57 +131,41 @@ final class ScheduledSearch {
             since = run.tickets.get() == seen ? since : System.nanoTime();
             seen = run.tickets.get();
         }
-        run.hasEnded = running.isEmpty();
         for (Schedule.Seat seat : scheduler.seats) {
             if (seat.failure != null) {
-                run.failures.add("thread " + seat.number + " failed: " + seat.failure);
+                run.fail("exception", "thread " + seat.number + " threw " + seat.failure);
             }
         }
         if (scheduler.outcome != null) {
-            run.failures.add(toldOutcome(scheduler, run.history().openCalls()));
-        } else if (!run.hasEnded) {
+            run.fail(scheduler.outcome, toldOutcome(scheduler, run.history().openCalls()));
+        } else if (!running.isEmpty()) {
             scheduler.findPlaces();
             String places = running.stream().filter(one -> one.gate.getQueueLength() == 0)
                     .map(one -> "thread " + one.number + " at " + scheduler.places.get(one.number))
                     .collect(Collectors.joining(", "));
             scheduler.abandon(null);
-            run.failures.add("no event for " + recorder.timeout.toSeconds()
-                    + " s: blocked outside of the schedule, as by synchronized or a BlockingQueue: " + places);
-            recorder.keepFailed(run.history());
+            run.endHung(": blocked outside of the schedule, as by synchronized or a BlockingQueue: " + places);
         }
     }
 
     private String toldOutcome(Schedule.Scheduler scheduler, List<Recorder.Event> calls) {
         String why = scheduler.outcome.equals("deadlock") ? "no thread can run"
                 : "no operation ends in " + schedule.patience() + " points";
-        return scheduler.outcome + ": " + why + ": " + calls.stream()
+        return why + ": " + calls.stream()
                 .map(call -> Recorder.toldCall(call) + " at " + scheduler.places.get(call.thread()))
                 .collect(Collectors.joining(", "));
     }
 
     private Recorder.Answer judge(Made made, boolean isJudged) throws Exception {
-        if (!made.history.failures.isEmpty()) {
-            if (made.history.hasEnded) {    // else told already: its threads are left where they block
-                recorder.keepFailed(made.history);
-                if (isJudged) {
-                    tellAgain(made, kind(made));
-                }
-            }
-            return Recorder.Answer.WRONG;
-        }
-        if (!isJudged) {
-            recorder.keep(made.history, "history");
-            return Recorder.Answer.NO_VIOLATION;
-        }
         Exception[] failure = {null};
-        recorder.tellAgain = kind -> {
+        recorder.judge.tellAgain = !isJudged ? null : kind -> {
             try {
                 tellAgain(made, kind);
             } catch (Exception thrown) {
                 failure[0] = thrown;
             }
         };
-        Recorder.Answer answer = recorder.judge(made.history);
+        Recorder.Answer answer = recorder.judge.answer(made.history, isJudged);
         if (failure[0] != null) {
             throw failure[0];
         }
@@ -195,27 +177,17 @@ final class ScheduledSearch {
         if (made.scheduler.outcome != null) {
             return made.scheduler.outcome;
         }
-        if (!made.history.failures.isEmpty()) {
-            return made.history.hasEnded ? "an exception" : "a hang";
+        if (made.history.ending != null) {
+            return made.history.isGivenUp() ? "a hang" : "an exception";
         }
-        return lines(recorder.ask("check", made.history)).get(0);
-    }
-
-    private static List<String> lines(Recorder.Told told) {
-        return new String(told.text(), StandardCharsets.US_ASCII).lines().toList();
-    }
-
-    private static byte[] text(Made made) throws IOException {
-        ByteArrayOutputStream text = new ByteArrayOutputStream();
-        made.history.write(text);
-        return text.toByteArray();
+        return recorder.judge.ask("check", made.history.text()).firstLine();
     }
 
     // Makes the run again, leaves out operations and switches, and prints what is left.
     private void tellAgain(Made first, String kind) throws Exception {
         long seed = first.history.seed;
         recorder.isQuiet = true;
-        if (!Arrays.equals(text(make(seed, Variant.NONE)), text(first))) {
+        if (!Arrays.equals(make(seed, Variant.NONE).history.text(), first.history.text())) {
             System.out.println("  again:   seed " + seed + " made another run the second time: something but the "
                     + "schedule plays a part, as clocks, identity hashes, input, or threads of the queue's own");
             return;
@@ -391,7 +363,7 @@ final class ScheduledSearch {
             events.sort(Comparator.comparingLong(Recorder.Event::ticket));
             return events;
         }
-        for (String line : lines(recorder.ask("shrink", made.history))) {
+        for (String line : recorder.judge.ask("shrink", made.history.text()).lines()) {
             String[] words = line.split(" ");
             if (words[0].equals("end")) {
                 break;

@@ -147,8 +147,8 @@ def record_steps(options, queue):
 
 def one_run(options, queue):
     history = recorder.run(options, queue) if options.pattern else record_steps(options, queue)
-    if not history.has_ended:
-        return recorder.Answer.WRONG
+    if history.answer is not None:
+        return history.answer
     for failure in history.failures:
         print(f"fifobench: {failure}", file=sys.stderr)
     try:

@@ -44,6 +44,7 @@ MAX_THREADS = 64
 MAX_OPERATIONS = 1_000_000
 MAX_EVENTS = 2_000_000
 MAX_INITIAL = 100_000
+MAX_DRAWN = 400    # operations or initial values in a picture
 PATTERNS = ("alternate", "mix", "bursts", "roles")
 
 
@@ -72,6 +73,8 @@ class Options:
     value: object = None    # the value of a thread's operation n, a function (thread, n); None: thread * 2**32 + n
     initial: int = 0    # how many values the queue is given before: those of a thread 64, as a rule 2**38, ..
     drain: bool = True    # take values out after the threads have ended, until the queue says that it is empty
+    # Whether events reach FOLDER/SEED.pending while the run goes on, so that a killed run leaves them.
+    journal: bool = False
     folder: str = "fifobench-runs"    # where histories and reports are kept
     program: str = None    # else that of the environment variable FIFOBENCH, else fifobench on the PATH
     # Whether the seed chooses how threads interleave, by schedule.py beside this file: True, False, or a dict of its
@@ -213,15 +216,29 @@ def _is_call(event):
     return event[2] in ("call-enq", "call-deq")
 
 
+def _head(name, initial):
+    """Returns the lines before the events of a text."""
+    if not initial:
+        return f"{name} 1\n"
+    return f"{name} 2\ninitial {len(initial)}\n" + "".join(f"{value}\n" for value in initial)
+
+
+def _line(event):
+    ticket, thread, what, value = event
+    return f"{ticket} {thread} {what}\n" if value is None else f"{ticket} {thread} {what} {value}\n"
+
+
 class History:
     """What was recorded: the events of all threads, by ticket."""
 
-    def __init__(self, events, initial, failures, has_ended):
+    def __init__(self, events, initial, failures, ending):
         self._events = events
         self._initial = initial
         self.failures = failures    # what went wrong: exceptions in threads, or that the run hung
-        self.has_ended = has_ended    # False: it hung, and what there was is kept in the folder
-        self.is_complete = has_ended and not self._open_calls()    # False: `write` writes a pending text
+        self.ending = ending    # None, or how the run ended early: hang, exception, deadlock or livelock
+        self.has_ended = ending != "hang"    # False: it hung, and what there was is kept in the folder
+        self.is_complete = not self._open_calls()    # False: `write` writes a pending text
+        self.answer = None    # what was said of a run that hung
 
     def _open_calls(self):
         calls = {}
@@ -230,17 +247,15 @@ class History:
         return [calls[thread] for thread in sorted(calls) if calls[thread]]
 
     def _lines(self):
-        name = "fifo-history" if self.is_complete else "fifo-pending"
-        if self._initial:
-            yield f"{name} 2\ninitial {len(self._initial)}\n"
-            yield from (f"{value}\n" for value in self._initial)
-        else:
-            yield f"{name} 1\n"
-        for ticket, thread, what, value in self._events:
-            yield f"{ticket} {thread} {what}\n" if value is None else f"{ticket} {thread} {what} {value}\n"
+        yield _head("fifo-history" if self.is_complete else "fifo-pending", self._initial)
+        yield from map(_line, self._events)
         if not self.is_complete:
             yield f"open {len(self._open_calls())}\n"
         yield f"end {len(self._events)}\n"
+
+    def text(self):
+        """Returns the text of the history."""
+        return "".join(self._lines())
 
     def write(self, to):
         """Writes the text of the history to a text file."""
@@ -268,21 +283,48 @@ class History:
                 open_now.discard(thread)
         return len(self._events) // 2, overlapping
 
-    def keep(self, options, kind):
-        """Writes the text into the folder, and gives the path."""
-        os.makedirs(options.folder, exist_ok=True)
-        path = os.path.join(options.folder, f"{options.seed}.{kind}")
-        with open(path, "w", encoding="ascii", newline="\n") as to:
-            self.write(to)
-        return path
-
-    def keep_failed(self, options):
-        """Keeps what there is, and says what happened."""
-        _say(f"seed {options.seed}: {', '.join(self.failures)}")
+    def end_early(self, options, tell_again=None):
+        """Keeps what there is of a run that ended early, says how it ended, and judges it."""
+        told = list(self.failures)
+        if self.ending in ("hang", "exception"):    # else said by thread, with the places
+            told.append(_told_calls(self._open_calls()))
+        _say(f"seed {options.seed}: {'; '.join(told)}")
         try:
-            _say(f"what was recorded: {self.keep(options, 'history' if self.is_complete else 'pending')}")
+            pending = _keep(options, "pending", self.text())
+            print(f"  pending: {pending}", file=sys.stderr, flush=True)
+            return _judge_pending(options, self, pending, tell_again)
         except OSError as error:
-            _say(f"can't keep what was recorded: {error}")
+            _say(str(error))
+            return Answer.WRONG
+
+
+class _Journal:
+    """The events of a run in a file, a few milliseconds after they are noted."""
+
+    def __init__(self, run_of):
+        self.threads = run_of.threads
+        self.places = [0] * len(self.threads)    # the next event of each thread
+        self.ticket = 0    # of the next event
+        self.path = _keep(run_of.options, "pending", _head("fifo-pending", run_of.initial))
+        self.file = open(self.path, "a", encoding="ascii", newline="\n")
+
+    def _next(self):
+        """Returns the next event, or None if it isn't there yet. Tickets have no gap, so some thread has it next."""
+        for number, thread in enumerate(self.threads):
+            place = self.places[number]
+            if place < len(thread._events) and thread._events[place][0] == self.ticket:
+                self.places[number] += 1
+                self.ticket += 1
+                return thread._events[place]
+        return None
+
+    def write(self):
+        self.file.writelines(map(_line, iter(self._next, None)))
+        self.file.flush()
+
+    def remove(self):
+        self.file.close()
+        os.remove(self.path)
 
 
 def _say(line):
@@ -313,7 +355,8 @@ class _Run:
         self.ended = set()
         self.failures = []
         self.has_failed = False
-        self.has_ended = True
+        self.ending = None
+        self.journal = None
 
     def _make_steps(self, thread, work, queue):
         """What one thread does; the first one drains when all have ended."""
@@ -344,22 +387,30 @@ class _Run:
         return not self.has_failed
 
     def go(self, work, queue):
-        """Runs the threads, and waits until they have ended or the time is over."""
+        """Runs the threads, waits until they have ended or the time is over, and returns what they recorded."""
         running = [threading.Thread(target=self._make_steps, args=(thread, work, queue), daemon=True)
                    for thread in self.threads]
+        self.journal = _Journal(self) if self.options.journal else None
         with self._taking_turns() if self.scheduler is None else self.scheduler.going_on(self):
             self._wait(running)
-        self.failures = [f"thread {thread.number} failed: {thread.failure!r}" for thread in self.threads
+        if self.journal is not None:
+            self.journal.remove()
+        self.failures = [f"exception: thread {thread.number} raised {thread.failure!r}" for thread in self.threads
                          if thread.failure and (self.scheduler is None or not self.scheduler.is_over)]
+        if self.failures:
+            self.ending = self.ending or "exception"
         if self.scheduler is not None and self.scheduler.outcome:
+            self.ending = self.scheduler.outcome
             self.failures.append(self.scheduler.told_outcome(self.history()._open_calls()))
-        if not self.has_ended:
+        if self.ending == "hang":
             self.has_failed = True
-            told = _told_calls(self.history()._open_calls())
-            self.failures.append(f"no event for {self.options.timeout:g} s: {told}")
+            self.failures.insert(0, f"hang: no event for {self.options.timeout:g} s")
             if self.scheduler is not None:
                 self.failures.append(self.scheduler.told_block())
-            self.history().keep_failed(self.options)
+        history = self.history()
+        if self.ending == "hang":
+            history.answer = history.end_early(self.options)
+        return history
 
     @contextlib.contextmanager
     def _taking_turns(self):
@@ -379,12 +430,14 @@ class _Run:
             self.scheduler.open()
         seen, since = 0, time.monotonic()
         while running and time.monotonic() - since < self.options.timeout:
-            running[0].join(0.05)
+            running[0].join(0.05 if self.journal is None else 0.005)
+            if self.journal is not None:
+                self.journal.write()
             running = [thread for thread in running if thread.is_alive()]
             events = sum(len(thread._events) for thread in self.threads)
             if events != seen:
                 seen, since = events, time.monotonic()
-        self.has_ended = not running
+        self.ending = "hang" if running else None
 
     def history(self):
         """While threads run, the events up to the first that isn't there yet."""
@@ -392,7 +445,7 @@ class _Run:
         events.sort(key=lambda event: event[0])
         # Tickets are drawn from 0 on, so a ticket is its event's place.
         whole = [event for place, event in enumerate(events) if event[0] == place]
-        return History(whole, self.initial, self.failures, self.has_ended)
+        return History(whole, self.initial, self.failures, self.ending)
 
     def _drain(self, queue):
         """Takes out what is left, until the queue says that it is empty or has given more values than went in."""
@@ -413,9 +466,7 @@ def record(threads, operations, work, **settings):
     raises an exception, its thread ends and the others go on; if the run hangs, what there is is kept in the folder,
     and the threads that hang are left. In both cases the history has failures.
     """
-    run_of = _Run(Options(threads=threads, operations=operations, **settings), [])
-    run_of.go(work, None)
-    return run_of.history()
+    return _Run(Options(threads=threads, operations=operations, **settings), []).go(work, None)
 
 
 def run(options, queue):
@@ -444,8 +495,7 @@ def _run_with(options, queue, scheduler):
             else:
                 thread.dequeue(queue.dequeue)
 
-    run_of.go(make_operations, queue)
-    return run_of.history()
+    return run_of.go(make_operations, queue)
 
 
 def _words(state):
@@ -507,6 +557,7 @@ def search(options, make_queue):
     operations = overlapping = 0
     is_judged = _is_found(options)
     runs = options.runs or 100
+    _name_killed(options, runs)
     for seed in range(options.seed, options.seed + runs):
         of_run = dataclasses.replace(options, seed=seed)
         history = run(of_run, make_queue())
@@ -526,14 +577,38 @@ def search(options, make_queue):
 
 
 def _answer(options, history, is_judged):
+    if history.answer is not None:
+        return history.answer
     if history.failures:
-        if history.has_ended:
-            history.keep_failed(options)
-        return Answer.WRONG
+        return history.end_early(options)
     if is_judged:
-        return _judge(options, history)
-    history.keep(options, "history")
+        return _judge(options, history.text())
+    _keep(options, "history", history.text())
     return Answer.NO_VIOLATION
+
+
+def _keep(options, kind, text):
+    """Writes a text into the folder, and gives the path."""
+    os.makedirs(options.folder, exist_ok=True)
+    path = os.path.join(options.folder, f"{options.seed}.{kind}")
+    with open(path, "w", encoding="ascii", newline="\n") as to:
+        to.write(text)
+    return path
+
+
+def _name_killed(options, runs):
+    """Names the texts that killed runs of an earlier search have left: they lack the last line."""
+    for seed in range(options.seed, options.seed + runs):
+        path, killed = (os.path.join(options.folder, f"{seed}.{kind}") for kind in ("pending", "killed"))
+        try:
+            with open(path, "rb") as file:
+                last = file.read().splitlines(keepends=True)[-1:]
+            if not last or not (last[0].startswith(b"end ") and last[0].endswith(b"\n")):
+                os.replace(path, killed)
+                _say(f"seed {seed} was killed in an earlier search")
+                _tell_judge(options, "complete --cut", killed)
+        except FileNotFoundError:
+            pass
 
 
 def _program(options):
@@ -550,10 +625,10 @@ def _is_found(options):
         return False
 
 
-def _ask(options, command, history):
-    """What the program writes about this history, and its status."""
-    text = "".join(history._lines()).encode("ascii")
-    told = subprocess.run([_program(options), command], input=text, stdout=subprocess.PIPE, check=False)
+def _ask(options, command, text):
+    """Returns what the program writes about this text, and its status."""
+    told = subprocess.run([_program(options), command], input=text.encode("ascii"), stdout=subprocess.PIPE,
+                          stderr=subprocess.DEVNULL, check=False)
     return told.stdout.decode("ascii", "replace"), told.returncode
 
 
@@ -562,20 +637,23 @@ def _tell_plan(options):
     print(f"  again:   seed {seed}, pattern {pattern}: the same plan, though threads may meet in another way")
 
 
-def _judge(options, history, tell_again=None):
-    verdict, status = _ask(options, "check", history)
+def _tell_judge(options, command, path):
+    program = _program(options)
+    print(f"  judge:   {program} {command} < {path} | {program} check", file=sys.stderr, flush=True)
+
+
+def _judge(options, text, tell_again=None, why=""):
+    """Judges a history, and says of a violation where it is kept. `why` follows the verdict."""
+    verdict, status = _ask(options, "check", text)
     if status == 0:
         return Answer.NO_VIOLATION
-    kept = history.keep(options, "history")
-    first_line = (verdict.splitlines() or ["no answer"])[0]
-    seed, pattern = options.seed, options.pattern_of(options.seed)
+    kept = _keep(options, "history", text)
+    first_line = (verdict.splitlines() or [""])[0]
     if status != 1:
-        _say(f"seed {seed}: check answers {first_line} to {kept}")
+        _say(f"{_program(options)} says '{first_line}' of {kept}")
         return Answer.WRONG
-    report = os.path.join(options.folder, f"{seed}.report")
-    with open(report, "w", encoding="ascii", newline="\n") as to:
-        to.write(_ask(options, "shrink", history)[0])
-    print(f"{first_line}: seed {seed}, {pattern}")
+    report = _keep(options, "report", _ask(options, "shrink", text)[0])
+    print(f"{first_line}: seed {options.seed}, {options.pattern_of(options.seed)}{why}")
     print(f"  history: {kept}")
     print(f"  report:  {report}")
     print(f"  see it:  {_program(options)} draw --text < {report}")
@@ -585,3 +663,34 @@ def _judge(options, history, tell_again=None):
         tell_again(first_line)
     sys.stdout.flush()
     return Answer.VIOLATION
+
+
+_FAULTS = {"exception": "If the queue promises not to raise, the exception itself is the fault.",
+           **{ending: f"If the queue promises to return, the {ending} itself is the fault."
+              for ending in ("hang", "deadlock", "livelock")}}
+
+
+def _judge_pending(options, history, pending, tell_again):
+    """Judges the completion of a pending text, or prints the command that does."""
+    try:
+        completed, status = _ask(options, "complete", history.text())
+    except OSError:
+        _tell_judge(options, "complete", pending)
+        return Answer.WRONG
+    if status == 0:
+        answer = _judge(options, completed, tell_again, ": the queue is wrong, whatever the pending calls do")
+        if answer == Answer.NO_VIOLATION:
+            is_drawn = max(len(history.operations()), len(history._initial)) <= MAX_DRAWN
+            program = _program(options)
+            see = f"{program} complete < {pending} | {program} draw --text" if is_drawn else f"tail -n 40 < {pending}"
+            print(f"YES: a right queue can have behaved so until then. {_FAULTS[history.ending]}\n"
+                  f"  see it:  {see}", file=sys.stderr, flush=True)
+            if tell_again is not None:
+                tell_again(history.ending)
+        return Answer.VIOLATION if answer == Answer.VIOLATION else Answer.WRONG
+    if completed.startswith("REFUSED "):
+        _say(f"{_program(options)} says '{completed.splitlines()[0]}' of {pending}")
+    else:
+        _say(f"{_program(options)} has no command complete, which a later version has")
+    _tell_judge(options, "complete", pending)
+    return Answer.WRONG

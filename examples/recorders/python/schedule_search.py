@@ -29,7 +29,7 @@ class Made:
     wanted: set = dataclasses.field(default_factory=set)    # the keys of switches that were left
 
     def text(self):
-        return "".join(self.history._lines())
+        return self.history.text()
 
 
 def run(recorder, options, queue):
@@ -87,17 +87,15 @@ class Search:
 
     def _judge(self, made, is_judged):
         recorder, history = self.recorder, made.history
+        if history.answer is not None:    # its threads are left where they block
+            return history.answer
         if history.failures:
-            if not history.has_ended:    # told already: its threads are left where they block
-                return recorder.Answer.WRONG
-            history.keep_failed(made.options)
-            if is_judged:
-                self._tell_again(made, self.kind(made))
-            return recorder.Answer.WRONG
+            ending = self.kind(made)
+            return history.end_early(made.options, (lambda _: self._tell_again(made, ending)) if is_judged else None)
         if not is_judged:
-            history.keep(made.options, "history")
+            recorder._keep(made.options, "history", history.text())
             return recorder.Answer.NO_VIOLATION
-        return recorder._judge(made.options, history, lambda kind: self._tell_again(made, kind))
+        return recorder._judge(made.options, history.text(), lambda kind: self._tell_again(made, kind))
 
     def kind(self, made):
         """What is wrong with a run, in few words; YES if nothing is."""
@@ -105,7 +103,7 @@ class Search:
             return made.outcome
         if made.history.failures:
             return "an exception" if made.history.has_ended else "a hang"
-        verdict, _ = self.recorder._ask(made.options, "check", made.history)
+        verdict, _ = self.recorder._ask(made.options, "check", made.text())
         return verdict.partition("\n")[0]
 
     def signature(self, made):
@@ -228,7 +226,7 @@ class Trace:
         made = self.made
         if not made.history.is_complete:
             return [(ticket, thread, what, value) for ticket, thread, what, value in made.history._open_calls()]
-        report, _ = self.search.recorder._ask(made.options, "shrink", made.history)
+        report, _ = self.search.recorder._ask(made.options, "shrink", made.text())
         events = []
         for line in report.splitlines():
             words = line.split()

@@ -21,7 +21,8 @@
 //! ```
 //!
 //! `FIFOBENCH=/path/to/fifobench cargo test` then makes 100 short runs, each over a fresh queue, and judges each. A
-//! loop of your own is recorded by `record`. docs/RECORDING.md has the rules that this module keeps.
+//! loop of your own is recorded by `record`. docs/RECORDING.md has the rules that this module keeps. With
+//! `recorder_crash.rs` beside this file and `--cfg fifobench_crash` a run that crashes or is killed leaves a text too.
 
 #![allow(dead_code, unexpected_cfgs)] // A test uses a part of it.
 
@@ -29,10 +30,14 @@
 #[path = "schedule_runs.rs"]
 mod schedule;
 
+#[cfg(fifobench_crash)]
+#[path = "recorder_crash.rs"]
+mod crash;
+
 use std::any::Any;
 use std::env;
 use std::fmt::{self, Display};
-use std::fs::{self, File};
+use std::fs;
 use std::io::{self, BufWriter, Write};
 use std::panic::{self, AssertUnwindSafe};
 use std::path::{Path, PathBuf};
@@ -88,12 +93,7 @@ impl Pattern {
 
 impl Display for Pattern {
     fn fmt(&self, f: &mut fmt::Formatter) -> fmt::Result {
-        f.write_str(match self {
-            Pattern::Alternate => "alternate",
-            Pattern::Mix => "mix",
-            Pattern::Bursts => "bursts",
-            Pattern::Roles => "roles",
-        })
+        f.write_str(["alternate", "mix", "bursts", "roles"][*self as usize])
     }
 }
 
@@ -131,6 +131,8 @@ pub struct Options {
     pub initial: usize,
     /// Whether values are taken out after the threads have ended, until the queue says that it is empty.
     pub drain: bool,
+    /// With `--cfg fifobench_crash`: events reach FOLDER/SEED.pending while the run goes on.
+    pub journal: bool,
     /// Where histories and reports are kept.
     pub folder: PathBuf,
     /// The program `fifobench`; else that of the environment variable FIFOBENCH, else that on the PATH.
@@ -151,6 +153,7 @@ impl Default for Options {
             first: 0,
             initial: 0,
             drain: true,
+            journal: false,
             folder: PathBuf::from("fifobench-runs"),
             program: None,
         }
@@ -168,6 +171,7 @@ impl Options {
         let total = self.threads.saturating_mul(self.operations);
         assert!(total <= MAX_OPERATIONS, "at most {MAX_OPERATIONS} operations of all threads");
         assert!(self.initial <= MAX_INITIAL, "at most {MAX_INITIAL} initial values");
+        assert!(!self.journal || cfg!(fifobench_crash), "a journal needs --cfg fifobench_crash");
     }
 }
 
@@ -202,6 +206,20 @@ impl Event {
     fn is_call(&self) -> bool {
         self.what == CALL_ENQ || self.what == CALL_DEQ
     }
+}
+
+impl Display for Event {
+    fn fmt(&self, f: &mut fmt::Formatter) -> fmt::Result {
+        let Event { ticket, thread, what, value } = self;
+        write!(f, "{ticket} {thread} {}", WORDS[*what as usize])?;
+        if *what == CALL_ENQ || *what == RET_DEQ { write!(f, " {value}") } else { Ok(()) }
+    }
+}
+
+// Returns the lines before the events of a text.
+fn head(name: &str, initial: &[u64]) -> String {
+    let values: String = initial.iter().map(|value| format!("{value}\n")).collect();
+    if initial.is_empty() { format!("{name} 1\n") } else { format!("{name} 2\ninitial {}\n{values}", initial.len()) }
 }
 
 // A part of the events of one thread. That thread alone writes; the watchdog may read what is counted while it does.
@@ -243,8 +261,8 @@ impl Run<'_> {
     fn new(options: &Options) -> Run<'_> {
         let places = (2 * options.operations).max(64);
         let chunks = (0..options.threads).map(|_| Chunk::new(places)).collect();
-        let ended = AtomicUsize::new(0);
-        Run { options, tickets: AtomicU64::new(0), chunks, ended, has_failed: AtomicBool::new(false) }
+        let (tickets, ended) = (AtomicU64::new(0), AtomicUsize::new(0));
+        Run { options, tickets, chunks, ended, has_failed: AtomicBool::new(false) }
     }
 
     fn thread(&self, number: usize) -> Thread<'_> {
@@ -307,10 +325,7 @@ impl Thread<'_> {
         self.asked += 1;
         self.note(CALL_DEQ, 0);
         let found = call();
-        match found {
-            Some(value) => self.note(RET_DEQ, value),
-            None => self.note(RET_EMPTY, 0),
-        }
+        self.note(if found.is_some() { RET_DEQ } else { RET_EMPTY }, found.unwrap_or(0));
         found
     }
 
@@ -386,7 +401,6 @@ impl Start {
 pub struct History {
     events: Vec<Event>,
     initial: Vec<u64>,
-    is_pending: bool,
     failures: Vec<String>,
 }
 
@@ -402,7 +416,7 @@ impl History {
 
     /// Whether every call has its return. If one has none, `write` writes a pending text, which `check` refuses.
     pub fn is_complete(&self) -> bool {
-        !self.is_pending
+        self.open_calls().is_empty()
     }
 
     /// What went wrong in the threads: panics.
@@ -410,8 +424,8 @@ impl History {
         &self.failures
     }
 
-    /// The events by ticket: the ticket, the thread, the event's word by its place (call-enq, ret-enq, ret-not, call-deq, ret-deq,
-    /// ret-empty, from 0) and the value of the first and the fifth.
+    /// The events by ticket: the ticket, the thread, the event's word by its place from 0 (call-enq, ret-enq, ret-not,
+    /// call-deq, ret-deq, ret-empty) and the value of the first and the fifth.
     pub fn rows(&self) -> impl Iterator<Item = (u64, usize, u64, u64)> + '_ {
         self.events.iter().map(|event| (event.ticket, event.thread, event.what, event.value))
     }
@@ -424,22 +438,11 @@ impl History {
     /// Writes the text of the history.
     pub fn write(&self, to: impl Write) -> io::Result<()> {
         let mut to = BufWriter::new(to);
-        let name = if self.is_pending { "fifo-pending" } else { "fifo-history" };
-        if self.initial.is_empty() {
-            writeln!(to, "{name} 1")?;
-        } else {
-            writeln!(to, "{name} 2\ninitial {}", self.initial.len())?;
-            self.initial.iter().try_for_each(|value| writeln!(to, "{value}"))?;
-        }
-        for Event { ticket, thread, what, value } in &self.events {
-            write!(to, "{ticket} {thread} {}", WORDS[*what as usize])?;
-            if *what == CALL_ENQ || *what == RET_DEQ {
-                write!(to, " {value}")?;
-            }
-            writeln!(to)?;
-        }
-        if self.is_pending {
-            writeln!(to, "open {}", self.open_calls().len())?;
+        let open = self.open_calls().len();
+        to.write_all(head(if open == 0 { "fifo-history" } else { "fifo-pending" }, &self.initial).as_bytes())?;
+        self.events.iter().try_for_each(|event| writeln!(to, "{event}"))?;
+        if open > 0 {
+            writeln!(to, "open {open}")?;
         }
         writeln!(to, "end {}", self.events.len())?;
         to.flush()
@@ -462,45 +465,46 @@ impl History {
         (self.events.len() / 2, overlapping)
     }
 
-    fn keep(&self, folder: &Path, name: &str) -> io::Result<PathBuf> {
-        let path = folder.join(name);
-        fs::create_dir_all(folder)?;
-        self.write(File::create(&path)?)?;
-        Ok(path)
+    fn text(&self) -> Vec<u8> {
+        let mut text = Vec::new();
+        self.write(&mut text).expect("a vector takes each write");
+        text
     }
 
-    // Keeps what there is, and says what happened.
-    fn keep_failed(&self, options: &Options, told: &str) {
-        say(&format!("seed {}: {told}", options.seed));
-        let kind = if self.is_pending { "pending" } else { "history" };
-        match self.keep(&options.folder, &format!("{}.{kind}", options.seed)) {
-            Ok(path) => say(&format!("what was recorded: {}", path.display())),
-            Err(error) => say(&format!("can't keep what was recorded in {}: {error}", options.folder.display())),
-        }
+    // Keeps what there is of a run that ends early, says how it ended, and judges it.
+    fn end_early(&self, options: &Options, how: &str, fault: &str) -> Answer {
+        let inside: Vec<String> = self.open_calls().iter().map(told_call).collect();
+        let inside = if inside.is_empty() { "no thread is inside a call".to_string() } else { inside.join(", ") };
+        say(&format!("fifobench: seed {}: {how}; {inside}", options.seed));
+        let answer = keep(options, "pending", &self.text()).and_then(|pending| {
+            say(&format!("  pending: {}", pending.display()));
+            judge_pending(options, self, &pending, fault)
+        });
+        answer.unwrap_or_else(told_wrong)
     }
+}
+
+// Writes a text into the folder. Replaces an older file, since a journal may still be written to it.
+fn keep(options: &Options, kind: &str, text: &[u8]) -> Result<PathBuf, String> {
+    let path = options.folder.join(format!("{}.{kind}", options.seed));
+    let _ = fs::create_dir_all(&options.folder).and_then(|()| fs::remove_file(&path));
+    fs::write(&path, text).map_err(|error| format!("can't write {}: {error}", path.display()))?;
+    Ok(path)
 }
 
 // One line on standard error itself, which a test doesn't catch.
 fn say(line: &str) {
-    let _ = writeln!(io::stderr(), "fifobench: {line}");
+    let _ = writeln!(io::stderr(), "{line}");
 }
 
-fn told_calls(calls: &[Event]) -> String {
-    let told_one = |call: &Event| format!("thread {} is inside {}", call.thread, told_call(call));
-    let told: Vec<String> = calls.iter().map(told_one).collect();
-    if told.is_empty() {
-        "no thread is inside a call".to_string()
-    } else {
-        told.join(", ")
-    }
+fn told_wrong(error: String) -> Answer {
+    say(&format!("fifobench: {error}"));
+    Answer::Wrong
 }
 
 fn told_call(call: &Event) -> String {
-    if call.what == CALL_ENQ {
-        format!("enqueue of {}", call.value)
-    } else {
-        "dequeue".to_string()
-    }
+    let value = if call.what == CALL_ENQ { format!("enqueue of {}", call.value) } else { "dequeue".to_string() };
+    format!("thread {} is inside {value}", call.thread)
 }
 
 fn told_panic(panic: &(dyn Any + Send)) -> &str {
@@ -526,7 +530,7 @@ pub fn record_with(options: &Options, work: impl Fn(&mut Thread) + Sync) -> Hist
     options.check();
     let run = Run::new(options);
     let failures = run_threads(&run, &[], &Steps { enter: &|_| (), work: &work, drain: &|_| (), leave: &|_| () });
-    finish(&run, Vec::new(), failures)
+    History { events: run.events(), initial: Vec::new(), failures }
 }
 
 /// One run over this queue, by the pattern of the seed.
@@ -538,28 +542,17 @@ pub fn run(options: &Options, queue: &impl Queue) -> History {
     options.check();
     let initial: Vec<u64> = (0..options.initial as u64).map(|place| (options.value)(MAX_THREADS, place)).collect();
     for (place, value) in initial.iter().enumerate() {
-        #[cfg(fifobench_schedule)]
-        schedule::initial(*value);
         assert!(queue.preload(*value), "the queue has no room for the initial value at place {place}");
     }
     let run = Run::new(options);
-    let failures = run_threads(
-        &run,
-        &initial,
-        &Steps {
-            enter: &|number| queue.enter(number),
-            work: &|thread| make_operations(thread, queue),
-            drain: &|thread| drain(thread, queue, initial.len()),
-            leave: &|number| queue.leave(number),
-        },
-    );
-    finish(&run, initial, failures)
-}
-
-fn finish(run: &Run, initial: Vec<u64>, failures: Vec<String>) -> History {
-    let mut history = History { events: run.events(), initial, is_pending: false, failures };
-    history.is_pending = !history.open_calls().is_empty();
-    history
+    let steps = Steps {
+        enter: &|number| queue.enter(number),
+        work: &|thread| make_operations(thread, queue),
+        drain: &|thread| drain(thread, queue, initial.len()),
+        leave: &|number| queue.leave(number),
+    };
+    let failures = run_threads(&run, &initial, &steps);
+    History { events: run.events(), initial, failures }
 }
 
 // What each thread does, one step after the other; the first one drains when all have ended.
@@ -572,6 +565,8 @@ struct Steps<'a> {
 
 fn make_steps(run: &Run, start: &Start, number: usize, steps: &Steps) -> Result<(), String> {
     let outcome = panic::catch_unwind(AssertUnwindSafe(|| {
+        #[cfg(fifobench_crash)]
+        crash::enter(run);
         let mut thread = run.thread(number);
         (steps.enter)(number);
         start.meet(number);
@@ -584,7 +579,7 @@ fn make_steps(run: &Run, start: &Start, number: usize, steps: &Steps) -> Result<
     }));
     outcome.map_err(|panic| {
         run.has_failed.store(true, Ordering::SeqCst);
-        format!("thread {number} panicked: {}", told_panic(&*panic))
+        format!("panic: thread {number} panicked: {}", told_panic(&*panic))
     })
 }
 
@@ -592,7 +587,7 @@ fn make_steps(run: &Run, start: &Start, number: usize, steps: &Steps) -> Result<
 fn run_threads(run: &Run, initial: &[u64], steps: &Steps) -> Vec<String> {
     #[cfg(fifobench_schedule)]
     if schedule::is_chosen() {
-        return schedule::run_threads(run, steps);
+        return schedule::run_threads(run, initial, steps);
     }
     let start = &Start::new(run.options.threads);
     thread::scope(|scope| {
@@ -608,52 +603,46 @@ fn run_threads(run: &Run, initial: &[u64], steps: &Steps) -> Vec<String> {
     })
 }
 
-// Waits for the end, and gives the run up if no ticket is drawn for the time of the settings.
+// Waits for the end. If no ticket is drawn for the time of the settings, the process ends: threads borrow the queue.
 fn watch(run: &Run, initial: &[u64], end: &Receiver<()>) {
     let (mut seen, mut since) = (0, Instant::now());
-    while end.recv_timeout(Duration::from_millis(50)) == Err(RecvTimeoutError::Timeout) {
+    let often = Duration::from_millis(if run.options.journal { 5 } else { 50 });
+    #[cfg(fifobench_crash)]
+    let mut crash = crash::Watch::new(run, initial);
+    while end.recv_timeout(often) == Err(RecvTimeoutError::Timeout) {
+        #[cfg(fifobench_crash)]
+        crash.look();
         let drawn = run.tickets.load(Ordering::SeqCst);
         if drawn != seen {
             (seen, since) = (drawn, Instant::now());
         } else if since.elapsed() >= run.options.timeout {
-            give_up(run, initial);
+            let history = History { events: run.events(), initial: initial.to_vec(), failures: Vec::new() };
+            let how = format!("hang: no event for {} s", run.options.timeout.as_secs_f64());
+            let fault = "If the queue promises to return, the hang itself is the fault.";
+            process::exit(history.end_early(run.options, &how, fault) as i32);
         }
-    }
-}
-
-// The end of a run that hangs: its threads can't be let go, since they borrow the queue.
-fn give_up(run: &Run, initial: &[u64]) {
-    let history = History { events: run.events(), initial: initial.to_vec(), is_pending: true, failures: Vec::new() };
-    let told = told_calls(&history.open_calls());
-    history.keep_failed(run.options, &format!("no event for {:?}: {told}", run.options.timeout));
-    process::exit(2);
-}
-
-// SplitMix64.
-struct Words(u64);
-
-impl Words {
-    fn next(&mut self) -> u64 {
-        self.0 = self.0.wrapping_add(0x9e37_79b9_7f4a_7c15);
-        let mut z = self.0;
-        z = (z ^ (z >> 30)).wrapping_mul(0xbf58_476d_1ce4_e5b9);
-        z = (z ^ (z >> 27)).wrapping_mul(0x94d0_49bb_1331_11eb);
-        z ^ (z >> 31)
     }
 }
 
 // What one thread does: true is an enqueue.
 fn plan(options: &Options, thread: usize) -> Vec<bool> {
-    let mut words = Words(options.seed.wrapping_mul(64).wrapping_add(thread as u64));
+    let mut state = options.seed.wrapping_mul(64).wrapping_add(thread as u64);
+    // SplitMix64.
+    let mut next = || {
+        state = state.wrapping_add(0x9e37_79b9_7f4a_7c15);
+        let z = (state ^ (state >> 30)).wrapping_mul(0xbf58_476d_1ce4_e5b9);
+        let z = (z ^ (z >> 27)).wrapping_mul(0x94d0_49bb_1331_11eb);
+        z ^ (z >> 31)
+    };
     let operations = 0..options.operations;
     match options.pattern_of(options.seed) {
         Pattern::Roles if options.threads > 1 => operations.map(|_| thread & 1 == 0).collect(),
         Pattern::Alternate | Pattern::Roles => operations.map(|n| n & 1 == 0).collect(),
-        Pattern::Mix => operations.map(|_| words.next() % 100 < options.percent).collect(),
+        Pattern::Mix => operations.map(|_| next() % 100 < options.percent).collect(),
         Pattern::Bursts => {
             let mut plan = Vec::with_capacity(options.operations + 64);
             while plan.len() < options.operations {
-                let length = 1 + (words.next() % 32) as usize;
+                let length = 1 + (next() % 32) as usize;
                 plan.resize(plan.len() + length, true);
                 plan.resize(plan.len() + length, false);
             }
@@ -686,7 +675,7 @@ fn drain(thread: &mut Thread, queue: &impl Queue, initial: usize) {
     }
     // A chosen schedule is made again and again, and the verdict says it.
     if room > left && !cfg!(fifobench_schedule) {
-        say(&format!("seed {}: the queue gave more values than went in", thread.run.options.seed));
+        say(&format!("fifobench: seed {}: the queue gave more values than went in", thread.run.options.seed));
     }
 }
 
@@ -694,16 +683,9 @@ fn drain(thread: &mut Thread, queue: &impl Queue, initial: usize) {
 /// violation.
 ///
 /// What it found is said on standard output. The first violation is kept in the folder: the history, and the report of
-/// `fifobench shrink`. If no program is found, nothing is judged, and every history is kept.
-///
-/// # Panics
-///
-/// As [`run`].
+/// `fifobench shrink`. If no program is found, nothing is judged, and every history is kept. Panics as [`run`] does.
 pub fn search<Q: Queue>(options: &Options, make_queue: impl Fn() -> Q) -> Answer {
-    search_runs(options, make_queue).unwrap_or_else(|error| {
-        say(&error);
-        Answer::Wrong
-    })
+    search_runs(options, make_queue).unwrap_or_else(told_wrong)
 }
 
 fn search_runs<Q: Queue>(options: &Options, make_queue: impl Fn() -> Q) -> Result<Answer, String> {
@@ -711,34 +693,30 @@ fn search_runs<Q: Queue>(options: &Options, make_queue: impl Fn() -> Q) -> Resul
     if schedule::is_chosen() {
         return Ok(schedule::search(options, make_queue));
     }
+    #[cfg(fifobench_crash)]
+    let _watched = crash::Search::new(options);
     let (mut operations, mut overlapping) = (0, 0);
     let is_judged = is_found(options);
     for number in 0..options.runs {
         let options = Options { seed: options.seed.wrapping_add(number), ..options.clone() };
         let history = run(&options, &make_queue());
         if !history.failures().is_empty() {
-            history.keep_failed(&options, &history.failures().join(", "));
-            return Ok(Answer::Wrong);
+            let fault = "If the queue promises not to panic, the panic itself is the fault.";
+            return Ok(history.end_early(&options, &history.failures().join("; "), fault));
         }
         if !is_judged {
-            let name = format!("{}.history", options.seed);
-            history.keep(&options.folder, &name).map_err(|error| unkept(&options, error))?;
-        } else if let Some(answer) = judge(&options, &history)? {
+            keep(&options, "history", &history.text())?;
+        } else if let Some(answer) = judge(&options, &history.text(), "")? {
             return Ok(answer);
         }
         let (all, met) = history.overlapping();
         (operations, overlapping) = (operations + all, overlapping + met);
     }
     let share = (100 * overlapping).checked_div(operations).unwrap_or(0);
-    let last = options.seed.wrapping_add(options.runs).wrapping_sub(1);
     let outcome = if is_judged { "no violation in" } else { "nothing judged in" };
-    let (runs, first) = (options.runs, options.seed);
+    let (runs, first, last) = (options.runs, options.seed, options.seed.wrapping_add(options.runs).wrapping_sub(1));
     println!("{outcome} {runs} runs (seeds {first} to {last}); {share} of 100 operations overlap another");
     Ok(if is_judged { Answer::NoViolation } else { Answer::Wrong })
-}
-
-fn unkept(options: &Options, error: io::Error) -> String {
-    format!("can't keep a history in {}: {error}", options.folder.display())
 }
 
 fn program(options: &Options) -> PathBuf {
@@ -749,47 +727,72 @@ fn program(options: &Options) -> PathBuf {
 // Whether the program can be started; if it can't, a line says so.
 fn is_found(options: &Options) -> bool {
     let program = program(options);
-    let started = Command::new(&program).arg("help").stdout(Stdio::null()).stderr(Stdio::null()).status();
-    if let Err(error) = &started {
+    let is_found = Command::new(&program).arg("help").stdout(Stdio::null()).stderr(Stdio::null()).status().is_ok();
+    if !is_found {
         let (program, folder) = (program.display(), options.folder.display());
-        say(&format!("no program {program} ({error}): nothing is judged, and each history is kept in {folder}"));
+        say(&format!("fifobench: no program '{program}': nothing is judged; the histories are kept in {folder}"));
     }
-    started.is_ok()
+    is_found
 }
 
-// What the program writes about this history, and its status.
-fn ask(options: &Options, command: &str, history: &History) -> Result<(Vec<u8>, Option<i32>), String> {
-    let told = |error: io::Error| format!("{} {command}: {error}", program(options).display());
+// Returns what the program writes about this text, and its status.
+fn ask(options: &Options, command: &str, text: &[u8]) -> io::Result<(String, Option<i32>)> {
     let mut judge = Command::new(program(options));
-    let mut judge = judge.arg(command).stdin(Stdio::piped()).stdout(Stdio::piped()).spawn().map_err(told)?;
+    judge.arg(command).stdin(Stdio::piped()).stdout(Stdio::piped()).stderr(Stdio::null());
+    let mut judge = judge.spawn()?;
     // The program reads all before it writes. If it refuses a text it reads no further, and then this write may fail.
-    if let Some(input) = judge.stdin.take() {
-        let _ = history.write(input);
+    if let Some(mut input) = judge.stdin.take() {
+        let _ = input.write_all(text);
     }
-    let output = judge.wait_with_output().map_err(told)?;
-    Ok((output.stdout, output.status.code()))
+    let output = judge.wait_with_output()?;
+    Ok((String::from_utf8_lossy(&output.stdout).into_owned(), output.status.code()))
 }
 
-// The answer, if the search ends with this history.
-fn judge(options: &Options, history: &History) -> Result<Option<Answer>, String> {
-    let (verdict, status) = ask(options, "check", history)?;
+// Judges a history. Returns the answer of the search if it ends there.
+fn judge(options: &Options, text: &[u8], why: &str) -> Result<Option<Answer>, String> {
+    let program = program(options).display().to_string();
+    let unasked = |error: io::Error| format!("{program}: {error}");
+    let (verdict, status) = ask(options, "check", text).map_err(unasked)?;
     if status == Some(0) {
         return Ok(None);
     }
     let (seed, pattern) = (options.seed, options.pattern_of(options.seed));
-    let kept = history.keep(&options.folder, &format!("{seed}.history")).map_err(|error| unkept(options, error))?;
-    let verdict = String::from_utf8_lossy(&verdict);
-    let first_line = verdict.lines().next().unwrap_or("no answer");
+    let history = keep(options, "history", text)?.display().to_string();
+    let verdict = verdict.lines().next().unwrap_or_default();
     if status != Some(1) {
-        return Err(format!("seed {seed}: check answers {first_line} to {}", kept.display()));
+        return Err(format!("{program} says '{verdict}' of {history}"));
     }
-    let (report, _) = ask(options, "shrink", history)?;
-    let report_path = options.folder.join(format!("{seed}.report"));
-    fs::write(&report_path, report).map_err(|error| unkept(options, error))?;
-    println!("{first_line}: seed {seed}, {pattern}");
-    println!("  history: {}", kept.display());
-    println!("  report:  {}", report_path.display());
-    println!("  see it:  {} draw --text < {}", program(options).display(), report_path.display());
-    println!("  again:   seed {seed}, pattern {pattern}: the same plan, though threads may meet in another way");
+    let (report, _) = ask(options, "shrink", text).map_err(unasked)?;
+    let report = keep(options, "report", report.as_bytes())?.display().to_string();
+    // On standard output itself: the process may end before a test shows what it has caught.
+    let told = format!("{verdict}: seed {seed}, {pattern}{why}\n  history: {history}\n  report:  {report}\n");
+    let seen = format!("  see it:  {program} draw --text < {report}\n  again:   seed {seed}, pattern {pattern}");
+    let _ = writeln!(io::stdout(), "{told}{seen}: the same plan, though threads may meet in another way");
     Ok(Some(Answer::Violation))
+}
+
+// Judges the completion of a pending text, or prints the command that does. The fault follows `YES`.
+fn judge_pending(options: &Options, of: &History, pending: &Path, fault: &str) -> Result<Answer, String> {
+    let (program, pending) = (program(options).display().to_string(), pending.display());
+    let asked = ask(options, "complete", &of.text());
+    if let Ok((history, Some(0))) = &asked {
+        let answer = judge(options, history.as_bytes(), ": the queue is wrong, whatever the pending calls do")?;
+        if answer.is_none() {
+            // `draw` refuses more than 400 operations or initial values.
+            let twice = (of.events.len() + of.open_calls().len()).max(2 * of.initial.len());
+            let drawn = (twice <= 800).then(|| format!("{program} complete < {pending} | {program} draw --text"));
+            let see = drawn.unwrap_or(format!("tail -n 40 < {pending}"));
+            say(&format!("YES: a right queue can have behaved so until then. {fault}\n  see it:  {see}"));
+        }
+        return Ok(answer.unwrap_or(Answer::Wrong));
+    }
+    match asked {
+        Ok((told, _)) if told.starts_with("REFUSED ") => {
+            say(&format!("fifobench: {program} says '{}' of {pending}", told.trim_end()));
+        }
+        Ok(_) => say(&format!("fifobench: {program} has no command complete, which a later version has")),
+        Err(_) => {}
+    }
+    say(&format!("  judge:   {program} complete < {pending} | {program} check"));
+    Ok(Answer::Wrong)
 }

@@ -99,20 +99,21 @@ pub(super) fn alone() {
 }
 
 /// Notes a value that the queue holds at the start.
-pub(super) fn initial(value: u64) {
+fn initial(value: u64) {
     if is_chosen() {
         unsafe { fifobench_schedule_initial(value) }
     }
 }
 
 /// Runs the threads one at a time, and gives what went wrong in them.
-pub(super) fn run_threads(run: &Run, steps: &Steps) -> Vec<String> {
+pub(super) fn run_threads(run: &Run, initial_values: &[u64], steps: &Steps) -> Vec<String> {
     let Options { seed, threads, operations, folder, .. } = run.options;
     let folder = text(&folder.to_string_lossy());
     let threads = *threads as c_uint;
     let schedule = RawSchedule { seed: *seed, threads, operations: *operations, folder: folder.as_ptr() };
     let fault = unsafe { fifobench_schedule_begin(&schedule) };
     assert!(fault.is_null(), "{}", unsafe { CStr::from_ptr(fault) }.to_string_lossy());
+    initial_values.iter().for_each(|value| initial(*value));
     let failures = thread::scope(|scope| {
         let spawn = |number| {
             let running = scope.spawn(move || {
@@ -144,7 +145,7 @@ struct Context<'a> {
 pub(super) fn search<Q: Queue>(options: &Options, make_queue: impl Fn() -> Q) -> Answer {
     let run = |seed, operations| {
         let history = super::run(&Options { seed, operations, ..options.clone() }, &make_queue());
-        (!history.failures.is_empty()).then(|| history.failures.join(", "))
+        (!history.failures.is_empty()).then(|| history.failures.join("; "))
     };
     let context = Context { run: &run, options };
     let [program, folder] = [&super::program(options), &options.folder].map(|path| text(&path.to_string_lossy()));

@@ -35,13 +35,13 @@ extern "C" {
 #endif
 
 // Events, with the numbers that the recorders give them.
-enum fifobench_what {
-    FIFOBENCH_CALL_ENQ,
-    FIFOBENCH_RET_ENQ,
-    FIFOBENCH_RET_NOT,
-    FIFOBENCH_CALL_DEQ,
-    FIFOBENCH_RET_DEQ,
-    FIFOBENCH_RET_EMPTY
+enum fifobench_schedule_what {
+    FIFOBENCH_SCHEDULE_CALL_ENQ,
+    FIFOBENCH_SCHEDULE_RET_ENQ,
+    FIFOBENCH_SCHEDULE_RET_NOT,
+    FIFOBENCH_SCHEDULE_CALL_DEQ,
+    FIFOBENCH_SCHEDULE_RET_DEQ,
+    FIFOBENCH_SCHEDULE_RET_EMPTY
 };
 
 enum { FIFOBENCH_MAX_THREADS = 64 };

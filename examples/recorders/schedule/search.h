@@ -32,7 +32,7 @@ static void tell_places(FILE *to)
         }
         const struct event *call = &tape->event[open[number] - 1];
         fprintf(to, "fifobench: thread %u is inside ", number);
-        if (call->what == FIFOBENCH_CALL_ENQ) {
+        if (call->what == FIFOBENCH_SCHEDULE_CALL_ENQ) {
             fprintf(to, "the enqueue of %" PRIu64, call->value);
         } else {
             fprintf(to, "a dequeue");
@@ -49,24 +49,50 @@ static void tell_unseen(void)
                     "compiled without -fsanitize=thread, is one step\n");
 }
 
-// Says how a run ended early, and keeps its text.
-static void tell_early(const char *folder, uint64_t seed, const struct outcome *outcome)
+// How a run ended early, in a word, and the sentence that follows YES.
+struct early {
+    const char *kind;
+    const char *fault;
+};
+
+static struct early name_early(const struct outcome *outcome)
 {
-    char path[MAX_PATH_BYTES];
-    size_t open[FIFOBENCH_MAX_THREADS];
+    static const char *const waits = "If the queue promises to return, the %s itself is the fault.";
+    static const char *const throws = "If the queue promises not to %s, the %s itself is the fault.";
+    static char fault[MAX_LINE_BYTES];
+    struct early early = {"end of the process", fault};
+    snprintf(fault, sizeof fault, "The end of the process itself is the fault.");
+    if (outcome->has_failed) {
+        bool is_panic = strncmp(tape->failure, "panic", 5) == 0;
+        early.kind = is_panic ? "panic" : "exception";
+        snprintf(fault, sizeof fault, throws, is_panic ? "panic" : "throw", early.kind);
+    } else if (outcome->ending == DEADLOCK || outcome->ending == LIVELOCK || outcome->signal == SIGALRM) {
+        early.kind = outcome->ending == DEADLOCK ? "deadlock" : outcome->ending == LIVELOCK ? "livelock" : "hang";
+        snprintf(fault, sizeof fault, waits, early.kind);
+    } else if (outcome->signal != 0) {
+        early.kind = "crash";
+        snprintf(fault, sizeof fault, "The crash itself is the fault.");
+    }
+    return early;
+}
+
+// Prints how a run ended early, and keeps its text. Returns whether that was written.
+static bool tell_early(const char *folder, uint64_t seed, const struct outcome *outcome, char path[MAX_PATH_BYTES])
+{
+    const char *kind = name_early(outcome).kind;
     fprintf(stderr, "fifobench: seed %" PRIu64 ": ", seed);
     if (outcome->has_failed) {
         fprintf(stderr, "%s\n", tape->failure);
     } else if (outcome->ending == DEADLOCK) {
-        fprintf(stderr, "deadlock: no thread can go on\n");
+        fprintf(stderr, "%s: no thread can go on\n", kind);
     } else if (outcome->ending == LIVELOCK) {
-        fprintf(stderr, "livelock: %" PRIu64 " points, and no operation ends (FIFOBENCH_PATIENCE sets the bound)\n",
+        fprintf(stderr, "%s: %" PRIu64 " points, and no operation ends (FIFOBENCH_PATIENCE sets the bound)\n", kind,
                 tape->patience);
     } else if (outcome->signal == SIGALRM) {
-        fprintf(stderr, "hangs: no event for %u s: a thread waits for something that isn't seen, or runs without a "
-                        "point\n", tape->seconds);
+        fprintf(stderr, "%s: no event for %u s: a thread waits for something that isn't seen, or runs without a "
+                        "point\n", kind, tape->seconds);
     } else if (outcome->signal != 0) {
-        fprintf(stderr, "crash: %s\n", strsignal(outcome->signal));
+        fprintf(stderr, "%s: %s\n", kind, strsignal(outcome->signal));
     } else {
         fprintf(stderr, "the queue has ended the process\n");
     }
@@ -77,18 +103,80 @@ static void tell_early(const char *folder, uint64_t seed, const struct outcome *
         tell_places(stderr);
     }
     make_folder(folder);
-    name_file(path, folder, seed, open_calls(tape, open) > 0 ? "pending" : "history");
-    fprintf(stderr, write_tape_to(tape, path) ? "fifobench: what there is: %s\n" : "fifobench: can't write %s\n", path);
+    name_file(path, folder, seed, "pending");
+    bool is_written = write_tape_to(tape, path);
+    fprintf(stderr, is_written ? "  pending: %s\n" : "fifobench: can't write %s\n", path);
+    return is_written;
 }
+
+// Judges the completion of a pending text. Returns 0 or 1, and the verdict; or 2 if there is none, and prints the
+// command that gives one.
+static int judge_pending(const char *program, bool judges, const char *pending, const char *history, const char *report,
+                         char verdict[MAX_LINE_BYTES])
+{
+    int status = judges ? ask(program, "complete", pending, history) : -1;
+    read_first_line(history, verdict, MAX_LINE_BYTES);
+    if (status == 0) {
+        status = ask(program, "check", history, report);
+        read_first_line(report, verdict, MAX_LINE_BYTES);
+        if ((status == 0 && strcmp(verdict, "YES") == 0) || (status == 1 && strncmp(verdict, "NO ", 3) == 0)) {
+            return status;
+        }
+        fprintf(stderr, "fifobench: %s says '%s' of %s\n", program, verdict, history);
+        return 2;
+    }
+    remove(history);
+    if (judges && strncmp(verdict, "REFUSED ", 8) == 0) {
+        fprintf(stderr, "fifobench: %s says '%s' of %s\n", program, verdict, pending);
+    } else if (judges) {
+        fprintf(stderr, "fifobench: %s has no command complete, which a later version has\n", program);
+    }
+    fprintf(stderr, "  judge:   %s complete < %s | %s check\n", program, pending, program);
+    return 2;
+}
+
+static void tell_completable(const char *program, const char *pending, const struct outcome *outcome)
+{
+    size_t open[FIFOBENCH_MAX_THREADS];
+    // `draw` refuses more than 400 operations or initial values.
+    bool is_drawn = tape->events + open_calls(tape, open) <= 800 && tape->initial <= 400;
+    fprintf(stderr, "YES: a right queue can have behaved so until then. %s\n  see it:  ", name_early(outcome).fault);
+    if (is_drawn) {
+        fprintf(stderr, "%s complete < %s | %s draw --text\n", program, pending, program);
+    } else {
+        fprintf(stderr, "tail -n 40 < %s\n", pending);
+    }
+}
+
+static const char *program_of(const struct fifobench_search *settings);
 
 // A run of this process itself has ended early; so does the process.
 static _Noreturn void report_early(void)
 {
     struct outcome outcome = {.ending = tape->ending};
+    struct fifobench_search none = {0};
+    char pending[MAX_PATH_BYTES], history[MAX_PATH_BYTES], report[MAX_PATH_BYTES], verdict[MAX_LINE_BYTES];
+    const char *folder = run.settings.folder != NULL ? run.settings.folder : "fifobench-runs";
+    const char *program = program_of(&none);
+    int answer = 2;
     seat = NULL;
-    tell_early(run.settings.folder != NULL ? run.settings.folder : "fifobench-runs", run.settings.seed, &outcome);
+    name_file(history, folder, run.settings.seed, "history");
+    name_file(report, folder, run.settings.seed, "report");
+    if (tell_early(folder, run.settings.seed, &outcome, pending)) {
+        bool judges = ask(program, "--version", "/dev/null", "/dev/null") == 0;
+        answer = judge_pending(program, judges, pending, history, report, verdict);
+    }
+    if (answer == 0) {
+        remove(history);
+        remove(report);
+        tell_completable(program, pending, &outcome);
+    } else if (answer == 1) {
+        fprintf(stderr, "%s: seed %" PRIu64 ": the queue is wrong, whatever the pending calls do\n", verdict,
+                run.settings.seed);
+        fprintf(stderr, "  history: %s\n  report:  %s\n", history, report);
+    }
     fflush(NULL);
-    _exit(2);
+    _exit(answer == 1 ? 1 : 2);
 }
 
 // The command that made this search, with its settings of the environment, but for the seed and the number of runs.
@@ -153,26 +241,29 @@ static bool tell_trace_of(const struct searching *of, uint64_t seed, const struc
     return true;
 }
 
-// The trace of a run that fails, and how to make the run again.
+// The trace of a run that fails, and how to make the run again. An exception or a hang has no trace: what each trial
+// would need is the time of a hang.
 static void tell_again(const struct searching *of, uint64_t seed, const struct outcome *outcome, FILE *to)
 {
-    bool is_equal = tell_trace_of(of, seed, outcome, to);
+    bool has_trace = !outcome->has_failed && outcome->signal != SIGALRM;
+    bool is_equal = !has_trace || tell_trace_of(of, seed, outcome, to);
     fprintf(to, "  again:   ");
     tell_command(to);
     fprintf(to, "--seed %" PRIu64 " %s\n", seed,
             is_equal ? "replays this very run" : "makes the same plan, though the run may be another");
 }
 
-static int tell_violation(const struct searching *of, uint64_t seed, const struct outcome *outcome, const char *history,
-                          const char *report)
+// `why` stands after the verdict.
+static int tell_violation(const struct searching *of, uint64_t seed, const struct outcome *outcome, const char *verdict,
+                          const char *why, const char *history, const char *report)
 {
     const struct fifobench_search *settings = of->settings;
     int status = ask(of->program, "shrink", history, report);
-    printf("%s: seed %" PRIu64 ", ", outcome->verdict, seed);
+    printf("%s: seed %" PRIu64 ", ", verdict, seed);
     if (settings->pattern != NULL) {
         printf("%s, ", settings->pattern(settings->context, seed));
     }
-    printf("with chosen schedules\n  history: %s\n  report:  %s\n", history, report);
+    printf("with chosen schedules%s\n  history: %s\n  report:  %s\n", why, history, report);
     printf("  see it:  %s draw --text < %s\n", of->program, report);
     tell_again(of, seed, outcome, stdout);
     if (status != 1) {
@@ -194,6 +285,27 @@ static void count_run(struct searching *of)
     }
 }
 
+// Reports that the run at hand has ended early. Returns 1 if no completion of it is linearizable, else 2.
+static int finish_early(const struct searching *of, uint64_t seed, const struct outcome *outcome, const char *history,
+                        const char *report)
+{
+    char pending[MAX_PATH_BYTES], verdict[MAX_LINE_BYTES];
+    int answer = tell_early(of->settings->folder, seed, outcome, pending)
+                     ? judge_pending(of->program, of->judges, pending, history, report, verdict)
+                     : 2;
+    if (answer == 1) {
+        const char *why = ": the queue is wrong, whatever the pending calls do";
+        return tell_violation(of, seed, outcome, verdict, why, history, report);
+    }
+    if (answer == 0) {
+        remove(history);
+        remove(report);
+        tell_completable(of->program, pending, outcome);
+    }
+    tell_again(of, seed, outcome, stderr);
+    return 2;
+}
+
 // One run of a search: 0, 1 or 2.
 static int search_one(struct searching *of, uint64_t seed)
 {
@@ -207,11 +319,7 @@ static int search_one(struct searching *of, uint64_t seed)
         return 2;
     }
     if (!outcome.is_wrong && !is_complete(&outcome)) {
-        tell_early(folder, seed, &outcome);
-        if (!outcome.has_failed && outcome.signal != SIGALRM) {
-            tell_again(of, seed, &outcome, stderr);
-        }
-        return 2;
+        return finish_early(of, seed, &outcome, history, report);
     }
     count_run(of);
     judge(of, history, report, &outcome);
@@ -220,7 +328,7 @@ static int search_one(struct searching *of, uint64_t seed)
         return 2;
     }
     if (strncmp(outcome.verdict, "NO ", 3) == 0) {
-        return tell_violation(of, seed, &outcome, history, report);
+        return tell_violation(of, seed, &outcome, outcome.verdict, "", history, report);
     }
     if (of->judges) {
         remove(history);

@@ -9,7 +9,7 @@ enum access { READS, WRITES, LOADS, STORES, MODIFIES, FENCES, WAITS, RESTS, ENDS
 struct event {
     uint64_t value;
     unsigned thread;
-    unsigned what; // enum fifobench_what
+    unsigned what; // enum fifobench_schedule_what
 };
 
 // At this point, of which the thread counts its own, another thread goes on; or a store waits.
@@ -110,12 +110,12 @@ static void note_decision(struct decision decision)
 
 static bool is_call(const struct event *event)
 {
-    return event->what == FIFOBENCH_CALL_ENQ || event->what == FIFOBENCH_CALL_DEQ;
+    return event->what == FIFOBENCH_SCHEDULE_CALL_ENQ || event->what == FIFOBENCH_SCHEDULE_CALL_DEQ;
 }
 
 static bool has_value(const struct event *event)
 {
-    return event->what == FIFOBENCH_CALL_ENQ || event->what == FIFOBENCH_RET_DEQ;
+    return event->what == FIFOBENCH_SCHEDULE_CALL_ENQ || event->what == FIFOBENCH_SCHEDULE_RET_DEQ;
 }
 
 // The calls that haven't returned: for each thread the place of the call's event plus 1, or 0. Returns their number.

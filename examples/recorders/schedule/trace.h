@@ -118,11 +118,11 @@ static void tell_event(const struct tape *of, size_t ticket, FILE *to)
     const struct event *event = &of->event[ticket];
     fprintf(to, "%6zu  thread %u ", ticket, event->thread);
     switch (event->what) {
-    case FIFOBENCH_CALL_ENQ: fprintf(to, "calls enqueue of %" PRIu64 "\n", event->value); break;
-    case FIFOBENCH_RET_ENQ: fprintf(to, "returns: the value is enqueued\n"); break;
-    case FIFOBENCH_RET_NOT: fprintf(to, "returns: the enqueue has failed\n"); break;
-    case FIFOBENCH_CALL_DEQ: fprintf(to, "calls dequeue\n"); break;
-    case FIFOBENCH_RET_DEQ: fprintf(to, "returns: %" PRIu64 " is dequeued\n", event->value); break;
+    case FIFOBENCH_SCHEDULE_CALL_ENQ: fprintf(to, "calls enqueue of %" PRIu64 "\n", event->value); break;
+    case FIFOBENCH_SCHEDULE_RET_ENQ: fprintf(to, "returns: the value is enqueued\n"); break;
+    case FIFOBENCH_SCHEDULE_RET_NOT: fprintf(to, "returns: the enqueue has failed\n"); break;
+    case FIFOBENCH_SCHEDULE_CALL_DEQ: fprintf(to, "calls dequeue\n"); break;
+    case FIFOBENCH_SCHEDULE_RET_DEQ: fprintf(to, "returns: %" PRIu64 " is dequeued\n", event->value); break;
     default: fprintf(to, "returns: the queue is empty\n"); break;
     }
 }

@@ -558,6 +558,7 @@ fn set(options: &mut Options, name: &str, word: &str) -> Result<(), String> {
         "--seed" => options.seed = number()?,
         "--runs" => options.runs = number()?,
         "--ops" => options.operations = number()? as usize,
+        "--initial" => options.initial = number()? as usize,
         "--timeout" => options.timeout = Duration::from_secs(number()?),
         "--folder" => options.folder = PathBuf::from(word),
         _ => return Err(format!("no option {name}")),

@@ -50,6 +50,7 @@ extern "C" {
     fn fifobench_verify(text: *const u8, length: usize, answer: *mut u8, capacity: usize, needed: *mut usize) -> u8;
     fn fifobench_draw(text: *const u8, length: usize, answer: *mut u8, capacity: usize, needed: *mut usize) -> u8;
     fn fifobench_draw_text(text: *const u8, length: usize, answer: *mut u8, capacity: usize, needed: *mut usize) -> u8;
+    fn fifobench_complete(text: *const u8, length: usize, answer: *mut u8, capacity: usize, needed: *mut usize) -> u8;
     fn fifobench_stats(text: *const u8, length: usize, answer: *mut u8, capacity: usize, needed: *mut usize) -> u8;
     fn fifobench_check_events(events: *const RawEvent, count: usize, answer: *mut u8, capacity: usize, needed: *mut usize) -> u8;
 }
@@ -279,6 +280,11 @@ pub fn draw(text: &str) -> Result<Verdict, Error> {
 /// The same in lines of characters.
 pub fn draw_text(text: &str) -> Result<Verdict, Error> {
     judge(fifobench_draw_text, text)
+}
+
+/// The completion of a history whose calls may be pending: it is linearizable if and only if some completion is.
+pub fn complete(text: &str) -> Result<Verdict, Error> {
+    judge(fifobench_complete, text)
 }
 
 /// How far the operations of a history overlap, and other counts: a line for each number.

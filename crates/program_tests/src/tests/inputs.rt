@@ -61,8 +61,17 @@ const TOO_LONG: &str =
 
 const ENQUEUE: &str = "fifo-history 1\n0 0 call-enq 7\n1 0 ret-enq\nend 2\n";
 
+/// An enqueue never returned, though its value was dequeued.
+const PENDING: &str =
+    "fifo-pending 1\n0 0 call-enq 7\n1 1 call-deq\n2 1 ret-deq 7\nopen 1\nend 3\n";
+
+const COMPLETED: &str =
+    "fifo-history 1\n0 0 call-enq 7\n1 1 call-deq\n2 1 ret-deq 7\n3 0 ret-enq\nend 4\n";
+
+const CUT_OFF: &str = "fifo-pending 1\n0 0 call-deq\n1 1 call";
+
 /// What the program is called by, its input, whether the reader fails after that, what is written, and the status.
-const CASES: [(&str, &str, bool, &str, u8); 10] = [
+const CASES: [(&str, &str, bool, &str, u8); 14] = [
     ("fifobench check", OVERTAKEN, false, VERDICT, 1),
     ("fifobench stats", OVERTAKEN, false, STATISTICS, 0),
     ("fifobench draw --text", OVERTAKEN, false, PICTURE, 0),
@@ -91,6 +100,16 @@ const CASES: [(&str, &str, bool, &str, u8); 10] = [
     ),
     ("fifobench check", LONGEST, true, "FAULT Read\n", 3),
     ("fifobench check", TOO_LONG, true, "REFUSED Header\n", 2),
+    ("fifobench complete", PENDING, false, COMPLETED, 0),
+    ("fifobench complete", PENDING, true, "FAULT Read\n", 3),
+    (
+        "fifobench complete --cut",
+        CUT_OFF,
+        false,
+        "fifo-history 1\nend 0\n",
+        0,
+    ),
+    ("fifobench complete --cut", CUT_OFF, true, "FAULT Read\n", 3),
 ];
 
 #[test]

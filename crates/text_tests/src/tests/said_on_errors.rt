@@ -10,7 +10,7 @@ const SENTENCES: &str =
     "fifobench: line 2: expected <ticket> <thread> <what>, found 3 fields: '0 0 ret'
 fifobench: <what> is call-enq <value>, ret-enq, ret-not, call-deq, ret-deq <value> or ret-empty
 fifobench: line 70002: the call of ticket 70001 never returns: '70001 5 call-deq'
-fifobench: a history has the return of each call: wait for all threads before it is written
+fifobench: a history has the return of each call: fifobench complete < FILE | fifobench check judges one with pending calls
 ";
 
 /// Sentences about a line that is kept, and about a call without return whose line isn't.

@@ -34,6 +34,16 @@ fn words_name_tasks(rt: HostRuntime) -> Result<(), Fail> {
         ("fifobench shrink", Task::Shrink, false),
         ("fifobench verify", Task::Verify, false),
         ("fifobench convert", Task::Convert, false),
+        (
+            "fifobench complete",
+            Task::Complete { takes_cut: false },
+            false,
+        ),
+        (
+            "fifobench complete --cut",
+            Task::Complete { takes_cut: true },
+            false,
+        ),
         ("fifobench stats", Task::Stats, false),
         ("fifobench sim", Task::Sim, false),
         ("fifobench draw", svg, false),

@@ -1,7 +1,7 @@
 use Rattle.std.proofs.Common.{◌∙◌, subst, sym, ap, arith, length, List}
 use Rattle.event_records.specs.declared.event.Event.{Event}
 use Rattle.completions.specs.Pending.{IsDeciding}
-use Rattle.completions.proofs.Sound.{complete_stays, when_both, when_ok, within_limits}
+use Rattle.completions.proofs.Sound.{complete_stays, known_ok, when_both, when_known, when_ok, within_limits}
 use Rattle.completions.proofs.Decides.{decides}
 use Rattle.completions.proofs.completion.complete.Goals as goal
 
@@ -15,7 +15,7 @@ returns-clause-few c =
     let most = (within_limits c.args.initial.now c.args.events.now within).0 in
     let long = ap (λ (es : List Event). length es) is in
     omega (arith, most, long))
-    c.complete_history.ensures.completed c.complete_history.ensures.within
+    c.complete_history.ensures.completed (when_known c.complete_history.result _ c.complete_history.ensures.within)
 
 pub returns-clause-deciding : goal.returns-clause-deciding
 returns-clause-deciding c =
@@ -23,4 +23,7 @@ returns-clause-deciding c =
     subst (IsDeciding c.args.initial.now c.args.events.now) (sym is)
     (decides c.args.initial.now c.args.events.now c.in_ok-check_history.ensures.history c.requires.few_initial
     (within_limits c.args.initial.now c.args.events.now within).1))
-    c.complete_history.ensures.completed c.complete_history.ensures.within
+    c.complete_history.ensures.completed (when_known c.complete_history.result _ c.complete_history.ensures.within)
+
+pub returns-clause-found : goal.returns-clause-found
+returns-clause-found c = known_ok c.complete_history.result _ c.in_ok-check_history.ensures.found

@@ -15,7 +15,7 @@ returns-then-saturating_add-gt-MAX_EVENTS-clause-fault c =
     let answers = ap (λ (l : List Answer). length l) c.in_ok-answers.ensures in
     let kept = ap (λ (l : List Event). length l) (c.in_ok-full.ensures
     ∙ ap (λ (l : List Answer). filter (λ e. not (is_left_out c.args.events.now l e)) c.args.events.now) (c.as_slice.ensures.value ∙ c.in_ok-answers.ensures)) in (
-      c.requires.history,
+      c.requires.found,
       elim c.then-saturating_add-gt-MAX_EVENTS.branch [
         | then-saturating_add-gt-MAX_EVENTS-via-then-saturating_add-gt-MAX_EVENTS w ↦
             inl (omega (arith, w.if-saturating_add-gt-MAX_EVENTS.true, whole, answers, kept, c.saturating_add.ensures, c.len.ensures, c.len-count.ensures))

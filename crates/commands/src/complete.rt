@@ -1,0 +1,84 @@
+//! `complete`: the completion of a history whose calls may be pending.
+ghost use Rattle.std.specs.Prelude.{◌≡◌, ◌≤◌, ◌↔◌, [], All, IfOk, IfErr, IfSome, IsTrue, length};
+ghost use Rattle.event_records.specs.declared.limits.TheConstants.{MAX_EVENTS, MAX_INITIAL, MAX_THREAD};
+ghost use Rattle.history_merge.specs.Initial.{IsCompleteFrom};
+ghost use Rattle.history_text.specs.declared.version.Version.TheVariants.{One};
+ghost use Rattle.commands.specs.Completing.{Completes, CountsPending, IsFaultOfPendingInput, IsPendingOf};
+ghost use Rattle.commands.specs.Judging.{AnswersFor, AnswersOrNoMemory};
+ghost use Rattle.commands.specs.Outcomes.{answer_of, fault_of_completion, NamesPlaces};
+
+use crate::input::pending_of;
+use crate::outcome::{Fault, Outcome, Report};
+use completions::{CompletionFault, count_pending};
+use event_records::Event;
+use history_merge::{History, history_from};
+use history_text::{PendingText, TextFault, TextSource};
+use std::alloc::{AllocError, Global};
+
+/// What `complete` finds in what the reader gives; with `takes_cut` in a text that is cut off too.
+pub(crate) fn complete<S: TextSource + Drop>(alloc: Global, reader: S, takes_cut: bool) -> Outcome
+    ensures found { IfSome (S.ahead reader) (λ input. AnswersFor (IsPendingOf takes_cut) (IsFaultOfPendingInput takes_cut) Completes input (answer_of result)) }
+    ensures places { NamesPlaces result }
+{
+    let text = pending_of(alloc, reader, takes_cut)?;
+    completion_of(alloc, &text)
+}
+
+/// What `complete` finds in a text.
+fn completion_of(alloc: Global, text: &PendingText) -> Outcome
+    requires few_initial { length text.now.initial ≤ MAX_INITIAL }
+    requires few_events { length text.now.events ≤ MAX_EVENTS }
+    requires version { text.now.version ≡ One → text.now.initial ≡ [] }
+    ensures found { AnswersOrNoMemory Completes text.now (answer_of result) }
+    ensures places { NamesPlaces result }
+{
+    let completed = completions::complete(alloc, text.initial.as_slice(), text.events.as_slice());
+    let events = match completed {
+        Ok(events) => events,
+        Err(fault) => return Err(refusal_of(fault)),
+    };
+    if !counts_pending(text) {
+        return Err(Fault::Text(TextFault::Count));
+    }
+    let history = history_of_completion(alloc, text.initial.as_slice(), events.as_slice())?;
+    Ok(Report::Completed(text.version, history))
+}
+
+/// Why nothing is found where a history has no completion.
+fn refusal_of(fault: CompletionFault) -> Fault
+    ensures { result ≡ fault_of_completion fault }
+{
+    match fault {
+        CompletionFault::History(fault) => Fault::from(fault),
+        CompletionFault::Limit => Fault::Limit,
+    }
+}
+
+/// Whether the text counts its pending calls rightly, if it counts them.
+fn counts_pending(text: &PendingText) -> bool
+    requires { All (λ e. e.thread ≤ MAX_THREAD) text.now.events }
+    ensures { IsTrue result ↔ CountsPending text.now }
+{
+    match text.open_calls {
+        Some(calls) => calls == count_pending(text.events.as_slice()),
+        None => true,
+    }
+}
+
+/// The history of a completion.
+fn history_of_completion(
+    alloc: Global,
+    initial: &[u64],
+    events: &[Event],
+) -> Result<History, AllocError>
+    requires few_initial { length initial.now ≤ MAX_INITIAL }
+    requires few_events { length events.now ≤ MAX_EVENTS }
+    requires whole { IsCompleteFrom initial.now events.now }
+    ensures { IfOk result (λ history. (history.initial ≡ initial.now) × (history.events ≡ events.now)) }
+{
+    let values = Vec::from_slice(alloc, initial)?;
+    match history_from(alloc, values, events) {
+        Ok(history) => Ok(history),
+        Err(_) => Err(AllocError),
+    }
+}

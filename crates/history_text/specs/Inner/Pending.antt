@@ -1,0 +1,57 @@
+-- What a reader takes of the lines of events, where calls may be pending.
+use Rattle.std.specs.Prelude.{◌≡◌, ℕ, ◌<◌, ◌≤◌, ⊤, ◌⊎◌, Bool, true, false, List, length, Option, Some, None, IfSome, is_some, ◌++◌}
+use Rattle.event_records.specs.declared.event.Event.{Event}
+use Rattle.event_records.specs.declared.limits.TheConstants.{MAX_EVENTS, MAX_THREADS}
+use Rattle.text_lines.specs.declared.fault.TextFault.{TextFault}
+use Rattle.text_lines.specs.Faults.{MemoryOr}
+use Rattle.text_lines.specs.Input.{Ahead, Ending, Takes}
+use Rattle.text_lines.specs.Lines.{line}
+use Rattle.history_text.specs.declared.pending_line.EventLine.{EventLine}
+use Rattle.history_text.specs.declared.pending_line.EventLine.TheVariants.{OneEvent, Stop}
+use Rattle.history_text.specs.declared.version.Version.{Version}
+use Rattle.history_text.specs.declared.version.Version.TheVariants.{One, Two}
+use Rattle.history_text.specs.Items.{Format, HaveLines, line_of, lines_of, NoRoom, NoRoomAmong}
+use Rattle.history_text.specs.Histories.{event_format, HasEventLine}
+use Rattle.history_text.specs.Pending.{FaultAfterEvents, open_fields, open_in, stop_line}
+use Rattle.history_text.specs.Reading.{HasFirstFault}
+use Rattle.history_text.specs.Versions.{InitialFault, AfterCount, value_format}
+
+-- the line that counts pending calls, as an item that stands once
+abbrev pub open_format : Format ℕ
+open_format = record { fields = open_fields; HasLine = λ calls. calls ≤ MAX_THREADS; most = 1; is_counted = false; read = open_in }
+
+-- what a text of this kind says where its events stop: a pending one how many calls are pending
+pub record IsStop (is_pending : Bool) (calls : Option ℕ) : Type 0 where
+  pub of_kind : is_some calls ≡ is_pending
+  pub few : IfSome calls (λ n. n ≤ MAX_THREADS)
+
+-- the bytes are those of an event's line, after k others, or of the line at which the events of such a text stop
+abbrev pub IsEventLine : Bool → ℕ → List ℕ → EventLine → Type 0
+IsEventLine is_pending k bytes (OneEvent e) = (line bytes ≡ line_of event_format e) × HasEventLine e × (k < MAX_EVENTS)
+IsEventLine is_pending k bytes (Stop calls) = (line bytes ≡ stop_line calls k) × IsStop is_pending calls
+
+-- what such a line takes
+abbrev pub TakesEventLine : Bool → Option Ahead → Option Ahead → ℕ → EventLine → Type 0
+TakesEventLine is_pending old new k (OneEvent e) = Takes old new (line_of event_format e) × HasEventLine e × (k < MAX_EVENTS)
+TakesEventLine is_pending old new k (Stop calls) = Takes old new (stop_line calls k) × IsStop is_pending calls
+
+-- what the lines of events take, and the line at which they stop
+abbrev pub TakesEvents : Bool → Option Ahead → Option Ahead → List Event → Option ℕ → Type 0
+TakesEvents is_pending old new events calls =
+    (after : Option Ahead) × HaveLines event_format events × Takes old after (lines_of event_format events)
+    × Takes after new (stop_line calls (length events)) × IsStop is_pending calls
+
+-- the first fault of the lines of events from line n on, or of those after them, which comes after these events and this count
+abbrev pub HasEventsFault : Bool → ℕ → Option Ahead → List Event → Option ℕ → TextFault → Type 0
+HasEventsFault is_pending n old events calls fault =
+    HasFirstFault (λ ending bytes f. FaultAfterEvents is_pending n ending f bytes events calls) (NoRoom event_format) old fault
+
+-- the first fault of the lines of initial values, from line n on; version 1 has none
+abbrev pub ValuesFault : Version → ℕ → Ending → List ℕ → TextFault → Type 0
+ValuesFault One n ending bytes fault = ⊥
+ValuesFault Two n ending bytes fault = InitialFault n ending fault bytes
+
+-- there was no room for them
+abbrev pub NoRoomForValues : Version → List ℕ → Type 0
+NoRoomForValues One bytes = ⊥
+NoRoomForValues Two bytes = AfterCount (NoRoomAmong value_format) bytes

@@ -1,0 +1,236 @@
+package fifobench
+
+// What a search asks of the program, and the files of a run: histories, reports, and the texts of runs that end early.
+// Beside recorder.go.
+
+import (
+	"bufio"
+	"bytes"
+	"errors"
+	"fmt"
+	"os"
+	"os/exec"
+	"path/filepath"
+	"strings"
+	"time"
+)
+
+const maxDrawn = 400 // operations or initial values in a picture
+
+func (options *Options) program() string {
+	if options.Program != "" {
+		return options.Program
+	}
+	if named := os.Getenv("FIFOBENCH"); named != "" {
+		return named
+	}
+	return "fifobench"
+}
+
+// Whether the program can be started; if it can't, a line says so.
+func (options *Options) isFound() bool {
+	var ended *exec.ExitError
+	err := exec.Command(options.program(), "help").Run()
+	if err == nil || errors.As(err, &ended) {
+		return true
+	}
+	say("no program '%s': nothing is judged; the histories are kept in %s", options.program(), options.Folder)
+	return false
+}
+
+// Returns what the program writes about this text, and its status.
+func (options *Options) ask(command string, text []byte) ([]byte, int, error) {
+	judge := exec.Command(options.program(), command)
+	judge.Stdin = bytes.NewReader(text)
+	told, err := judge.Output()
+	var ended *exec.ExitError
+	if err != nil && !errors.As(err, &ended) {
+		return nil, 0, err
+	}
+	return told, judge.ProcessState.ExitCode(), nil
+}
+
+func firstLine(text []byte) string {
+	line, _, _ := strings.Cut(string(text), "\n")
+	return line
+}
+
+// Judges a history, and says of a violation where it is kept. `why` follows the verdict.
+func (options *Options) judge(text []byte, why string) (Answer, error) {
+	verdict, status, err := options.ask("check", text)
+	if err != nil || status == 0 {
+		return NoViolation, err
+	}
+	kept, err := options.keep("history", text)
+	if err != nil {
+		return Wrong, err
+	}
+	if status != 1 {
+		return Wrong, fmt.Errorf("%s says '%s' of %s", options.program(), firstLine(verdict), kept)
+	}
+	shrunk, _, err := options.ask("shrink", text)
+	if err != nil {
+		return Wrong, err
+	}
+	report, err := options.keep("report", shrunk)
+	if err != nil {
+		return Wrong, err
+	}
+	seed, pattern := options.Seed, options.PatternOf(options.Seed)
+	fmt.Printf("%s: seed %d, %s%s\n", firstLine(verdict), seed, pattern, why)
+	fmt.Printf("  history: %s\n  report:  %s\n", kept, report)
+	fmt.Printf("  see it:  %s draw --text < %s\n", options.program(), report)
+	if options.tellAgain != nil {
+		options.tellAgain(firstLine(verdict))
+		return Violation, nil
+	}
+	fmt.Printf("  again:   seed %d, pattern %s: the same plan, though threads may meet in another way\n", seed, pattern)
+	return Violation, nil
+}
+
+// Writes a text into the folder, and gives its path.
+func (options *Options) keep(kind string, text []byte) (string, error) {
+	if err := os.MkdirAll(options.Folder, 0o777); err != nil {
+		return "", err
+	}
+	path := filepath.Join(options.Folder, fmt.Sprintf("%d.%s", options.Seed, kind))
+	return path, os.WriteFile(path, text, 0o666)
+}
+
+// Keeps what there is of a run that ended early, says how it ended, and judges it.
+func (history *History) endEarly(options *Options) Answer {
+	told := strings.Join(history.failures, "; ")
+	if history.ending == "hang" || history.ending == "panic" { // else said by thread, with the places
+		told += "; " + toldCalls(history.openCalls())
+	}
+	say("seed %d: %s", options.Seed, told)
+	pending, err := options.keep("pending", history.text())
+	answer := Wrong
+	if err == nil {
+		fmt.Fprintf(os.Stderr, "  pending: %s\n", pending)
+		answer, err = options.judgePending(history, pending)
+	}
+	if err != nil {
+		say("%v", err)
+	}
+	return answer
+}
+
+// Judges the completion of a pending text, or prints the command that does.
+func (options *Options) judgePending(history *History, pending string) (Answer, error) {
+	program := options.program()
+	told, status, err := options.ask("complete", history.text())
+	if err == nil && status == 0 {
+		answer, err := options.judge(told, ": the queue is wrong, whatever the pending calls do")
+		if err != nil || answer == Violation {
+			return answer, err
+		}
+		promise := "to return"
+		if history.ending == "panic" {
+			promise = "not to panic"
+		}
+		fmt.Fprintf(os.Stderr, "YES: a right queue can have behaved so until then. If the queue promises %s, ", promise)
+		fmt.Fprintf(os.Stderr, "the %s itself is the fault.\n", history.ending)
+		see := program + " complete < " + pending + " | " + program + " draw --text"
+		if len(history.events)+len(history.openCalls()) > 2*maxDrawn || len(history.initial) > maxDrawn {
+			see = "tail -n 40 < " + pending
+		}
+		fmt.Fprintf(os.Stderr, "  see it:  %s\n", see)
+		if options.tellAgain != nil {
+			options.tellAgain(history.ending)
+		}
+		return Wrong, nil
+	}
+	if err == nil && strings.HasPrefix(firstLine(told), "REFUSED ") {
+		say("%s says '%s' of %s", program, firstLine(told), pending)
+	} else if err == nil {
+		say("%s has no command complete, which a later version has", program)
+	}
+	fmt.Fprintf(os.Stderr, "  judge:   %s complete < %s | %s check\n", program, pending, program)
+	return Wrong, nil
+}
+
+// A journal has the events of a run a few milliseconds after they are noted, so that a killed run leaves them. There is
+// none if it is nil.
+type journal struct {
+	run    *run
+	file   *os.File
+	places []int // the next event of each thread
+	ticket uint64
+}
+
+func newJournal(run *run) *journal {
+	if !run.options.Journal {
+		return nil
+	}
+	var head bytes.Buffer
+	writeHead(&head, "fifo-pending", run.initial)
+	path, err := run.options.keep("pending", head.Bytes())
+	var file *os.File
+	if err == nil {
+		file, err = os.OpenFile(path, os.O_APPEND|os.O_WRONLY, 0)
+	}
+	if err != nil {
+		say("%v", err)
+		return nil
+	}
+	return &journal{run: run, file: file, places: make([]int, len(run.threads))}
+}
+
+// Returns the time between two looks at a run.
+func (journal *journal) often() time.Duration {
+	if journal == nil {
+		return 50 * time.Millisecond
+	}
+	return 5 * time.Millisecond
+}
+
+// Returns the next event, or nil if it isn't published. Tickets have no gap, so some thread has it next.
+func (journal *journal) next() *event {
+	for number, thread := range journal.run.threads {
+		place := journal.places[number]
+		if place >= int(thread.count.Load()) {
+			continue
+		}
+		if event := &(*thread.read.Load())[place]; event.ticket == journal.ticket {
+			journal.places[number]++
+			journal.ticket++
+			return event
+		}
+	}
+	return nil
+}
+
+func (journal *journal) write() {
+	if journal == nil {
+		return
+	}
+	out := bufio.NewWriter(journal.file)
+	for event := journal.next(); event != nil; event = journal.next() {
+		fmt.Fprintln(out, event.line()...)
+	}
+	_ = out.Flush() // a journal that can't be written is cut, as that of a killed run
+}
+
+func (journal *journal) remove() {
+	if journal != nil {
+		journal.file.Close()
+		os.Remove(journal.file.Name())
+	}
+}
+
+// Names the texts that killed runs of an earlier search have left: they lack the last line.
+func (options *Options) nameKilled() {
+	for number := uint64(0); number < options.Runs; number++ {
+		stem := filepath.Join(options.Folder, fmt.Sprint(options.Seed+number))
+		text, err := os.ReadFile(stem + ".pending")
+		lines := bytes.Split(bytes.TrimSuffix(text, []byte("\n")), []byte("\n"))
+		isWhole := bytes.HasSuffix(text, []byte("\n")) && bytes.HasPrefix(lines[len(lines)-1], []byte("end "))
+		if err != nil || isWhole || os.Rename(stem+".pending", stem+".killed") != nil {
+			continue
+		}
+		say("seed %d was killed in an earlier search", options.Seed+number)
+		fmt.Fprintf(os.Stderr, "  judge:   %s complete --cut < %s.killed | %s check\n", options.program(), stem,
+			options.program())
+	}
+}

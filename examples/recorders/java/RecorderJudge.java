@@ -1,0 +1,262 @@
+import java.io.BufferedWriter;
+import java.io.IOException;
+import java.io.OutputStream;
+import java.io.UncheckedIOException;
+import java.lang.ProcessBuilder.Redirect;
+import java.nio.charset.StandardCharsets;
+import java.nio.file.Files;
+import java.nio.file.Path;
+import java.nio.file.StandardCopyOption;
+import java.nio.file.StandardOpenOption;
+import java.util.ArrayDeque;
+import java.util.ArrayList;
+import java.util.Deque;
+import java.util.List;
+import java.util.function.Consumer;
+
+/**
+ * What a search asks of the program, and the files of its runs: histories, reports, the texts of runs that end early.
+ * Beside Recorder.java.
+ */
+final class RecorderJudge {
+    private static final int MAX_DRAWN = 400;    // operations or initial values in a picture
+    private final Recorder recorder;
+    Consumer<String> tellAgain;    // the last lines of a verdict, with chosen schedules
+
+    RecorderJudge(Recorder recorder) {
+        this.recorder = recorder;
+    }
+
+    static void say(String line) {
+        System.err.println("fifobench: " + line);
+    }
+
+    private String program() {
+        String set = recorder.program != null ? recorder.program : System.getenv("FIFOBENCH");
+        return set != null ? set : "fifobench";
+    }
+
+    // Whether the program can be started; if it can't, a line says so.
+    boolean isFound() {
+        try {
+            ProcessBuilder help = new ProcessBuilder(program(), "help");
+            help.redirectOutput(Redirect.DISCARD).redirectError(Redirect.DISCARD).start();
+            return true;
+        } catch (IOException failure) {
+            say("no program '" + program() + "': nothing is judged; the histories are kept in " + recorder.folder);
+            return false;
+        }
+    }
+
+    record Told(byte[] text, int status) {
+        List<String> lines() {
+            return new String(text, StandardCharsets.US_ASCII).lines().toList();
+        }
+
+        String firstLine() {
+            return lines().stream().findFirst().orElse("");
+        }
+    }
+
+    // Returns what the program writes about this text, and its status.
+    Told ask(String command, byte[] text) throws IOException {
+        Process judge = new ProcessBuilder(program(), command).redirectError(Redirect.DISCARD).start();
+        try (OutputStream input = judge.getOutputStream()) {
+            input.write(text);
+        } catch (IOException refused) {
+            // The program reads all before it writes, unless it refuses the text; then its answer says why.
+        }
+        byte[] told = judge.getInputStream().readAllBytes();
+        try {
+            return new Told(told, judge.waitFor());
+        } catch (InterruptedException interrupted) {
+            Thread.currentThread().interrupt();
+            throw new IOException("interrupted", interrupted);
+        }
+    }
+
+    private Path path(long seed, String kind) {
+        return recorder.folder.resolve(seed + "." + kind);
+    }
+
+    Path keep(long seed, String kind, byte[] text) throws IOException {
+        Files.createDirectories(recorder.folder);
+        return Files.write(path(seed, kind), text);
+    }
+
+    // Returns the answer of a search to one run.
+    Recorder.Answer answer(Recorder.History history, boolean isJudged) throws IOException {
+        if (history.answer != null) {
+            return history.answer;
+        }
+        if (history.ending != null) {
+            return endEarly(history);
+        }
+        if (isJudged) {
+            return judge(history.seed, history.text(), "");
+        }
+        keep(history.seed, "history", history.text());
+        return Recorder.Answer.NO_VIOLATION;
+    }
+
+    // Judges a history, and says of a violation where it is kept. `why` follows the verdict.
+    private Recorder.Answer judge(long seed, byte[] text, String why) throws IOException {
+        Told verdict = ask("check", text);
+        if (verdict.status == 0) {
+            return Recorder.Answer.NO_VIOLATION;
+        }
+        Path kept = keep(seed, "history", text);
+        if (verdict.status != 1) {
+            throw new IOException(program() + " says '" + verdict.firstLine() + "' of " + kept);
+        }
+        Path report = keep(seed, "report", ask("shrink", text).text);
+        Recorder.Pattern pattern = recorder.patternOf(seed);
+        System.out.printf("%s: seed %d, %s%s%n  history: %s%n  report:  %s%n  see it:  %s draw --text < %s%n",
+                verdict.firstLine(), seed, pattern, why, kept, report, program(), report);
+        if (tellAgain != null) {
+            tellAgain.accept(verdict.firstLine());
+        } else {
+            System.out.println("  again:   seed " + seed + ", pattern " + pattern
+                    + ": the same plan, though threads may meet in another way");
+        }
+        return Recorder.Answer.VIOLATION;
+    }
+
+    // Keeps what there is of a run that ended early, says how it ended, and judges it.
+    Recorder.Answer endEarly(Recorder.History history) {
+        String told = String.join("; ", history.failures);
+        if (history.ending.equals("hang") || history.ending.equals("exception")) {    // else said with the places
+            List<String> calls = history.openCalls().stream().map(Recorder::toldCall).toList();
+            told += "; " + (calls.isEmpty() ? "no thread is inside a call" : String.join(", ", calls));
+        }
+        say("seed " + history.seed + ": " + told);
+        try {
+            Path pending = keep(history.seed, "pending", history.text());
+            System.err.println("  pending: " + pending);
+            return judgePending(history, pending);
+        } catch (IOException failure) {
+            say(failure.getMessage());
+            return Recorder.Answer.WRONG;
+        }
+    }
+
+    // Judges the completion of a pending text, or prints the command that does.
+    private Recorder.Answer judgePending(Recorder.History history, Path pending) throws IOException {
+        Told completed;
+        try {
+            completed = ask("complete", history.text());
+        } catch (IOException noProgram) {
+            tellJudge("complete", pending);
+            return Recorder.Answer.WRONG;
+        }
+        if (completed.status == 0) {
+            String why = ": the queue is wrong, whatever the pending calls do";
+            if (judge(history.seed, completed.text, why) == Recorder.Answer.VIOLATION) {
+                return Recorder.Answer.VIOLATION;
+            }
+            String promise = history.ending.equals("exception") ? "not to throw" : "to return";
+            System.err.println("YES: a right queue can have behaved so until then. If the queue promises " + promise
+                    + ", the " + history.ending + " itself is the fault.");
+            int ends = history.events.size() + history.openCalls().size();
+            boolean isDrawn = Math.max(ends, 2 * history.initial.size()) <= 2 * MAX_DRAWN;
+            String drawn = program() + " complete < " + pending + " | " + program() + " draw --text";
+            System.err.println("  see it:  " + (isDrawn ? drawn : "tail -n 40 < " + pending));
+            if (tellAgain != null) {
+                tellAgain.accept(history.ending);
+            }
+            return Recorder.Answer.WRONG;
+        }
+        boolean isRefused = completed.firstLine().startsWith("REFUSED ");
+        say(program() + (isRefused ? " says '" + completed.firstLine() + "' of " + pending
+                : " has no command complete, which a later version has"));
+        tellJudge("complete", pending);
+        return Recorder.Answer.WRONG;
+    }
+
+    private void tellJudge(String command, Path text) {
+        System.err.println("  judge:   " + program() + " " + command + " < " + text + " | " + program() + " check");
+    }
+
+    // Names the texts that killed runs of an earlier search have left: they lack the last line.
+    void nameKilled(long end) throws IOException {
+        for (long seed = recorder.seed; seed < end; seed++) {
+            Path pending = path(seed, "pending"), killed = path(seed, "killed");
+            String text = Files.exists(pending) ? Files.readString(pending, StandardCharsets.US_ASCII) : "end 0\n";
+            String last = text.substring(text.lastIndexOf('\n', text.length() - 2) + 1);
+            if (!last.startsWith("end ") || !last.endsWith("\n")) {
+                Files.move(pending, killed, StandardCopyOption.REPLACE_EXISTING);
+                say("seed " + seed + " was killed in an earlier search");
+                tellJudge("complete --cut", killed);
+            }
+        }
+    }
+
+    /** Returns the journal of a run, or null if the settings ask for none. */
+    Journal journal(Recorder.Run run) {
+        try {
+            return recorder.hasJournal ? new Journal(run) : null;
+        } catch (IOException failure) {
+            say("can't write " + failure.getMessage());
+            return null;
+        }
+    }
+
+    /** The events of a run in a file, a few milliseconds after they are noted, so that a killed run leaves them. */
+    final class Journal {
+        private final Recorder.Run run;
+        private final Path path;
+        private final BufferedWriter file;
+        private final List<Deque<Recorder.Event>> read = new ArrayList<>();    // by thread, not written yet
+        private final int[] places;    // how many events of each thread have been read
+        private long ticket;    // of the next event
+
+        private Journal(Recorder.Run run) throws IOException {
+            this.run = run;
+            byte[] head = Recorder.History.head("fifo-pending ", run.initials).getBytes(StandardCharsets.US_ASCII);
+            path = keep(run.seed, "pending", head);
+            file = Files.newBufferedWriter(path, StandardCharsets.US_ASCII, StandardOpenOption.APPEND);
+            places = new int[run.workers.length];
+            for (int number = 0; number < places.length; number++) {
+                read.add(new ArrayDeque<>());
+            }
+        }
+
+        // Writes the next event if it is published. Tickets have no gap, so some thread has it next.
+        private boolean writeNext() throws IOException {
+            for (Deque<Recorder.Event> events : read) {
+                if (!events.isEmpty() && events.getFirst().ticket() == ticket) {
+                    file.write(events.removeFirst().line() + "\n");
+                    ticket++;
+                    return true;
+                }
+            }
+            return false;
+        }
+
+        void write() {
+            for (int number = 0; number < places.length; number++) {
+                List<Recorder.Event> fresh = new ArrayList<>();
+                run.workers[number].read(places[number], fresh);
+                read.get(number).addAll(fresh);
+                places[number] += fresh.size();
+            }
+            try {
+                while (writeNext()) {
+                    // writes
+                }
+                file.flush();
+            } catch (IOException failure) {
+                throw new UncheckedIOException(failure);
+            }
+        }
+
+        void remove() {
+            try {
+                file.close();
+                Files.deleteIfExists(path);
+            } catch (IOException failure) {
+                throw new UncheckedIOException(failure);
+            }
+        }
+    }
+}
