@@ -542,6 +542,7 @@ public final class Recorder implements AutoCloseable {
 
         // Runs the threads, and waits until they have ended or the time is over.
         void go(Work work, Queue queue, boolean drains) {
+            RecorderJudge.Journal journal = judge.journal(this);    // there before the first call
             Start start = new Start(threads);
             List<Thread> running = new ArrayList<>();
             for (Worker worker : workers) {
@@ -550,7 +551,7 @@ public final class Recorder implements AutoCloseable {
                 running.add(thread);
                 thread.start();
             }
-            waitForEnd(running);
+            waitForEnd(running, journal);
             hanging.addAll(running);
             hasFailed = hasFailed || !running.isEmpty();
             for (Worker worker : workers) {
@@ -577,10 +578,9 @@ public final class Recorder implements AutoCloseable {
         }
 
         // Stays until all have ended, or no ticket is drawn for the time of the settings. Who hangs stays in the list.
-        private void waitForEnd(List<Thread> running) {
+        private void waitForEnd(List<Thread> running, RecorderJudge.Journal journal) {
             boolean isInterrupted = false;
             long seen = 0, since = System.nanoTime();
-            RecorderJudge.Journal journal = judge.journal(this);
             while (!running.isEmpty() && System.nanoTime() - since < timeout.toNanos()) {
                 try {
                     running.get(0).join(journal == null ? 50 : 5);
