@@ -126,7 +126,8 @@ pub(crate) const DRAW_LONG: &str = "\
 Input: the text of a history, from its first line to the line `end N`, directly
 followed by the text of a verdict, from the line `YES` or `NO ..` on, as for
 `verify`. Where nothing follows, the history is decided as by `check`, and drawn
-with that verdict.
+with that verdict. Or a pending text, as for `complete`: it is drawn as its
+completion, with the verdict on that.
 
 Output: a picture, as an SVG document, with `--html` as a page for a browser
 that shows what precedes an operation, or with `--text` in lines of ASCII for a
@@ -136,11 +137,12 @@ beside the tickets, and each number where its operation takes effect. With `NO`
 the operations that show it are numbered in the order of the verdict's lines,
 and bands say when a value was definitely in the queue, was not, and the time
 that contradicts it. In characters `[` is a call, `]` its return and `|` stands
-between, and bands are `###`, `xxx` and `:::`. If the verdict is no evidence in
-the history, `INVALID`, and nothing is drawn. Values that the queue holds first
-(texts of `fifo-history 2`) have rows of their own above all events, front
-first, numbered as operations are. `6:11` is value 11 of thread 6 as recorders
-name it, 6 * 2^32 + 11, and `init:3` is 2^38 + 3.
+between, and bands are `###`, `xxx` and `:::`; a call that never returned has no
+`]`. If the verdict is no evidence in the history, `INVALID`, and nothing is
+drawn. Values that the queue holds first (texts of `fifo-history 2`) have rows
+of their own above all events, front first, numbered as operations are. `6:11`
+is value 11 of thread 6 as recorders name it, 6 * 2^32 + 11, and `init:3` is
+2^38 + 3.
 
 With `NO` only the operations that show it and those that overlap one of them
 are drawn; a row `... 250 events ...` stands for what is left out between. With

@@ -3,11 +3,12 @@ use Rattle.commands.proofs.Common.{[], Ahead, AnswersOf, AnswersOrNoMemory, ap, 
 use Rattle.commands.proofs.Common.{Event, false, filter, HasOneAnswer, HasText, HaveValueLines, HistoryText, IfSome, inl}
 use Rattle.commands.proofs.Common.{inr, input_of, IsExact, IsHistoryOf, IsSound, judged, Judges, length, List, memory_fault}
 use Rattle.commands.proofs.Common.{No, None, operations_of, Option, refl, Reply, said_by, said_in, Some, subst, sym, text_of}
-use Rattle.commands.proofs.Common.{true, Verdict, Version, Yes, ℕ, ◌++◌, ◌+◌, ◌∙◌, ◌∷◌, ◌≡◌, ◌≢◌, ◌≤◌}
+use Rattle.commands.proofs.Common.{true, Verdict, Version, Yes, ℕ, ◌++◌, ◌+◌, ◌∙◌, ◌∷◌, ◌≡◌, ◌≢◌, ◌≤◌, ◌⊎◌}
 use Rattle.commands.proofs.Inputs.{answered_of, one_answer, one_history, one_pending}
 use Rattle.commands.proofs.OneAnswer.{have_lines, history_fault_fails, not_both, one_by_whether, text_fault_fails}
 use Rattle.commands.specs.Answers.{answer_of_history_fault, answer_status, refused_limit, refused_text}
-use Rattle.commands.specs.Completing.{completion_in, Completes, CountsPending, FaultOrCompletion, IsFaultyBefore, IsPendingOf}
+use Rattle.commands.specs.Completing.{completion_in, Completes, FaultOrCompletion, IsCompletable, IsFaultyBefore, IsPendingOf}
+use Rattle.commands.specs.Completing.{LacksCompletion}
 use Rattle.commands.specs.Evidence.{CompletedIsDecided, CompletedIsHistory, CompletedIsKept, IsYes}
 use Rattle.commands.specs.Outcomes.{answer_of_fault, fault_of_completion}
 use Rattle.command_words.specs.Commands.{complete}
@@ -177,23 +178,14 @@ complete_has_text initial events whole few small =
 
 -- a fault of a completion is refused
 pub completion_refused : (text : PendingText) (fault : CompletionFault) → IsCompletionFault text.initial text.events fault
-    → AnswersOrNoMemory Completes text (answer_of_fault (fault_of_completion fault))
+    → LacksCompletion text (answer_of_fault (fault_of_completion fault)) ⊎ (answer_of_fault (fault_of_completion fault) ≡ memory_fault)
 completion_refused text (completion.History fault) (first, other) = by_fault fault first other
   where
     by_fault : (f : HistoryFault) → IsFirstFault text.initial text.events f → ((ticket : ℕ) → f ≢ Pending ticket)
-        → AnswersOrNoMemory Completes text (answer_of_history_fault f)
+        → LacksCompletion text (answer_of_history_fault f) ⊎ (answer_of_history_fault f ≡ memory_fault)
     by_fault Memory first other = inr refl
     by_fault f first other = inl (inl (record { fault = f; first = first; known = (λ e. absurd (cc e)); other = other; is = refl }))
 completion_refused text completion.Limit (found, beyond) = inl (inr (found, inl (beyond, refl)))
-
--- what is answered of a text whose completion is within the limits
-pub completed_or_not : (text : PendingText) (OfCompletion : Reply → Type 0) (answer : Reply) (counts : Bool) → MayBePending text.initial text.events
-    → ¬ (IsBeyondLimits text.initial text.events) → IsTrue counts ↔ CountsPending text
-    → (counts ≡ true → OfCompletion answer) → (counts ≡ false → answer ≡ refused_text Count)
-    → FaultOrCompletion text OfCompletion answer
-completed_or_not text OfCompletion answer true found within is counted other = inr (found, inr (within, inl (is.0 refl, counted refl)))
-completed_or_not text OfCompletion answer false found within is counted other =
-    inr (found, inr (within, inr ((λ counts. let no = is.1 counts in cc), other refl)))
 
 -- the history of a completion is said as the completion
 pub said_completion : (text : PendingText) (history : HistoryView) → history.initial ≡ text.initial → history.events ≡ completed text.initial text.events
@@ -206,18 +198,30 @@ faulty_or_pending text answer faulty (inl whole) = faulty.known (complete_has_no
 faulty_or_pending text answer faulty (inr (ticket, pending)) = faulty.other ticket
     (one_first_fault text.initial text.events faulty.fault (Pending ticket) faulty.known (λ e. absurd (cc e)) faulty.first pending)
 
--- so one thing is answered of a text, where one is of its completion
-pub one_of_completion : (text : PendingText) (a b : Reply) (P Q : Reply → Type 0) → (P a → Q b → a ≡ b)
-    → FaultOrCompletion text P a → FaultOrCompletion text Q b → a ≡ b
-one_of_completion text a b P Q one (inl x) (inl y) =
+-- nor is there a reason for no completion if there is one
+not_lacking : (text : PendingText) (answer : Reply) → LacksCompletion text answer → IsCompletable text → ⊥
+not_lacking text answer (inl faulty) is = faulty_or_pending text answer faulty is.found
+not_lacking text answer (inr (found, inl (beyond, limit))) is = is.within beyond
+not_lacking text answer (inr (found, inr (within, uncounted))) is = uncounted.0 is.counted
+
+one_lacking : (text : PendingText) (a b : Reply) → LacksCompletion text a → LacksCompletion text b → a ≡ b
+one_lacking text a b (inl x) (inl y) =
     x.is ∙ ap answer_of_history_fault (one_first_fault text.initial text.events x.fault y.fault x.known y.known x.first y.first) ∙ sym y.is
-one_of_completion text a b P Q one (inl x) (inr y) = absurd (faulty_or_pending text a x y.0)
-one_of_completion text a b P Q one (inr x) (inl y) = absurd (faulty_or_pending text b y x.0)
-one_of_completion text a b P Q one (inr x) (inr y) = one_by_whether (λ p q. p ∙ sym q) (one_by_whether one (λ p q. p ∙ sym q)) x.1 y.1
+one_lacking text a b (inl x) (inr y) = absurd (faulty_or_pending text a x y.0)
+one_lacking text a b (inr x) (inl y) = absurd (faulty_or_pending text b y x.0)
+one_lacking text a b (inr x) (inr y) = one_by_whether (λ p q. p ∙ sym q) (λ p q. p.1 ∙ sym q.1) x.1 y.1
+
+-- so one thing is answered of a text if one is of its completion
+pub one_of_completion : (text : PendingText) (a b : Reply) (P Q : Reply → Type 0) → (IsCompletable text → P a → Q b → a ≡ b)
+    → FaultOrCompletion text P a → FaultOrCompletion text Q b → a ≡ b
+one_of_completion text a b P Q one (inl x) (inl y) = one_lacking text a b x y
+one_of_completion text a b P Q one (inl x) (inr y) = absurd (not_lacking text a x y.0)
+one_of_completion text a b P Q one (inr x) (inl y) = absurd (not_lacking text b y x.0)
+one_of_completion text a b P Q one (inr x) (inr y) = one x.0 x.1 y.1
 
 pub complete_has_one : (takes_cut : Bool) → HasOneAnswer (complete takes_cut)
 complete_has_one takes_cut = one_answer (one_pending takes_cut) Completes (λ input text a b is. one_of_completion text a b
-    (λ r. r ≡ converted (completion_in text)) (λ r. r ≡ converted (completion_in text)) (λ p q. p ∙ sym q))
+    (λ r. r ≡ converted (completion_in text)) (λ r. r ≡ converted (completion_in text)) (λ is p q. p ∙ sym q))
 
 -- ---- what is written
 
@@ -250,11 +254,11 @@ completion_read takes_cut input to (inl read) = by_answer read.answered
   where
     by_answer : AnswersOrNoMemory Completes read.value (converted to) → IsCompleted takes_cut input to
     by_answer (inr memory) = absurd (no_refusal to memory_fault memory (omega arith))
-    by_answer (inl (inl faulty)) = absurd (no_refusal to _ faulty.is (history_fault_fails faulty.fault))
-    by_answer (inl (inr (found, inl (beyond, limit)))) = absurd (no_refusal to refused_limit limit (omega arith))
-    by_answer (inl (inr (found, inr (within, inr (uncounted, count))))) = absurd (no_refusal to (refused_text Count) count (omega arith))
-    by_answer (inl (inr (found, inr (within, inl (counted, same))))) =
-        record { text = read.value; input_of = read.input_of; found = found; within = within; is = cc }
+    by_answer (inl (inl (inl faulty))) = absurd (no_refusal to _ faulty.is (history_fault_fails faulty.fault))
+    by_answer (inl (inl (inr (found, inl (beyond, limit))))) = absurd (no_refusal to refused_limit limit (omega arith))
+    by_answer (inl (inl (inr (found, inr (within, uncounted))))) = absurd (no_refusal to (refused_text Count) uncounted.1 (omega arith))
+    by_answer (inl (inr (is, same))) =
+        record { text = read.value; input_of = read.input_of; found = is.found; within = is.within; is = cc }
 
 few_of_lines : (version : Version) (initial : List ℕ) → HaveValueLines version initial → length initial ≤ MAX_INITIAL
 few_of_lines version initial lines = (have_lines version initial lines).few

@@ -7,8 +7,8 @@ use Rattle.commands.proofs.Common.{IsTextFault, IsVerdictTextFault, line_count, 
 use Rattle.commands.proofs.Common.{NoRoomForText, NoRoomForVerdict, Option, refl, Reply, SameOrNoMemory, Some, subst}
 use Rattle.commands.proofs.Common.{sym, Takes, text_of, TextFault, verdict_text, with_claim, [], ℕ, ◌++◌, ◌∙◌, ◌≡◌}
 use Rattle.commands.proofs.Common.{◌≢◌, ◌⊎◌}
-use Rattle.commands.specs.Inputs.{AfterText, IsFaultBehind, IsFaultOfEnd, IsFaultOfOneText, IsFaultOfScheduleInput}
-use Rattle.commands.specs.Inputs.{IsFaultOfTexts, IsScheduleOf, IsWhole}
+use Rattle.commands.specs.Inputs.{AfterText, FaultBehind, IsFaultBehind, IsFaultOfEnd, IsFaultOfOneText, IsFaultOfScheduleInput}
+use Rattle.commands.specs.Inputs.{IsFaultOfTexts, IsScheduleOf, IsWhole, LacksVerdict}
 use Rattle.history_text.specs.Reading.{HasEndFault, HasFirstFault, HasMore, HasTextFault, HasVerdictTextFault}
 use Rattle.text_lines.proofs.Consuming.{Takes-append}
 use Rattle.text_lines.proofs.MemoryOrNot.{follows, is_memory, known_fault}
@@ -21,10 +21,15 @@ use Rattle.history_text.proofs.OneSchedule as schedules
 use Rattle.text_lines.specs.declared.fault.TextFault.TheVariants as text
 use Rattle.history_text.proofs.OneVerdict as verdict_texts
 use Rattle.history_text.proofs.OnePending as pendings
-use Rattle.history_text.specs.Pending.{HasPendingText, IsCutText, IsPendingTextFault, NoRoomForPending, pending_text}
+use Rattle.history_text.proofs.OnePending.{has_same, same_text}
+use Rattle.history_text.specs.Pending.{as_pending, HasPendingText, HasPendingTextFault, IsCutText, IsPendingRead, IsPendingTextFault, NoRoomForPending}
+use Rattle.history_text.specs.Pending.{pending_line_count, pending_text}
+use Rattle.text_lines.specs.Faults.{MemoryOr}
+use Rattle.text_lines.specs.Input.{Failure, IsOver}
+use Rattle.std.specs.Prelude.{is_some}
 use Rattle.history_text.specs.declared.pending_text.PendingText.{PendingText}
 use Rattle.commands.specs.Completing.{IsFaultOfPendingInput, IsPendingOf}
-use Rattle.std.proofs.Common.{Bool, true}
+use Rattle.std.proofs.Common.{Bool, false, true}
 
 -- ---- what was taken of the input
 
@@ -231,57 +236,111 @@ verdict_fault input left text lines fault has taken is h =
     next_fault HasText text_of IsTextFault NoRoomForText (λ t. IsVerdictTextFault (line_count t)) (λ _. NoRoomForVerdict)
     input left text fault has taken (rw is at h)
 
--- ---- a history, and a verdict on it where anything follows
+-- ---- a history, and a verdict on it if anything follows; or a text that counts pending calls
 
 -- a verdict has some text
 no_empty_verdict : (claimed : Claimed) → [] ≡ verdict_text claimed → ⊥
 no_empty_verdict (Yes operations) same = cc
 no_empty_verdict (No kind lines) same = cc
 
--- no verdict follows a history on its own
-alone_without_claim : (input : Ahead) (text : HistoryText) (claim : ClaimOnText) → IsHistoryOf input text → IsClaimOf input claim → ⊥
+-- no verdict follows a text on its own
+alone_without_claim : (input : Ahead) (text : PendingText) (claim : ClaimOnText) → IsDrawableOf input (alone text) → IsClaimOf input claim → ⊥
 alone_without_claim input text claim is_text is_claim =
-    let parts = texts_agree histories.judged EndOfInput text claim.text [] (verdict_text claim.claimed) is_text.0 is_claim.history tt tt
-    (append-nil (text_of text) ∙ sym is_text.1.bytes ∙ is_claim.whole.bytes) in
+    let parts = texts_agree (pendings.judged false) EndOfInput text (as_pending claim.text) [] (verdict_text claim.claimed) is_text.0
+    (has_same claim.text is_claim.history) tt tt (append-nil (pending_text text) ∙ sym is_text.1.bytes ∙ is_claim.whole.bytes
+    ∙ ap (λ t. t ++ verdict_text claim.claimed) (sym (same_text claim.text))) in
     no_empty_verdict claim.claimed parts.1
 
 one_drawable_of : (input : Ahead) (x y : Drawable) → IsDrawableOf input x → IsDrawableOf input y → x ≡ y
-one_drawable_of input (alone x) (alone y) is_x is_y = ap (λ t. alone t) (one_history.one_value input x y is_x is_y)
+one_drawable_of input (alone x) (alone y) is_x is_y = ap (λ t. alone t) ((one_pending_text false).one_value input x y is_x is_y)
 one_drawable_of input (alone x) (with_claim y) is_x is_y = absurd (alone_without_claim input x y is_x is_y)
 one_drawable_of input (with_claim x) (alone y) is_x is_y = absurd (alone_without_claim input y x is_y is_x)
 one_drawable_of input (with_claim x) (with_claim y) is_x is_y = ap (λ c. with_claim c) (one_claim_of input x y is_x is_y)
 
--- an input is one history with a claim, or one alone, or has one fault
+-- what comes after a text has one fault
+one_behind : (calls : Option ℕ) (lines : ℕ) (ending : Ending) (rest : List ℕ) (f g : TextFault) → FaultBehind calls lines ending rest f
+    → FaultBehind calls lines ending rest g → f ≡ g
+one_behind (Some n) lines ending rest f g x y = one_at_end ending rest f g x y
+one_behind None lines ending rest f g x y = one_first_fault verdict_texts.judged lines ending rest f g x.0 y.0
+
+-- and none if that is nothing
+none_behind : (calls : Option ℕ) (lines : ℕ) (ending : Ending) (fault : TextFault) → ending ≡ EndOfInput → FaultBehind calls lines ending [] fault → ⊥
+none_behind (Some n) lines ending fault over next = none_at_end fault (rw over at next)
+none_behind None lines ending fault over next = next.1 (refl, over)
+
+-- an input is one history with a claim, or one text alone, or has one fault
 pub one_drawable : SaysOneThing IsDrawableOf IsFaultOfDrawableInput
-one_drawable = says_one_thing HasText text_of IsTextFault NoRoomForText IsFaultBehind (λ _. NoRoomForVerdict) histories.judged
-    (λ t ending rest f g x y. one_first_fault verdict_texts.judged (line_count t) ending rest f g x.0 y.0) IsDrawableOf one_drawable_of parts
+one_drawable = says_one_thing HasPendingText pending_text (IsPendingTextFault false) NoRoomForPending IsFaultBehind LacksVerdict (pendings.judged false)
+    (λ t ending rest f g. one_behind t.open_calls (pending_line_count t) ending rest f g) IsDrawableOf one_drawable_of parts
   where
-    parts : (input : Ahead) (x : Drawable) → IsDrawableOf input x → (text : HistoryText) × (rest : List ℕ) × HasText text
-        × (input.bytes ≡ text_of text ++ rest) × ((fault : TextFault) → IsFaultBehind text input.ending rest fault → ⊥)
-    parts input (alone x) is = (x, [], is.0, is.1.bytes ∙ sym (append-nil (text_of x)), λ fault next. next.1 (refl, is.1.ending))
-    parts input (with_claim x) is = let p = claim_parts input x is in (p.0, p.1, p.2, p.3, λ fault next. p.4 fault next.0)
+    parts : (input : Ahead) (x : Drawable) → IsDrawableOf input x → (text : PendingText) × (rest : List ℕ) × HasPendingText text
+        × (input.bytes ≡ pending_text text ++ rest) × ((fault : TextFault) → IsFaultBehind text input.ending rest fault → ⊥)
+    parts input (alone x) is = (x, [], is.0, is.1.bytes ∙ sym (append-nil (pending_text x)),
+        λ fault next. none_behind x.open_calls (pending_line_count x) input.ending fault is.1.ending next)
+    parts input (with_claim x) is =
+        let p = claim_parts input x is in
+        (as_pending p.0, p.1, has_same p.0 p.2, p.3 ∙ ap (λ t. t ++ p.1) (sym (same_text p.0)), λ fault next. p.4 fault next.0)
 
--- a fault of the history's text
-pub drawable_history_fault : (input : Option Ahead) (fault : TextFault) → HasTextFault 0 input fault → IfSome input (λ a. IsFaultOfDrawableInput a fault)
-drawable_history_fault = first_fault HasText text_of IsTextFault NoRoomForText IsFaultBehind (λ _. NoRoomForVerdict)
-
--- a fault of what comes after it
-behind_history : (input left : Option Ahead) (text : HistoryText) (fault : TextFault) → HasText text → Takes input left (text_of text)
-    → HasFirstFault (IsFaultBehind text) NoRoomForVerdict left fault → IfSome input (λ a. IsFaultOfDrawableInput a fault)
-behind_history = next_fault HasText text_of IsTextFault NoRoomForText IsFaultBehind (λ _. NoRoomForVerdict)
-
--- a fault of what follows the history, as the text of a verdict
-pub drawable_verdict_fault : (input mid left : Option Ahead) (text : HistoryText) (lines : ℕ) (fault : TextFault) → HasText text
-    → Takes input mid (text_of text) → Takes mid left [] → IfSome left HasMore → lines ≡ line_count text → HasVerdictTextFault lines left fault
+-- a fault of the text
+pub drawable_text_fault : (input : Option Ahead) (fault : TextFault) → HasPendingTextFault false 0 input fault
     → IfSome input (λ a. IsFaultOfDrawableInput a fault)
-drawable_verdict_fault input mid left text lines fault has before taken more is h =
-    behind_history input left text fault has (taken_through input mid left (text_of text) before taken) (both left more (rw is at h))
+drawable_text_fault = first_fault HasPendingText pending_text (IsPendingTextFault false) NoRoomForPending IsFaultBehind LacksVerdict
+
+-- a text that isn't cut off is whole
+pub read_whole : (lines : ℕ) (old new : Option Ahead) (text : PendingText) (whole : Bool) → IsPendingRead false lines old new text whole
+    → (whole ≡ true) × HasPendingText text × Takes old new (pending_text text)
+read_whole lines old new text true read = (refl, read.0, read.1)
+read_whole lines old new text false read = let cut = read.0 in absurd (cc)
+
+-- a fault of what comes after a text
+behind_text : (input left : Option Ahead) (text : PendingText) (fault : TextFault) → HasPendingText text → Takes input left (pending_text text)
+    → HasFirstFault (IsFaultBehind text) (LacksVerdict text) left fault → IfSome input (λ a. IsFaultOfDrawableInput a fault)
+behind_text = next_fault HasPendingText pending_text (IsPendingTextFault false) NoRoomForPending IsFaultBehind LacksVerdict
+
+-- a fault of what follows a text that counts pending calls
+pub drawable_end_fault : (input left : Option Ahead) (text : PendingText) (fault : TextFault) → is_some text.open_calls ≡ true
+    → HasPendingText text → Takes input left (pending_text text) → HasEndFault left fault → IfSome input (λ a. IsFaultOfDrawableInput a fault)
+drawable_end_fault input left text fault counts has taken h =
+    behind_text input left text fault has taken (by_calls text.open_calls counts left h)
   where
-    both : (left : Option Ahead) → IfSome left HasMore → HasVerdictTextFault (line_count text) left fault
-        → HasFirstFault (IsFaultBehind text) NoRoomForVerdict left fault
-    both None more h = tt
-    both (Some b) more h = follows (NoRoomForVerdict b.bytes) (NoRoomForVerdict b.bytes) (IsVerdictTextFault (line_count text) b.ending b.bytes)
-        (IsFaultBehind text b.ending b.bytes) fault (λ room. room) (λ f first. (first, λ over. let none = sym more.2 ∙ over.0 in cc)) h
+    moved : (b : Ahead) → HasFirstFault IsFaultOfEnd (λ _. ⊥) (Some b) fault → (calls : ℕ)
+        → MemoryOr ((Some calls ≡ None) × NoRoomForVerdict b.bytes) (FaultBehind (Some calls) (pending_line_count text) b.ending b.bytes) fault
+    moved b h calls = follows ⊥ ((Some calls ≡ None) × NoRoomForVerdict b.bytes) (IsFaultOfEnd b.ending b.bytes)
+        (FaultBehind (Some calls) (pending_line_count text) b.ending b.bytes) fault (λ room. absurd room) (λ f first. first) h
+
+    by_calls : (calls : Option ℕ) → is_some calls ≡ true → (l : Option Ahead) → HasEndFault l fault
+        → HasFirstFault (λ e r f. FaultBehind calls (pending_line_count text) e r f) (λ r. (calls ≡ None) × NoRoomForVerdict r) l fault
+    by_calls None counts l h = absurd (cc)
+    by_calls (Some n) counts None h = tt
+    by_calls (Some n) counts (Some b) h = moved b (not_over (Some b) fault h) n
+
+-- a read that failed where the verdict on a history may begin
+pub drawable_read_fault : (input left : Option Ahead) (t : PendingText) (fault : TextFault) → is_some t.open_calls ≡ false
+    → HasPendingText t → Takes input left (pending_text t) → (fault ≡ Read) × IsOver Failure left → IfSome input (λ a. IsFaultOfDrawableInput a fault)
+drawable_read_fault input left t fault counts has taken failed = behind_text input left t fault has taken (by_calls t.open_calls counts left failed)
+  where
+    by_calls : (calls : Option ℕ) → is_some calls ≡ false → (l : Option Ahead) → (fault ≡ Read) × IsOver Failure l
+        → HasFirstFault (λ e r f. FaultBehind calls (pending_line_count t) e r f) (λ r. (calls ≡ None) × NoRoomForVerdict r) l fault
+    by_calls (Some n) counts l failed = absurd (cc)
+    by_calls None counts None failed = tt
+    by_calls None counts (Some b) failed = rw (failed.0, failed.1.0, failed.1.1) (inl refl, λ over. let no = over.1 in cc)
+
+-- a fault of what follows a history, as the text of a verdict
+pub drawable_verdict_fault : (input mid left : Option Ahead) (text : PendingText) (lines : ℕ) (fault : TextFault) → is_some text.open_calls ≡ false
+    → HasPendingText text → Takes input mid (pending_text text) → Takes mid left [] → IfSome left HasMore → lines ≡ pending_line_count text
+    → HasVerdictTextFault lines left fault → IfSome input (λ a. IsFaultOfDrawableInput a fault)
+drawable_verdict_fault input mid left text lines fault counts has before taken more is h =
+    behind_text input left text fault has (taken_through input mid left (pending_text text) before taken)
+    (by_calls text.open_calls counts left more (rw is at h))
+  where
+    by_calls : (calls : Option ℕ) → is_some calls ≡ false → (l : Option Ahead) → IfSome l HasMore → HasVerdictTextFault (pending_line_count text) l fault
+        → HasFirstFault (λ e r f. FaultBehind calls (pending_line_count text) e r f) (λ r. (calls ≡ None) × NoRoomForVerdict r) l fault
+    by_calls (Some n) counts l more h = absurd (cc)
+    by_calls None counts None more h = tt
+    by_calls None counts (Some b) more h =
+        let n = pending_line_count text in
+        follows (NoRoomForVerdict b.bytes) ((None ≡ None) × NoRoomForVerdict b.bytes) (IsVerdictTextFault n b.ending b.bytes)
+        (FaultBehind None n b.ending b.bytes) fault (λ room. (refl, room)) (λ f first. (first, λ over. let none = sym more.2 ∙ over.0 in cc)) h
 
 -- ---- what is answered of an input
 

@@ -3,9 +3,10 @@
 -- Completions: what `complete` answers, and what `check` answers of that.
 -- OneAnswer: from what was read, played, searched, run or wrong in the words to the answer. What is written, read again, is a claim
 -- that is true. Out of memory aside an input has one answer. So a text and its conversion are answered alike, `check` finds the
--- verdict that `shrink` wrote, and a history on its own is drawn as if its verdict followed it. An honest schedule that is done is
--- answered by `YES`.
+-- verdict that `shrink` wrote. An honest schedule that is done is answered by `YES`.
+-- Drawings: an input is drawn in one way, and a history on its own as if its verdict followed it.
 mod Common
 pub mod Inputs
 pub mod OneAnswer
 pub mod Completions
+pub mod Drawings

@@ -24,7 +24,7 @@ use Rattle.clap.specs.declared.error.Error.{Error}
 use Rattle.command_words.specs.Commands.{check, convert, draw, Request, shrink, sim, stats, verify}
 use Rattle.commands.specs.Answers.{answer_of_history_fault, answer_status, counted, run_fault, ShowsNoViolation}
 use Rattle.commands.specs.Inner.Running.{Explains}
-use Rattle.commands.specs.Judging.{DrawsAlone, DrawsClaim, DrawsSound, FaultOr, IsDrawnDecided, IsEvident, IsFaulty}
+use Rattle.commands.specs.Judging.{FaultOr, IsEvident, IsFaulty}
 use Rattle.commands.specs.Judging.{IsOfValue, IsPlayed, IsShrunk, IsVerdictClaim, Shrinks, Simulates, SimulatesIn}
 use Rattle.commands.specs.Stressing.{first_values, IsFirstNamed, IsShownRun, RunsOrFails}
 use Rattle.commands.specs.declared.stress.TheConstants.{TRIES}
@@ -241,7 +241,7 @@ pub not_both : (history : HistoryView) (answer : Reply) → IsFaulty history ans
 not_both history answer faulty complete = grind (arith, complete_has_no_fault)
 
 -- a history is answered in one way where a complete one is
-one_of_history : (history : HistoryView) (a b : Reply) {P Q : Type 0} → (IsSound history → P → Q → a ≡ b) → IsFaulty history a ⊎ (IsSound history × P)
+pub one_of_history : (history : HistoryView) (a b : Reply) {P Q : Type 0} → (IsSound history → P → Q → a ≡ b) → IsFaulty history a ⊎ (IsSound history × P)
     → IsFaulty history b ⊎ (IsSound history × Q) → a ≡ b
 one_of_history history a b one (inl x) (inl y) = grind (arith, one_first_fault)
 one_of_history history a b one (inl x) (inr y) = absurd (not_both history a x y.0)
@@ -261,7 +261,7 @@ by_validity true is = inl (is.0 refl, refl)
 by_validity false is = inr ((λ p. let no = is.1 p in cc), refl)
 
 -- what is equal to one thing is equal
-same : {A : Type 0} {x y z : A} → x ≡ z → y ≡ z → x ≡ y
+pub same : {A : Type 0} {x y z : A} → x ≡ z → y ≡ z → x ≡ y
 same p q = p ∙ sym q
 
 pub have_lines : (version : Version) (initial : List ℕ) → HaveValueLines version initial → HaveLines value_format initial
@@ -275,7 +275,7 @@ few_values text has = (have_lines text.version text.initial has.initial).few
 -- ---- verdicts
 
 -- one thing is made of the verdict on a complete history
-one_of_verdict : {A : Type 0} (history : HistoryView) (made_of : Claimed → A) (x y : A) → length history.initial ≤ MAX_INITIAL → IsSound history
+pub one_of_verdict : {A : Type 0} (history : HistoryView) (made_of : Claimed → A) (x y : A) → length history.initial ≤ MAX_INITIAL → IsSound history
     → IsOfVerdict history made_of x → IsOfVerdict history made_of y → x ≡ y
 one_of_verdict history made_of x y few complete p q = grind (arith, verdict_is_one)
 
@@ -355,26 +355,6 @@ pub verify_has_one : HasOneAnswer verify
 verify_has_one = one_answer one_claim Verifies
     (λ input claim a b is. one_verification claim.text.version claim.text.version (said_by claim.text) claim.claimed a b)
 
--- a claim on a complete history is drawn in one way
-one_drawn : (options : DrawOptions) (claim : ClaimOnText) (a b : Reply) → DrawsSound options claim a → DrawsSound options claim b → a ≡ b
-one_drawn options claim a b = one_by_whether (one_by_whether same same) same
-
--- what is answered of a complete history with the claim of its verdict is answered of it with this claim of it
-with_verdict : (options : DrawOptions) (text : HistoryText) (claimed : Claimed) (a : Reply) → HasText text → IsSound (said_by text)
-    → IsVerdictClaim (said_by text) claimed → IsDrawnDecided options text a → DrawsSound options (claim_on text claimed) a
-with_verdict options text claimed a has complete right x = subst (λ c. DrawsSound options (claim_on text c) a)
-    (one_of_verdict (said_by text) (λ c. c) x.claimed claimed (few_values text has) complete x.right right) x.answered
-
--- what is drawn is drawn in one way
-one_picture : (options : DrawOptions) (input : Ahead) (read : Drawable) (a b : Reply) → IsDrawableOf input read → Draws options read a
-    → Draws options read b → a ≡ b
-one_picture options input (alone text) a b is = one_of_history (said_by text) a b (λ complete. one_by_whether
-    (λ x y. one_drawn options (claim_on text y.claimed) a b (with_verdict options text y.claimed a is.0 complete y.right x) y.answered) same)
-one_picture options input (with_claim claim) a b is = one_of_history (said_by claim.text) a b (λ complete. one_drawn options claim a b)
-
-pub draw_has_one : (options : DrawOptions) → HasOneAnswer (draw options)
-draw_has_one options = one_answer one_drawable (Draws options) (one_picture options)
-
 -- lists merge to one complete history
 one_merged : (lists : List (List Event)) (xs ys : List Event) → IsMerged lists xs → IsMerged lists ys → IsCompleteHistory xs → IsCompleteHistory ys → xs ≡ ys
 one_merged lists xs ys merged_x merged_y complete_x complete_y =
@@ -430,13 +410,13 @@ found_of_history P input answer well (inr faulty) = absurd (omega (arith, well, 
 found_of_history P input answer well (inl read) = grind (arith, history_fault_fails)
 
 -- the verdict on a history that has a text
-record IsWritten (t : HistoryText) (claimed : Claimed) : Type 0 where
-  complete : IsSound (said_by t)
-  history : HasText t
-  right : IsVerdictClaim (said_by t) claimed
+pub record IsWritten (t : HistoryText) (claimed : Claimed) : Type 0 where
+  pub complete : IsSound (said_by t)
+  pub history : HasText t
+  pub right : IsVerdictClaim (said_by t) claimed
 
 -- what is judged is the verdict on the history of the input
-judged_is_written : (input : Ahead) (claimed : Claimed) → AnswersFor IsHistoryOf IsFaultOfHistoryInput Judges input (judged claimed)
+pub judged_is_written : (input : Ahead) (claimed : Claimed) → AnswersFor IsHistoryOf IsFaultOfHistoryInput Judges input (judged claimed)
     → (t : HistoryText) × IsHistoryOf input t × IsWritten t claimed
 judged_is_written input claimed checked =
     let read = found_of_history (λ text. IsOfVerdict (said_by text) judged) input (judged claimed) (verdict_is_no_failure claimed) checked in
@@ -485,7 +465,7 @@ shown_is_written input small claimed shrinks =
 -- ---- the two texts, read
 
 -- the claim of a verdict that is written has a text
-claim_is_written : (t : HistoryText) (claimed : Claimed) → IsWritten t claimed → HasVerdictText claimed
+pub claim_is_written : (t : HistoryText) (claimed : Claimed) → IsWritten t claimed → HasVerdictText claimed
 claim_is_written t claimed is = grind (arith, few_values, verdict_has_few_lines, claim_has_text)
 
 -- what is answered of a claim that is true
@@ -524,21 +504,6 @@ shrunk_is_checked bytes small claimed answer shrinks checks =
     let found = answered_of one_history Judges (input_of (text_of small)) small answer (is.history, record { bytes = refl; ending = refl }) checks in
     let right : IsOfVerdict (said_by small) judged (judged claimed) = record { verdict = is.right.verdict; decided = is.right.decided; is = ap (λ c. judged c) is.right.is } in
     ⊎_map (λ x. one_judgement small answer (judged claimed) is.history x (inr (is.complete, right))) (λ none. none) found
-
--- a history is drawn on its own as if its verdict followed it
-pub drawn_as_checked : (options : DrawOptions) → DrawnAsChecked options
-drawn_as_checked options bytes claimed a b checked =
-    let read = judged_is_written (input_of bytes) claimed checked in
-    let t = read.0 in
-    let is : IsWritten t claimed = read.2 in
-    alike one_drawable (Draws options) (input_of bytes) (input_of (bytes ++ verdict_text claimed)) (alone t) (with_claim (claim_on t claimed)) a b
-    read.1 (claim_after bytes t claimed (claim_is_written t claimed is) read.1)
-    (λ x. one_of_history (said_by t) a b (λ complete. one_drawn options (claim_on t claimed) a b) (as_claimed t claimed is x))
-  where
-    as_claimed : (t : HistoryText) (claimed : Claimed) → IsWritten t claimed → DrawsAlone options t a → DrawsClaim options (claim_on t claimed) a
-    as_claimed t claimed is (inl faulty) = inl faulty
-    as_claimed t claimed is (inr (complete, inl (few, x))) = inr (complete, with_verdict options t claimed a is.history complete is.right x)
-    as_claimed t claimed is (inr (complete, inr (many, large))) = inr (complete, inr ((λ small. many small.few_values), large))
 
 -- ---- a text and its conversion are answered alike
 

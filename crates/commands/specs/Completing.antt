@@ -45,16 +45,23 @@ CountsPending text = IfSome text.open_calls (λ calls. calls ≡ length (pending
 abbrev pub completion_in : PendingText → HistoryText
 completion_in text = record { version = text.version; initial = text.initial; events = completed text.initial text.events }
 
--- what is answered where the completion is within the limits and the text counts its pending calls rightly; else the refusal
-abbrev pub IfCompleted : PendingText → (Reply → Type 0) → Reply → Type 0
-IfCompleted text OfCompletion answer = Whether (IsBeyondLimits text.initial text.events) (answer ≡ refused_limit)
-    (Whether (CountsPending text) (OfCompletion answer) (answer ≡ refused_text Count))
+-- there is a completion: the events are a history but for pending calls, it is within the limits, and the text counts the
+-- pending calls rightly
+pub record IsCompletable (text : PendingText) : Type 0 where
+  pub found : MayBePending text.initial text.events
+  pub within : ¬ (IsBeyondLimits text.initial text.events)
+  pub counted : CountsPending text
 
--- the first fault of the history but for pending calls, or what is answered of its completion
+-- why there is none: the first fault of the history but for pending calls, the limits, or the count
+abbrev pub LacksCompletion : PendingText → Reply → Type 0
+LacksCompletion text answer = IsFaultyBefore text answer
+    ⊎ (MayBePending text.initial text.events × Whether (IsBeyondLimits text.initial text.events) (answer ≡ refused_limit)
+    ((¬ CountsPending text) × (answer ≡ refused_text Count)))
+
+-- why there is no completion, or what is answered of it
 abbrev pub FaultOrCompletion : PendingText → (Reply → Type 0) → Reply → Type 0
-FaultOrCompletion text OfCompletion answer =
-    IsFaultyBefore text answer ⊎ (MayBePending text.initial text.events × IfCompleted text OfCompletion answer)
+FaultOrCompletion text OfCompletion answer = LacksCompletion text answer ⊎ (IsCompletable text × OfCompletion answer)
 
--- `complete`: that fault, or the completion
+-- `complete`: why there is no completion, or its text
 abbrev pub Completes : PendingText → Reply → Type 0
 Completes text answer = FaultOrCompletion text (λ a. a ≡ converted (completion_in text)) answer

@@ -1,5 +1,5 @@
 -- Inputs that should be one text, or one after another.
-use Rattle.std.specs.Prelude.{◌≡◌, ℕ, List, [], ◌++◌, ◌⊎◌, Option, Some, None}
+use Rattle.std.specs.Prelude.{◌≡◌, ℕ, List, [], ◌++◌, ◌⊎◌, false, Option, Some, None}
 use Rattle.verdicts.specs.declared.verifying.Claimed.{Claimed}
 use Rattle.text_lines.specs.declared.fault.TextFault.{TextFault}
 use Rattle.text_lines.specs.Faults.{MemoryOr}
@@ -9,6 +9,8 @@ use Rattle.history_text.specs.Schedules.{schedule_text, HasScheduleText, IsSched
 use Rattle.history_text.specs.Verdicts.{verdict_text}
 use Rattle.history_text.specs.Claims.{HasVerdictText, IsVerdictTextFault, NoRoomForVerdict}
 use Rattle.history_text.specs.Reading.{HasEndFault}
+use Rattle.history_text.specs.Pending.{HasPendingText, IsPendingTextFault, NoRoomForPending, pending_line_count, pending_text}
+use Rattle.history_text.specs.declared.pending_text.PendingText.{PendingText}
 use Rattle.text_lines.specs.Input.{Ahead, Ending, EndOfInput}
 
 -- ---- one text
@@ -89,29 +91,43 @@ abbrev pub IsFaultOfClaimInput : Ahead → TextFault → Type 0
 IsFaultOfClaimInput input fault = IsFaultOfTexts HasText text_of (IsTextFault 0) NoRoomForText
     (λ text. IsVerdictTextFault (line_count text)) (λ _. NoRoomForVerdict) input fault
 
--- ---- a history, and a verdict on it where anything follows
+-- ---- a history, and a verdict on it if anything follows; or a text that counts pending calls
 
--- the text of a history, alone or with what is claimed of it
+-- the history of a text whose calls may be pending
+abbrev pub history_in : PendingText → HistoryText
+history_in text = record { version = text.version; initial = text.initial; events = text.events }
+
+-- a text alone, or that of a history with what is claimed of it
 pub data Drawable : Type 0 where
-  alone : HistoryText → Drawable
+  alone : PendingText → Drawable
   with_claim : ClaimOnText → Drawable
 
--- this text, with the claim where there is one
-abbrev pub drawable : HistoryText → Option Claimed → Drawable
+-- this text, with the claim if there is one
+abbrev pub drawable : PendingText → Option Claimed → Drawable
 drawable text None = alone text
-drawable text (Some claimed) = with_claim (claim_on text claimed)
+drawable text (Some claimed) = with_claim (claim_on (history_in text) claimed)
 
--- the input is the text of the history, then that of the verdict where there is one, and nothing more
+-- the input is the text, then that of the verdict if there is one, and nothing more
 abbrev pub IsDrawableOf : Ahead → Drawable → Type 0
-IsDrawableOf input (alone text) = IsHistoryOf input text
+IsDrawableOf input (alone text) = HasPendingText text × IsWhole (pending_text text) input
 IsDrawableOf input (with_claim claim) = IsClaimOf input claim
 
--- the fault of what comes after a history: that of a verdict, but input that is over has none
-abbrev pub IsFaultBehind : HistoryText → Ending → List ℕ → TextFault → Type 0
-IsFaultBehind text ending rest fault =
-    IsVerdictTextFault (line_count text) ending rest fault × (¬ ((rest ≡ []) × (ending ≡ EndOfInput)))
+-- the fault of what comes after a text of so many lines: after one that counts pending calls, that the input isn't over;
+-- after a history that of a verdict, but input that is over has none
+abbrev pub FaultBehind : Option ℕ → ℕ → Ending → List ℕ → TextFault → Type 0
+FaultBehind (Some calls) lines ending rest fault = IsFaultOfEnd ending rest fault
+FaultBehind None lines ending rest fault =
+    IsVerdictTextFault lines ending rest fault × (¬ ((rest ≡ []) × (ending ≡ EndOfInput)))
 
--- the fault of input that should be a history, and a verdict where anything follows
+-- the fault of what comes after a text
+abbrev pub IsFaultBehind : PendingText → Ending → List ℕ → TextFault → Type 0
+IsFaultBehind text ending rest fault = FaultBehind text.open_calls (pending_line_count text) ending rest fault
+
+-- there was no room for the verdict on a history
+abbrev pub LacksVerdict : PendingText → List ℕ → Type 0
+LacksVerdict text rest = (text.open_calls ≡ None) × NoRoomForVerdict rest
+
+-- the fault of input that should be such a text, and a verdict on a history if anything follows
 abbrev pub IsFaultOfDrawableInput : Ahead → TextFault → Type 0
 IsFaultOfDrawableInput input fault =
-    IsFaultOfTexts HasText text_of (IsTextFault 0) NoRoomForText IsFaultBehind (λ _. NoRoomForVerdict) input fault
+    IsFaultOfTexts HasPendingText pending_text (IsPendingTextFault false 0) NoRoomForPending IsFaultBehind LacksVerdict input fault

@@ -1,5 +1,5 @@
 -- What the commands that read answer of what they read.
-use Rattle.std.specs.Prelude.{◌≡◌, ◌≢◌, ◌≤◌, false, true, List, [], length, ◌⊎◌, ℕ, None}
+use Rattle.std.specs.Prelude.{◌≡◌, ◌≢◌, ◌≤◌, false, true, List, [], length, ◌⊎◌, ℕ}
 use Rattle.event_records.specs.declared.event.Event.{Event}
 use Rattle.history_merge.specs.declared.fault.HistoryFault.{HistoryFault}
 use Rattle.history_merge.specs.declared.fault.HistoryFault.TheVariants.{Memory}
@@ -26,21 +26,11 @@ use Rattle.verdicts.specs.Decided.{IsDecided}
 use Rattle.verdicts.specs.Selection.{KeepsViolation, StaysChosen, IsMinimal, HasShortestCover, ArePartOf, contents_of}
 use Rattle.history_text.specs.Versions.{HistoryText, said_in}
 use Rattle.history_text.specs.declared.version.Version.TheVariants.{Two}
-use Rattle.command_words.specs.declared.options.DrawOptions.{DrawOptions}
-use Rattle.command_words.specs.declared.options.PictureForm.{PictureForm}
-use Rattle.command_words.specs.declared.options.PictureForm.TheVariants.{Html, Svg, Terminal}
-use Rattle.drawing.specs.Claim.{count_of_lines}
-use Rattle.drawing.specs.Drawn.{drawn_operations}
-use Rattle.drawing.specs.Scene.{SceneView, scene_of}
-use Rattle.drawing.specs.Terminal.{terminal_picture}
-use Rattle.svg_picture.specs.Picture.{svg_picture}
-use Rattle.svg_picture.specs.Html.{html_picture}
-use Rattle.drawing.specs.declared.columns.TheConstants.{MOST_DRAWN}
 use Rattle.text_lines.specs.declared.fault.TextFault.{TextFault}
 use Rattle.history_text.specs.declared.schedule.Schedule.{Schedule}
 use Rattle.text_lines.specs.Input.{Ahead}
-use Rattle.commands.specs.Inputs.{ClaimOnText, Drawable, alone, claim_on, with_claim}
-use Rattle.commands.specs.Answers.{Reply, judged, shown, left_open, played, verified, converted, counted, drawn, refused_size, memory_fault, answer_of_text_fault}
+use Rattle.commands.specs.Inputs.{ClaimOnText}
+use Rattle.commands.specs.Answers.{Reply, judged, shown, left_open, played, verified, converted, counted, memory_fault, answer_of_text_fault}
 use Rattle.commands.specs.Answers.{answer_of_history_fault}
 
 -- ---- histories
@@ -131,55 +121,6 @@ IsEvident claim = IsTrueClaim claim.text.initial (operations_of claim.text.event
 abbrev pub Verifies : ClaimOnText → Reply → Type 0
 Verifies claim answer =
     FaultOr (said_by claim.text) (λ a. Whether (IsEvident claim) (a ≡ verified true) (a ≡ verified false)) answer
-
--- ---- pictures
-
--- the history has few enough initial values to be drawn
-abbrev pub HasFewValues : HistoryView → Type 0
-HasFewValues history = length history.initial ≤ MOST_DRAWN
-
--- so has it, and the claim has few enough lines, of which few enough operations are drawn
-pub record IsSmall (options : DrawOptions) (claim : ClaimOnText) : Type 0 where
-  pub few_values : HasFewValues (said_by claim.text)
-  pub few_lines : count_of_lines claim.claimed ≤ MOST_DRAWN
-  pub few_operations : length (drawn_operations (said_by claim.text) claim.claimed options.around) ≤ MOST_DRAWN
-
--- the picture of a scene, in a form
-abbrev pub picture_in : PictureForm → SceneView → List ℕ
-picture_in Svg scene = svg_picture scene
-picture_in Html scene = html_picture scene
-picture_in Terminal scene = terminal_picture scene
-
--- the picture of a history and a claim: of what is drawn of them, in the form that is asked for
-abbrev pub picture_of : DrawOptions → HistoryView → Claimed → List ℕ
-picture_of options history claimed = picture_in options.form (scene_of history claimed (drawn_operations history claimed options.around) None)
-
--- of a complete history: the picture with the claim, where they are small and the claim is evidence
-abbrev pub DrawsSound : DrawOptions → ClaimOnText → Reply → Type 0
-DrawsSound options claim answer = Whether (IsSmall options claim)
-    (Whether (IsEvident claim) (answer ≡ drawn (picture_of options (said_by claim.text) claim.claimed)) (answer ≡ verified false))
-    (answer ≡ refused_size)
-
--- the first fault of the history, or the picture with the claim, where they are small and the claim is evidence
-abbrev pub DrawsClaim : DrawOptions → ClaimOnText → Reply → Type 0
-DrawsClaim options claim answer = FaultOr (said_by claim.text) (DrawsSound options claim) answer
-
--- this is answered of a history with the claim of its verdict, which is evidence
-pub record IsDrawnDecided (options : DrawOptions) (text : HistoryText) (answer : Reply) : Type 0 where
-  pub claimed : Claimed
-  pub right : IsVerdictClaim (said_by text) claimed
-  pub evident : IsEvident (claim_on text claimed)
-  pub answered : DrawsSound options (claim_on text claimed) answer
-
--- the first fault of the history; or the picture with the claim of its verdict, where they are small
-abbrev pub DrawsAlone : DrawOptions → HistoryText → Reply → Type 0
-DrawsAlone options text answer =
-    FaultOr (said_by text) (λ a. Whether (HasFewValues (said_by text)) (IsDrawnDecided options text a) (a ≡ refused_size)) answer
-
--- `draw`: what is answered of a history with a claim; and of a history on its own, which is decided
-abbrev pub Draws : DrawOptions → Drawable → Reply → Type 0
-Draws options (alone text) answer = DrawsAlone options text answer
-Draws options (with_claim claim) answer = DrawsClaim options claim answer
 
 -- ---- conversions
 

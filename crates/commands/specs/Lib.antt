@@ -2,6 +2,7 @@ pub mod Inputs
 pub mod Answers
 pub mod Judging
 pub mod Completing
+pub mod Drawing
 pub mod Outcomes
 pub mod Running
 pub mod Stressing

@@ -30,7 +30,7 @@ answer_of_report (Played rejections history verdict) =
     played rejections history.events (claim_of history.initial (operations_of history.events) verdict)
 answer_of_report (Verified valid) = verified valid
 answer_of_report (Converted history) = converted (said_in Two history)
-answer_of_report (Completed version history) = converted (said_in version history)
+answer_of_report (Completed version initial events) = converted (record { version = version; initial = initial; events = events })
 answer_of_report (Counted statistics) = counted statistics
 answer_of_report (Drawn picture) = drawn picture.items
 
@@ -82,7 +82,7 @@ abbrev pub HasPlaces : Report → Type 0
 HasPlaces (Judged history verdict) = IsWithin history.initial (operations_of history.events) verdict
 HasPlaces (Shown version history verdict) =
     IsWithin history.initial (operations_of history.events) verdict × (version ≡ One → history.initial ≡ [])
-HasPlaces (Completed version history) = version ≡ One → history.initial ≡ []
+HasPlaces (Completed version initial events) = version ≡ One → initial ≡ []
 HasPlaces (Played rejections history verdict) = IsWithin history.initial (operations_of history.events) verdict × (history.initial ≡ [])
 HasPlaces _ = ⊤
 

@@ -13,7 +13,8 @@ use Rattle.commands.specs.Answers.{Reply, memory_fault, answer_text, answer_stat
 use Rattle.commands.specs.Inputs.{IsHistoryOf, IsFaultOfHistoryInput, IsScheduleOf, IsFaultOfScheduleInput, IsClaimOf, IsFaultOfClaimInput}
 use Rattle.commands.specs.Inputs.{IsDrawableOf, IsFaultOfDrawableInput}
 use Rattle.commands.specs.Completing.{Completes, IsFaultOfPendingInput, IsPendingOf}
-use Rattle.commands.specs.Judging.{AnswersFor, Judges, Shrinks, Verifies, Draws, Converts, Counts, Simulates}
+use Rattle.commands.specs.Drawing.{Draws}
+use Rattle.commands.specs.Judging.{AnswersFor, Judges, Shrinks, Verifies, Converts, Counts, Simulates}
 
 -- where the writer refused nothing the text is written whole, with this status; else a prefix of it is, and the status is 3
 abbrev pub Prints : Option (List ℕ) → Option (List ℕ) → Bool → ℕ → List ℕ → ℕ → Type 0

@@ -120,7 +120,7 @@ fn complaint_of<'a>(
             threads: options.threads as u64,
             operations: options.operations as u64,
         },
-        (Fault::Limit, Task::Complete { .. }) => Complaint::Completion,
+        (Fault::Limit, Task::Complete { .. } | Task::Draw(_)) => Complaint::Completion,
         (Fault::Run(fault), _) => Complaint::Run(fault),
         _ => Complaint::Memory,
     }

@@ -1,18 +1,20 @@
 //! `complete`: the completion of a history whose calls may be pending.
-ghost use Rattle.std.specs.Prelude.{◌≡◌, ◌≤◌, ◌↔◌, [], All, IfOk, IfErr, IfSome, IsTrue, length};
+ghost use Rattle.std.specs.Prelude.{◌≡◌, ◌≤◌, ◌↔◌, ◌⊎◌, [], All, IfOk, IfErr, IfSome, OnOk, IsTrue, length};
+ghost use Rattle.completions.specs.Completed.{completed};
 ghost use Rattle.event_records.specs.declared.limits.TheConstants.{MAX_EVENTS, MAX_INITIAL, MAX_THREAD};
 ghost use Rattle.history_merge.specs.Initial.{IsCompleteFrom};
 ghost use Rattle.history_text.specs.declared.version.Version.TheVariants.{One};
-ghost use Rattle.commands.specs.Completing.{Completes, CountsPending, IsFaultOfPendingInput, IsPendingOf};
+ghost use Rattle.commands.specs.Answers.{memory_fault};
+ghost use Rattle.commands.specs.Completing.{Completes, CountsPending, IsCompletable, IsFaultOfPendingInput, IsPendingOf, LacksCompletion};
 ghost use Rattle.commands.specs.Judging.{AnswersFor, AnswersOrNoMemory};
-ghost use Rattle.commands.specs.Outcomes.{answer_of, fault_of_completion, NamesPlaces};
+ghost use Rattle.commands.specs.Outcomes.{answer_of, answer_of_fault, fault_of_completion, NamesPlaces};
 
 use crate::input::pending_of;
 use crate::outcome::{Fault, Outcome, Report};
 use completions::{CompletionFault, count_pending};
 use event_records::Event;
 use history_merge::{History, history_from};
-use history_text::{PendingText, TextFault, TextSource};
+use history_text::{EventList, PendingText, TextFault, TextSource};
 use std::alloc::{AllocError, Global};
 
 /// What `complete` finds in what the reader gives; with `takes_cut` in a text that is cut off too.
@@ -21,16 +23,37 @@ pub(crate) fn complete<S: TextSource + Drop>(alloc: Global, reader: S, takes_cut
     ensures places { NamesPlaces result }
 {
     let text = pending_of(alloc, reader, takes_cut)?;
-    completion_of(alloc, &text)
+    completion_of(alloc, text)
 }
 
 /// What `complete` finds in a text.
-fn completion_of(alloc: Global, text: &PendingText) -> Outcome
+fn completion_of(alloc: Global, text: PendingText) -> Outcome
+    requires few_initial { length text.initial ≤ MAX_INITIAL }
+    requires few_events { length text.events ≤ MAX_EVENTS }
+    requires version { text.version ≡ One → text.initial ≡ [] }
+    ensures found { AnswersOrNoMemory Completes text (answer_of result) }
+    ensures places { NamesPlaces result }
+{
+    let events = completed_events(alloc, &text)?;
+    let PendingText {
+        version, initial, ..
+    } = text;
+    Ok(Report::Completed(
+        version,
+        initial,
+        EventList::from_vec(events),
+    ))
+}
+
+/// The events of the completion of what a text says.
+pub(crate) fn completed_events(alloc: Global, text: &PendingText) -> Result<Vec<Event>, Fault>
     requires few_initial { length text.now.initial ≤ MAX_INITIAL }
     requires few_events { length text.now.events ≤ MAX_EVENTS }
-    requires version { text.now.version ≡ One → text.now.initial ≡ [] }
-    ensures found { AnswersOrNoMemory Completes text.now (answer_of result) }
-    ensures places { NamesPlaces result }
+    ensures completed { IfOk result (λ events. events.items ≡ completed text.now.initial text.now.events) }
+    ensures complete { IfOk result (λ events. IsCompleteFrom text.now.initial events.items) }
+    ensures few { IfOk result (λ events. length events.items ≤ MAX_EVENTS) }
+    ensures completable { OnOk result (IsCompletable text.now) }
+    ensures fault { IfErr result (λ fault. LacksCompletion text.now (answer_of_fault fault) ⊎ (answer_of_fault fault ≡ memory_fault)) }
 {
     let completed = completions::complete(alloc, text.initial.as_slice(), text.events.as_slice());
     let events = match completed {
@@ -40,8 +63,7 @@ fn completion_of(alloc: Global, text: &PendingText) -> Outcome
     if !counts_pending(text) {
         return Err(Fault::Text(TextFault::Count));
     }
-    let history = history_of_completion(alloc, text.initial.as_slice(), events.as_slice())?;
-    Ok(Report::Completed(text.version, history))
+    Ok(events)
 }
 
 /// Why nothing is found where a history has no completion.
@@ -66,7 +88,7 @@ fn counts_pending(text: &PendingText) -> bool
 }
 
 /// The history of a completion.
-fn history_of_completion(
+pub(crate) fn history_of_completion(
     alloc: Global,
     initial: &[u64],
     events: &[Event],

@@ -1,23 +1,27 @@
 //! `draw`: the picture of a history and a verdict on it.
-ghost use Rattle.std.specs.Prelude.{◌≡◌, ◌≤◌, IfOk, IfErr, IfSome, Some, length};
+ghost use Rattle.std.specs.Prelude.{◌≡◌, ◌≤◌, ℕ, IfOk, IfErr, IfSome, None, Option, length};
 ghost use Rattle.history_merge.specs.Operations.{operations_of};
 ghost use Rattle.verdicts.specs.Claims.{IsTrueClaim};
 ghost use Rattle.drawing.specs.Claim.{count_of_lines};
 ghost use Rattle.drawing.specs.Drawn.{drawn_operations};
 ghost use Rattle.drawing.specs.Scene.{scene_on, scene_of};
 ghost use Rattle.history_text.specs.declared.version.Version.{Version};
-ghost use Rattle.history_text.specs.Versions.{said_in};
-ghost use Rattle.commands.specs.Inputs.{IsDrawableOf, IsFaultOfDrawableInput, claim_on, drawable};
-ghost use Rattle.commands.specs.Judging.{AnswersFor, AnswersOrNoMemory, Draws, DrawsSound, HasFewValues, IsDrawnDecided, IsSound};
-ghost use Rattle.commands.specs.Judging.{IsVerdictClaim, picture_in};
+ghost use Rattle.history_text.specs.Histories.{HasHistoryText};
+ghost use Rattle.history_text.specs.Versions.{HaveValueLines, said_in};
+ghost use Rattle.commands.specs.Drawing.{Draws, DrawsAlone, DrawsClaim, DrawsDecided, DrawsPending, DrawsSound, HasFewValues};
+ghost use Rattle.commands.specs.Drawing.{IsDrawnDecided, picture_in};
+ghost use Rattle.commands.specs.Inputs.{IsDrawableOf, IsFaultOfDrawableInput, claim_on, history_in};
+ghost use Rattle.commands.specs.Judging.{AnswersFor, AnswersOrNoMemory, IsSound, IsVerdictClaim};
 ghost use Rattle.commands.specs.Outcomes.{answer_of, answer_of_fault, NamesPlaces};
 
-use crate::input::{drawable_of, history_of};
+use crate::complete::{completed_events, history_of_completion};
+use crate::input::{drawable_of, history_in};
 use crate::outcome::{Fault, Outcome, Report};
 use command_words::{DrawOptions, PictureForm};
+use completions::next_ticket;
 use drawing::{MOST_DRAWN, Scene, count_of_lines, drawn_operations, scene_of, terminal_picture};
 use history_merge::{History, Operation};
-use history_text::TextSource;
+use history_text::{PendingText, TextSource};
 use std::alloc::{AllocError, Global};
 use svg_picture::{html_picture, svg_picture};
 use verdicts::{Claimed, claim, decide};
@@ -27,31 +31,75 @@ pub(crate) fn draw<S: TextSource + Drop>(alloc: Global, reader: S, options: Draw
     ensures found { IfSome (S.ahead reader) (λ input. AnswersFor IsDrawableOf IsFaultOfDrawableInput (Draws options) input (answer_of result)) }
     ensures places { NamesPlaces result }
 {
-    let (gathered, claimed) = drawable_of(alloc, reader)?;
-    let (_version, history) = history_of(gathered)?;
-    draw_history(alloc, &history, &claimed, options)
+    let (text, claimed) = drawable_of(alloc, reader)?;
+    match claimed {
+        Some(claimed) => draw_claimed(alloc, &text, &claimed, options),
+        None => draw_alone(alloc, &text, options),
+    }
 }
 
-/// The picture of this history with the claim, or with its verdict where there is none.
-fn draw_history(
+/// The picture of the history that a text says, with a claim.
+fn draw_claimed(
     alloc: Global,
-    history: &History,
-    claimed: &Option<Claimed>,
+    text: &PendingText,
+    claimed: &Claimed,
     options: DrawOptions,
 ) -> Outcome
-    ensures found { (version : Version) → AnswersOrNoMemory (Draws options) (drawable (said_in version history.now) claimed.now) (answer_of result) }
+    requires lines { HaveValueLines text.now.version text.now.initial × HasHistoryText text.now.events }
+    ensures found { AnswersOrNoMemory (DrawsClaim options) (claim_on (history_in text.now) claimed.now) (answer_of result) }
+    ensures places { NamesPlaces result }
+{
+    let history = history_in(alloc, text)?;
+    if history.initial().len() > MOST_DRAWN {
+        return Err(Fault::Size);
+    }
+    draw_claim(alloc, &history, claimed, options)
+}
+
+/// The picture of what a text says, with its verdict.
+fn draw_alone(alloc: Global, text: &PendingText, options: DrawOptions) -> Outcome
+    requires lines { HaveValueLines text.now.version text.now.initial × HasHistoryText text.now.events }
+    ensures found { AnswersOrNoMemory (λ t. DrawsAlone options t t.open_calls) text.now (answer_of result) }
+    ensures places { NamesPlaces result }
+{
+    match text.open_calls {
+        Some(_) => draw_pending(alloc, text, options),
+        None => {
+            let history = history_in(alloc, text)?;
+            draw_decided(alloc, &history, None, options)
+        }
+    }
+}
+
+/// The picture of the completion of what a text says, with its verdict.
+fn draw_pending(alloc: Global, text: &PendingText, options: DrawOptions) -> Outcome
+    requires lines { HaveValueLines text.now.version text.now.initial × HasHistoryText text.now.events }
+    ensures found { AnswersOrNoMemory (DrawsPending options) text.now (answer_of result) }
+    ensures places { NamesPlaces result }
+{
+    let events = completed_events(alloc, text)?;
+    let history = history_of_completion(alloc, text.initial.as_slice(), events.as_slice())?;
+    let added_from = next_ticket(text.events.as_slice());
+    draw_decided(alloc, &history, Some(added_from), options)
+}
+
+/// The picture of a history with its verdict.
+fn draw_decided(
+    alloc: Global,
+    history: &History,
+    added_from: Option<u64>,
+    options: DrawOptions,
+) -> Outcome
+    ensures found { (version : Version) → AnswersOrNoMemory (DrawsDecided options added_from) (said_in version history.now) (answer_of result) }
     ensures places { NamesPlaces result }
 {
     if history.initial().len() > MOST_DRAWN {
         return Err(Fault::Size);
     }
-    match claimed {
-        Some(claimed) => draw_claim(alloc, history, claimed, options),
-        None => draw_verdict(alloc, history, options),
-    }
+    draw_verdict(alloc, history, added_from, options)
 }
 
-/// The operations to be drawn, where these and the lines of the claim are few.
+/// The operations to be drawn, if these and the lines of the claim are few.
 fn drawn_if_few(
     alloc: Global,
     history: &History,
@@ -61,8 +109,8 @@ fn drawn_if_few(
     ensures drawn { IfOk result (λ drawn. drawn.items ≡ drawn_operations history.now claimed.now options.around) }
     ensures few { IfOk result (λ drawn. length drawn.items ≤ MOST_DRAWN) }
     ensures few_lines { IfOk result (λ drawn. count_of_lines claimed.now ≤ MOST_DRAWN) }
-    ensures large { (version : Version) → IfErr result (λ fault.
-        AnswersOrNoMemory (DrawsSound options) (claim_on (said_in version history.now) claimed.now) (answer_of_fault fault)) }
+    ensures large { (version : Version) (added : Option ℕ) → IfErr result (λ fault.
+        AnswersOrNoMemory (DrawsSound options added) (claim_on (said_in version history.now) claimed.now) (answer_of_fault fault)) }
 {
     if count_of_lines(claimed) > MOST_DRAWN {
         return Err(Fault::Size);
@@ -74,32 +122,37 @@ fn drawn_if_few(
     Ok(drawn)
 }
 
-/// The picture of a history of few values with the claim, where little is drawn and the claim is evidence.
+/// The picture of a history of few values with the claim, if little is drawn and the claim is evidence.
 fn draw_claim(alloc: Global, history: &History, claimed: &Claimed, options: DrawOptions) -> Outcome
     requires complete { IsSound history.now }
     requires few_values { HasFewValues history.now }
     ensures found { (version : Version)
-        → AnswersOrNoMemory (DrawsSound options) (claim_on (said_in version history.now) claimed.now) (answer_of result) }
+        → AnswersOrNoMemory (DrawsSound options None) (claim_on (said_in version history.now) claimed.now) (answer_of result) }
     ensures places { NamesPlaces result }
 {
     let drawn = drawn_if_few(alloc, history, claimed, options)?;
     if !verdicts::verify(alloc, history, claimed)? {
         return Ok(Report::Verified(false));
     }
-    draw_evidence(alloc, history, claimed, drawn, options)
+    draw_evidence(alloc, history, claimed, drawn, None, options)
 }
 
-/// The picture of a history of few values with its verdict, where little is drawn.
-fn draw_verdict(alloc: Global, history: &History, options: DrawOptions) -> Outcome
+/// The picture of a history of few values with its verdict, if little is drawn.
+fn draw_verdict(
+    alloc: Global,
+    history: &History,
+    added_from: Option<u64>,
+    options: DrawOptions,
+) -> Outcome
     requires complete { IsSound history.now }
     requires few_values { HasFewValues history.now }
     ensures found { (version : Version)
-        → AnswersOrNoMemory (IsDrawnDecided options) (said_in version history.now) (answer_of result) }
+        → AnswersOrNoMemory (IsDrawnDecided options added_from) (said_in version history.now) (answer_of result) }
     ensures places { NamesPlaces result }
 {
     let claimed = decided_claim(alloc, history)?;
     let drawn = drawn_if_few(alloc, history, &claimed, options)?;
-    draw_evidence(alloc, history, &claimed, drawn, options)
+    draw_evidence(alloc, history, &claimed, drawn, added_from, options)
 }
 
 /// The claim of the verdict on a history.
@@ -116,6 +169,7 @@ fn draw_evidence(
     history: &History,
     claimed: &Claimed,
     drawn: Vec<Operation>,
+    added_from: Option<u64>,
     options: DrawOptions,
 ) -> Outcome
     requires complete { IsSound history.now }
@@ -125,10 +179,10 @@ fn draw_evidence(
     requires few { length drawn.items ≤ MOST_DRAWN }
     requires evidence { IsTrueClaim history.now.initial (operations_of history.now.events) claimed.now }
     ensures found { (version : Version)
-        → AnswersOrNoMemory (DrawsSound options) (claim_on (said_in version history.now) claimed.now) (answer_of result) }
+        → AnswersOrNoMemory (DrawsSound options added_from) (claim_on (said_in version history.now) claimed.now) (answer_of result) }
     ensures places { NamesPlaces result }
 {
-    let scene = scene_of(alloc, history, claimed, drawn, None)?;
+    let scene = scene_of(alloc, history, claimed, drawn, added_from)?;
     let picture = picture_in(alloc, &scene, options.form)?;
     Ok(Report::Drawn(picture))
 }

@@ -8,7 +8,7 @@ ghost use Rattle.commands.specs.Completing.{IsFaultOfPendingInput, IsPendingOf};
 ghost use Rattle.history_text.specs.Versions.{HasText, HaveValueLines, HistoryText, IsReadAs, said_in};
 ghost use Rattle.history_text.specs.Schedules.{IsSetting};
 ghost use Rattle.commands.specs.Inputs.{IsHistoryOf, IsFaultOfHistoryInput, IsScheduleOf, IsFaultOfScheduleInput, IsClaimOf, IsFaultOfClaimInput};
-ghost use Rattle.commands.specs.Inputs.{IsDrawableOf, IsFaultOfDrawableInput, drawable};
+ghost use Rattle.commands.specs.Inputs.{IsDrawableOf, IsFaultOfDrawableInput, drawable, history_in};
 ghost use Rattle.commands.specs.Judging.{IsFaulty, AnswersFor, AnswersOrNoMemory, said_by};
 ghost use Rattle.commands.specs.Answers.{answer_of_history_fault};
 ghost use Rattle.commands.specs.Outcomes.{NamesClash, answer_of_fault};
@@ -19,7 +19,7 @@ use history_text::{
     PendingText, Schedule, TextFault, TextReader, TextSource, Version, at_end, is_at_end,
     read_history, read_pending, read_schedule, read_verdict,
 };
-use std::alloc::Global;
+use std::alloc::{AllocError, Global};
 use verdicts::Claimed;
 
 /// A history builder, and the version of the text that it was read from.
@@ -70,22 +70,27 @@ pub(crate) fn claimed_of<S: TextSource + Drop>(
     Ok((gathered, claimed))
 }
 
-/// The text of a history, and where anything follows what the verdict text after it claims of it.
+/// The text of a history, and what the verdict text after it claims of it if anything follows; or a text that counts its
+/// pending calls, after which nothing may follow.
 pub(crate) fn drawable_of<S: TextSource + Drop>(
     alloc: Global,
     reader: S,
-) -> Result<(Gathered, Option<Claimed>), TextFault>
-    ensures drawable { IfOk result (λ read. (text : HistoryText) × HasText text × IsReadAs text read.0.0 read.0.1 × IfSome (S.ahead reader)
-        (λ input. IsDrawableOf input (drawable text read.1))) }
+) -> Result<(PendingText, Option<Claimed>), TextFault>
+    ensures drawable { IfOk result (λ read. IfSome (S.ahead reader) (λ input. IsDrawableOf input (drawable read.0 read.1))) }
+    ensures lines { IfOk result (λ read. HaveValueLines read.0.version read.0.initial × HasHistoryText read.0.events) }
     ensures fault { IfErr result (λ fault. IfSome (S.ahead reader) (λ input. IsFaultOfDrawableInput input fault)) }
 {
     let mut texts = TextReader::new(reader);
-    let gathered = read_history(alloc, &mut texts)?;
+    let (text, _is_whole) = read_pending(alloc, &mut texts, false)?;
+    if text.open_calls.is_some() {
+        at_end(&mut texts)?;
+        return Ok((text, None));
+    }
     if is_at_end(&mut texts)? {
-        return Ok((gathered, None));
+        return Ok((text, None));
     }
     let claimed = read_verdict(alloc, &mut texts)?;
-    Ok((gathered, Some(claimed)))
+    Ok((text, Some(claimed)))
 }
 
 /// The one history that the reader gives, and the version of its text.
@@ -101,6 +106,31 @@ pub(crate) fn given_history<S: TextSource + Drop>(
 {
     let gathered = gathered_of(alloc, reader)?;
     history_of(gathered)
+}
+
+/// The builder that the values and events of a text were added to, with its version.
+fn gathered_from(alloc: Global, text: &PendingText) -> Result<Gathered, AllocError>
+    requires lines { HaveValueLines text.now.version text.now.initial × HasHistoryText text.now.events }
+    ensures { IfOk result (λ read. IsReadAs (history_in text.now) read.0 read.1) }
+{
+    let initial = Vec::from_slice(alloc, text.initial.as_slice())?;
+    let mut builder = HistoryBuilder::new(alloc, initial);
+    for event in text.events.as_slice() {
+        builder.add(*event);
+    }
+    Ok((text.version, builder))
+}
+
+/// The history that a text says.
+pub(crate) fn history_in(alloc: Global, text: &PendingText) -> Result<History, Fault>
+    requires lines { HaveValueLines text.now.version text.now.initial × HasHistoryText text.now.events }
+    ensures history { IfOk result (λ history. said_in text.now.version history ≡ history_in text.now) }
+    ensures fault { IfErr result (λ fault. AnswersOrNoMemory IsFaulty (said_by (history_in text.now)) (answer_of_fault fault)) }
+    ensures clash { IfErr result (NamesClash text.now.initial text.now.events) }
+{
+    let gathered = gathered_from(alloc, text)?;
+    let (_version, history) = history_of(gathered)?;
+    Ok(history)
 }
 
 /// The history that was gathered from a text, and the version of this.

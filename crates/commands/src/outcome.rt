@@ -4,7 +4,7 @@ ghost use Rattle.commands.specs.declared.outcome.Fault.TheVariants as made;
 
 use history_merge::{Clash, History, HistoryFault};
 use history_stats::Statistics;
-use history_text::{TextFault, Version};
+use history_text::{EventList, TextFault, Values, Version};
 use simulation::Rejections;
 use std::alloc::AllocError;
 use stress_run::RunFault;
@@ -28,8 +28,8 @@ pub enum Report {
     Verified(bool),
     /// A history on its own, to be shown in version 2.
     Converted(History),
-    /// A completed history on its own, to be shown in a version.
-    Completed(Version, History),
+    /// The initial values and the events of a completion, to be shown in a version.
+    Completed(Version, Values, EventList),
     /// The statistics of a history.
     Counted(Statistics),
     /// A picture, in lines of characters.

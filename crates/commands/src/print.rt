@@ -12,7 +12,9 @@ use crate::faults::write_fault;
 use crate::outcome::{Fault, Outcome, Report};
 use crate::show::{write_rejections, write_shown};
 use history_stats::write_statistics;
-use history_text::{TextSink, Version, WriteFault, write_history, write_piece, write_verdict};
+use history_text::{
+    TextSink, Version, WriteFault, write_events, write_history, write_piece, write_verdict,
+};
 use value_match::Violation;
 use verdicts::Verdict;
 
@@ -38,7 +40,9 @@ pub(crate) fn write_outcome<W: TextSink>(
             return write_shown(Version::One, history, verdict, writer);
         }
         Ok(Report::Converted(history)) => return write_history(Version::Two, history, writer),
-        Ok(Report::Completed(version, history)) => return write_history(*version, history, writer),
+        Ok(Report::Completed(version, initial, events)) => {
+            return write_events(*version, initial.as_slice(), events.as_slice(), writer);
+        }
         Ok(Report::Verified(true)) => return write_piece(b"VALID\n", writer),
         Ok(Report::Verified(false)) => return write_piece(b"INVALID\n", writer),
         Ok(Report::Counted(statistics)) => return write_statistics(statistics, writer),

@@ -65,8 +65,8 @@ fn push_returns(full: &mut Vec<Event>, answers: &[Answer], ticket: u64) -> Resul
     Ok(())
 }
 
-/// Returns a ticket above all.
-fn next_ticket(events: &[Event]) -> u64
+/// Returns the ticket of the first return that a completion of these events adds: one above the last, 0 without events.
+pub fn next_ticket(events: &[Event]) -> u64
     requires { All (λ e. e.ticket ≤ MAX_TICKET) events.now }
     ensures next { result ≡ next_ticket events.now }
     ensures small { result ≤ MAX_TICKET + 1 }

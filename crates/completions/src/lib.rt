@@ -11,7 +11,7 @@ mod left;
 mod pending;
 
 pub use answers::Answer;
-pub use completion::complete;
+pub use completion::{complete, next_ticket};
 pub use fault::CompletionFault;
 pub use laws::the_completion_decides;
 pub use pending::count_pending;

@@ -49,11 +49,19 @@ abbrev pub lines_after_stop : Option ℕ → ℕ → List ℕ
 lines_after_stop None count = []
 lines_after_stop (Some calls) count = end_line count
 
+-- how many lines these two are
+abbrev pub lines_at_stop : Option ℕ → ℕ
+lines_at_stop calls = if is_some calls then 2 else 1
+
 -- the text: its first line, the initial values, the events, and the lines that count
 abbrev pub pending_text : PendingText → List ℕ
 pending_text t =
     line (first_line_of (is_some t.open_calls) t.version) ++ (value_lines t.version t.initial ++ (lines_of event_format t.events
     ++ (stop_line t.open_calls (length t.events) ++ lines_after_stop t.open_calls (length t.events))))
+
+-- how many lines it has
+abbrev pub pending_line_count : PendingText → ℕ
+pending_line_count t = count_before_events t.version t.initial + length t.events + lines_at_stop t.open_calls
 
 -- the text of a history, as one whose calls may be pending
 abbrev pub as_pending : HistoryText → PendingText

@@ -158,3 +158,37 @@ pub fn write_history<W: TextSink>(
     put_text(version, history, &mut kept, writer)?;
     write_piece(kept.as_slice(), writer)
 }
+
+/// Puts the text of these values and events, and may hold back its end.
+fn put_events_text<W: TextSink>(
+    version: Version,
+    initial: &[u64],
+    events: &[Event],
+    kept: &mut WriteBuffer,
+    writer: &mut W,
+) -> Result<(), WriteFault>
+    requires { kept.old ≡ [] }
+    ensures { PutsText W.contents W.has_refused W.transition [] kept.new (text_by version initial.now events.now) writer.old writer.new result }
+{
+    put_before_events(version, initial, kept, writer)?;
+    put_each(&HistoryLines, events, kept, writer)?;
+    put_end(events.len(), kept, writer)
+}
+
+/// Writes the text of initial values and events in a version, as [`write_history`] does of a history. The events may be
+/// any; it takes no memory, and its time is linear in the text.
+#[tactic(auto, using(text_lines::proofs::Putting::goes_out))]
+pub fn write_events<W: TextSink>(
+    version: Version,
+    initial: &[u64],
+    events: &[Event],
+    writer: &mut W,
+) -> Result<(), WriteFault>
+    // Version 1 has no initial values.
+    requires { version ≡ One → initial.now ≡ [] }
+    ensures text { Writes W.contents W.has_refused W.transition (text_by version initial.now events.now) writer.old writer.new result }
+{
+    let mut kept = WriteBuffer::new();
+    put_events_text(version, initial, events, &mut kept, writer)?;
+    write_piece(kept.as_slice(), writer)
+}

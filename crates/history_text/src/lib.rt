@@ -24,7 +24,7 @@ mod verdict_writer;
 mod version;
 
 pub use event_records::MAX_STEPS;
-pub use history_writer::write_history;
+pub use history_writer::{write_events, write_history};
 pub use laws::{
     a_claim_on_a_text_has_a_text, a_history_text_is_read_as_itself, a_text_has_no_fault,
     a_text_has_one_claim, a_text_has_one_history, a_text_has_one_schedule,

@@ -75,6 +75,8 @@ pub(crate) fn cut_message(alloc: Global, given: &Given<'_>) -> Result<Message, A
 fn hint_behind(reads: Reads, line: &[u8]) -> &'static str {
     if reads == Reads::Schedule {
         "sim takes one schedule: take the first by sed '/^end /q'"
+    } else if reads == Reads::Drawable {
+        "a pending text has no verdict of its own, and draw shows that of its completion: sed '/^end /q' keeps the text"
     } else if line.starts_with(b"YES") || line.starts_with(b"NO") {
         "a verdict follows the history: fifobench verify takes both, and sed '/^end /q' keeps the history"
     } else {

@@ -17,7 +17,7 @@ const CARRIAGE_RETURNS: &str =
 fn first_line_of(reads: Reads) -> &'static str {
     match reads {
         Reads::Schedule => "fifo-schedule 1",
-        Reads::Pending => "fifo-history 1 or 2, or fifo-pending 1 or 2",
+        Reads::Pending | Reads::Drawable => "fifo-history 1 or 2, or fifo-pending 1 or 2",
         _ => "fifo-history 1 or fifo-history 2",
     }
 }

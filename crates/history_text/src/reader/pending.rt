@@ -9,7 +9,7 @@ ghost use Rattle.history_text.specs.Histories.{event_format};
 ghost use Rattle.history_text.specs.Versions.{HaveValueLines};
 ghost use Rattle.history_text.specs.Pending as wanted;
 ghost use Rattle.history_text.specs.Pending.{first_line_of, stop_line, lines_after_stop, whole_line_at_front, NoFirstLine};
-ghost use Rattle.history_text.specs.Pending.{HasPendingTextFault, IsPendingRead};
+ghost use Rattle.history_text.specs.Pending.{HasPendingTextFault, IsPendingRead, lines_at_stop, pending_line_count};
 
 use crate::pending_line::{EventLine, event_line_in, first_line_in, last_line_in};
 use crate::pending_text::{EventList, PendingText, Values};
@@ -122,6 +122,7 @@ impl<R: TextSource> TextReader<R> {
         ensures stop { OnOk result (IsStop is_pending open_calls.new) }
         ensures taken { OnOk result (Takes self.old.left self.new.left (lines_of event_format into.new.items
             ++ (stop_line open_calls.new (length into.new.items) ++ lines_after_stop open_calls.new (length into.new.items)))) }
+        ensures lines { OnOk result (self.new.lines ≡ self.old.lines + length into.new.items + lines_at_stop open_calls.new) }
         ensures fault { IfErr result (HasEventsFault is_pending (self.old.lines + 1) self.old.left into.new.items open_calls.new) }
         ensures right { IfErr result (λ fault. IsOfInput fault → HaveLines event_format into.new.items) }
     {
@@ -137,6 +138,7 @@ impl<R: TextSource> TextReader<R> {
         requires { self.old.lines < 2 ^ 63 }
         ensures text { IfOk result (λ read. IsPendingRead takes_cut self.old.lines self.old.left self.new.left read.0 read.1) }
         ensures lines { IfOk result (λ read. HaveValueLines read.0.version read.0.initial × HaveLines event_format read.0.events) }
+        ensures count { IfOk result (λ read. read.1 ≡ true → self.new.lines ≡ self.old.lines + pending_line_count read.0) }
         ensures fault { IfErr result (HasPendingTextFault takes_cut self.old.lines self.old.left) }
     {
         let (is_pending, version) = self.first_line()?;
@@ -182,6 +184,8 @@ pub fn read_pending<R: TextSource>(
 
     // Whatever the source: each value and each event has its line.
     ensures lines { IfOk result (λ read. HaveValueLines read.0.version read.0.initial × HaveLines event_format read.0.events) }
+
+    ensures count { IfOk result (λ read. read.1 ≡ true → reader.new.lines ≡ reader.old.lines + pending_line_count read.0) }
 
     // A fault is the first one.
     ensures fault { IfErr result (HasPendingTextFault takes_cut reader.old.lines reader.old.left) }

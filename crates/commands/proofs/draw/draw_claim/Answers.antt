@@ -1,9 +1,9 @@
-use Rattle.commands.proofs.Common.{ap, arith, carries, claim_on, inl, inr, IsSmall, length, refl, said_in}
+use Rattle.commands.proofs.Common.{ap, arith, carries, claim_on, inl, inr, IsSmall, length, None, refl, said_in}
 use Rattle.commands.proofs.draw.draw_claim.Goals as goal
 
 pub returns-in_err-drawn-clause-found : goal.returns-in_err-drawn-clause-found
 returns-in_err-drawn-clause-found c = λ version.
-    rw (carries c.from_residual.result _ c.from_residual.ensures.1) (c.in_err-drawn.ensures.large version)
+    rw (carries c.from_residual.result _ c.from_residual.ensures.1) (c.in_err-drawn.ensures.large version None)
 
 pub returns-then-not-branch-clause-found : goal.returns-then-not-branch-clause-found
 returns-then-not-branch-clause-found c = λ version.

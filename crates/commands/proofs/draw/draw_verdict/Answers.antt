@@ -13,7 +13,7 @@ returns-in_err-drawn-clause-found c = λ version.
       right = c.in_ok-claimed.ensures;
       evident = decided_is_true c.args.history.now c.in_ok-claimed.claimed c.requires.complete (omega (arith, c.requires.few_values)) c.in_ok-claimed.ensures;
       answered = sound;
-    }) (λ memory. memory) (c.in_err-drawn.ensures.large version))
+    }) (λ memory. memory) (c.in_err-drawn.ensures.large version c.args.added_from))
 
 pub returns-clause-found : goal.returns-clause-found
 returns-clause-found c = λ version. ⊎_map (λ sound. record {

@@ -1,4 +1,5 @@
-use Rattle.commands.proofs.OneAnswer.{checked_is_valid, drawn_as_checked, shrunk_is_checked, shrunk_is_valid}
+use Rattle.commands.proofs.Drawings.{drawn_as_checked}
+use Rattle.commands.proofs.OneAnswer.{checked_is_valid, shrunk_is_checked, shrunk_is_valid}
 use Rattle.commands.proofs.laws.every_answer_is_evidence.Goals as goal
 
 pub returns : goal.returns

@@ -1,0 +1,84 @@
+-- What is drawn of an input: one thing, of a history on its own what is drawn of it with its verdict.
+use Rattle.commands.proofs.Common.{Ahead, alone, ap, claim_on, Claimed, ClaimOnText, Drawable, HasOneAnswer, HasText}
+use Rattle.commands.proofs.Common.{HistoryText, input_of, IsDrawableOf, IsSound, judged, length, MAX_INITIAL, None, Option}
+use Rattle.commands.proofs.Common.{refl, Reply, said_by, Some, subst, sym, verdict_text, with_claim, inl, inr, ℕ, ◌++◌, ◌≡◌, ◌≤◌, ◌∙◌}
+use Rattle.commands.proofs.Common.{DrawnAsChecked, IsHistoryOf, text_of, List}
+use Rattle.commands.proofs.Completions.{one_of_completion}
+use Rattle.commands.proofs.Inputs.{alike, claim_after, one_answer, one_drawable}
+use Rattle.commands.proofs.OneAnswer.{claim_is_written, few_values, have_lines, IsWritten, judged_is_written, one_by_whether, one_of_history}
+use Rattle.commands.proofs.OneAnswer.{one_of_verdict, same}
+use Rattle.command_words.specs.Commands.{draw}
+use Rattle.command_words.specs.declared.options.DrawOptions.{DrawOptions}
+use Rattle.commands.specs.Completing.{completion_in, IsCompletable}
+use Rattle.commands.specs.Drawing.{Draws, DrawsAlone, DrawsClaim, DrawsDecided, DrawsHistory, DrawsSound, IsDrawnDecided}
+use Rattle.commands.specs.Inputs.{history_in}
+use Rattle.commands.specs.Judging.{IsVerdictClaim}
+use Rattle.completions.proofs.Sound.{may_be_pending}
+use Rattle.completions.proofs.Within.{decides_within}
+use Rattle.completions.specs.Completed.{next_ticket}
+use Rattle.history_text.proofs.OnePending.{has_same, same_text}
+use Rattle.history_text.specs.Pending.{as_pending, HasPendingText}
+use Rattle.history_text.specs.declared.pending_text.PendingText.{PendingText}
+
+-- a claim on a complete history is drawn in one way
+one_drawn : (options : DrawOptions) (added : Option ℕ) (claim : ClaimOnText) (a b : Reply) → DrawsSound options added claim a
+    → DrawsSound options added claim b → a ≡ b
+one_drawn options added claim a b = one_by_whether (one_by_whether same same) same
+
+-- what is answered of a complete history with the claim of its verdict is answered of it with this claim of it
+with_verdict : (options : DrawOptions) (added : Option ℕ) (text : HistoryText) (claimed : Claimed) (a : Reply) → length text.initial ≤ MAX_INITIAL
+    → IsSound (said_by text) → IsVerdictClaim (said_by text) claimed → IsDrawnDecided options added text a
+    → DrawsSound options added (claim_on text claimed) a
+with_verdict options added text claimed a few complete right x = subst (λ c. DrawsSound options added (claim_on text c) a)
+    (one_of_verdict (said_by text) (λ c. c) x.claimed claimed few complete x.right right) x.answered
+
+-- a complete history with its verdict is drawn in one way
+one_decided : (options : DrawOptions) (added : Option ℕ) (text : HistoryText) (a b : Reply) → length text.initial ≤ MAX_INITIAL
+    → IsSound (said_by text) → DrawsDecided options added text a → DrawsDecided options added text b → a ≡ b
+one_decided options added text a b few complete = one_by_whether
+    (λ x y. one_drawn options added (claim_on text y.claimed) a b (with_verdict options added text y.claimed a few complete y.right x) y.answered) same
+
+-- a completion is a complete history
+sound_completion : (text : PendingText) → length text.initial ≤ MAX_INITIAL → IsCompletable text → IsSound (said_by (completion_in text))
+sound_completion text few is = (decides_within text.initial text.events few (may_be_pending text.initial text.events is.found) is.within).completion.is_complete
+
+-- a text on its own is drawn in one way
+one_alone : (options : DrawOptions) (text : PendingText) (calls : Option ℕ) (a b : Reply) → HasPendingText text → DrawsAlone options text calls a
+    → DrawsAlone options text calls b → a ≡ b
+one_alone options text (Some n) a b has =
+    let few = (have_lines text.version text.initial has.initial).few in
+    let drawn = DrawsDecided options (Some (next_ticket text.events)) (completion_in text) in
+    one_of_completion text a b drawn drawn
+    (λ is. one_decided options (Some (next_ticket text.events)) (completion_in text) a b few (sound_completion text few is))
+one_alone options text None a b has =
+    let few = (have_lines text.version text.initial has.initial).few in
+    one_of_history (said_by (history_in text)) a b (λ complete. one_decided options None (history_in text) a b few complete)
+
+-- what is drawn is drawn in one way
+one_picture : (options : DrawOptions) (input : Ahead) (read : Drawable) (a b : Reply) → IsDrawableOf input read → Draws options read a
+    → Draws options read b → a ≡ b
+one_picture options input (alone text) a b is = one_alone options text text.open_calls a b is.0
+one_picture options input (with_claim claim) a b is = one_of_history (said_by claim.text) a b (λ complete. one_drawn options None claim a b)
+
+pub draw_has_one : (options : DrawOptions) → HasOneAnswer (draw options)
+draw_has_one options = one_answer one_drawable (Draws options) (one_picture options)
+
+-- the text of a history, alone
+alone_history : (bytes : List ℕ) (t : HistoryText) → IsHistoryOf (input_of bytes) t → IsDrawableOf (input_of bytes) (alone (as_pending t))
+alone_history bytes t read = (has_same t read.0, record { bytes = read.1.bytes ∙ sym (same_text t); ending = read.1.ending })
+
+-- a history is drawn on its own as if its verdict followed it
+pub drawn_as_checked : (options : DrawOptions) → DrawnAsChecked options
+drawn_as_checked options bytes claimed a b checked =
+    let read = judged_is_written (input_of bytes) claimed checked in
+    let t = read.0 in
+    let is : IsWritten t claimed = read.2 in
+    alike one_drawable (Draws options) (input_of bytes) (input_of (bytes ++ verdict_text claimed)) (alone (as_pending t))
+    (with_claim (claim_on t claimed)) a b (alone_history bytes t read.1) (claim_after bytes t claimed (claim_is_written t claimed is) read.1)
+    (λ x. one_of_history (said_by t) a b (λ complete. one_drawn options None (claim_on t claimed) a b) (as_claimed t claimed is x))
+  where
+    as_claimed : (t : HistoryText) (claimed : Claimed) → IsWritten t claimed → DrawsHistory options t a → DrawsClaim options (claim_on t claimed) a
+    as_claimed t claimed is (inl faulty) = inl faulty
+    as_claimed t claimed is (inr (complete, inl (few, x))) =
+        inr (complete, with_verdict options None t claimed a (few_values t is.history) complete is.right x)
+    as_claimed t claimed is (inr (complete, inr (many, large))) = inr (complete, inr ((λ small. many small.few_values), large))
