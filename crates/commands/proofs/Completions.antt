@@ -42,7 +42,7 @@ use Rattle.history_text.specs.declared.pending_text.PendingText.{PendingText}
 use Rattle.std.proofs.lemmas.List.Elements.{All-filter, All-from_recursion, recursion_from_All}
 use Rattle.std.specs.Bool.{then_some}
 use Rattle.std.specs.List.{AllByRecursion, cons_option, last_or}
-use Rattle.std.specs.Prelude.{filter_map, if◌then◌else◌, nat_eq, IsTrue, not, option_and_then, ◌↔◌}
+use Rattle.std.specs.Prelude.{filter_map, if◌then◌else◌, nat_eq, not, option_and_then, ◌↔◌}
 use Rattle.text_lines.specs.Lines.{greatest_value}
 use Rattle.text_lines.specs.declared.fault.TextFault.TheVariants.{Count, Cut}
 

@@ -1,8 +1,8 @@
 -- What is drawn of an input: one thing, of a history on its own what is drawn of it with its verdict.
-use Rattle.commands.proofs.Common.{Ahead, alone, ap, claim_on, Claimed, ClaimOnText, Drawable, HasOneAnswer, HasText}
-use Rattle.commands.proofs.Common.{HistoryText, input_of, IsDrawableOf, IsSound, judged, length, MAX_INITIAL, None, Option}
-use Rattle.commands.proofs.Common.{refl, Reply, said_by, Some, subst, sym, verdict_text, with_claim, inl, inr, ℕ, ◌++◌, ◌≡◌, ◌≤◌, ◌∙◌}
-use Rattle.commands.proofs.Common.{DrawnAsChecked, IsHistoryOf, text_of, List}
+use Rattle.commands.proofs.Common.{Ahead, alone, claim_on, Claimed, ClaimOnText, Drawable, HasOneAnswer}
+use Rattle.commands.proofs.Common.{HistoryText, input_of, IsDrawableOf, IsSound, length, MAX_INITIAL, None, Option}
+use Rattle.commands.proofs.Common.{Reply, said_by, Some, subst, sym, verdict_text, with_claim, inl, inr, ℕ, ◌++◌, ◌≡◌, ◌≤◌, ◌∙◌}
+use Rattle.commands.proofs.Common.{DrawnAsChecked, IsHistoryOf, List}
 use Rattle.commands.proofs.Completions.{one_of_completion}
 use Rattle.commands.proofs.Inputs.{alike, claim_after, one_answer, one_drawable}
 use Rattle.commands.proofs.OneAnswer.{claim_is_written, few_values, have_lines, IsWritten, judged_is_written, one_by_whether, one_of_history}

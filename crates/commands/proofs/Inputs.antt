@@ -275,8 +275,13 @@ one_drawable = says_one_thing HasPendingText pending_text (IsPendingTextFault fa
   where
     parts : (input : Ahead) (x : Drawable) → IsDrawableOf input x → (text : PendingText) × (rest : List ℕ) × HasPendingText text
         × (input.bytes ≡ pending_text text ++ rest) × ((fault : TextFault) → IsFaultBehind text input.ending rest fault → ⊥)
-    parts input (alone x) is = (x, [], is.0, is.1.bytes ∙ sym (append-nil (pending_text x)),
-        λ fault next. none_behind x.open_calls (pending_line_count x) input.ending fault is.1.ending next)
+    parts input (alone x) is = (
+      x,
+      [],
+      is.0,
+      is.1.bytes ∙ sym (append-nil (pending_text x)),
+      λ fault next. none_behind x.open_calls (pending_line_count x) input.ending fault is.1.ending next,
+    )
     parts input (with_claim x) is =
         let p = claim_parts input x is in
         (as_pending p.0, p.1, has_same p.0 p.2, p.3 ∙ ap (λ t. t ++ p.1) (sym (same_text p.0)), λ fault next. p.4 fault next.0)

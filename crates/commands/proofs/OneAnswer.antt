@@ -1,13 +1,13 @@
 -- What is answered of a history that was read, what of that is written, and what is answered of what is written. Out
 -- of memory aside an input has one answer.
-use Rattle.commands.proofs.Common.{accepted, Ahead, All, alone, answer_of_text_fault, AnswersFor, AnswersOf}
+use Rattle.commands.proofs.Common.{accepted, Ahead, All, answer_of_text_fault, AnswersFor, AnswersOf}
 use Rattle.commands.proofs.Common.{AnswersOrNoMemory, ap, arith, Attempt, Bool, CheckedIsValid, claim_of, claim_on}
 use Rattle.commands.proofs.Common.{Claimed, ClaimOnText, codes, collected_lists, Contents, converted}
 use Rattle.commands.proofs.Common.{ConvertedIsChecked, ConvertedIsCounted, ConvertedIsKept, ConvertedIsSameHistory}
-use Rattle.commands.proofs.Common.{ConvertedIsVerified, Converts, Counts, Drawable, DrawnAsChecked, Draws, Event}
+use Rattle.commands.proofs.Common.{ConvertedIsVerified, Converts, Counts, Event}
 use Rattle.commands.proofs.Common.{false, filter, flat_map, HasOneAnswer, HasText, HasVerdictText, HaveValueLines}
 use Rattle.commands.proofs.Common.{HistoryText, HistoryView, IfSome, IfSome_then, in_version_2, inl, input_of, inr}
-use Rattle.commands.proofs.Common.{IsClaimOf, IsCompleteFrom, IsCompleteHistory, IsDecided, IsDone, IsDrawableOf}
+use Rattle.commands.proofs.Common.{IsClaimOf, IsCompleteFrom, IsCompleteHistory, IsDecided, IsDone}
 use Rattle.commands.proofs.Common.{IsExact, IsFaultOfClaimInput, IsFaultOfHistoryInput, IsHistoryOf, IsLinearizable}
 use Rattle.commands.proofs.Common.{IsMerged, IsOfVerdict, IsSound, IsValidOrNoMemory, IsWithinRanges, judged, Judges}
 use Rattle.commands.proofs.Common.{length, List, MAX_EVENTS, MAX_INITIAL, MAX_STRESS_INITIAL, MAX_THREADS}
@@ -15,13 +15,13 @@ use Rattle.commands.proofs.Common.{memory_fault, No, None, One, operations_at, o
 use Rattle.commands.proofs.Common.{pointwise, PrintsAnswer, PrintsOneOf, refl, rejections, Reply, said_by, said_in}
 use Rattle.commands.proofs.Common.{SameOrNoMemory, Setting, Settings, shown, ShrinksSound, ShrunkIsChecked}
 use Rattle.commands.proofs.Common.{ShrunkIsValid, Some, subst, sym, take, text_of, TextFault, true, Two, value_format}
-use Rattle.commands.proofs.Common.{Verdict, verdict_text, verified, Verifies, Version, with_claim, Yes, [], ℕ, ⊎_map}
+use Rattle.commands.proofs.Common.{Verdict, verdict_text, verified, Verifies, Version, Yes, [], ℕ, ⊎_map}
 use Rattle.commands.proofs.Common.{◌++◌, ◌+◌, ◌<◌, ◌∙◌, ◌∷◌, ◌≡◌, ◌≢◌, ◌≤◌, ◌⊎◌}
 use Rattle.std.proofs.Common.{Contains, drop, get_or, IsTrue, nat_eq, rules, suc, ◌↔◌}
 use Rattle.clap.specs.Kinds.{HasKind, IsAmong, Kinds}
 use Rattle.clap.specs.Values.{kind_of}
 use Rattle.clap.specs.declared.error.Error.{Error}
-use Rattle.command_words.specs.Commands.{check, convert, draw, Request, shrink, sim, stats, verify}
+use Rattle.command_words.specs.Commands.{check, convert, Request, shrink, sim, stats, verify}
 use Rattle.commands.specs.Answers.{answer_of_history_fault, answer_status, counted, run_fault, ShowsNoViolation}
 use Rattle.commands.specs.Inner.Running.{Explains}
 use Rattle.commands.specs.Judging.{FaultOr, IsEvident, IsFaulty}
@@ -54,7 +54,6 @@ use Rattle.stress_run.specs.Recorded.{RecordedView}
 use Rattle.stress_run.specs.declared.faults.RunFault.{RunFault}
 use Rattle.stress_run.specs.declared.faults.RunFault.TheVariants.{Preload}
 use Rattle.workloads.specs.Seeds.{IsSeeded}
-use Rattle.command_words.specs.declared.options.DrawOptions.{DrawOptions}
 use Rattle.history_merge.proofs.Faults.{complete_has_no_fault, one_first_fault}
 use Rattle.history_merge.specs.Faults.{IsFirstFault}
 use Rattle.history_merge.specs.declared.fault.HistoryFault.{HistoryFault}
@@ -71,7 +70,7 @@ use Rattle.verdicts.proofs.Selections.{no_longer}
 use Rattle.verdicts.proofs.TrueClaims.{evidence_is_true}
 use Rattle.verdicts.specs.Claims.{IsTrueClaim}
 use Rattle.verdicts.specs.Selection.{ArePartOf, KeepsViolation, StaysChosen}
-use Rattle.commands.proofs.Inputs.{alike, answered_of, claim_after, one_answer, one_claim, one_drawable, one_history}
+use Rattle.commands.proofs.Inputs.{alike, answered_of, claim_after, one_answer, one_claim, one_history}
 use Rattle.commands.proofs.Inputs.{one_schedule}
 use Rattle.verdicts.specs.declared.verifying.Claimed.TheVariants as claim
 use Rattle.text_lines.specs.declared.fault.TextFault.TheVariants as text

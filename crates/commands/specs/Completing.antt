@@ -3,7 +3,6 @@ use Rattle.std.specs.Prelude.{◌≡◌, ◌≢◌, ◌⊎◌, ℕ, Bool, true, 
 use Rattle.completions.specs.Completed.{completed, pending_calls}
 use Rattle.completions.specs.Faults.{IsBeyondLimits, MayBePending}
 use Rattle.history_merge.specs.Faults.{IsFirstFault}
-use Rattle.history_merge.specs.Initial.{HistoryView}
 use Rattle.history_merge.specs.declared.fault.HistoryFault.{HistoryFault}
 use Rattle.history_merge.specs.declared.fault.HistoryFault.TheVariants.{Memory, Pending}
 use Rattle.history_text.specs.Pending.{HasPendingText, IsCutText, IsPendingTextFault, NoRoomForPending, pending_text}

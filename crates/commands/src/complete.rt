@@ -3,7 +3,8 @@ ghost use Rattle.std.specs.Prelude.{◌≡◌, ◌≤◌, ◌↔◌, ◌⊎◌, 
 ghost use Rattle.completions.specs.Completed.{completed};
 ghost use Rattle.event_records.specs.declared.limits.TheConstants.{MAX_EVENTS, MAX_INITIAL, MAX_THREAD};
 ghost use Rattle.history_merge.specs.Initial.{IsCompleteFrom};
-ghost use Rattle.history_text.specs.declared.version.Version.TheVariants.{One};
+ghost use Rattle.history_text.specs.Histories.{HasHistoryText};
+ghost use Rattle.history_text.specs.Versions.{HaveValueLines};
 ghost use Rattle.commands.specs.Answers.{memory_fault};
 ghost use Rattle.commands.specs.Completing.{Completes, CountsPending, IsCompletable, IsFaultOfPendingInput, IsPendingOf, LacksCompletion};
 ghost use Rattle.commands.specs.Judging.{AnswersFor, AnswersOrNoMemory};
@@ -14,7 +15,7 @@ use crate::outcome::{Fault, Outcome, Report};
 use completions::{CompletionFault, count_pending};
 use event_records::Event;
 use history_merge::{History, history_from};
-use history_text::{EventList, PendingText, TextFault, TextSource};
+use history_text::{EventList, PendingText, TextFault, TextSource, Values, Version};
 use std::alloc::{AllocError, Global};
 
 /// What `complete` finds in what the reader gives; with `takes_cut` in a text that is cut off too.
@@ -28,42 +29,42 @@ pub(crate) fn complete<S: TextSource + Drop>(alloc: Global, reader: S, takes_cut
 
 /// What `complete` finds in a text.
 fn completion_of(alloc: Global, text: PendingText) -> Outcome
-    requires few_initial { length text.initial ≤ MAX_INITIAL }
-    requires few_events { length text.events ≤ MAX_EVENTS }
-    requires version { text.version ≡ One → text.initial ≡ [] }
+    requires lines { HaveValueLines text.version text.initial × HasHistoryText text.events }
     ensures found { AnswersOrNoMemory Completes text (answer_of result) }
     ensures places { NamesPlaces result }
 {
-    let events = completed_events(alloc, &text)?;
-    let PendingText {
-        version, initial, ..
-    } = text;
-    Ok(Report::Completed(
-        version,
-        initial,
-        EventList::from_vec(events),
-    ))
+    let (version, initial, events) = completed(alloc, text)?;
+    Ok(Report::Completed(version, initial, EventList::from_vec(events)))
 }
 
-/// The events of the completion of what a text says.
-pub(crate) fn completed_events(alloc: Global, text: &PendingText) -> Result<Vec<Event>, Fault>
-    requires few_initial { length text.now.initial ≤ MAX_INITIAL }
-    requires few_events { length text.now.events ≤ MAX_EVENTS }
-    ensures completed { IfOk result (λ events. events.items ≡ completed text.now.initial text.now.events) }
-    ensures complete { IfOk result (λ events. IsCompleteFrom text.now.initial events.items) }
-    ensures few { IfOk result (λ events. length events.items ≤ MAX_EVENTS) }
-    ensures completable { OnOk result (IsCompletable text.now) }
-    ensures fault { IfErr result (λ fault. LacksCompletion text.now (answer_of_fault fault) ⊎ (answer_of_fault fault ≡ memory_fault)) }
+/// What the completion of a text says.
+pub(crate) fn completed(
+    alloc: Global,
+    text: PendingText,
+) -> Result<(Version, Values, Vec<Event>), Fault>
+    requires lines { HaveValueLines text.version text.initial × HasHistoryText text.events }
+    ensures same { IfOk result (λ made. (made.0 ≡ text.version) × (made.1 ≡ text.initial)) }
+    ensures completed { IfOk result (λ made. made.2.items ≡ completed text.initial text.events) }
+    ensures complete { IfOk result (λ made. IsCompleteFrom text.initial made.2.items) }
+    ensures few { IfOk result (λ made. length made.2.items ≤ MAX_EVENTS) }
+    ensures completable { OnOk result (IsCompletable text) }
+    ensures fault { IfErr result (λ fault. LacksCompletion text (answer_of_fault fault) ⊎ (answer_of_fault fault ≡ memory_fault)) }
 {
-    let completed = completions::complete(alloc, text.initial.as_slice(), text.events.as_slice());
-    let events = match completed {
-        Ok(events) => events,
+    let counts = counts_pending(&text);
+    let PendingText {
+        version,
+        initial,
+        events,
+        ..
+    } = text;
+    let made = match completions::complete(alloc, initial.as_slice(), events.into_vec()) {
+        Ok(made) => made,
         Err(fault) => return Err(refusal_of(fault)),
     };
-    if !counts_pending(text) {
+    if !counts {
         return Err(Fault::Text(TextFault::Count));
     }
-    Ok(events)
+    Ok((version, initial, made))
 }
 
 /// Why nothing is found where a history has no completion.
@@ -90,16 +91,15 @@ fn counts_pending(text: &PendingText) -> bool
 /// The history of a completion.
 pub(crate) fn history_of_completion(
     alloc: Global,
-    initial: &[u64],
+    initial: Vec<u64>,
     events: &[Event],
 ) -> Result<History, AllocError>
-    requires few_initial { length initial.now ≤ MAX_INITIAL }
+    requires few_initial { length initial.items ≤ MAX_INITIAL }
     requires few_events { length events.now ≤ MAX_EVENTS }
-    requires whole { IsCompleteFrom initial.now events.now }
-    ensures { IfOk result (λ history. (history.initial ≡ initial.now) × (history.events ≡ events.now)) }
+    requires whole { IsCompleteFrom initial.items events.now }
+    ensures { IfOk result (λ history. (history.initial ≡ initial.items) × (history.events ≡ events.now)) }
 {
-    let values = Vec::from_slice(alloc, initial)?;
-    match history_from(alloc, values, events) {
+    match history_from(alloc, initial, events) {
         Ok(history) => Ok(history),
         Err(_) => Err(AllocError),
     }

@@ -1,5 +1,5 @@
 //! `draw`: the picture of a history and a verdict on it.
-ghost use Rattle.std.specs.Prelude.{◌≡◌, ◌≤◌, ℕ, IfOk, IfErr, IfSome, None, Option, length};
+ghost use Rattle.std.specs.Prelude.{◌≡◌, ◌≤◌, ℕ, IfOk, IfErr, IfSome, OnOk, None, Option, length};
 ghost use Rattle.history_merge.specs.Operations.{operations_of};
 ghost use Rattle.verdicts.specs.Claims.{IsTrueClaim};
 ghost use Rattle.drawing.specs.Claim.{count_of_lines};
@@ -8,13 +8,14 @@ ghost use Rattle.drawing.specs.Scene.{scene_on, scene_of};
 ghost use Rattle.history_text.specs.declared.version.Version.{Version};
 ghost use Rattle.history_text.specs.Histories.{HasHistoryText};
 ghost use Rattle.history_text.specs.Versions.{HaveValueLines, said_in};
+ghost use Rattle.commands.specs.Answers.{refused_size};
 ghost use Rattle.commands.specs.Drawing.{Draws, DrawsAlone, DrawsClaim, DrawsDecided, DrawsPending, DrawsSound, HasFewValues};
 ghost use Rattle.commands.specs.Drawing.{IsDrawnDecided, picture_in};
 ghost use Rattle.commands.specs.Inputs.{IsDrawableOf, IsFaultOfDrawableInput, claim_on, history_in};
 ghost use Rattle.commands.specs.Judging.{AnswersFor, AnswersOrNoMemory, IsSound, IsVerdictClaim};
 ghost use Rattle.commands.specs.Outcomes.{answer_of, answer_of_fault, NamesPlaces};
 
-use crate::complete::{completed_events, history_of_completion};
+use crate::complete::{completed, history_of_completion};
 use crate::input::{drawable_of, history_in};
 use crate::outcome::{Fault, Outcome, Report};
 use command_words::{DrawOptions, PictureForm};
@@ -34,7 +35,7 @@ pub(crate) fn draw<S: TextSource + Drop>(alloc: Global, reader: S, options: Draw
     let (text, claimed) = drawable_of(alloc, reader)?;
     match claimed {
         Some(claimed) => draw_claimed(alloc, &text, &claimed, options),
-        None => draw_alone(alloc, &text, options),
+        None => draw_alone(alloc, text, options),
     }
 }
 
@@ -50,36 +51,34 @@ fn draw_claimed(
     ensures places { NamesPlaces result }
 {
     let history = history_in(alloc, text)?;
-    if history.initial().len() > MOST_DRAWN {
-        return Err(Fault::Size);
-    }
+    check_few_values(&history)?;
     draw_claim(alloc, &history, claimed, options)
 }
 
 /// The picture of what a text says, with its verdict.
-fn draw_alone(alloc: Global, text: &PendingText, options: DrawOptions) -> Outcome
-    requires lines { HaveValueLines text.now.version text.now.initial × HasHistoryText text.now.events }
-    ensures found { AnswersOrNoMemory (λ t. DrawsAlone options t t.open_calls) text.now (answer_of result) }
+fn draw_alone(alloc: Global, text: PendingText, options: DrawOptions) -> Outcome
+    requires lines { HaveValueLines text.version text.initial × HasHistoryText text.events }
+    ensures found { AnswersOrNoMemory (λ t. DrawsAlone options t t.open_calls) text (answer_of result) }
     ensures places { NamesPlaces result }
 {
     match text.open_calls {
         Some(_) => draw_pending(alloc, text, options),
         None => {
-            let history = history_in(alloc, text)?;
+            let history = history_in(alloc, &text)?;
             draw_decided(alloc, &history, None, options)
         }
     }
 }
 
 /// The picture of the completion of what a text says, with its verdict.
-fn draw_pending(alloc: Global, text: &PendingText, options: DrawOptions) -> Outcome
-    requires lines { HaveValueLines text.now.version text.now.initial × HasHistoryText text.now.events }
-    ensures found { AnswersOrNoMemory (DrawsPending options) text.now (answer_of result) }
+fn draw_pending(alloc: Global, text: PendingText, options: DrawOptions) -> Outcome
+    requires lines { HaveValueLines text.version text.initial × HasHistoryText text.events }
+    ensures found { AnswersOrNoMemory (DrawsPending options) text (answer_of result) }
     ensures places { NamesPlaces result }
 {
-    let events = completed_events(alloc, text)?;
-    let history = history_of_completion(alloc, text.initial.as_slice(), events.as_slice())?;
     let added_from = next_ticket(text.events.as_slice());
+    let (_version, initial, events) = completed(alloc, text)?;
+    let history = history_of_completion(alloc, initial.into_vec(), events.as_slice())?;
     draw_decided(alloc, &history, Some(added_from), options)
 }
 
@@ -93,10 +92,20 @@ fn draw_decided(
     ensures found { (version : Version) → AnswersOrNoMemory (DrawsDecided options added_from) (said_in version history.now) (answer_of result) }
     ensures places { NamesPlaces result }
 {
+    check_few_values(history)?;
+    draw_verdict(alloc, history, added_from, options)
+}
+
+/// Refuses a history that has more initial values than are drawn.
+fn check_few_values(history: &History) -> Result<(), Fault>
+    ensures sound { IsSound history.now }
+    ensures few { OnOk result (HasFewValues history.now) }
+    ensures large { IfErr result (λ fault. (answer_of_fault fault ≡ refused_size) × (¬ (HasFewValues history.now))) }
+{
     if history.initial().len() > MOST_DRAWN {
         return Err(Fault::Size);
     }
-    draw_verdict(alloc, history, added_from, options)
+    Ok(())
 }
 
 /// The operations to be drawn, if these and the lines of the claim are few.

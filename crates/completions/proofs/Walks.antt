@@ -50,15 +50,25 @@ noted events last e t is below are = (
   ],
 )
 
+-- a value that is among the given ones was given
+contained_is_given : (events : List Event) (given : List ℕ) (v : ℕ) → AreGiven events given → Contains given v → is_given events v ≡ true
+contained_is_given events given v are among =
+    let there = (are.0 v).1 among in
+    list_any_at (λ w. nat_eq w v) (given_values events) there.0 v there.1 (eq-eqb (get_or (given_values events) there.0 v) v there.2)
+
+-- so is one that stands at a place
+pub stands_if_given : (events : List Event) (given : List ℕ) (v i d : ℕ) → AreGiven events given → i < length given → get_or given i d ≡ v
+    → is_given events v ≡ true
+stands_if_given events given v i d are below is =
+    contained_is_given events given v are (i, below, get_or_default given i v d below ∙ is)
+
 -- whether a binary search finds a value
 pub found_if_given : (events : List Event) (given : List ℕ) (v : ℕ) (r : Result ℕ ℕ) → AreGiven events given
     → IsBinarySearchResult (λ y. nat_cmp y v) given r → is_ok r ≡ is_given events v
 found_if_given events given v r are search = by_result r (searched given v r search are.1)
   where
     known : Contains given v → is_given events v ≡ true
-    known among =
-        let there = (are.0 v).1 among in
-        list_any_at (λ w. nat_eq w v) (given_values events) there.0 v there.1 (eq-eqb (get_or (given_values events) there.0 v) v there.2)
+    known = contained_is_given events given v are
 
     unknown : ¬ (Contains given v) → is_given events v ≡ false
     unknown none = elim (cases_Bool (is_given events v)) [

@@ -28,24 +28,21 @@ fn is_left_out(last: &[Option<Event>], answers: &[Answer], event: Event) -> bool
     is_pending(last, event) && !is_answered(answers, event)
 }
 
-/// Returns the events without the pending calls that have no answer.
-fn kept_events(
-    alloc: Global,
-    events: &[Event],
-    last: &[Option<Event>],
-    answers: &[Answer],
-) -> Result<Vec<Event>, AllocError>
-    requires threads { All (λ e. e.thread ≤ MAX_THREAD) events.now }
-    requires last { AreLast events.now last.now }
-    ensures { IfOk result (λ kept. kept.items ≡ filter (λ e. not (is_left_out events.now answers.now e)) events.now) }
+/// Leaves out the pending calls that have no answer.
+fn leave_out(events: &mut Vec<Event>, last: &[Option<Event>], answers: &[Answer])
+    requires threads { All (λ e. e.thread ≤ MAX_THREAD) events.old.items }
+    requires last { AreLast events.old.items last.now }
+    ensures { events.new.items ≡ filter (λ e. not (is_left_out events.old.items answers.now e)) events.old.items }
 {
-    let mut kept = Vec::new(alloc);
-    for event in events {
-        if !is_left_out(last, answers, *event) {
-            kept.push(*event)?;
+    let mut kept = 0;
+    for place in 0..events.len() {
+        let event = events[place];
+        if !is_left_out(last, answers, event) {
+            events[kept] = event;
+            kept += 1;
         }
     }
-    Ok(kept)
+    events.truncate(kept);
 }
 
 /// Adds the returns of answered calls, one after another from this ticket on.
@@ -114,19 +111,20 @@ fn check_history(alloc: Global, initial: &[u64], events: &[Event]) -> Result<(),
 fn complete_history(
     alloc: Global,
     initial: &[u64],
-    events: &[Event],
+    events: Vec<Event>,
 ) -> Result<Vec<Event>, CompletionFault>
     requires few_initial { length initial.now ≤ MAX_INITIAL }
-    requires history { IsHistoryFrom initial.now events.now }
-    requires found { MayBePending initial.now events.now }
-    ensures completed { IfOk result (λ full. full.items ≡ completed initial.now events.now) }
-    ensures within { OnOk result (¬ (IsBeyondLimits initial.now events.now)) }
-    ensures fault { IfErr result (IsCompletionFault initial.now events.now) }
+    requires history { IsHistoryFrom initial.now events.items }
+    requires found { MayBePending initial.now events.items }
+    ensures completed { IfOk result (λ full. full.items ≡ completed initial.now events.items) }
+    ensures within { OnOk result (¬ (IsBeyondLimits initial.now events.items)) }
+    ensures fault { IfErr result (IsCompletionFault initial.now events.items) }
 {
-    let last = last_events(events);
-    let answers = answers_to(alloc, initial, events, &last)?;
-    let mut full = kept_events(alloc, events, &last, answers.as_slice())?;
-    let ticket = next_ticket(events);
+    let last = last_events(events.as_slice());
+    let answers = answers_to(alloc, initial, events.as_slice(), &last)?;
+    let ticket = next_ticket(events.as_slice());
+    let mut full = events;
+    leave_out(&mut full, &last, answers.as_slice());
     let count = answers.len();
     if full.len().saturating_add(count) > MAX_EVENTS || ticket + count as u64 > MAX_TICKET + 1 {
         return Err(CompletionFault::Limit);
@@ -145,22 +143,22 @@ fn complete_history(
 ///
 /// `History` has the first fault as [`history_merge::history_from`] names it, but for `Pending`. `Limit` comes if the
 /// completion has more than `MAX_EVENTS` events or a ticket above `MAX_TICKET`. Time O(n log n) for n events and initial
-/// values, and memory in proportion.
+/// values, and memory in proportion beside that of the events, which are completed in place.
 pub fn complete(
     alloc: Global,
     initial: &[u64],
-    events: &[Event],
+    events: Vec<Event>,
 ) -> Result<Vec<Event>, CompletionFault>
     requires few_initial { length initial.now ≤ MAX_INITIAL }
-    requires few_events { length events.now ≤ MAX_EVENTS }
-    ensures deciding { IfOk result (λ full. IsDeciding initial.now events.now full.items) }
-    ensures completed { IfOk result (λ full. full.items ≡ completed initial.now events.now) }
+    requires few_events { length events.items ≤ MAX_EVENTS }
+    ensures deciding { IfOk result (λ full. IsDeciding initial.now events.items full.items) }
+    ensures completed { IfOk result (λ full. full.items ≡ completed initial.now events.items) }
     ensures few { IfOk result (λ full. length full.items ≤ MAX_EVENTS) }
-    ensures within { OnOk result (¬ (IsBeyondLimits initial.now events.now)) }
-    ensures found { OnOk result (MayBePending initial.now events.now) }
-    ensures same { IfOk result (λ full. IsCompleteFrom initial.now events.now → full.items ≡ events.now) }
-    ensures fault { IfErr result (IsCompletionFault initial.now events.now) }
+    ensures within { OnOk result (¬ (IsBeyondLimits initial.now events.items)) }
+    ensures found { OnOk result (MayBePending initial.now events.items) }
+    ensures same { IfOk result (λ full. IsCompleteFrom initial.now events.items → full.items ≡ events.items) }
+    ensures fault { IfErr result (IsCompletionFault initial.now events.items) }
 {
-    check_history(alloc, initial, events)?;
+    check_history(alloc, initial, events.as_slice())?;
     complete_history(alloc, initial, events)
 }

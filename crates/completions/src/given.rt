@@ -1,5 +1,5 @@
 //! The values that dequeues gave.
-ghost use Rattle.std.specs.Prelude.{◌≡◌, ℕ, List, IfOk};
+ghost use Rattle.std.specs.Prelude.{◌≡◌, List, IfOk};
 ghost use Rattle.event_records.specs.declared.event.Event.{Event};
 ghost use Rattle.completions.specs.Completed.{given_values, is_given};
 ghost use Rattle.completions.specs.Inner.Walk.{AreGiven};
@@ -34,4 +34,28 @@ pub(crate) fn is_given(given: &[u64], value: u64) -> bool
     ensures { (events : List Event) → AreGiven events given.now → result ≡ is_given events value }
 {
     given.binary_search(&value).is_ok()
+}
+
+/// Returns whether a dequeue gave this value, and moves `near` behind the value, or to where it would stand.
+///
+/// The value is looked for at `near` first, so values that rise as those given cost O(1) each, others O(log n).
+#[inline(always)]
+pub(crate) fn is_given_near(given: &[u64], near: &mut usize, value: u64) -> bool
+    ensures { (events : List Event) → AreGiven events given.now → result ≡ is_given events value }
+{
+    let place = *near;
+    if place < given.len() && given[place] == value {
+        *near = place + 1;
+        return true;
+    }
+    match given.binary_search(&value) {
+        Ok(place) => {
+            *near = place.saturating_add(1);
+            return true;
+        }
+        Err(place) => {
+            *near = place;
+            return false;
+        }
+    }
 }

@@ -5,9 +5,9 @@ ghost use Rattle.event_records.specs.declared.limits.TheConstants.{MAX_THREAD, M
 ghost use Rattle.completions.specs.Completed.{is_given, left_values, taken_value};
 ghost use Rattle.completions.specs.Inner.Walk.{AreGiven, AreLast};
 
-use crate::given::is_given;
+use crate::given::is_given_near;
 use crate::last::{no_events, note, pending_of};
-use event_records::{Event, What};
+use event_records::{Event, MAX_THREADS, What};
 use std::alloc::{AllocError, Global};
 
 /// Returns the value of a successful enqueue if the event is its return.
@@ -26,12 +26,17 @@ fn taken_value(last: &[Option<Event>], event: Event) -> Option<u64>
     }
 }
 
-/// Adds a value unless a dequeue gave it.
-fn push_left(left: &mut Vec<u64>, given: &[u64], value: u64) -> Result<(), AllocError>
+/// Adds a value unless a dequeue gave it, which is looked for as [`is_given_near`] does.
+fn push_left(
+    left: &mut Vec<u64>,
+    given: &[u64],
+    near: &mut usize,
+    value: u64,
+) -> Result<(), AllocError>
     ensures { OnOk result ((events : List Event) → AreGiven events given.now
         → left.new.items ≡ left.old.items ++ filter (λ v. not (is_given events v)) (value ∷ [])) }
 {
-    if !is_given(given, value) {
+    if !is_given_near(given, near, value) {
         left.push(value)?;
     }
     Ok(())
@@ -43,8 +48,9 @@ fn left_initial(alloc: Global, values: &[u64], given: &[u64]) -> Result<Vec<u64>
         → left.items ≡ filter (λ v. not (is_given events v)) values.now) }
 {
     let mut left = Vec::new(alloc);
+    let mut near = 0;
     for value in values {
-        push_left(&mut left, given, *value)?;
+        push_left(&mut left, given, &mut near, *value)?;
     }
     Ok(left)
 }
@@ -62,9 +68,12 @@ pub(crate) fn left_values(
 {
     let mut left = left_initial(alloc, values, given)?;
     let mut last = no_events();
+    // A thread's values rise in most histories, so each stands behind its last one.
+    let mut near = [0; MAX_THREADS];
     for event in events {
+        let place = &mut near[usize::from(event.thread)];
         match taken_value(&last, *event) {
-            Some(value) => push_left(&mut left, given, value)?,
+            Some(value) => push_left(&mut left, given, place, value)?,
             None => {}
         }
         note(&mut last, *event);

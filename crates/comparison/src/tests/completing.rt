@@ -26,10 +26,11 @@ fn compared(alloc: Global, seed: u64) -> Result<(bool, bool, usize), Fail> {
     if initial.len() > MAX_INITIAL || events.len() > MAX_EVENTS {
         return Err(Fail::from("too many values or events"));
     }
-    let full = complete(alloc, &initial, &events)?;
-    let decided = is_linearizable(alloc, &initial, &full)?;
     let searched = is_some_linearizable(alloc, &initial, &events)?;
-    Ok((decided, searched, pending_calls(alloc, &events)?.len()))
+    let pending = pending_calls(alloc, &events)?.len();
+    let full = complete(alloc, &initial, events)?;
+    let decided = is_linearizable(alloc, &initial, &full)?;
+    Ok((decided, searched, pending))
 }
 
 /// Compares the histories of all seeds.

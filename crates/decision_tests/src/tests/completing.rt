@@ -94,7 +94,7 @@ fn completion_of(
     if initial.len() > MAX_INITIAL || events.len() > MAX_EVENTS {
         return Err("too many values or events")?;
     }
-    Ok(complete(alloc, initial, &events))
+    Ok(complete(alloc, initial, events))
 }
 
 /// Whether these are the first `kept` of some marks, and then the returns.

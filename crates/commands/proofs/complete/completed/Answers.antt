@@ -1,0 +1,27 @@
+use Rattle.commands.proofs.Common.{inl, inr, refl}
+use Rattle.commands.proofs.Completions.{completion_refused}
+use Rattle.completions.specs.Faults.{IsBeyondLimits, IsCompletionFault, MayBePending}
+use Rattle.commands.proofs.complete.completed.Goals as goal
+
+pub returns-in-Err-clause-fault : goal.returns-in-Err-clause-fault
+returns-in-Err-clause-fault c =
+    let text = c.args.text in
+    let refused : IsCompletionFault text.initial text.events c.in-Err.fault = rw (c.as_slice.ensures, c.into_vec.ensures) at c.in-Err.ensures.fault in
+    rw c.refusal_of.ensures (completion_refused text c.in-Err.fault refused)
+
+pub returns-then-not-counts-clause-fault : goal.returns-then-not-counts-clause-fault
+returns-then-not-counts-clause-fault c =
+    let text = c.args.text in
+    let found : MayBePending text.initial text.events = rw (c.as_slice.ensures, c.into_vec.ensures) at c.in-Ok.ensures.found in
+    let within : ¬ (IsBeyondLimits text.initial text.events) = rw (c.as_slice.ensures, c.into_vec.ensures) at c.in-Ok.ensures.within in
+    inl (inr (found, inr (within, ((λ counts. let yes = c.counts_pending-counts.ensures.1 counts in let no = c.if-not-counts.true in cc), refl))))
+
+pub returns-clause-completed : goal.returns-clause-completed
+returns-clause-completed c = rw (c.as_slice.ensures, c.into_vec.ensures) at c.in-Ok.ensures.completed
+
+pub returns-clause-completable : goal.returns-clause-completable
+returns-clause-completable c =
+    let text = c.args.text in
+    let found : MayBePending text.initial text.events = rw (c.as_slice.ensures, c.into_vec.ensures) at c.in-Ok.ensures.found in
+    let within : ¬ (IsBeyondLimits text.initial text.events) = rw (c.as_slice.ensures, c.into_vec.ensures) at c.in-Ok.ensures.within in
+    record { found = found; within = within; counted = c.counts_pending-counts.ensures.0 c.if-not-counts.false }

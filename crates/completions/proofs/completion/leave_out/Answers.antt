@@ -1,0 +1,45 @@
+use Rattle.std.proofs.Common.{◌∙◌, ◌+◌, ◌++◌, ◌∷◌, ◌≡◌, ◌<◌, [], ap, arith, false, get_or, get_or-set_other, length, length-set, List, not, sym}
+use Rattle.std.proofs.Common.{Bool, take, true, Vec, Global, ℕ}
+use Rattle.std.specs.Prelude.{filter}
+use Rattle.std.proofs.lemmas.List.{get_or_read, take_more_set}
+use Rattle.event_records.specs.declared.event.Event.{Event}
+use Rattle.completions.specs.Completed.{is_left_out}
+use Rattle.completions.proofs.Walks.{filtered_more, filtered_same, past_end}
+use Rattle.completions.proofs.completion.leave_out.Goals.{then-not-is_left_out, else-not-is_left_out}
+use Rattle.completions.proofs.completion.leave_out.Goals as goal
+
+pub loop-place-preserved : goal.loop-place-preserved
+loop-place-preserved c =
+    let old : List Event = c.args.events.now.items in
+    let items : List Event = c.loop-place.events.items in
+    let i = c.loop-place.place in
+    let n = c.loop-place.kept in
+    let event : Event = c.index-event.result.now in
+    let stays : Event → Bool = λ e. not (is_left_out old c.args.answers.now e) in
+    let known = c.loop-place.invariant in
+    let inside : i < length items = omega (arith, c.loop-place-test.true, c.len-place-end.ensures, known.same) in
+    let below : i < length old = omega (arith, inside, known.same) in
+    let was : get_or old i past_end ≡ event =
+    sym (known.rest i (omega arith)) ∙ sym (get_or_read items i event inside c.index-event.ensures past_end) in
+    let is = ap stays was ∙ ap not (sym (c.is_left_out.ensures old c.requires.last)) in
+    elim c.if-not-is_left_out.branch [
+      | then-not-is_left_out w ↦ record {
+        same = ap (λ (v : Vec Event Global). length v.items) w.events-is ∙ length-set items n event ∙ known.same;
+        few = omega (arith, w.kept-is, known.few);
+        kept = ap (λ (k : ℕ). take k c.if-not-is_left_out.events.items) w.kept-is
+            ∙ ap (λ (v : Vec Event Global). take (n + 1) v.items) w.events-is ∙ take_more_set items n event (omega (arith, inside, known.few))
+            ∙ ap (λ (l : List Event). l ++ event ∷ []) known.kept
+            ∙ ap (λ (e : Event). filter stays (take i old) ++ e ∷ []) (sym was)
+            ∙ sym (filtered_more stays old i past_end below (is ∙ ap not w.if-not-is_left_out.true));
+        rest = λ k above. ap (λ (v : Vec Event Global). get_or v.items k past_end) w.events-is
+            ∙ get_or-set_other items n k event past_end (λ e. omega (arith, e, above, known.few)) ∙ known.rest k (omega (arith, above));
+      }
+      | else-not-is_left_out w ↦ record {
+        same = ap (λ (v : Vec Event Global). length v.items) w.events-is ∙ known.same;
+        few = omega (arith, w.kept-is, known.few);
+        kept = ap (λ (k : ℕ). take k c.if-not-is_left_out.events.items) w.kept-is
+            ∙ ap (λ (v : Vec Event Global). take n v.items) w.events-is ∙ known.kept
+            ∙ sym (filtered_same stays old i past_end below (is ∙ ap not w.if-not-is_left_out.false));
+        rest = λ k above. ap (λ (v : Vec Event Global). get_or v.items k past_end) w.events-is ∙ known.rest k (omega (arith, above));
+      }
+    ]
