@@ -68,7 +68,7 @@ struct recorder_settings {
     bool drain;           // at the end the queue is dequeued until it says that it is empty
     bool choose;          // schedules, if schedule.c is linked; else its points disturb the threads
     bool journal;         // with recorder_crash.h: events reach a file while the run goes on
-    bool keep;            // a search keeps the histories that are a YES too
+    bool keep;            // a search keeps the histories without a violation too
     const char *program, *folder; // that judges, or NULL; of the files
     // The value of the n-th operation of a thread, and that of initial value n with the thread 64. All have to
     // differ. If it is NULL, values are thread * 2^32 + first + n, and the initial ones 2^38 + n.

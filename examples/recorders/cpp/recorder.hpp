@@ -92,7 +92,7 @@ struct Settings {
     bool drain = true;                   // at the end the queue is dequeued until it says that it is empty
     bool choose = true;                  // schedules, if schedule.c is linked; else its points disturb the threads
     bool journal = false;                // with recorder_crash.hpp: events reach a file while the run goes on
-    bool keep = false;                   // a search keeps the histories that are a YES too
+    bool keep = false;                   // a search keeps the histories without a violation too
     std::string program, folder = "fifobench-runs";    // that judges; of the files
 
     // The value of the n-th operation of a thread, and that of initial value n with the thread 64. All have to

@@ -91,7 +91,7 @@ type Options struct {
 	Program    string                            // if empty, that of the variable FIFOBENCH, else that on the PATH
 	Schedule   any                               // with schedule.go a Schedule; nil: if FIFOBENCH_SCHEDULE=1
 	Journal    bool                              // events reach Folder/SEED.pending while the run goes on
-	Keep       bool                              // a search keeps the histories that are a YES too
+	Keep       bool                              // a search keeps the histories without a violation too
 	isQuiet    bool                              // what was said once isn't said again
 	tellAgain  func(kind string)                 // the last lines of a verdict, with chosen schedules
 }

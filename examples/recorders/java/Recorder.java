@@ -205,7 +205,7 @@ public final class Recorder implements AutoCloseable {
         return this;
     }
 
-    /** Whether a search keeps the histories that are a {@code YES} too. */
+    /** Whether a search keeps the histories without a violation too. */
     public Recorder keep(boolean keepsAll) {
         this.keepsAll = keepsAll;
         return this;

@@ -76,7 +76,7 @@ class Options:
     drain: bool = True    # take values out after the threads have ended, until the queue says that it is empty
     # Whether events reach FOLDER/SEED.pending while the run goes on, so that a killed run leaves them.
     journal: bool = False
-    keep: bool = False    # a search keeps the histories that are a YES too
+    keep: bool = False    # a search keeps the histories without a violation too
     folder: str = "fifobench-runs"    # where histories and reports are kept
     program: str = None    # else that of the environment variable FIFOBENCH, else fifobench on the PATH
     # Whether the seed chooses how threads interleave, by schedule.py beside this file: True, False, or a dict of its

@@ -142,7 +142,7 @@ pub struct Options {
     pub drain: bool,
     /// With `--cfg fifobench_crash`: events reach FOLDER/SEED.pending while the run goes on.
     pub journal: bool,
-    /// Whether a search keeps the histories that are a `YES` too.
+    /// Whether a search keeps the histories without a violation too.
     pub keep: bool,
     /// Where histories and reports are kept.
     pub folder: PathBuf,
