@@ -19,8 +19,8 @@
 //!
 //! With cargo these flags are those of `RUSTFLAGS`, schedule.o has an absolute path, and CARGO_PROFILE_RELEASE_DEBUG=1
 //! stands in place of `-g`; with the nightly flags cargo needs `--target x86_64-unknown-linux-gnu` too.
-//! `FIFOBENCH_SEED=17 cargo test ..` begins with that seed, whose run it makes again. A link without schedule.o fails, and
-//! names functions of the form `fifobench_schedule_..` or `__tsan_..`: they are those of schedule.c.
+//! `FIFOBENCH_SEED=17 cargo test ..` begins with that seed, whose run it makes again. A link without schedule.o fails,
+//! and names functions of the form `fifobench_schedule_..` or `__tsan_..`: they are those of schedule.c.
 
 use super::{make_steps, told_panic, Answer, Options, Queue, Run, Start, Steps};
 use std::ffi::{c_char, c_int, c_uint, c_void, CStr, CString};
