@@ -1,4 +1,5 @@
-// JACK's ring of bytes, for one writer and one reader. A value is 8 bytes, which are written and read at once.
+// JACK's ring of bytes, for one writer and one reader. A value is 8 bytes, which are written and read at once. The
+// writer drains the ring once the reader has ended.
 #include "field.h"
 
 #include <jack/ringbuffer.h>
