@@ -40,20 +40,6 @@ RING(mpsc)
 RING(spmc)
 RING(mpmc)
 
-// Of the threads that enqueue the first is the one producer. The enqueues of the others fail.
-static _Thread_local unsigned self;
-
-static void enter(void *queue, unsigned thread)
-{
-    (void)queue;
-    self = thread;
-}
-
-static bool enqueue_one_producer(void *queue, uint64_t value)
-{
-    return self == 0 && enqueue_spmc(queue, value);
-}
-
 // Fails if the ring is empty, and also if another dequeue takes the value first.
 static bool try_dequeue(void *queue, uint64_t *value)
 {
@@ -137,8 +123,7 @@ int main(int count, char **words)
     static const struct field_queue queues[] = {
         {"ck-ring-spsc", CALLS(make_ring, enqueue_spsc, dequeue_spsc)},
         {"ck-ring-mpsc", CALLS(make_ring, enqueue_mpsc, dequeue_mpsc)},
-        {"ck-ring-spmc", {.make = make_ring, .enqueue = enqueue_one_producer, .dequeue = dequeue_spmc, .destroy = free,
-                          .enter = enter}},
+        {"ck-ring-spmc", CALLS(make_ring, enqueue_spmc, dequeue_spmc)},
         {"ck-ring-mpmc", CALLS(make_ring, enqueue_mpmc, dequeue_mpmc)},
         {"ck-ring-mpmc-try", CALLS(make_ring, enqueue_mpmc, try_dequeue)},
         {"ck-fifo-spsc", CALLS(make_list, enqueue_fifo_spsc, dequeue_fifo_spsc)},

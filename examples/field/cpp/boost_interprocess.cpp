@@ -11,7 +11,8 @@ using field::Found;
 using field::Value;
 
 struct Messages : field::Any {
-    explicit Messages(std::size_t size) : queue(boost::interprocess::create_only, name().c_str(), size, sizeof(Value)) {}
+    explicit Messages(std::size_t size)
+        : queue(boost::interprocess::create_only, name().c_str(), size, sizeof(Value)) {}
     ~Messages() override { message_queue::remove(name().c_str()); }
     static std::string name() { return "fifobench-field-" + std::to_string(getpid()); }
     message_queue queue;

@@ -1,18 +1,21 @@
-// What the C++ programs of this folder share: a search over one of their queues, with the settings of the arguments.
+// What the C++ programs of this folder share: a search over one of their queues.
 //
-//     PROGRAM QUEUE [--size S] [--threads T] [--ops N] [--pattern P] [--runs R] [--seed S] [--initial K]
-//             [--drain 0|1] [--timeout SECONDS] [--folder F]
+//     PROGRAM QUEUE SIZE THREADS PRODUCERS OPERATIONS RUNS INITIAL DRAIN FOLDER
+//
+// SIZE is the capacity of a bounded queue. The others are settings of the recorder; DRAIN is 0 or 1.
 #ifndef FIFOBENCH_FIELD_HPP
 #define FIFOBENCH_FIELD_HPP
 
 #include "../../recorders/cpp/recorder.hpp"
 
+#include <algorithm>
 #include <initializer_list>
 #include <iostream>
+#include <iterator>
 #include <memory>
 #include <optional>
+#include <sstream>
 #include <string>
-#include <vector>
 
 namespace field {
 
@@ -60,56 +63,24 @@ struct Named {
     Made (*make)(std::size_t size);
 };
 
-struct Asked {
-    fifobench::Settings settings;
-    std::size_t size = 1024;    // the capacity of a bounded queue
-};
-
-inline void set(Asked& asked, const std::string& option, const std::string& word) {
-    fifobench::Settings& settings = asked.settings;
-    if (option == "--folder") {
-        settings.folder = word;
-        return;
-    }
-    if (option == "--pattern") {
-        for (unsigned place = 0; place < std::size(fifobench::pattern_names); ++place) {
-            if (word == fifobench::pattern_names[place]) {
-                settings.pattern = static_cast<fifobench::Pattern>(place);
-            }
-        }
-        return;
-    }
-    const auto number = static_cast<unsigned>(std::stoul(word));
-    if (option == "--size") asked.size = number;
-    else if (option == "--threads") settings.threads = number;
-    else if (option == "--ops") settings.operations = number;
-    else if (option == "--runs") settings.runs = number;
-    else if (option == "--seed") settings.seed = number;
-    else if (option == "--initial") settings.initial = number;
-    else if (option == "--drain") settings.drain = number != 0;
-    else if (option == "--timeout") settings.timeout = std::chrono::seconds(number);
-    else throw std::invalid_argument("no option '" + option + "'");
-}
-
 // The status of the search; 2 if the arguments are wrong. Values are 1 and more: for some queues 0 is "nothing".
 inline int run(int count, char** words, std::initializer_list<Named> queues) {
-    const std::vector<std::string> arguments(words + 1, words + count);
-    try {
-        for (const Named& queue : queues) {
-            if (!arguments.empty() && arguments[0] == queue.name) {
-                Asked asked;
-                asked.settings.first = 1;
-                for (std::size_t place = 1; place + 1 < arguments.size(); place += 2) {
-                    set(asked, arguments[place], arguments[place + 1]);
-                }
-                return fifobench::search(asked.settings, [&] { return queue.make(asked.size); });
-            }
+    std::stringstream arguments;
+    std::copy(words + 1, words + count, std::ostream_iterator<const char*>(arguments, " "));
+    fifobench::Settings settings;
+    std::string name;
+    std::size_t size = 0;
+    arguments >> name >> size >> settings.threads >> settings.producers >> settings.operations >> settings.runs >>
+        settings.initial >> settings.drain >> settings.folder;
+    settings.first = 1;
+    settings.keep = true;
+    for (const Named& queue : queues) {
+        if (arguments && name == queue.name) {
+            return fifobench::search(settings, [&] { return queue.make(size); });
         }
-        throw std::invalid_argument("no such queue");
-    } catch (const std::exception& exception) {
-        std::cerr << words[0] << ": " << exception.what() << '\n';
-        return 2;
     }
+    std::cerr << words[0] << ": no such queue, or fewer than nine arguments\n";
+    return 2;
 }
 
 }    // namespace field

@@ -1,9 +1,6 @@
 // Queues of libcds, with hazard pointers (HP) or dynamic ones (DHP).
 #include "field.hpp"
 
-// With it libcds calls functions of the sanitizer's library, which isn't linked where schedules are chosen.
-#undef __SANITIZE_THREAD__
-
 #include <cds/container/basket_queue.h>
 #include <cds/container/fcdeque.h>
 #include <cds/container/fcqueue.h>

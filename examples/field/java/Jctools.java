@@ -24,32 +24,6 @@ final class Jctools {
         return Recorder.queue(queue::relaxedOffer, queue::relaxedPoll);
     }
 
-    // Of the threads that enqueue the first is the one producer. The enqueues of the others fail.
-    private static Recorder.Queue oneProducer(Queue<Long> queue) {
-        ThreadLocal<Integer> self = new ThreadLocal<>();
-        return new Recorder.Queue() {
-            @Override
-            public void enter(int thread) {
-                self.set(thread);
-            }
-
-            @Override
-            public boolean preload(long value) {
-                return queue.offer(value);
-            }
-
-            @Override
-            public boolean enqueue(long value) {
-                return self.get() == 0 && queue.offer(value);
-            }
-
-            @Override
-            public Long dequeue() {
-                return queue.poll();
-            }
-        };
-    }
-
     public static void main(String[] words) {
         Field.run(words, Map.ofEntries(
             Map.entry("jctools-mpmc-array", size -> tries(new MpmcArrayQueue<>(size))),
@@ -60,7 +34,7 @@ final class Jctools {
             Map.entry("jctools-mpsc-unbounded", size -> tries(new MpscUnboundedArrayQueue<>(8))),
             Map.entry("jctools-mpsc-linked", size -> tries(MpscLinkedQueue.newMpscLinkedQueue())),
             Map.entry("jctools-mpsc-compound", size -> tries(new MpscCompoundQueue<>(size))),
-            Map.entry("jctools-spmc-array", size -> oneProducer(new SpmcArrayQueue<>(size))),
+            Map.entry("jctools-spmc-array", size -> tries(new SpmcArrayQueue<>(size))),
             Map.entry("jctools-spsc-array", size -> tries(new SpscArrayQueue<>(size))),
             Map.entry("jctools-spsc-linked", size -> tries(new SpscLinkedQueue<>())),
             Map.entry("jctools-spsc-unbounded", size -> tries(new SpscUnboundedArrayQueue<>(8)))));

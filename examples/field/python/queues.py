@@ -1,7 +1,8 @@
 """Queues of Python's standard library.
 
-    queues.py QUEUE [--size S] [--threads T] [--ops N] [--pattern P] [--runs R] [--seed S] [--initial K] [--drain 0|1]
-        [--timeout SECONDS] [--folder F]
+    queues.py QUEUE SIZE THREADS PRODUCERS OPERATIONS RUNS INITIAL DRAIN FOLDER
+
+SIZE is the capacity of a bounded queue. The others are settings of the recorder; DRAIN is 0 or 1.
 """
 
 import collections
@@ -74,22 +75,14 @@ QUEUES = {
     "python-lifo-queue": lambda size: Tries(queue.LifoQueue(size)),
     "python-priority-queue": lambda size: Tries(queue.PriorityQueue(size)),
 }
-NUMBERS = {"--threads": "threads", "--ops": "operations", "--runs": "runs", "--seed": "seed", "--initial": "initial",
-           "--drain": "drain", "--timeout": "timeout"}
 
 
 def main(words):
-    options, size = recorder.Options(first=1), 1024    # values are 1 and more, as in the other languages
-    for option, word in zip(words[1::2], words[2::2]):
-        if option in NUMBERS:
-            setattr(options, NUMBERS[option], int(word))
-        elif option == "--size":
-            size = int(word)
-        elif option in ("--pattern", "--folder"):
-            setattr(options, option[2:], word)
-        else:
-            raise SystemExit(f"queues: no option {option}")
-    return recorder.search(options, lambda: QUEUES[words[0]](size))
+    name, *numbers, folder = words[:9]
+    size, threads, producers, operations, runs, initial, drain = map(int, numbers)
+    options = recorder.Options(threads, operations, producers=producers, runs=runs, initial=initial, drain=drain == 1,
+                               folder=folder, first=1, keep=True)    # values are 1 and more, as in the other languages
+    return recorder.search(options, lambda: QUEUES[name](size))
 
 
 if __name__ == "__main__":

@@ -3,7 +3,6 @@
 mod field;
 
 use async_channel::{bounded, unbounded};
-use field::calls;
 use std::process::ExitCode;
 
 fn main() -> ExitCode {
@@ -11,13 +10,13 @@ fn main() -> ExitCode {
         ("async-channel-unbounded", |asked| {
             asked.search(|_| {
                 let (sender, receiver) = unbounded();
-                calls(move |value| sender.try_send(value).is_ok(), move || receiver.try_recv().ok())
+                (move |value| sender.try_send(value).is_ok(), move || receiver.try_recv().ok())
             })
         }),
         ("async-channel-bounded", |asked| {
             asked.search(|size| {
                 let (sender, receiver) = bounded(size);
-                calls(move |value| sender.try_send(value).is_ok(), move || receiver.try_recv().ok())
+                (move |value| sender.try_send(value).is_ok(), move || receiver.try_recv().ok())
             })
         }),
     ])

@@ -3,7 +3,6 @@
 mod field;
 
 use concurrent_queue::ConcurrentQueue;
-use field::calls;
 use std::process::ExitCode;
 use std::sync::Arc;
 
@@ -13,14 +12,14 @@ fn main() -> ExitCode {
             asked.search(|_| {
                 let queue = Arc::new(ConcurrentQueue::unbounded());
                 let other = Arc::clone(&queue);
-                calls(move |value| queue.push(value).is_ok(), move || other.pop().ok())
+                (move |value| queue.push(value).is_ok(), move || other.pop().ok())
             })
         }),
         ("concurrent-queue-bounded", |asked| {
             asked.search(|size| {
                 let queue = Arc::new(ConcurrentQueue::bounded(size));
                 let other = Arc::clone(&queue);
-                calls(move |value| queue.push(value).is_ok(), move || other.pop().ok())
+                (move |value| queue.push(value).is_ok(), move || other.pop().ok())
             })
         }),
     ])

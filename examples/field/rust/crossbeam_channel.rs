@@ -3,7 +3,6 @@
 mod field;
 
 use crossbeam_channel::{bounded, unbounded};
-use field::calls;
 use std::process::ExitCode;
 
 fn main() -> ExitCode {
@@ -11,25 +10,25 @@ fn main() -> ExitCode {
         ("crossbeam-unbounded", |asked| {
             asked.search(|_| {
                 let (sender, receiver) = unbounded();
-                calls(move |value| sender.send(value).is_ok(), move || receiver.try_recv().ok())
+                (move |value| sender.send(value).is_ok(), move || receiver.try_recv().ok())
             })
         }),
         ("crossbeam-bounded", |asked| {
             asked.search(|size| {
                 let (sender, receiver) = bounded(size);
-                calls(move |value| sender.try_send(value).is_ok(), move || receiver.try_recv().ok())
+                (move |value| sender.try_send(value).is_ok(), move || receiver.try_recv().ok())
             })
         }),
         ("crossbeam-bounded-waits", |asked| {
             asked.search(|size| {
                 let (sender, receiver) = bounded(size);
-                calls(move |value| sender.send(value).is_ok(), move || receiver.recv().ok())
+                (move |value| sender.send(value).is_ok(), move || receiver.recv().ok())
             })
         }),
         ("crossbeam-rendezvous", |asked| {
             asked.search(|_| {
                 let (sender, receiver) = bounded(0);
-                calls(move |value| sender.send(value).is_ok(), move || receiver.recv().ok())
+                (move |value| sender.send(value).is_ok(), move || receiver.recv().ok())
             })
         }),
     ])

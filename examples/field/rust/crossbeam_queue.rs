@@ -3,7 +3,6 @@
 mod field;
 
 use crossbeam_queue::{ArrayQueue, SegQueue};
-use field::calls;
 use std::process::ExitCode;
 use std::sync::Arc;
 
@@ -13,7 +12,7 @@ fn main() -> ExitCode {
             asked.search(|_| {
                 let queue = Arc::new(SegQueue::new());
                 let other = Arc::clone(&queue);
-                calls(
+                (
                     move |value| {
                         queue.push(value);
                         true
@@ -26,7 +25,7 @@ fn main() -> ExitCode {
             asked.search(|size| {
                 let queue = Arc::new(ArrayQueue::new(size));
                 let other = Arc::clone(&queue);
-                calls(move |value| queue.push(value).is_ok(), move || other.pop())
+                (move |value| queue.push(value).is_ok(), move || other.pop())
             })
         }),
     ])

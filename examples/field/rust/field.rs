@@ -1,9 +1,10 @@
-//! What the Rust programs of this folder share: a search over one of their queues, with the settings of the arguments.
+//! What the Rust programs of this folder share: a search over one of their queues.
 //!
 //! ```text
-//! PROGRAM QUEUE [--size S] [--threads T] [--ops N] [--pattern P] [--runs R] [--seed S] [--initial K] [--drain 0|1]
-//!     [--timeout SECONDS] [--folder F]
+//! PROGRAM QUEUE SIZE THREADS PRODUCERS OPERATIONS RUNS INITIAL DRAIN FOLDER
 //! ```
+//!
+//! SIZE is the capacity of a bounded queue. The others are settings of the recorder; DRAIN is 0 or 1.
 
 #[path = "../../recorders/rust/recorder.rs"]
 mod recorder;
@@ -12,7 +13,6 @@ use recorder::{Answer, Options, Queue};
 use std::env;
 use std::error::Error;
 use std::process::ExitCode;
-use std::time::Duration;
 
 /// The settings of a search, and the capacity of a bounded queue.
 pub struct Asked {
@@ -20,57 +20,10 @@ pub struct Asked {
     size: usize,
 }
 
-/// A queue by its two calls.
-pub struct Calls<Enqueue, Dequeue> {
-    enqueue: Enqueue,
-    dequeue: Dequeue,
-}
-
-impl<Enqueue, Dequeue> Queue for Calls<Enqueue, Dequeue>
-where
-    Enqueue: Fn(u64) -> bool + Sync,
-    Dequeue: Fn() -> Option<u64> + Sync,
-{
-    fn enqueue(&self, value: u64) -> bool {
-        (self.enqueue)(value)
-    }
-
-    fn dequeue(&self) -> Option<u64> {
-        (self.dequeue)()
-    }
-}
-
-/// Makes a queue of two calls: `enqueue` returns false if it is full, and `dequeue` none if it is empty.
-pub fn calls<Enqueue, Dequeue>(enqueue: Enqueue, dequeue: Dequeue) -> Calls<Enqueue, Dequeue>
-where
-    Enqueue: Fn(u64) -> bool + Sync,
-    Dequeue: Fn() -> Option<u64> + Sync,
-{
-    Calls { enqueue, dequeue }
-}
-
 impl Asked {
-    /// Searches over queues that `make` makes of their capacity.
+    /// Searches over queues that `make` makes of their capacity: pairs of closures, the enqueue and the dequeue.
     pub fn search<Made: Queue>(&self, make: impl Fn(usize) -> Made) -> u8 {
         recorder::search(&self.options, || make(self.size)) as u8
-    }
-
-    fn set(&mut self, option: &str, word: &str) -> Result<(), Box<dyn Error>> {
-        let options = &mut self.options;
-        match option {
-            "--size" => self.size = word.parse()?,
-            "--threads" => options.threads = word.parse()?,
-            "--ops" => options.operations = word.parse()?,
-            "--pattern" => options.pattern = Some(word.parse()?),
-            "--runs" => options.runs = word.parse()?,
-            "--seed" => options.seed = word.parse()?,
-            "--initial" => options.initial = word.parse()?,
-            "--drain" => options.drain = word != "0",
-            "--timeout" => options.timeout = Duration::from_secs(word.parse()?),
-            "--folder" => options.folder = word.into(),
-            _ => return Err(format!("no option {option}").into()),
-        }
-        Ok(())
     }
 }
 
@@ -78,24 +31,24 @@ impl Asked {
 pub type Named = (&'static str, fn(&Asked) -> u8);
 
 fn search_one_of(queues: &[Named]) -> Result<u8, Box<dyn Error>> {
-    let words: Vec<String> = env::args().skip(1).collect();
-    let (name, settings) = words.split_first().ok_or("which queue?")?;
+    let words: Vec<String> = env::args().skip(1).take(9).collect();
+    let [name, numbers @ .., folder] = &words[..] else { return Err("nine arguments".into()) };
+    let numbers = numbers.iter().map(|word| word.parse()).collect::<Result<Vec<usize>, _>>()?;
+    let [size, threads, producers, operations, runs, initial, drain] = numbers[..] else {
+        return Err("nine arguments".into());
+    };
     let (_, search) = queues.iter().find(|(known, _)| known == name).ok_or("no such queue")?;
     // Values are 1 and more, as in the other languages.
-    let mut asked = Asked { options: Options { first: 1, ..Options::default() }, size: 1024 };
-    for pair in settings.chunks_exact(2) {
-        asked.set(&pair[0], &pair[1])?;
-    }
-    Ok(search(&asked))
+    let (runs, drain, folder) = (runs as u64, drain == 1, folder.into());
+    let set = Options { threads, producers, operations, runs, initial, drain, folder, ..Options::default() };
+    Ok(search(&Asked { options: Options { first: 1, keep: true, ..set }, size }))
 }
 
 /// The status of the search that the arguments ask for; 2 if they are wrong.
 pub fn run(queues: &[Named]) -> ExitCode {
-    match search_one_of(queues) {
-        Ok(status) => ExitCode::from(status),
-        Err(error) => {
-            eprintln!("field: {error}");
-            ExitCode::from(Answer::Wrong as u8)
-        }
-    }
+    let status = search_one_of(queues).unwrap_or_else(|error| {
+        eprintln!("field: {error}");
+        Answer::Wrong as u8
+    });
+    ExitCode::from(status)
 }

@@ -2,7 +2,6 @@
 
 mod field;
 
-use field::calls;
 use std::process::ExitCode;
 
 fn main() -> ExitCode {
@@ -10,19 +9,19 @@ fn main() -> ExitCode {
         ("flume-unbounded", |asked| {
             asked.search(|_| {
                 let (sender, receiver) = flume::unbounded();
-                calls(move |value| sender.send(value).is_ok(), move || receiver.try_recv().ok())
+                (move |value| sender.send(value).is_ok(), move || receiver.try_recv().ok())
             })
         }),
         ("flume-bounded", |asked| {
             asked.search(|size| {
                 let (sender, receiver) = flume::bounded(size);
-                calls(move |value| sender.try_send(value).is_ok(), move || receiver.try_recv().ok())
+                (move |value| sender.try_send(value).is_ok(), move || receiver.try_recv().ok())
             })
         }),
         ("flume-bounded-waits", |asked| {
             asked.search(|size| {
                 let (sender, receiver) = flume::bounded(size);
-                calls(move |value| sender.send(value).is_ok(), move || receiver.recv().ok())
+                (move |value| sender.send(value).is_ok(), move || receiver.recv().ok())
             })
         }),
     ])

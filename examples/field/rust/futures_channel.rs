@@ -2,7 +2,6 @@
 
 mod field;
 
-use field::calls;
 use futures_channel::mpsc::unbounded;
 use std::process::ExitCode;
 use std::sync::Mutex;
@@ -12,7 +11,7 @@ fn main() -> ExitCode {
         asked.search(|_| {
             let (sender, receiver) = unbounded();
             let receiver = Mutex::new(receiver);
-            calls(
+            (
                 move |value| sender.unbounded_send(value).is_ok(),
                 move || receiver.lock().unwrap().try_next().ok().flatten(),
             )

@@ -2,7 +2,6 @@
 
 mod field;
 
-use field::calls;
 use std::collections::VecDeque;
 use std::process::ExitCode;
 use std::sync::mpsc::{channel, sync_channel};
@@ -15,42 +14,42 @@ fn main() -> ExitCode {
             asked.search(|_| {
                 let (sender, receiver) = channel();
                 let receiver = Mutex::new(receiver);
-                calls(move |value| sender.send(value).is_ok(), move || receiver.lock().unwrap().try_recv().ok())
+                (move |value| sender.send(value).is_ok(), move || receiver.lock().unwrap().try_recv().ok())
             })
         }),
         ("rust-channel-waits", |asked| {
             asked.search(|_| {
                 let (sender, receiver) = channel();
                 let receiver = Mutex::new(receiver);
-                calls(move |value| sender.send(value).is_ok(), move || receiver.lock().unwrap().recv().ok())
+                (move |value| sender.send(value).is_ok(), move || receiver.lock().unwrap().recv().ok())
             })
         }),
         ("rust-sync-channel", |asked| {
             asked.search(|size| {
                 let (sender, receiver) = sync_channel(size);
                 let receiver = Mutex::new(receiver);
-                calls(move |value| sender.try_send(value).is_ok(), move || receiver.lock().unwrap().try_recv().ok())
+                (move |value| sender.try_send(value).is_ok(), move || receiver.lock().unwrap().try_recv().ok())
             })
         }),
         ("rust-sync-channel-waits", |asked| {
             asked.search(|size| {
                 let (sender, receiver) = sync_channel(size);
                 let receiver = Mutex::new(receiver);
-                calls(move |value| sender.send(value).is_ok(), move || receiver.lock().unwrap().recv().ok())
+                (move |value| sender.send(value).is_ok(), move || receiver.lock().unwrap().recv().ok())
             })
         }),
         ("rust-rendezvous", |asked| {
             asked.search(|_| {
                 let (sender, receiver) = sync_channel(0);
                 let receiver = Mutex::new(receiver);
-                calls(move |value| sender.send(value).is_ok(), move || receiver.lock().unwrap().recv().ok())
+                (move |value| sender.send(value).is_ok(), move || receiver.lock().unwrap().recv().ok())
             })
         }),
         ("rust-mutex", |asked| {
             asked.search(|_| {
                 let queue = Arc::new(Mutex::new(VecDeque::new()));
                 let other = Arc::clone(&queue);
-                calls(
+                (
                     move |value| {
                         queue.lock().unwrap().push_back(value);
                         true

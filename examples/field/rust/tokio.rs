@@ -2,7 +2,6 @@
 
 mod field;
 
-use field::calls;
 use std::process::ExitCode;
 use std::sync::Mutex;
 use tokio::sync::mpsc::{channel, unbounded_channel};
@@ -13,14 +12,14 @@ fn main() -> ExitCode {
             asked.search(|_| {
                 let (sender, receiver) = unbounded_channel();
                 let receiver = Mutex::new(receiver);
-                calls(move |value| sender.send(value).is_ok(), move || receiver.lock().unwrap().try_recv().ok())
+                (move |value| sender.send(value).is_ok(), move || receiver.lock().unwrap().try_recv().ok())
             })
         }),
         ("tokio-bounded", |asked| {
             asked.search(|size| {
                 let (sender, receiver) = channel(size);
                 let receiver = Mutex::new(receiver);
-                calls(move |value| sender.try_send(value).is_ok(), move || receiver.lock().unwrap().try_recv().ok())
+                (move |value| sender.try_send(value).is_ok(), move || receiver.lock().unwrap().try_recv().ok())
             })
         }),
     ])

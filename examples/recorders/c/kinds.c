@@ -147,11 +147,11 @@ static bool spsc_dequeue(void *queue, uint64_t *value)
     return true;
 }
 
-// Thread 0 produces and thread 1 consumes. Thread 0 drains once thread 1 has ended: one consumer at a time all the same.
+// Thread 0 produces and thread 1 consumes. Thread 0 drains once thread 1 has ended: one consumer at a time.
 static int spsc(struct recorder_settings settings)
 {
     settings.threads = 2;
-    settings.pattern = RECORDER_ROLES;
+    settings.producers = 1;
     return recorder_search(&settings, &(struct recorder_queue){
         .make = spsc_make, .enqueue = spsc_enqueue, .dequeue = spsc_dequeue, .destroy = free});
 }

@@ -1,7 +1,7 @@
 // A good queue and some that are wrong on purpose, recorded and judged.
 //
-//     queue QUEUE [--runs R] [--threads T] [--ops N] [--pattern P] [--percent K] [--seed S] [--folder F]
-//                 [--timeout SECONDS]
+//     queue QUEUE [--runs R] [--threads T] [--producers N] [--ops N] [--pattern P] [--percent K] [--seed S]
+//                 [--folder F] [--keep 0|1] [--timeout SECONDS]
 //     queue QUEUE THREADS OPERATIONS [PATTERN [SEED]] > history
 //
 // The first makes runs until one shows a violation: status 0 none does, 1 one does, 2 something is wrong. The second
@@ -148,9 +148,10 @@ static size_t place_of(const char *word, const char *const *words, size_t count)
 // False, and said: the option or its word is none.
 static bool set(struct recorder_settings *settings, const char *option, const char *word)
 {
-    static const char *const options[] = {"--runs", "--threads", "--ops", "--percent", "--seed", "--timeout"};
-    static const uint64_t least[] = {1, 1, 0, 0, 0, 1};
-    static const uint64_t most[] = {1000000, 64, 1000000, 100, UINT32_MAX, 86400};
+    static const char *const options[] = {"--runs", "--threads", "--ops",       "--percent",
+                                          "--seed", "--timeout", "--producers", "--keep"};
+    static const uint64_t least[] = {1, 1, 0, 0, 0, 1, 0, 0};
+    static const uint64_t most[] = {1000000, 64, 1000000, 100, UINT32_MAX, 86400, 63, 1};
     uint64_t value = 0;
     if (strcmp(option, "--pattern") == 0) {
         return pattern(word, &settings->pattern);
@@ -159,8 +160,8 @@ static bool set(struct recorder_settings *settings, const char *option, const ch
         settings->folder = word;
         return true;
     }
-    size_t place = place_of(option, options, 6);
-    if (place == 6) {
+    size_t place = place_of(option, options, 8);
+    if (place == 8) {
         fprintf(stderr, "queue: no option '%s'\n", option);
         return false;
     }
@@ -173,7 +174,9 @@ static bool set(struct recorder_settings *settings, const char *option, const ch
     case 2: settings->operations = value; break;
     case 3: settings->percent = (unsigned)value; break;
     case 4: settings->seed = value; break;
-    default: settings->timeout = (unsigned)value; break;
+    case 5: settings->timeout = (unsigned)value; break;
+    case 6: settings->producers = (unsigned)value; break;
+    default: settings->keep = value == 1; break;
     }
     return true;
 }

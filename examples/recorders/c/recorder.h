@@ -20,9 +20,7 @@
 // In a loop of your own, which recorder_run starts in each thread and recorder_write writes:
 //
 //     uint64_t value = recorder_call_enqueue(thread);
-//     bool taken = queue_push(queue, value);
-//     recorder_return_enqueue(thread, taken);
-//
+//     recorder_return_enqueue(thread, queue_push(queue, value));
 //     recorder_call_dequeue(thread);
 //     bool found = queue_pop(queue, &value);
 //     recorder_return_dequeue(thread, found, value);
@@ -36,11 +34,8 @@
 
 #include <inttypes.h>
 #include <pthread.h>
-#include <sched.h>
 #include <stdatomic.h>
 #include <stdbool.h>
-#include <stddef.h>
-#include <stdint.h>
 #include <stdio.h>
 #include <stdlib.h>
 #include <string.h>
@@ -63,6 +58,7 @@ struct recorder_settings {
     unsigned threads;
     size_t operations; // of each thread
     enum recorder_pattern pattern;
+    unsigned producers;   // threads 0 to producers - 1 enqueue, the others dequeue; 0: the pattern says who does what
     unsigned percent;     // of enqueues in a mix
     uint64_t seed;        // of a run; the first of a search
     unsigned runs;        // of a search; 0: 100, or 300 with chosen schedules
@@ -72,8 +68,8 @@ struct recorder_settings {
     bool drain;           // at the end the queue is dequeued until it says that it is empty
     bool choose;          // schedules, if schedule.c is linked; else its points disturb the threads
     bool journal;         // with recorder_crash.h: events reach a file while the run goes on
-    const char *program;  // that judges, or NULL
-    const char *folder;
+    bool keep;            // a search keeps the histories without a violation too
+    const char *program, *folder; // that judges, or NULL; of the files
     // The value of the n-th operation of a thread, and that of initial value n with the thread 64. All have to
     // differ. If it is NULL, values are thread * 2^32 + first + n, and the initial ones 2^38 + n.
     uint64_t (*value)(unsigned thread, uint64_t n);
@@ -129,18 +125,15 @@ struct recorder {
     atomic_uint last; // the thread that looked last for others, before the start
     char apart_too[64];
     atomic_uint arrived;
-    atomic_bool open;    // the start
-    atomic_bool refused; // nothing is run
+    atomic_bool open, refused; // the start; nothing is run
     unsigned threads;
     struct recorder_settings settings;
     recorder_work *work;
     void *argument;
     const struct recorder_queue *calls; // NULL of a loop of one's own
     void *queue;
-    atomic_uint worked; // how many threads have made their operations
-    atomic_uint ended;
-    bool has_surplus;
-    bool is_chosen; // the schedule
+    atomic_uint worked, ended; // how many threads have made their operations, and how many have ended
+    bool has_surplus, is_chosen; // the schedule
     struct recorder_crash *crash;
     struct recorder_thread of_thread[RECORDER_MAX_THREADS];
 };
@@ -241,11 +234,6 @@ static inline const struct recorder_event *recorder_next(struct recorder_merge *
     return NULL;
 }
 
-static inline bool recorder_is_call(const struct recorder_event *event)
-{
-    return event->what == RECORDER_CALL_ENQ || event->what == RECORDER_CALL_DEQ;
-}
-
 // The sums over the events of a run.
 struct recorder_sums {
     size_t events, calls, pending, overlapping; // operations that have returned and overlap another
@@ -259,8 +247,9 @@ static inline struct recorder_sums recorder_sum_up(const struct recorder *record
     struct recorder_merge merge = {.recorder = recorder};
     for (const struct recorder_event *event; (event = recorder_next(&merge)) != NULL; sums.events++) {
         unsigned thread = event->thread;
-        sums.open[thread] = recorder_is_call(event) ? event : NULL;
-        if (recorder_is_call(event)) {
+        bool is_call = event->what == RECORDER_CALL_ENQ || event->what == RECORDER_CALL_DEQ;
+        sums.open[thread] = is_call ? event : NULL;
+        if (is_call) {
             calls_at[thread] = sums.calls++;
             pending_at[thread] = sums.pending++;
         } else {
@@ -315,11 +304,6 @@ static inline double recorder_seconds(void)
     struct timespec now;
     timespec_get(&now, TIME_UTC);
     return (double)now.tv_sec + (double)now.tv_nsec / 1e9;
-}
-
-static inline void recorder_nap(void)
-{
-    select(0, NULL, NULL, NULL, &(struct timeval){0, 100});
 }
 
 // Each leaves its number at each look. Who finds another's there 64 times isn't alone.
@@ -382,7 +366,7 @@ static inline void recorder_drain(struct recorder_thread *thread)
     bool found = true;
     RECORDER_IF_CHOSEN(alone());
     while (!recorder->is_chosen && atomic_load(&recorder->worked) < recorder->threads) {
-        recorder_nap();
+        select(0, NULL, NULL, NULL, &(struct timeval){0, 100}); // naps
     }
     for (unsigned number = 0; number < recorder->threads; number++) {
         stay += recorder->of_thread[number].stay;
@@ -399,10 +383,22 @@ static inline void recorder_path(const struct recorder_settings *one, const char
     snprintf(path, RECORDER_PATH_BYTES, "%s/%" PRIu64 ".%s", one->folder, one->seed, kind);
 }
 
+// Makes a folder, and those in which it lies.
+static inline void recorder_make_folder(const char *folder)
+{
+    char path[RECORDER_PATH_BYTES];
+    for (int end = 1; end <= (int)strlen(folder); end++) {
+        if (folder[end] == '/' || folder[end] == '\0') {
+            snprintf(path, sizeof path, "%.*s", end, folder);
+            mkdir(path, 0777);
+        }
+    }
+}
+
 // Writes the text of a run. Replaces an older file, since a journal may still be written to it.
 static inline bool recorder_write_file(const struct recorder *recorder, const char *path)
 {
-    mkdir(recorder->settings.folder, 0777);
+    recorder_make_folder(recorder->settings.folder);
     remove(path);
     FILE *file = fopen(path, "wb");
     bool is_written = file != NULL && recorder_write(recorder, file);
@@ -428,10 +424,8 @@ static inline int recorder_ask(const struct recorder_settings *settings, const c
                           from, to);
     int status = length > 0 && (size_t)length < sizeof line ? system(line) : -1;
     FILE *answer = fopen(to, "r");
-    if (answer == NULL || fgets(first, RECORDER_LINE_BYTES, answer) == NULL) {
-        first[0] = '\0';
-    }
-    first[strcspn(first, "\n")] = '\0';
+    bool has_line = answer != NULL && fgets(first, RECORDER_LINE_BYTES, answer) != NULL;
+    first[has_line ? strcspn(first, "\n") : 0] = '\0';
     if (answer != NULL) {
         fclose(answer);
     }
@@ -440,7 +434,8 @@ static inline int recorder_ask(const struct recorder_settings *settings, const c
 
 static inline enum recorder_pattern recorder_pattern_of(const struct recorder_settings *settings)
 {
-    enum recorder_pattern of_seed = (enum recorder_pattern)((settings->seed + 3) % 4);
+    enum recorder_pattern in_turn = (enum recorder_pattern)((settings->seed + 3) % 4);
+    enum recorder_pattern of_seed = settings->producers > 0 ? RECORDER_ROLES : in_turn;
     return settings->pattern != RECORDER_BY_SEED ? settings->pattern : of_seed;
 }
 
@@ -452,7 +447,9 @@ static inline int recorder_judge_file(const struct recorder_settings *one, const
     recorder_path(one, "report", report);
     int status = recorder_ask(one, "check", history, report, verdict);
     if (status == 0 && strcmp(verdict, "YES") == 0) {
-        remove(history);
+        if (!one->keep || is_completed) {
+            remove(history);
+        }
         remove(report);
         return 0;
     }
@@ -473,19 +470,19 @@ static inline int recorder_judge_file(const struct recorder_settings *one, const
 static inline int recorder_judge_pending(const struct recorder_settings *one, const char *pending, const char *fault,
                                          size_t calls)
 {
-    char history[RECORDER_PATH_BYTES], first[RECORDER_LINE_BYTES], complete[RECORDER_PATH_BYTES + 20];
+    char history[RECORDER_PATH_BYTES], first[RECORDER_LINE_BYTES];
     const char *program = recorder_program(one);
-    snprintf(complete, sizeof complete, "%s complete", program);
-    bool is_drawn = calls <= RECORDER_MAX_DRAWN && one->initial <= RECORDER_MAX_DRAWN;
     recorder_path(one, "history", history);
     int status = recorder_ask(one, "complete", pending, history, first);
     if (status == 0) {
         status = recorder_judge_file(one, history, true);
         if (status == 0) {
-            char drawn[RECORDER_PATH_BYTES + 20];
-            snprintf(drawn, sizeof drawn, " | %s draw --text", program);
-            fprintf(stderr, "YES: a right queue can have behaved so until then. %s\n  see it:  %s < %s%s\n", fault,
-                    is_drawn ? complete : "tail -n 40", pending, is_drawn ? drawn : "");
+            fprintf(stderr, "YES: a right queue can have behaved so until then. %s\n  see it:  ", fault);
+            if (calls <= RECORDER_MAX_DRAWN && one->initial <= RECORDER_MAX_DRAWN) {
+                fprintf(stderr, "%s complete < %s | %s draw --text\n", program, pending, program);
+            } else {
+                fprintf(stderr, "tail -n 40 < %s\n", pending);
+            }
         }
         return status == 1 ? 1 : 2;
     }
@@ -573,13 +570,12 @@ static inline void recorder_wait(struct recorder *recorder, unsigned threads)
     uint64_t seen = atomic_load(&recorder->tickets);
     double since = recorder_seconds();
     while (atomic_load(&recorder->ended) < threads) {
-        recorder_nap();
+        select(0, NULL, NULL, NULL, &(struct timeval){0, 100}); // naps
         RECORDER_CRASH(look(recorder));
         uint64_t drawn = atomic_load(&recorder->tickets);
-        if (drawn != seen) {
-            seen = drawn;
-            since = recorder_seconds();
-        } else if (recorder_seconds() - since >= recorder->settings.timeout) {
+        since = drawn != seen ? recorder_seconds() : since;
+        seen = drawn;
+        if (recorder_seconds() - since >= recorder->settings.timeout) {
             recorder_end_hung(recorder);
         }
     }
@@ -589,8 +585,11 @@ static inline void recorder_wait(struct recorder *recorder, unsigned threads)
 static inline const char *recorder_fault(const struct recorder_settings *settings)
 {
     const char *program = settings->program != NULL ? settings->program : "";
+    bool has_roles = settings->producers == 0 || recorder_pattern_of(settings) == RECORDER_ROLES;
     return settings->threads == 0 || settings->threads > RECORDER_MAX_THREADS ? "1 to 64 threads"
            : settings->operations > RECORDER_MAX_EVENTS / 2 / settings->threads ? "at most 1000000 operations together"
+           : settings->producers >= settings->threads || !has_roles
+               ? "fewer producers than threads, with the pattern roles"
            : settings->journal && !RECORDER_HAS_JOURNAL ? "the setting journal needs recorder_crash.h beside recorder.h"
            : settings->percent > 100 || settings->initial > RECORDER_MAX_INITIAL
                ? "at most 100 percent are enqueues, and at most 100000 values initial"
@@ -599,8 +598,7 @@ static inline const char *recorder_fault(const struct recorder_settings *setting
                : NULL;
 }
 
-// A recorder whose threads have room for their operations, thread 0 also for a drain. NULL: the settings are out of
-// range, or there is no memory.
+// A recorder with room for operations and a drain. NULL: the settings are out of range, or there is no memory.
 static inline struct recorder *recorder_new(const struct recorder_settings *settings,
                                             const struct recorder_queue *calls, void *queue)
 {
@@ -614,25 +612,21 @@ static inline struct recorder *recorder_new(const struct recorder_settings *sett
     recorder->queue = queue;
     for (unsigned number = 0; number < settings->threads; number++) {
         struct recorder_thread *thread = &recorder->of_thread[number];
-        thread->recorder = recorder;
-        thread->number = number;
-        thread->room = 2 * settings->operations;
-        if (calls != NULL && settings->drain && number == 0) {
-            thread->room += 2 * (settings->threads * settings->operations + settings->initial + 1);
-        }
+        bool drains = calls != NULL && settings->drain && number == 0;
+        size_t left = drains ? settings->threads * settings->operations + settings->initial + 1 : 0;
+        *thread = (struct recorder_thread){.recorder = recorder, .number = number};
+        thread->room = 2 * (settings->operations + left);
         thread->events = malloc((thread->room + 1) * sizeof *thread->events);
         if (thread->events == NULL) {
             recorder_free(recorder);
             return NULL;
         }
-        // The pages are there before the run.
-        memset(thread->events, 0, 2 * settings->operations * sizeof *thread->events);
+        memset(thread->events, 0, 2 * settings->operations * sizeof *thread->events); // the pages are there
     }
     return recorder_points_begin(recorder);
 }
 
-// Runs its threads, if there is a recorder. NULL, and it is free, if one can't be started or the queue doesn't take an
-// initial value.
+// Runs the threads of a recorder, if there is one. NULL, and it is free, if one doesn't start or a value isn't taken.
 static inline struct recorder *recorder_go(struct recorder *recorder, recorder_work *work, void *argument)
 {
     pthread_t running[RECORDER_MAX_THREADS];
@@ -693,10 +687,7 @@ static inline uint64_t recorder_random(uint64_t *state)
     return z ^ (z >> 31);
 }
 
-// The state of a thread's pattern: random numbers, the first operation of the burst, and its length.
-struct recorder_plan {
-    uint64_t state, begin, length;
-};
+struct recorder_plan { uint64_t state, begin, length; }; // random numbers, and the burst's first operation and length
 
 // Returns whether the n-th operation of a thread is an enqueue.
 static inline bool recorder_enqueues(const struct recorder_thread *thread, struct recorder_plan *plan, uint64_t n)
@@ -704,7 +695,9 @@ static inline bool recorder_enqueues(const struct recorder_thread *thread, struc
     const struct recorder_settings *settings = &thread->recorder->settings;
     switch (recorder_pattern_of(settings)) {
     case RECORDER_MIX: return recorder_random(&plan->state) % 100 < settings->percent;
-    case RECORDER_ROLES: return (settings->threads == 1 ? n : thread->number) % 2 == 0;
+    case RECORDER_ROLES:
+        return settings->producers > 0 ? thread->number < settings->producers
+                                       : (settings->threads == 1 ? n : thread->number) % 2 == 0;
     case RECORDER_BURSTS: break;
     default: return n % 2 == 0;
     }
@@ -756,6 +749,7 @@ static inline int recorder_search_one(const struct recorder_settings *one, const
         }
         recorder_path(one, "history", path);
         answer = !recorder_write_file(recorder, path) ? 2 : judges ? recorder_judge_file(one, path, false) : 0;
+        all->events += sums.events;
         recorder_free(recorder);
     }
     if (queue != NULL && calls->destroy != NULL) {
@@ -771,6 +765,7 @@ static inline int recorder_search(const struct recorder_settings *settings, cons
     struct recorder_sums all = {0};
     char first[RECORDER_LINE_BYTES];
     int answer = 0;
+    unsigned made = 0;
     if (recorder_fault(settings) != NULL) {
         fprintf(stderr, "fifobench: %s\n", recorder_fault(settings));
         return 2;
@@ -785,18 +780,20 @@ static inline int recorder_search(const struct recorder_settings *settings, cons
     }
     one.runs = settings->runs != 0 ? settings->runs : 100;
     RECORDER_CRASH(watch(&one));
-    for (unsigned made = 0; made < one.runs && answer == 0; made++, one.seed++) {
+    for (; made < one.runs && answer == 0; made++, one.seed++) {
         answer = recorder_search_one(&one, calls, judges, &all);
     }
     RECORDER_CRASH(unwatch());
-    if (answer != 0) {
-        return answer;
+    if (answer == 0) {
+        remove(one.folder); // if it is empty
+        printf("%s in %u runs (seeds %" PRIu64 " to %" PRIu64 "); %zu of 100 operations overlap another\n",
+               judges ? "no violation" : "nothing judged", one.runs, settings->seed, one.seed - 1,
+               100 * all.overlapping / (all.calls + !all.calls));
     }
-    remove(one.folder); // if it is empty
-    printf("%s in %u runs (seeds %" PRIu64 " to %" PRIu64 "); %zu of 100 operations overlap another\n",
-           judges ? "no violation" : "nothing judged", one.runs, settings->seed, one.seed - 1,
-           100 * all.overlapping / (all.calls + !all.calls));
-    return judges ? 0 : 2;
+    if (one.keep && judges && answer != 2) {
+        printf("  kept:    %u judged runs with %zu events in %s\n", made, all.events, one.folder);
+    }
+    return answer == 0 && !judges ? 2 : answer;
 }
 
 #endif

@@ -171,7 +171,7 @@ static inline void recorder_crash_begin(struct recorder *recorder)
     crash->waits = pthread_self();
     crash->written.recorder = recorder;
     if (recorder->settings.journal) {
-        mkdir(recorder->settings.folder, 0777);
+        recorder_make_folder(recorder->settings.folder);
         recorder_path(&recorder->settings, "pending", path);
         crash->journal = fopen(path, "wb");
         if (crash->journal == NULL) {

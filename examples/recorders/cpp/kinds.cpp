@@ -145,10 +145,10 @@ struct Mine {
     Found dequeue() { return queue.pop(); }
 };
 
-// Thread 0 produces and thread 1 consumes. Thread 0 drains once thread 1 has ended: one consumer at a time all the same.
+// Thread 0 produces and thread 1 consumes. Thread 0 drains once thread 1 has ended: one consumer at a time.
 int search(fifobench::Settings settings) {
     settings.threads = 2;
-    settings.pattern = fifobench::Pattern::Roles;
+    settings.producers = 1;
     return fifobench::search<Mine>(settings);
 }
 

@@ -1,7 +1,7 @@
 // A good queue and some that are wrong on purpose, recorded and judged.
 //
-//     queue QUEUE [--runs R] [--threads T] [--ops N] [--pattern P] [--percent K] [--seed S] [--folder F]
-//                 [--timeout SECONDS]
+//     queue QUEUE [--runs R] [--threads T] [--producers N] [--ops N] [--pattern P] [--percent K] [--seed S]
+//                 [--folder F] [--keep 0|1] [--timeout SECONDS]
 //     queue QUEUE THREADS OPERATIONS [PATTERN [SEED]] > history
 //
 // The first makes runs until one shows a violation: status 0 none does, 1 one does, 2 something is wrong. The second
@@ -163,6 +163,8 @@ void set(fifobench::Settings& settings, const std::string& option, const std::st
     else if (option == "--percent") settings.percent = static_cast<unsigned>(number(word, 0, 100));
     else if (option == "--seed") settings.seed = number(word, 0, 4'294'967'295);
     else if (option == "--folder") settings.folder = word;
+    else if (option == "--producers") settings.producers = static_cast<unsigned>(number(word, 0, 63));
+    else if (option == "--keep") settings.keep = number(word, 0, 1) == 1;
     else if (option == "--timeout") settings.timeout = std::chrono::seconds(number(word, 1, 86'400));
     else throw std::invalid_argument("no option '" + option + "'");
 }

@@ -6,18 +6,15 @@
 //         bool enqueue(std::uint64_t value) { return queue.push(value); }        // false: refused, the queue is full
 //         std::optional<std::uint64_t> dequeue() { return queue.try_pop(); }     // std::nullopt: empty
 //     };
-//
 //     int main() { return fifobench::search<Mine>(); }
 //
 // `search` makes 100 short runs of four threads, each over a fresh queue, and has each judged. It returns 0 if no run
 // shows a violation; 1 if one does, whose files are in the folder fifobench-runs; 2 if something is wrong. The
 // program is Settings::program, else the environment's FIFOBENCH, else `fifobench` on the PATH. Beside these two
 // calls a queue may have
-//
 //     void enter(unsigned thread)           in each thread before its first call
 //     void leave(unsigned thread)           in each thread after its last call
 //     bool preload(std::uint64_t value)     puts a value in before the run; without it `enqueue` does
-//
 // docs/RECORDING.md has a loop of your own and the rules that this header keeps, kinds.cpp queues of other kinds. With
 // recorder_crash.hpp beside this header a run that crashes or is killed leaves a text too.
 #ifndef FIFOBENCH_RECORDER_HPP
@@ -85,6 +82,7 @@ struct Settings {
     unsigned threads = 4;
     std::size_t operations = 500;        // of each thread
     std::optional<Pattern> pattern;      // if none, that of the seed: 1 alternates, 2 mixes, and so on
+    unsigned producers = 0;              // threads 0 to producers - 1 enqueue, the others dequeue; 0: by the pattern
     unsigned percent = 50;               // of enqueues in a mix
     std::uint64_t seed = 1;              // of a run; the first of a search
     unsigned runs = 0;                   // of a search; 0: 100, or 300 with chosen schedules
@@ -94,8 +92,8 @@ struct Settings {
     bool drain = true;                   // at the end the queue is dequeued until it says that it is empty
     bool choose = true;                  // schedules, if schedule.c is linked; else its points disturb the threads
     bool journal = false;                // with recorder_crash.hpp: events reach a file while the run goes on
-    std::string program;                 // that judges
-    std::string folder = "fifobench-runs";
+    bool keep = false;                   // a search keeps the histories without a violation too
+    std::string program, folder = "fifobench-runs";    // that judges; of the files
 
     // The value of the n-th operation of a thread, and that of initial value n with the thread 64. All have to
     // differ. If there is none, values are thread * 2^32 + first + n, and the initial ones 2^38 + n.
@@ -104,7 +102,7 @@ struct Settings {
     std::uint64_t value_of(unsigned thread, std::uint64_t n) const {
         return value ? value(thread, n) : (std::uint64_t{thread} << 32) + (thread < max_threads ? first : 0) + n;
     }
-    Pattern pattern_of_seed() const { return pattern.value_or(static_cast<Pattern>((seed + 3) % 4)); }
+    Pattern pattern_of_seed() const { return pattern.value_or(producers ? Pattern::Roles : Pattern((seed + 3) % 4)); }
 };
 
 namespace detail {
@@ -119,7 +117,9 @@ public:
         switch (settings_.pattern_of_seed()) {
         case Pattern::Alternate: return n % 2 == 0;
         case Pattern::Mix: return random() % 100 < settings_.percent;
-        case Pattern::Roles: return (settings_.threads == 1 ? n : thread_) % 2 == 0;
+        case Pattern::Roles:
+            return settings_.producers > 0 ? thread_ < settings_.producers
+                                           : (settings_.threads == 1 ? n : thread_) % 2 == 0;
         case Pattern::Bursts: break;
         }
         if (n == begin_ + 2 * length_) {
@@ -147,8 +147,7 @@ private:
 template <class Call>
 bool took(Call call) {
     if constexpr (std::is_void_v<decltype(call())>) {
-        call();
-        return true;
+        return call(), true;
     } else {
         return static_cast<bool>(call());
     }
@@ -184,7 +183,6 @@ private:
     std::size_t last_ = 0, place_ = 0;
     std::atomic<std::size_t> count_{0};
 };
-
 }    // namespace detail
 
 // What one thread records. Only that thread may call it.
@@ -220,7 +218,6 @@ public:
 
     std::int64_t stay() const { return stay_; }    // values that the queue took from it, less those that it gave
     const detail::Log& log() const { return log_; }
-
 private:
     // The ticket is drawn first: of a call before the queue is asked, of a return after it has answered. What came
     // before a return is seen by every call of a greater ticket, since the order is sequentially consistent.
@@ -421,7 +418,7 @@ public:
         const std::string history = path(".history"), report = path(".report");
         const auto [status, verdict] = ask("check", history, report);
         if (status == 0 && verdict == "YES") {
-            std::filesystem::remove(history);
+            if (!settings_.keep || is_completed) std::filesystem::remove(history);
             std::filesystem::remove(report);
             return 0;
         }
@@ -439,8 +436,7 @@ public:
         return 1;
     }
 
-    // Keeps what there is of a run that ends early, says how it ended, and judges it. Returns 1 or 2. The fault follows
-    // YES.
+    // Keeps what there is of a run that ends early, says how it ended, and judges it: 1 or 2. The fault follows YES.
     int end_early(const History& history, const std::string& how, const std::string& fault) const {
         std::cerr << "fifobench: seed " << settings_.seed << ": " << how << "; " << history.told_open() << std::endl;
         const std::string pending = keep(history, ".pending");
@@ -515,6 +511,9 @@ public:
         const auto require = [](bool is_met, const char* why) { if (!is_met) throw std::invalid_argument(why); };
         require(settings_.threads >= 1 && settings_.threads <= max_threads, "1 to 64 threads");
         require(settings_.operations <= max_events / 2 / settings_.threads, "at most 1000000 operations together");
+        const bool has_roles = settings_.producers == 0 || settings_.pattern_of_seed() == Pattern::Roles;
+        require(settings_.producers < settings_.threads && has_roles,
+                "fewer producers than threads, with the pattern roles");
         require(settings_.percent <= 100 && settings_.initial <= max_initial,
                 "at most 100 percent are enqueues, and at most 100000 values initial");
         require(!settings_.journal || !std::is_empty_v<Crash>, "the setting journal needs recorder_crash.hpp");
@@ -657,18 +656,15 @@ private:
     }
 
     const Settings settings_;
-    bool is_chosen_ = false;    // the schedule
+    bool is_chosen_ = false, has_surplus_ = false;    // the schedule; the queue gave more values than went in
     std::optional<Crash> crash_;
     const Hooks hooks_;
     std::vector<std::uint64_t> initial_;
     alignas(64) std::atomic<std::uint64_t> tickets_{0};
     std::deque<Thread> recorded_;
     Start start_;
-    std::atomic<unsigned> worked_{0};
-    std::atomic<bool> has_failed_{false};
-    std::atomic<bool> is_refused_{false};
-    bool has_surplus_ = false;
-    std::atomic<std::size_t> ended_{0};
+    std::atomic<unsigned> worked_{0}, ended_{0};
+    std::atomic<bool> has_failed_{false}, is_refused_{false};
     std::mutex lock_;
     std::vector<std::string> failures_;
 };
@@ -703,30 +699,36 @@ int search_free(const Settings& settings, RunOne& run_one) {
     const Judge program(settings);
     const bool judges = program.is_there();
     const unsigned runs = settings.runs != 0 ? settings.runs : 100;
-    std::size_t operations = 0, overlapping = 0;
+    std::size_t operations = 0, met = 0, events = 0;
+    unsigned made = 0;
+    int answer = 0;
     if (!judges) {
         std::cerr << "fifobench: no program '" << program.program()
                   << "': nothing is judged; the histories are kept in " << settings.folder << std::endl;
     }
     const Watch watch(settings, runs);
-    for (unsigned made = 0; made < runs; ++made) {
+    for (; made < runs && answer == 0; ++made) {
         Settings one = settings;
         one.seed += made;
         one.pattern = one.pattern_of_seed();
         const History history = run_one(static_cast<const Settings&>(one));
         operations += history.operations();
-        overlapping += history.overlapping();
-        if (const int answer = Judge(one).answer(history, judges); answer != 0) {
-            return answer;
-        }
+        met += history.overlapping();
+        events += history.events().size();
+        answer = Judge(one).answer(history, judges);
     }
-    std::error_code ignored;
-    std::filesystem::remove(settings.folder, ignored);    // if it is empty
-    std::cout << (judges ? "no violation" : "nothing judged") << " in " << runs << " runs (seeds " << settings.seed
-              << " to " << settings.seed + runs - 1 << "); "
-              << 100 * overlapping / std::max<std::size_t>(operations, 1) << " of 100 operations overlap another"
-              << std::endl;
-    return judges ? 0 : 2;
+    if (answer == 0) {
+        std::error_code ignored;
+        std::filesystem::remove(settings.folder, ignored);    // if it is empty
+        std::cout << (judges ? "no violation" : "nothing judged") << " in " << runs << " runs (seeds " << settings.seed
+                  << " to " << settings.seed + runs - 1 << "); "
+                  << 100 * met / (operations + !operations) << " of 100 operations overlap another" << std::endl;
+    }
+    if (settings.keep && judges && answer != 2) {
+        std::cout << "  kept:    " << made << " judged runs with " << events << " events in " << settings.folder
+                  << std::endl;
+    }
+    return answer == 0 && !judges ? 2 : answer;
 }
 
 }    // namespace fifobench::detail
@@ -771,6 +773,7 @@ History run(const Settings& settings, Queue& queue) {
 template <class RunOne>
 int search_runs(const Settings& settings, RunOne run_one) {
     try {
+        detail::Run(settings, {});    // throws if a setting is out of its range
         std::optional<int> answer;
         FIFOBENCH_POINTS(search(settings, run_one, answer));
         return answer ? *answer : detail::search_free(settings, run_one);
@@ -783,10 +786,7 @@ int search_runs(const Settings& settings, RunOne run_one) {
 // Searches runs by patterns, each over a fresh queue, to which `make()` returns a pointer.
 template <class Make>
 int search(const Settings& settings, Make make) {
-    return search_runs(settings, [&make](const Settings& one) {
-        const auto queue = make();
-        return run(one, *queue);
-    });
+    return search_runs(settings, [&make](const Settings& one) { return run(one, *make()); });
 }
 
 template <class Queue>

@@ -78,6 +78,7 @@ type Options struct {
 	Threads    int // 1 to 64
 	Operations int // of each thread
 	Pattern    Pattern
+	Producers  int                               // threads 0 to Producers-1 enqueue, the others dequeue; 0: by Pattern
 	Percent    uint64                            // enqueues of a hundred operations, for Mix
 	Seed       uint64                            // of the run, or of the first run of a search
 	Runs       uint64                            // how many a search makes at most; 0: 100, or 300 with chosen schedules
@@ -90,6 +91,7 @@ type Options struct {
 	Program    string                            // if empty, that of the variable FIFOBENCH, else that on the PATH
 	Schedule   any                               // with schedule.go a Schedule; nil: if FIFOBENCH_SCHEDULE=1
 	Journal    bool                              // events reach Folder/SEED.pending while the run goes on
+	Keep       bool                              // a search keeps the histories without a violation too
 	isQuiet    bool                              // what was said once isn't said again
 	tellAgain  func(kind string)                 // the last lines of a verdict, with chosen schedules
 }
@@ -118,6 +120,9 @@ func (options *Options) PatternOf(seed uint64) Pattern {
 	if options.Pattern != Turns {
 		return options.Pattern
 	}
+	if options.Producers > 0 {
+		return Roles
+	}
 	return patterns[(seed+3)%4]
 }
 
@@ -128,6 +133,10 @@ func (options *Options) Check() error {
 	}
 	if options.Operations < 0 || options.Operations > MaxOperations/options.Threads {
 		return fmt.Errorf("0 to %d operations of all threads", MaxOperations)
+	}
+	hasRoles := options.Producers == 0 || options.PatternOf(0) == Roles
+	if options.Producers < 0 || options.Producers >= options.Threads || !hasRoles {
+		return errors.New("fewer producers than threads, with the pattern roles")
 	}
 	if options.Initial < 0 || options.Initial > MaxInitial {
 		return fmt.Errorf("0 to %d initial values", MaxInitial)
@@ -654,6 +663,8 @@ func (options *Options) plan(thread int) []bool {
 		plan[n] = burst > length
 		if pattern == Mix {
 			plan[n] = words.next()%100 < options.Percent
+		} else if pattern == Roles && options.Producers > 0 {
+			plan[n] = thread < options.Producers
 		} else if pattern == Roles && options.Threads > 1 {
 			plan[n] = thread%2 == 0
 		}
@@ -687,32 +698,46 @@ func search(options Options, makeQueue func() Queue) (Answer, error) {
 		options.Runs = 100
 	}
 	options.nameKilled()
-	operations, overlapping := 0, 0
-	isJudged := options.isFound()
-	for number := uint64(0); number < options.Runs; number++ {
+	made, events, overlapping := uint64(0), 0, 0
+	answer, isJudged := NoViolation, options.isFound()
+	for ; made < options.Runs && answer == NoViolation; made++ {
 		ofRun := options
-		ofRun.Seed += number
+		ofRun.Seed += made
 		history, err := Run(ofRun, makeQueue())
+		if err == nil {
+			answer, err = ofRun.answer(history, isJudged)
+		}
 		if err != nil {
 			return Wrong, err
 		}
-		answer, err := ofRun.answer(history, isJudged)
-		if err != nil || answer != NoViolation {
-			return answer, err
-		}
-		operations += len(history.events) / 2
+		events += len(history.events)
 		overlapping += history.overlapping()
 	}
+	if answer == NoViolation {
+		if events > 0 {
+			overlapping = 200 * overlapping / events // an operation has two events
+		}
+		answer = options.tellNone(isJudged, fmt.Sprintf("; %d of 100 operations overlap another", overlapping))
+	}
+	options.tellKept(answer, isJudged, made, events)
+	return answer, nil
+}
+
+// Says that no run is a violation, and what else there is to say.
+func (options *Options) tellNone(isJudged bool, more string) Answer {
 	told, answer := "no violation in", NoViolation
 	if !isJudged {
 		told, answer = "nothing judged in", Wrong
 	}
-	if operations > 0 {
-		overlapping = 100 * overlapping / operations
+	last := options.Seed + options.Runs - 1
+	fmt.Printf("%s %d runs (seeds %d to %d)%s\n", told, options.Runs, options.Seed, last, more)
+	return answer
+}
+
+func (options *Options) tellKept(answer Answer, isJudged bool, made uint64, events int) {
+	if options.Keep && isJudged && answer != Wrong {
+		fmt.Printf("  kept:    %d judged runs with %d events in %s\n", made, events, options.Folder)
 	}
-	fmt.Printf("%s %d runs (seeds %d to %d); %d of 100 operations overlap another\n",
-		told, options.Runs, options.Seed, options.Seed+options.Runs-1, overlapping)
-	return answer, nil
 }
 
 func (options *Options) answer(history *History, isJudged bool) (Answer, error) {
@@ -722,9 +747,10 @@ func (options *Options) answer(history *History, isJudged bool) (Answer, error) 
 	if len(history.failures) > 0 {
 		return history.endEarly(options), nil
 	}
-	if isJudged {
-		return options.judge(history.text(), "")
+	if !isJudged || options.Keep {
+		if _, err := options.keep("history", history.text()); err != nil || !isJudged {
+			return NoViolation, err
+		}
 	}
-	_, err := options.keep("history", history.text())
-	return NoViolation, err
+	return options.judge(history.text(), "")
 }

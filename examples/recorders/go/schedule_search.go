@@ -172,22 +172,22 @@ func (search *searching) answer() (Answer, error) {
 	if options.Runs == 0 {
 		options.Runs = mostRuns
 	}
-	isJudged := options.isFound()
-	for number := uint64(0); number < options.Runs; number++ {
+	number, events := uint64(0), 0
+	answer, isJudged := NoViolation, options.isFound()
+	for ; number < options.Runs && answer == NoViolation; number++ {
 		made, err := search.make(options.Seed+number, variant{})
+		if err == nil {
+			answer, err = search.judge(made, isJudged)
+		}
 		if err != nil {
 			return Wrong, err
 		}
-		if answer, err := search.judge(made, isJudged); err != nil || answer != NoViolation {
-			return answer, err
-		}
+		events += len(made.history.events)
 	}
-	told, answer := "no violation in", NoViolation
-	if !isJudged {
-		told, answer = "nothing judged in", Wrong
+	if answer == NoViolation {
+		answer = options.tellNone(isJudged, ", with chosen schedules")
 	}
-	fmt.Printf("%s %d runs (seeds %d to %d), with chosen schedules\n", told, options.Runs, options.Seed,
-		options.Seed+options.Runs-1)
+	options.tellKept(answer, isJudged, number, events)
 	return answer, nil
 }
 

@@ -89,7 +89,7 @@ final class Kinds {
         Recorder roles = new Recorder().pattern(Recorder.Pattern.ROLES).drains(false);
         search("blocking", roles, Kinds::blocking);
         // Thread 0 produces, and drains when thread 1, the consumer, has ended.
-        search("one producer, one consumer", new Recorder().threads(2).pattern(Recorder.Pattern.ROLES), Ring::new);
+        search("one producer, one consumer", new Recorder().threads(2).producers(1), Ring::new);
         System.exit(isSound ? 0 : 1);
     }
 }

@@ -11,8 +11,8 @@ import java.util.concurrent.atomic.AtomicInteger;
  *
  * <pre>
  * Queue QUEUE                                        searches for a violation, status 0, 1 or 2
- * Queue QUEUE [--runs R] [--threads T] [--ops N] [--pattern P] [--percent K] [--seed S] [--folder F]
- *     [--timeout SECONDS]                            the same with settings
+ * Queue QUEUE [--runs R] [--threads T] [--producers N] [--ops N] [--pattern P] [--percent K] [--seed S]
+ *     [--folder F] [--keep 0|1] [--timeout SECONDS]  the same with settings
  * Queue QUEUE THREADS OPERATIONS [PATTERN [SEED]]    one run, written to standard output
  * </pre>
  *
@@ -135,6 +135,8 @@ final class Queue {
             case "--percent" -> recorder.percent((int) number(name, word, 0, 100));
             case "--seed" -> recorder.seed(number(name, word, 0, 4_294_967_295L));
             case "--folder" -> recorder.folder(Path.of(word));
+            case "--producers" -> recorder.producers((int) number(name, word, 0, 63));
+            case "--keep" -> recorder.keep(number(name, word, 0, 1) == 1);
             case "--timeout" -> recorder.timeout(Duration.ofSeconds(number(name, word, 1, 86_400)));
             default -> throw new Refused("no option \"" + name + "\"");
         }

@@ -109,6 +109,7 @@ public final class Recorder implements AutoCloseable {
     int threads = 4;
     int operations = 500;
     private Pattern pattern;
+    private int producers;
     private int percent = 50;
     long seed = 1;
     long runs;
@@ -118,6 +119,7 @@ public final class Recorder implements AutoCloseable {
     int initial;
     boolean drains = true;
     boolean hasJournal;
+    boolean keepsAll;
     Path folder = Path.of("fifobench-runs");
     String program;
     private Chooser chooser;
@@ -140,6 +142,12 @@ public final class Recorder implements AutoCloseable {
     /** Unless set, or if it is null, the four take turns by seed. */
     public Recorder pattern(Pattern pattern) {
         this.pattern = pattern;
+        return this;
+    }
+
+    /** Threads 0 to {@code producers} - 1 enqueue, and the others dequeue; unless set, or if 0, by the pattern. */
+    public Recorder producers(int producers) {
+        this.producers = producers;
         return this;
     }
 
@@ -194,6 +202,12 @@ public final class Recorder implements AutoCloseable {
     /** Whether events reach FOLDER/SEED.pending while the run goes on, so that a killed run leaves them. */
     public Recorder journal(boolean hasJournal) {
         this.hasJournal = hasJournal;
+        return this;
+    }
+
+    /** Whether a search keeps the histories without a violation too. */
+    public Recorder keep(boolean keepsAll) {
+        this.keepsAll = keepsAll;
         return this;
     }
 
@@ -486,6 +500,10 @@ public final class Recorder implements AutoCloseable {
         if (operations < 0 || (long) threads * operations > MAX_OPERATIONS) {
             throw new IllegalArgumentException("0 to " + MAX_OPERATIONS + " operations of all threads");
         }
+        boolean hasRoles = producers == 0 || patternOf(0) == Pattern.ROLES;
+        if (producers < 0 || producers >= threads || !hasRoles) {
+            throw new IllegalArgumentException("fewer producers than threads, with the pattern roles");
+        }
         if (initial < 0 || initial > MAX_INITIAL) {
             throw new IllegalArgumentException("0 to " + MAX_INITIAL + " initial values");
         }
@@ -659,7 +677,8 @@ public final class Recorder implements AutoCloseable {
 
     /** The pattern of a seed. */
     public Pattern patternOf(long seed) {
-        return pattern != null ? pattern : Pattern.values()[(int) Long.remainderUnsigned(seed + 3, 4)];
+        Pattern inTurn = Pattern.values()[(int) Long.remainderUnsigned(seed + 3, 4)];
+        return pattern != null ? pattern : producers > 0 ? Pattern.ROLES : inTurn;
     }
 
     // What one thread does: true is an enqueue.
@@ -677,7 +696,7 @@ public final class Recorder implements AutoCloseable {
             plan[n] = switch (pattern) {
                 case ALTERNATE, BURSTS -> burst > length;
                 case MIX -> words.below(100) < percent;
-                case ROLES -> threads == 1 ? burst > length : thread % 2 == 0;
+                case ROLES -> producers > 0 ? thread < producers : threads == 1 ? burst > length : thread % 2 == 0;
             };
             burst--;
         }
@@ -719,22 +738,22 @@ public final class Recorder implements AutoCloseable {
         if (chooser != null) {
             return chooser.search(this, makeQueue);
         }
-        long all = 0, overlapping = 0, end = seed + (runs == 0 ? 100 : runs);
+        long events = 0, overlapping = 0, ofRun = seed, end = seed + (runs == 0 ? 100 : runs);
         boolean isJudged = judge.isFound();
+        Answer answer = Answer.NO_VIOLATION;
         judge.nameKilled(end);
-        for (long ofRun = seed; ofRun < end; ofRun++) {
+        for (; ofRun < end && answer == Answer.NO_VIOLATION; ofRun++) {
             History history = run(ofRun, makeQueue.get());
-            Answer answer = judge.answer(history, isJudged);
-            if (answer != Answer.NO_VIOLATION) {
-                return answer;
-            }
-            all += history.events.size() / 2;
+            answer = judge.answer(history, isJudged);
+            events += history.events.size();
             overlapping += history.overlapping();
         }
-        System.out.printf("%s %d runs (seeds %d to %d); %d of 100 operations overlap another%n",
-                isJudged ? "no violation in" : "nothing judged in", end - seed, seed, end - 1,
-                all == 0 ? 0 : 100 * overlapping / all);
-        return isJudged ? Answer.NO_VIOLATION : Answer.WRONG;
+        if (answer == Answer.NO_VIOLATION) {
+            long share = events == 0 ? 0 : 200 * overlapping / events;    // an operation has two events
+            answer = judge.tellNone(isJudged, seed, end, "; " + share + " of 100 operations overlap another");
+        }
+        judge.tellKept(answer, isJudged, ofRun - seed, events);
+        return answer;
     }
 
     /** Interrupts the threads of runs that were given up as hanging. They are daemons, and hold no program up. */

@@ -92,11 +92,23 @@ final class RecorderJudge {
         if (history.ending != null) {
             return endEarly(history);
         }
-        if (isJudged) {
-            return judge(history.seed, history.text(), "");
+        if (!isJudged || recorder.keepsAll) {
+            keep(history.seed, "history", history.text());
         }
-        keep(history.seed, "history", history.text());
-        return Recorder.Answer.NO_VIOLATION;
+        return isJudged ? judge(history.seed, history.text(), "") : Recorder.Answer.NO_VIOLATION;
+    }
+
+    // Says that no run is a violation, and what else there is to say.
+    Recorder.Answer tellNone(boolean isJudged, long seed, long end, String more) {
+        System.out.printf("%s %d runs (seeds %d to %d)%s%n", isJudged ? "no violation in" : "nothing judged in",
+                end - seed, seed, end - 1, more);
+        return isJudged ? Recorder.Answer.NO_VIOLATION : Recorder.Answer.WRONG;
+    }
+
+    void tellKept(Recorder.Answer answer, boolean isJudged, long made, long events) {
+        if (recorder.keepsAll && isJudged && answer != Recorder.Answer.WRONG) {
+            System.out.printf("  kept:    %d judged runs with %d events in %s%n", made, events, recorder.folder);
+        }
     }
 
     // Judges a history, and says of a violation where it is kept. `why` follows the verdict.

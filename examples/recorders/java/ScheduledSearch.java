@@ -57,21 +57,24 @@ final class ScheduledSearch {
         long runs = Long.parseLong(environment.getOrDefault("FIFOBENCH_RUNS", "" + MOST_RUNS));
         long end = first + (recorder.runs == 0 ? runs : recorder.runs);
         boolean isJudged = recorder.judge.isFound();
+        long seed = first, events = 0;
+        Recorder.Answer answer = Recorder.Answer.NO_VIOLATION;
         try {
-            for (long seed = first; seed < end; seed++) {
-                Recorder.Answer answer = judge(make(seed, Variant.NONE), isJudged);
-                if (answer != Recorder.Answer.NO_VIOLATION) {
-                    return answer;
-                }
+            for (; seed < end && answer == Recorder.Answer.NO_VIOLATION; seed++) {
+                Made made = make(seed, Variant.NONE);
+                answer = judge(made, isJudged);
+                events += made.history.events.size();
             }
         } finally {
             recorder.operations = operations;
             recorder.judge.tellAgain = null;
             recorder.isQuiet = false;
         }
-        System.out.printf("%s %d runs (seeds %d to %d), with chosen schedules%n",
-                isJudged ? "no violation in" : "nothing judged in", end - first, first, end - 1);
-        return isJudged ? Recorder.Answer.NO_VIOLATION : Recorder.Answer.WRONG;
+        if (answer == Recorder.Answer.NO_VIOLATION) {
+            answer = recorder.judge.tellNone(isJudged, first, end, ", with chosen schedules");
+        }
+        recorder.judge.tellKept(answer, isJudged, seed - first, events);
+        return answer;
     }
 
     private Made make(long seed, Variant variant) throws Exception {

@@ -76,7 +76,7 @@ def main():
             ("objects", Objects, {}),
             # As many producers as consumers, so that each dequeue finds a value, and no drain, which would wait.
             ("blocking", Blocking, {"pattern": "roles", "drain": False}),
-            ("one producer, one consumer", Bounded, {"threads": 2, "pattern": "roles"})):
+            ("one producer, one consumer", Bounded, {"threads": 2, "producers": 1})):
         print(f"{kind}: ", end="", flush=True)
         answers.append(recorder.search(recorder.Options(runs=8, **settings), make_queue))
     return max(answers)

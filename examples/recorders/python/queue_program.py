@@ -1,8 +1,8 @@
 """A deque under a lock, and the same made wrong on purpose in some ways, recorded.
 
     queue_program.py QUEUE                                        searches for a violation, status 0, 1 or 2
-    queue_program.py QUEUE [--runs R] [--threads T] [--ops N] [--pattern P] [--percent K] [--seed S] [--folder F]
-        [--timeout SECONDS]                                       the same with settings
+    queue_program.py QUEUE [--runs R] [--threads T] [--producers N] [--ops N] [--pattern P] [--percent K] [--seed S]
+        [--folder F] [--keep 0|1] [--timeout SECONDS]             the same with settings
     queue_program.py QUEUE THREADS OPERATIONS [PATTERN [SEED]]    one run, written to standard output
 
 QUEUE is `good`, `wrong` (every 4th value that is found stays), `stack` (last in, first out), `early` (says empty too
@@ -93,6 +93,8 @@ NUMBERS = {
     "--percent": ("percent", 0, 100),
     "--seed": ("seed", 0, 4_294_967_295),
     "--timeout": ("timeout", 1, 86_400),
+    "--producers": ("producers", 0, 63),
+    "--keep": ("keep", 0, 1),
 }
 
 

@@ -65,6 +65,7 @@ class Options:
     # alternate: enqueue, dequeue, ..; mix: by chance; bursts: 1 to 32 enqueues and then as many dequeues; roles: those
     # of even number enqueue and the others dequeue. None: the four take turns by seed.
     pattern: str = None
+    producers: int = 0    # threads 0 to producers - 1 enqueue and the others dequeue; 0: by the pattern
     percent: int = 50    # enqueues of a hundred operations, for mix
     seed: int = 1    # of the run, or of the first run of a search
     runs: int = None    # how many a search makes at most; None: 100, or 300 with chosen schedules
@@ -75,6 +76,7 @@ class Options:
     drain: bool = True    # take values out after the threads have ended, until the queue says that it is empty
     # Whether events reach FOLDER/SEED.pending while the run goes on, so that a killed run leaves them.
     journal: bool = False
+    keep: bool = False    # a search keeps the histories without a violation too
     folder: str = "fifobench-runs"    # where histories and reports are kept
     program: str = None    # else that of the environment variable FIFOBENCH, else fifobench on the PATH
     # Whether the seed chooses how threads interleave, by schedule.py beside this file: True, False, or a dict of its
@@ -83,7 +85,7 @@ class Options:
 
     def pattern_of(self, seed):
         """The pattern of a seed."""
-        return self.pattern or PATTERNS[(seed + 3) % 4]
+        return self.pattern or ("roles" if self.producers else PATTERNS[(seed + 3) % 4])
 
     def value_of(self, thread, n):
         """The value of operation n of a thread, and initial value n with the thread 64."""
@@ -95,6 +97,8 @@ class Options:
             raise ValueError(f"1 to {MAX_THREADS} threads")
         if not 0 <= self.threads * self.operations <= MAX_OPERATIONS:
             raise ValueError(f"0 to {MAX_OPERATIONS} operations of all threads")
+        if not 0 <= self.producers < self.threads or self.producers and self.pattern_of(0) != "roles":
+            raise ValueError("fewer producers than threads, with the pattern roles")
         if not 0 <= self.initial <= MAX_INITIAL:
             raise ValueError(f"0 to {MAX_INITIAL} initial values")
         if self.pattern is not None and self.pattern not in PATTERNS:
@@ -520,6 +524,8 @@ def _plan(options, thread):
             length = 1 + next(words) % 32
             plan += [True] * length + [False] * length
         return plan[:options.operations]
+    if options.producers:
+        return [thread < options.producers] * options.operations
     if pattern == "roles" and options.threads > 1:
         return [thread % 2 == 0] * options.operations
     return [n % 2 == 0 for n in range(options.operations)]
@@ -566,14 +572,27 @@ def search(options, make_queue):
         except OSError as error:
             _say(f"seed {seed}: {error}")
             answer = Answer.WRONG
-        if answer != Answer.NO_VIOLATION:
-            return answer
         made, met = history.overlapping()
         operations, overlapping = operations + made, overlapping + met
-    print("no violation in" if is_judged else "nothing judged in",
-          f"{runs} runs (seeds {options.seed} to {options.seed + runs - 1});",
-          f"{100 * overlapping // max(1, operations)} of 100 operations overlap another", flush=True)
+        if answer != Answer.NO_VIOLATION:
+            break
+    else:
+        share = 100 * overlapping // max(1, operations)
+        answer = _tell_none(is_judged, options.seed, runs, f"; {share} of 100 operations overlap another")
+    _tell_kept(options, answer, is_judged, seed + 1 - options.seed, 2 * operations)
+    return answer
+
+
+def _tell_none(is_judged, first, runs, more):
+    """Says that no run is a violation, and what else there is to say."""
+    told = "no violation" if is_judged else "nothing judged"
+    print(f"{told} in {runs} runs (seeds {first} to {first + runs - 1}){more}", flush=True)
     return Answer.NO_VIOLATION if is_judged else Answer.WRONG
+
+
+def _tell_kept(options, answer, is_judged, made, events):
+    if options.keep and is_judged and answer != Answer.WRONG:
+        print(f"  kept:    {made} judged runs with {events} events in {options.folder}", flush=True)
 
 
 def _answer(options, history, is_judged):
@@ -581,10 +600,9 @@ def _answer(options, history, is_judged):
         return history.answer
     if history.failures:
         return history.end_early(options)
-    if is_judged:
-        return _judge(options, history.text())
-    _keep(options, "history", history.text())
-    return Answer.NO_VIOLATION
+    if not is_judged or options.keep:
+        _keep(options, "history", history.text())
+    return _judge(options, history.text()) if is_judged else Answer.NO_VIOLATION
 
 
 def _keep(options, kind, text):

@@ -57,18 +57,22 @@ class Search:
         runs = options.runs or int(os.environ.get("FIFOBENCH_RUNS") or MOST_RUNS)
         first = int(os.environ.get("FIFOBENCH_SEED") or options.seed)
         is_judged = recorder._is_found(options)
+        events = 0
         with locks.Patches():
             for seed in range(first, first + runs):
+                made = self.make(seed)
+                events += 2 * len(made.history.operations())
                 try:
-                    answer = self._judge(self.make(seed), is_judged)
+                    answer = self._judge(made, is_judged)
                 except OSError as error:
                     recorder._say(f"seed {seed}: {error}")
                     answer = recorder.Answer.WRONG
                 if answer != recorder.Answer.NO_VIOLATION:
-                    return answer
-        print("no violation in" if is_judged else "nothing judged in",
-              f"{runs} runs (seeds {first} to {first + runs - 1}), with chosen schedules", flush=True)
-        return recorder.Answer.NO_VIOLATION if is_judged else recorder.Answer.WRONG
+                    break
+            else:
+                answer = recorder._tell_none(is_judged, first, runs, ", with chosen schedules")
+        recorder._tell_kept(options, answer, is_judged, seed + 1 - first, events)
+        return answer
 
     def make(self, seed, switches=None, skipped=(), few=None, is_again=False):
         """Makes the run of a seed, perhaps again; with given switches or a number of another schedule that has few, and
@@ -92,8 +96,9 @@ class Search:
         if history.failures:
             ending = self.kind(made)
             return history.end_early(made.options, (lambda _: self._tell_again(made, ending)) if is_judged else None)
-        if not is_judged:
+        if not is_judged or self.options.keep:
             recorder._keep(made.options, "history", history.text())
+        if not is_judged:
             return recorder.Answer.NO_VIOLATION
         return recorder._judge(made.options, history.text(), lambda kind: self._tell_again(made, kind))
 

@@ -108,7 +108,7 @@ fn main() -> ExitCode {
     // As many producers as consumers, so that each dequeue finds a value, and no drain, which would wait.
     let roles = Options { pattern: Some(Pattern::Roles), drain: false, ..options.clone() };
     // Thread 0 produces, and drains when thread 1, the consumer, has ended. Values begin at 1.
-    let one_each = Options { threads: 2, first: 1, drain: true, ..roles.clone() };
+    let one_each = Options { threads: 2, producers: 1, first: 1, ..options.clone() };
     let answers = [
         recorder::search(&Options { initial: 10, ..options.clone() }, || Bounded(Channel::new())),
         recorder::search(&options, || Boxes(Mutex::default())),

@@ -1,8 +1,8 @@
 //! A VecDeque under a Mutex, and the same made wrong on purpose in some ways, recorded.
 //!
 //!     queue QUEUE                                        searches for a violation, status 0, 1 or 2
-//!     queue QUEUE [--runs R] [--threads T] [--ops N] [--pattern P] [--percent K] [--seed S] [--folder F]
-//!         [--timeout SECONDS]                            the same with settings
+//!     queue QUEUE [--runs R] [--threads T] [--producers N] [--ops N] [--pattern P] [--percent K] [--seed S]
+//!         [--folder F] [--keep 0|1] [--timeout SECONDS]  the same with settings
 //!     queue QUEUE THREADS OPERATIONS [PATTERN [SEED]]    one run, written to standard output
 //!
 //! QUEUE is `good`, `wrong` (every 4th value that is found stays), `stack` (last in, first out), `early` (says empty
@@ -156,6 +156,8 @@ fn set(options: &mut Options, name: &str, word: &str) -> Result<(), String> {
         "--percent" => options.percent = number(name, word, 0, 100)?,
         "--seed" => options.seed = number(name, word, 0, u32::MAX.into())?,
         "--folder" => options.folder = PathBuf::from(word),
+        "--producers" => options.producers = number(name, word, 0, 63)? as usize,
+        "--keep" => options.keep = number(name, word, 0, 1)? == 1,
         "--timeout" => options.timeout = Duration::from_secs(number(name, word, 1, 86_400)?),
         _ => return Err(format!("no option {name:?}")),
     }
@@ -183,6 +185,10 @@ fn settings(words: &[String]) -> Result<(Options, bool), String> {
     }
     if options.threads * options.operations > recorder::MAX_OPERATIONS {
         return Err(format!("at most {} operations of all threads", recorder::MAX_OPERATIONS));
+    }
+    let has_roles = options.producers == 0 || options.pattern_of(0) == recorder::Pattern::Roles;
+    if options.producers >= options.threads || !has_roles {
+        return Err("fewer producers than threads, with the pattern roles".to_string());
     }
     Ok((options, is_one_run))
 }

@@ -58,10 +58,8 @@ pub const MAX_INITIAL: usize = 100_000;
 pub trait Queue: Sync {
     /// Whether the queue took the value: false if it was full or had no memory.
     fn enqueue(&self, value: u64) -> bool;
-
     /// The value that the queue gave, or none if it said that it is empty.
     fn dequeue(&self) -> Option<u64>;
-
     /// Puts an initial value in, before the threads start. It is no operation of the run.
     fn preload(&self, value: u64) -> bool {
         self.enqueue(value)
@@ -69,9 +67,18 @@ pub trait Queue: Sync {
 
     /// Called in each thread before the common start, for queues whose threads register.
     fn enter(&self, _thread: usize) {}
-
     /// Called in each thread after its last operation.
     fn leave(&self, _thread: usize) {}
+}
+
+/// Two closures are a queue.
+impl<E: Fn(u64) -> bool + Sync, D: Fn() -> Option<u64> + Sync> Queue for (E, D) {
+    fn enqueue(&self, value: u64) -> bool {
+        self.0(value)
+    }
+    fn dequeue(&self) -> Option<u64> {
+        self.1()
+    }
 }
 
 /// Which operations a thread makes.
@@ -115,6 +122,8 @@ pub struct Options {
     pub operations: usize,
     /// If there is none, the four take turns by seed.
     pub pattern: Option<Pattern>,
+    /// Threads 0 to `producers` - 1 enqueue and the others dequeue; 0: the pattern says who does what.
+    pub producers: usize,
     /// Enqueues of a hundred operations, for the pattern `Mix`.
     pub percent: u64,
     /// That of the run, or of the first run of a search.
@@ -133,6 +142,8 @@ pub struct Options {
     pub drain: bool,
     /// With `--cfg fifobench_crash`: events reach FOLDER/SEED.pending while the run goes on.
     pub journal: bool,
+    /// Whether a search keeps the histories without a violation too.
+    pub keep: bool,
     /// Where histories and reports are kept.
     pub folder: PathBuf,
     /// The program `fifobench`; else that of the environment variable FIFOBENCH, else that on the PATH.
@@ -145,6 +156,7 @@ impl Default for Options {
             threads: 4,
             operations: 500,
             pattern: None,
+            producers: 0,
             percent: 50,
             seed: 1,
             runs: if cfg!(fifobench_schedule) { 300 } else { 100 },
@@ -154,6 +166,7 @@ impl Default for Options {
             initial: 0,
             drain: true,
             journal: false,
+            keep: false,
             folder: PathBuf::from("fifobench-runs"),
             program: None,
         }
@@ -163,13 +176,16 @@ impl Default for Options {
 impl Options {
     /// The pattern of this seed.
     pub fn pattern_of(&self, seed: u64) -> Pattern {
-        self.pattern.unwrap_or(Pattern::ALL[(seed.wrapping_add(3) % 4) as usize])
+        let in_turn = Pattern::ALL[(seed.wrapping_add(3) % 4) as usize];
+        self.pattern.unwrap_or(if self.producers > 0 { Pattern::Roles } else { in_turn })
     }
 
     fn check(&self) {
         assert!((1..=MAX_THREADS).contains(&self.threads), "1 to {MAX_THREADS} threads");
-        let total = self.threads.saturating_mul(self.operations);
-        assert!(total <= MAX_OPERATIONS, "at most {MAX_OPERATIONS} operations of all threads");
+        let is_met = self.threads.saturating_mul(self.operations) <= MAX_OPERATIONS;
+        assert!(is_met, "at most {MAX_OPERATIONS} operations of all threads");
+        let has_roles = self.producers == 0 || self.pattern_of(0) == Pattern::Roles;
+        assert!(self.producers < self.threads && has_roles, "fewer producers than threads, with the pattern roles");
         assert!(self.initial <= MAX_INITIAL, "at most {MAX_INITIAL} initial values");
         assert!(!self.journal || cfg!(fifobench_crash), "a journal needs --cfg fifobench_crash");
     }
@@ -198,8 +214,7 @@ struct Event {
     ticket: u64,
     thread: usize,
     what: u64,
-    // Of CALL_ENQ and RET_DEQ.
-    value: u64,
+    value: u64, // of CALL_ENQ and RET_DEQ
 }
 
 impl Event {
@@ -224,8 +239,7 @@ fn head(name: &str, initial: &[u64]) -> String {
 
 // A part of the events of one thread. That thread alone writes; the watchdog may read what is counted while it does.
 struct Chunk {
-    // The ticket times 8 plus the event's word, and the value.
-    slots: Box<[[AtomicU64; 2]]>,
+    slots: Box<[[AtomicU64; 2]]>, // the ticket times 8 plus the event's word, and the value
     count: AtomicUsize,
     next: OnceLock<Box<Chunk>>,
 }
@@ -359,41 +373,30 @@ struct Start {
 }
 
 impl Start {
-    const LOOKS: usize = 1_000;
-    const PASSES: usize = 64;
-    const ARRIVAL: Duration = Duration::from_secs(1);
-    const RUNNING: Duration = Duration::from_millis(100);
-
     fn new(threads: usize) -> Start {
         let [arrived, last_by] = [0, 0].map(AtomicUsize::new);
         Start { threads, arrived, last_by, is_open: AtomicBool::new(threads == 1) }
     }
 
-    // Who finds another thread's number often in one turn runs at the same time as that one.
     fn meet(&self, number: usize) {
         self.arrived.fetch_add(1, Ordering::SeqCst);
-        if self.turns(Start::ARRIVAL, |_| self.arrived.load(Ordering::SeqCst) >= self.threads) {
-            let mut passes = 0;
-            self.turns(Start::RUNNING, |look| {
-                passes = if look == 0 { 0 } else { passes };
-                passes += usize::from(self.last_by.swap(number, Ordering::SeqCst) != number);
-                passes >= Start::PASSES
-            });
-        }
+        self.wait(Duration::from_secs(1), || self.arrived.load(Ordering::SeqCst) >= self.threads);
+        self.wait(Duration::from_millis(100), || self.has_met(number));
         self.is_open.store(true, Ordering::SeqCst);
     }
 
-    // Takes turns of looks until it is over or the start is open; false if the time is used up.
-    fn turns(&self, time: Duration, mut is_over: impl FnMut(usize) -> bool) -> bool {
+    // Stays until this is so or the start is open, for a bounded time.
+    fn wait(&self, time: Duration, is_so: impl Fn() -> bool) {
         let begin = Instant::now();
-        while begin.elapsed() < time {
-            let mut looks = 0..Start::LOOKS;
-            if looks.any(|look| self.is_open.load(Ordering::SeqCst) || is_over(look)) {
-                return true;
-            }
+        while !self.is_open.load(Ordering::SeqCst) && !is_so() && begin.elapsed() < time {
             thread::yield_now();
         }
-        false
+    }
+
+    // Who finds another thread's number 64 times in 1,000 looks runs at the same time as that one.
+    fn has_met(&self, number: usize) -> bool {
+        let looks = (0..1_000).take_while(|_| !self.is_open.load(Ordering::SeqCst));
+        looks.filter(|_| self.last_by.swap(number, Ordering::SeqCst) != number).take(64).count() == 64
     }
 }
 
@@ -424,8 +427,7 @@ impl History {
         &self.failures
     }
 
-    /// The events by ticket: the ticket, the thread, the event's word by its place from 0 (call-enq, ret-enq, ret-not,
-    /// call-deq, ret-deq, ret-empty) and the value of the first and the fifth.
+    /// Ticket, thread, word (its place in call-enq, ret-enq, ret-not, call-deq, ret-deq, ret-empty) and value of each.
     pub fn rows(&self) -> impl Iterator<Item = (u64, usize, u64, u64)> + '_ {
         self.events.iter().map(|event| (event.ticket, event.thread, event.what, event.value))
     }
@@ -448,8 +450,8 @@ impl History {
         to.flush()
     }
 
-    // How many operations there are, and how many of them overlap another.
-    fn overlapping(&self) -> (usize, usize) {
+    // How many operations overlap another.
+    fn overlapping(&self) -> usize {
         let (mut open, mut met, mut overlapping) = (0u64, 0u64, 0);
         for event in &self.events {
             let thread = 1 << event.thread;
@@ -462,13 +464,25 @@ impl History {
                 open &= !thread;
             }
         }
-        (self.events.len() / 2, overlapping)
+        overlapping
     }
 
     fn text(&self) -> Vec<u8> {
         let mut text = Vec::new();
         self.write(&mut text).expect("a vector takes each write");
         text
+    }
+
+    // The answer of a search to this run.
+    fn answer(&self, options: &Options, is_judged: bool) -> Result<Answer, String> {
+        if !self.failures.is_empty() {
+            let fault = "If the queue promises not to panic, the panic itself is the fault.";
+            return Ok(self.end_early(options, &self.failures.join("; "), fault));
+        }
+        if !is_judged || options.keep {
+            keep(options, "history", &self.text())?;
+        }
+        if is_judged { judge(options, &self.text(), "") } else { Ok(Answer::NoViolation) }
     }
 
     // Keeps what there is of a run that ends early, says how it ended, and judges it.
@@ -516,11 +530,8 @@ fn told_panic(panic: &(dyn Any + Send)) -> &str {
 ///
 /// Memory is taken ahead for this number of operations of each thread; more are recorded too, and take memory as they
 /// come. If a call panics, its thread ends and the others go on; the history is not complete then. A run without an
-/// event for 30 seconds ends the process with status 2, after what was recorded has been kept as a pending text.
-///
-/// # Panics
-///
-/// If there are no threads or more than 64, or more than 1,000,000 operations of all threads.
+/// event for 30 seconds ends the process with status 2, after what was recorded has been kept as a pending text. Panics
+/// if there are no threads or more than 64, or more than 1,000,000 operations of all threads.
 pub fn record(threads: usize, operations: usize, work: impl Fn(&mut Thread) + Sync) -> History {
     record_with(&Options { threads, operations, ..Options::default() }, work)
 }
@@ -533,11 +544,8 @@ pub fn record_with(options: &Options, work: impl Fn(&mut Thread) + Sync) -> Hist
     History { events: run.events(), initial: Vec::new(), failures }
 }
 
-/// One run over this queue, by the pattern of the seed.
-///
-/// # Panics
-///
-/// If a setting is out of its range, or the queue has no room for an initial value.
+/// One run over this queue, by the pattern of the seed. Panics if a setting is out of its range, or if the queue has no
+/// room for an initial value.
 pub fn run(options: &Options, queue: &impl Queue) -> History {
     options.check();
     let initial: Vec<u64> = (0..options.initial as u64).map(|place| (options.value)(MAX_THREADS, place)).collect();
@@ -593,9 +601,8 @@ fn run_threads(run: &Run, initial: &[u64], steps: &Steps) -> Vec<String> {
     thread::scope(|scope| {
         let (ended, end) = mpsc::channel::<()>();
         scope.spawn(move || watch(run, initial, &end));
-        let numbers = 0..run.options.threads;
-        let running: Vec<_> =
-            numbers.map(|number| scope.spawn(move || make_steps(run, start, number, steps))).collect();
+        let spawn = |number| scope.spawn(move || make_steps(run, start, number, steps));
+        let running: Vec<_> = (0..run.options.threads).map(spawn).collect();
         let outcomes = running.into_iter().map(|running| running.join().expect("a panic is caught in the thread"));
         let failures = outcomes.filter_map(Result::err).collect();
         drop(ended);
@@ -627,29 +634,26 @@ fn watch(run: &Run, initial: &[u64], end: &Receiver<()>) {
 // What one thread does: true is an enqueue.
 fn plan(options: &Options, thread: usize) -> Vec<bool> {
     let mut state = options.seed.wrapping_mul(64).wrapping_add(thread as u64);
-    // SplitMix64.
-    let mut next = || {
+    let mut next = || { // splitmix64
         state = state.wrapping_add(0x9e37_79b9_7f4a_7c15);
         let z = (state ^ (state >> 30)).wrapping_mul(0xbf58_476d_1ce4_e5b9);
         let z = (z ^ (z >> 27)).wrapping_mul(0x94d0_49bb_1331_11eb);
         z ^ (z >> 31)
     };
-    let operations = 0..options.operations;
-    match options.pattern_of(options.seed) {
-        Pattern::Roles if options.threads > 1 => operations.map(|_| thread & 1 == 0).collect(),
-        Pattern::Alternate | Pattern::Roles => operations.map(|n| n & 1 == 0).collect(),
-        Pattern::Mix => operations.map(|_| next() % 100 < options.percent).collect(),
+    let (mut begin, mut length) = (0, 0); // of the burst
+    let is_enqueue = |n| match options.pattern_of(options.seed) {
+        Pattern::Roles if options.producers > 0 => thread < options.producers,
+        Pattern::Roles if options.threads > 1 => thread & 1 == 0,
+        Pattern::Alternate | Pattern::Roles => n & 1 == 0,
+        Pattern::Mix => next() % 100 < options.percent,
         Pattern::Bursts => {
-            let mut plan = Vec::with_capacity(options.operations + 64);
-            while plan.len() < options.operations {
-                let length = 1 + (next() % 32) as usize;
-                plan.resize(plan.len() + length, true);
-                plan.resize(plan.len() + length, false);
+            if n == begin + 2 * length {
+                (begin, length) = (n, 1 + (next() % 32) as usize);
             }
-            plan.truncate(options.operations);
-            plan
+            n < begin + length
         }
-    }
+    };
+    (0..options.operations).map(is_enqueue).collect()
 }
 
 fn make_operations(thread: &mut Thread, queue: &impl Queue) {
@@ -689,34 +693,31 @@ pub fn search<Q: Queue>(options: &Options, make_queue: impl Fn() -> Q) -> Answer
 }
 
 fn search_runs<Q: Queue>(options: &Options, make_queue: impl Fn() -> Q) -> Result<Answer, String> {
+    options.check();
     #[cfg(fifobench_schedule)]
     if schedule::is_chosen() {
         return Ok(schedule::search(options, make_queue));
     }
     #[cfg(fifobench_crash)]
     let _watched = crash::Search::new(options);
-    let (mut operations, mut overlapping) = (0, 0);
-    let is_judged = is_found(options);
-    for number in 0..options.runs {
-        let options = Options { seed: options.seed.wrapping_add(number), ..options.clone() };
+    let (mut made, mut events, mut overlapping) = (0, 0, 0);
+    let (is_judged, mut answer) = (is_found(options), Answer::NoViolation);
+    while made < options.runs && answer == Answer::NoViolation {
+        let options = Options { seed: options.seed.wrapping_add(made), ..options.clone() };
         let history = run(&options, &make_queue());
-        if !history.failures().is_empty() {
-            let fault = "If the queue promises not to panic, the panic itself is the fault.";
-            return Ok(history.end_early(&options, &history.failures().join("; "), fault));
-        }
-        if !is_judged {
-            keep(&options, "history", &history.text())?;
-        } else if let Some(answer) = judge(&options, &history.text(), "")? {
-            return Ok(answer);
-        }
-        let (all, met) = history.overlapping();
-        (operations, overlapping) = (operations + all, overlapping + met);
+        answer = history.answer(&options, is_judged)?;
+        (made, events, overlapping) = (made + 1, events + history.events.len(), overlapping + history.overlapping());
     }
-    let share = (100 * overlapping).checked_div(operations).unwrap_or(0);
-    let outcome = if is_judged { "no violation in" } else { "nothing judged in" };
-    let (runs, first, last) = (options.runs, options.seed, options.seed.wrapping_add(options.runs).wrapping_sub(1));
-    println!("{outcome} {runs} runs (seeds {first} to {last}); {share} of 100 operations overlap another");
-    Ok(if is_judged { Answer::NoViolation } else { Answer::Wrong })
+    if answer == Answer::NoViolation {
+        let share = (200 * overlapping).checked_div(events).unwrap_or(0); // an operation has two events
+        let outcome = if is_judged { "no violation in" } else { "nothing judged in" };
+        let (first, last) = (options.seed, options.seed.wrapping_add(made).wrapping_sub(1));
+        println!("{outcome} {made} runs (seeds {first} to {last}); {share} of 100 operations overlap another");
+    }
+    if options.keep && is_judged && answer != Answer::Wrong {
+        println!("  kept:    {made} judged runs with {events} events in {}", options.folder.display());
+    }
+    Ok(if is_judged || answer != Answer::NoViolation { answer } else { Answer::Wrong })
 }
 
 fn program(options: &Options) -> PathBuf {
@@ -748,13 +749,13 @@ fn ask(options: &Options, command: &str, text: &[u8]) -> io::Result<(String, Opt
     Ok((String::from_utf8_lossy(&output.stdout).into_owned(), output.status.code()))
 }
 
-// Judges a history. Returns the answer of the search if it ends there.
-fn judge(options: &Options, text: &[u8], why: &str) -> Result<Option<Answer>, String> {
+// Judges a history. `why` follows the verdict.
+fn judge(options: &Options, text: &[u8], why: &str) -> Result<Answer, String> {
     let program = program(options).display().to_string();
     let unasked = |error: io::Error| format!("{program}: {error}");
     let (verdict, status) = ask(options, "check", text).map_err(unasked)?;
     if status == Some(0) {
-        return Ok(None);
+        return Ok(Answer::NoViolation);
     }
     let (seed, pattern) = (options.seed, options.pattern_of(options.seed));
     let history = keep(options, "history", text)?.display().to_string();
@@ -768,7 +769,7 @@ fn judge(options: &Options, text: &[u8], why: &str) -> Result<Option<Answer>, St
     let told = format!("{verdict}: seed {seed}, {pattern}{why}\n  history: {history}\n  report:  {report}\n");
     let seen = format!("  see it:  {program} draw --text < {report}\n  again:   seed {seed}, pattern {pattern}");
     let _ = writeln!(io::stdout(), "{told}{seen}: the same plan, though threads may meet in another way");
-    Ok(Some(Answer::Violation))
+    Ok(Answer::Violation)
 }
 
 // Judges the completion of a pending text, or prints the command that does. The fault follows `YES`.
@@ -777,14 +778,14 @@ fn judge_pending(options: &Options, of: &History, pending: &Path, fault: &str) -
     let asked = ask(options, "complete", &of.text());
     if let Ok((history, Some(0))) = &asked {
         let answer = judge(options, history.as_bytes(), ": the queue is wrong, whatever the pending calls do")?;
-        if answer.is_none() {
+        if answer == Answer::NoViolation {
             // `draw` refuses more than 400 operations or initial values.
             let twice = (of.events.len() + of.open_calls().len()).max(2 * of.initial.len());
             let drawn = (twice <= 800).then(|| format!("{program} complete < {pending} | {program} draw --text"));
             let see = drawn.unwrap_or(format!("tail -n 40 < {pending}"));
             say(&format!("YES: a right queue can have behaved so until then. {fault}\n  see it:  {see}"));
         }
-        return Ok(answer.unwrap_or(Answer::Wrong));
+        return Ok(if answer == Answer::Violation { answer } else { Answer::Wrong });
     }
     match asked {
         Ok((told, _)) if told.starts_with("REFUSED ") => {

@@ -19,8 +19,8 @@
 //!
 //! With cargo these flags are those of `RUSTFLAGS`, schedule.o has an absolute path, and CARGO_PROFILE_RELEASE_DEBUG=1
 //! stands in place of `-g`; with the nightly flags cargo needs `--target x86_64-unknown-linux-gnu` too.
-//! `FIFOBENCH_SEED=17 cargo test ..` begins with that seed, whose run it makes again. A link without schedule.o fails, and
-//! names functions of the form `fifobench_schedule_..` or `__tsan_..`: they are those of schedule.c.
+//! `FIFOBENCH_SEED=17 cargo test ..` begins with that seed, whose run it makes again. A link without schedule.o fails,
+//! and names functions of the form `fifobench_schedule_..` or `__tsan_..`: they are those of schedule.c.
 
 use super::{make_steps, told_panic, Answer, Options, Queue, Run, Start, Steps};
 use std::ffi::{c_char, c_int, c_uint, c_void, CStr, CString};
@@ -46,6 +46,7 @@ struct RawSearch {
     threads: c_uint,
     operations: usize,
     seconds: c_uint,
+    keep: c_int,
     run: extern "C" fn(*mut c_void, u64, usize),
     pattern: extern "C" fn(*mut c_void, u64) -> *const c_char,
     context: *mut c_void,
@@ -158,6 +159,7 @@ pub(super) fn search<Q: Queue>(options: &Options, make_queue: impl Fn() -> Q) ->
         threads: options.threads as c_uint,
         operations: if is_set { options.operations } else { 0 },
         seconds: options.timeout.as_secs() as c_uint,
+        keep: c_int::from(options.keep),
         run: make_run,
         pattern: name_pattern,
         context: ptr::from_ref(&context).cast_mut().cast(),

@@ -118,7 +118,7 @@ static inline bool recorder_points_search(const struct recorder_settings *settin
     struct recorder_points_context context = {settings, calls};
     struct fifobench_search chosen = {
         .program = settings->program, .folder = settings->folder, .seed = settings->seed, .runs = settings->runs,
-        .threads = settings->threads, .seconds = settings->timeout, .run = recorder_points_run,
+        .threads = settings->threads, .seconds = settings->timeout, .keep = settings->keep, .run = recorder_points_run,
         .pattern = recorder_points_pattern, .context = &context,
         .operations = settings->operations == recorder_defaults().operations ? 0 : settings->operations};
     *answer = fifobench_search_runs(&chosen);

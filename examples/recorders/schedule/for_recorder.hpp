@@ -104,6 +104,7 @@ void search(const Settings& settings, RunOne& run_one, std::optional<int>& answe
     chosen.threads = settings.threads;
     chosen.operations = settings.operations == Settings().operations ? 0 : settings.operations;
     chosen.seconds = static_cast<unsigned>((settings.timeout.count() + 999) / 1000);
+    chosen.keep = settings.keep ? 1 : 0;
     chosen.context = &context;
     chosen.run = [](void* of, std::uint64_t seed, std::size_t operations) {
         const auto& [all, run] = *static_cast<Context*>(of);

@@ -269,3 +269,40 @@ ATOMIC(8, uint8_t)
 ATOMIC(16, uint16_t)
 ATOMIC(32, uint32_t)
 ATOMIC(64, uint64_t)
+
+// Annotations that the sanitizer's library has. Queues call them where they see __SANITIZE_THREAD__, as libcds does, to
+// name what that library can't see. Here they do nothing. A program may have its own in their place.
+#define ANNOTATES(NAME)                                                  \
+    void Annotate##NAME(const char *file, int line);                     \
+    __attribute__((weak)) void Annotate##NAME(const char *file, int line) \
+    {                                                                    \
+        (void)file, (void)line;                                          \
+    }
+#define ANNOTATES_OBJECT(NAME)                                                                          \
+    void Annotate##NAME(const char *file, int line, const volatile void *object);                       \
+    __attribute__((weak)) void Annotate##NAME(const char *file, int line, const volatile void *object) \
+    {                                                                                                   \
+        (void)file, (void)line, (void)object;                                                           \
+    }
+#define ANNOTATES_SIZED(NAME)                                                                                        \
+    void Annotate##NAME(const char *file, int line, const volatile void *object, size_t size);                       \
+    __attribute__((weak)) void Annotate##NAME(const char *file, int line, const volatile void *object, size_t size) \
+    {                                                                                                                \
+        (void)file, (void)line, (void)object, (void)size;                                                            \
+    }
+
+ANNOTATES(IgnoreReadsBegin)
+ANNOTATES(IgnoreReadsEnd)
+ANNOTATES(IgnoreWritesBegin)
+ANNOTATES(IgnoreWritesEnd)
+ANNOTATES(IgnoreSyncBegin)
+ANNOTATES(IgnoreSyncEnd)
+ANNOTATES_OBJECT(HappensBefore)
+ANNOTATES_OBJECT(HappensAfter)
+ANNOTATES_OBJECT(RWLockCreate)
+ANNOTATES_OBJECT(RWLockDestroy)
+ANNOTATES_SIZED(RWLockAcquired)
+ANNOTATES_SIZED(RWLockReleased)
+ANNOTATES_SIZED(NewMemory)
+ANNOTATES_SIZED(PublishMemoryRange)
+ANNOTATES_SIZED(UnpublishMemoryRange)

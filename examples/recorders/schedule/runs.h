@@ -15,7 +15,7 @@ struct searching {
     bool judges;
     bool said_own_threads;
     uint64_t accesses, atomics, locks;
-    uint64_t operations, overlapping;
+    uint64_t operations, overlapping, events;
 };
 
 enum { DEFAULT_RUNS = 300, DEFAULT_SECONDS = 30, MAX_PATH_BYTES = 4096, MAX_LINE_BYTES = 1024 };

@@ -135,6 +135,7 @@ struct fifobench_search {
     unsigned threads;
     size_t operations;      // of each thread; 0: drawn from the seed, 100 or fewer
     unsigned seconds;       // after which a run that doesn't end is given up; 0: 30
+    int keep;               // the histories without a violation are kept too
     // Makes one run, in the child: prepares a queue, calls fifobench_schedule_begin and so on. The events are those of
     // fifobench_schedule_called and _returned.
     void (*run)(void *context, uint64_t seed, size_t operations);

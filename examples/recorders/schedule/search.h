@@ -274,6 +274,7 @@ static int tell_violation(const struct searching *of, uint64_t seed, const struc
 
 static void count_run(struct searching *of)
 {
+    of->events += tape->events;
     of->accesses += tape->accesses;
     of->atomics += tape->atomics;
     of->locks += tape->locks;
@@ -330,8 +331,10 @@ static int search_one(struct searching *of, uint64_t seed)
     if (strncmp(outcome.verdict, "NO ", 3) == 0) {
         return tell_violation(of, seed, &outcome, outcome.verdict, "", history, report);
     }
-    if (of->judges) {
+    if (of->judges && !of->settings->keep) {
         remove(history);
+    }
+    if (of->judges) {
         remove(report);
     }
     return 0;
@@ -386,11 +389,15 @@ int fifobench_search_runs(const struct fifobench_search *settings)
                 settings->folder);
     }
     int answer = 0;
-    for (unsigned made = 0; made < runs && answer == 0; made++) {
+    unsigned made = 0;
+    for (; made < runs && answer == 0; made++) {
         answer = search_one(&of, seed + made);
     }
     rmdir(settings->folder); // if it is empty
     answer = answer == 0 ? tell_none(&of, seed, runs) : answer;
+    if (settings->keep && of.judges && answer != 2) {
+        printf("  kept:    %u judged runs with %" PRIu64 " events in %s\n", made, of.events, settings->folder);
+    }
     fflush(stdout);
     free_tape(tape);
     tape = NULL;

@@ -1,15 +1,14 @@
-// Package field is what the Go programs of this folder share: a search over one of their queues, with the settings of
-// the arguments.
+// Package field is what the Go programs of this folder share: a search over one of their queues.
 //
-//	PROGRAM QUEUE [--size S] [--threads T] [--ops N] [--pattern P] [--runs R] [--seed S] [--initial K] [--drain 0|1]
-//		[--timeout SECONDS] [--folder F]
+//	PROGRAM QUEUE SIZE THREADS PRODUCERS OPERATIONS RUNS INITIAL DRAIN FOLDER
+//
+// SIZE is the capacity of a bounded queue. The others are settings of the recorder; DRAIN is 0 or 1.
 package field
 
 import (
 	"fmt"
 	"os"
-	"strconv"
-	"time"
+	"strings"
 
 	"fifobench"
 )
@@ -29,50 +28,16 @@ func (calls Calls) Dequeue() (uint64, bool) { return calls.Take() }
 
 // Run searches, and ends the program with the status of the search; 2 if the arguments are wrong.
 func Run(queues Queues) {
-	options, size := fifobench.Defaults(), 1024
-	options.First = 1 // values are 1 and more, as in the other languages
-	if len(os.Args) < 2 || queues[os.Args[1]] == nil {
-		refuse("no such queue")
+	options := fifobench.Defaults()
+	options.First, options.Keep = 1, true // values are 1 and more, as in the other languages
+	var name string
+	var size, drain int
+	_, err := fmt.Sscan(strings.Join(os.Args[1:], " "), &name, &size, &options.Threads, &options.Producers,
+		&options.Operations, &options.Runs, &options.Initial, &drain, &options.Folder)
+	if err != nil || queues[name] == nil {
+		fmt.Fprintln(os.Stderr, "field: no such queue, or fewer than nine arguments")
+		os.Exit(int(fifobench.Wrong))
 	}
-	for place := 2; place+1 < len(os.Args); place += 2 {
-		set(&options, &size, os.Args[place], os.Args[place+1])
-	}
-	answer := fifobench.Search(options, func() fifobench.Queue { return queues[os.Args[1]](size) })
-	os.Exit(int(answer))
-}
-
-func set(options *fifobench.Options, size *int, option, word string) {
-	number, err := strconv.Atoi(word)
-	switch option {
-	case "--pattern":
-		options.Pattern, err = fifobench.Pattern(word), nil
-	case "--folder":
-		options.Folder, err = word, nil
-	case "--size":
-		*size = number
-	case "--threads":
-		options.Threads = number
-	case "--ops":
-		options.Operations = number
-	case "--runs":
-		options.Runs = uint64(number)
-	case "--seed":
-		options.Seed = uint64(number)
-	case "--initial":
-		options.Initial = number
-	case "--drain":
-		options.Drain = number != 0
-	case "--timeout":
-		options.Timeout = time.Duration(number) * time.Second
-	default:
-		err = fmt.Errorf("no option %s", option)
-	}
-	if err != nil {
-		refuse(err.Error())
-	}
-}
-
-func refuse(why string) {
-	fmt.Fprintln(os.Stderr, "field:", why)
-	os.Exit(int(fifobench.Wrong))
+	options.Drain = drain == 1
+	os.Exit(int(fifobench.Search(options, func() fifobench.Queue { return queues[name](size) })))
 }

@@ -1,8 +1,8 @@
 // A buffered channel, and lists under a lock that are made wrong on purpose, recorded.
 //
 //	queue QUEUE                                        searches for a violation, status 0, 1 or 2
-//	queue QUEUE [--runs R] [--threads T] [--ops N] [--pattern P] [--percent K] [--seed S] [--folder F]
-//	    [--timeout SECONDS]                            the same with settings
+//	queue QUEUE [--runs R] [--threads T] [--producers N] [--ops N] [--pattern P] [--percent K] [--seed S]
+//	    [--folder F] [--keep 0|1] [--timeout SECONDS]  the same with settings
 //	queue QUEUE THREADS OPERATIONS [PATTERN [SEED]]    one run, written to standard output
 //
 // QUEUE is good (the channel), wrong (every 4th value that is found stays), stack (last in, first out), early (says
@@ -159,6 +159,12 @@ func set(options *fifobench.Options, name, word string) error {
 		options.Seed, err = number(name, word, 0, 4_294_967_295)
 	case "--folder":
 		options.Folder = word
+	case "--producers":
+		found, err = number(name, word, 0, 63)
+		options.Producers = int(found)
+	case "--keep":
+		found, err = number(name, word, 0, 1)
+		options.Keep = found == 1
 	case "--timeout":
 		found, err = number(name, word, 1, 86_400)
 		options.Timeout = time.Duration(found) * time.Second
