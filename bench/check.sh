@@ -1,17 +1,22 @@
 #!/usr/bin/env bash
-# How fast `check` is, beside a plain checker in Rust: ratios of time and memory, growth, and the stages. Nothing here is a test.
+# How fast `check` is, beside a plain checker in Rust: ratios of time and
+# memory, growth, and the stages. Nothing here is a test.
 #
-#   bench/check.sh [PROGRAM]      PROGRAM is the built fifobench; by default that of this repository
+#   bench/check.sh [PROGRAM]      PROGRAM is the built fifobench; by default
+#                                 that of this repository
 #
 # Settings by environment:
 #   BENCH_SIZES    numbers of events (default "20000 200000 2000000")
-#   BENCH_KINDS    kinds of history, as bench/generate.rs has them (default "yes names wide never
-#                  refused empty initial fresh repeat order witness initial-witness long")
+#   BENCH_KINDS    kinds of history, as bench/generate.rs has them (default "yes
+#                  names wide never refused empty initial fresh repeat order
+#                  witness initial-witness long")
 #   BENCH_ROUNDS   runs of each program on each history (default 9)
 #
-# Needs rustc and python3. The figures mean something on an idle machine alone: the last line says how busy it was.
+# Needs rustc and python3. The figures mean something on an idle machine alone:
+# the last line says how busy it was.
 set -euo pipefail
 here=$(cd "$(dirname "${BASH_SOURCE[0]}")" && pwd)
+. "$here/../extras/heads"
 program=$(realpath "${1:-$here/../crates/fifobench/out/fifobench}")
 if [ ! -x "$program" ]; then
   echo "bench: no program at $program" >&2

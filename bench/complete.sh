@@ -1,16 +1,22 @@
 #!/usr/bin/env bash
-# What `complete` costs beside `check`, on a history of 64 threads each of which has a pending call. Nothing here is a test.
+# What `complete` costs beside `check`, on a history of 64 threads each of which
+# has a pending call. Nothing here is a test.
 #
-#   bench/complete.sh [PROGRAM]      PROGRAM is the built fifobench; by default that of this repository
+#   bench/complete.sh [PROGRAM]      PROGRAM is the built fifobench; by default
+#                                    that of this repository
 #
 # Settings by environment:
-#   BENCH_SIZES    numbers of events before the last return of each thread is left out (default "200000 2000000")
+#   BENCH_SIZES    numbers of events before the last return of each thread is
+#                  left out (default "200000 2000000")
 #   BENCH_ROUNDS   runs of each command on each history (default 9)
 #
-# A line for each size: processor time and peak memory of `complete` over the pending text, of `check` over what it writes, and the
-# median of the rounds' ratios of time. Needs rustc and python3. The figures mean something on an idle machine alone.
+# A line for each size: processor time and peak memory of `complete` over the
+# pending text, of `check` over what it writes, and the median of the rounds'
+# ratios of time. Needs rustc and python3. The figures mean something on an idle
+# machine alone.
 set -euo pipefail
 here=$(cd "$(dirname "${BASH_SOURCE[0]}")" && pwd)
+. "$here/../extras/heads"
 program=$(realpath "${1:-$here/../crates/fifobench/out/fifobench}")
 if [ ! -x "$program" ]; then
   echo "bench: no program at $program" >&2

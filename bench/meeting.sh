@@ -1,12 +1,15 @@
 #!/usr/bin/env bash
-# How much the workers of a run meet, beside a plain recorder in Rust, and what a run costs.
+# How much the workers of a run meet, beside a plain recorder in Rust, and what
+# a run costs.
 #
-#   bench/meeting.sh [SEEDS]     for each sound queue SEEDS runs (default 50) with 2 and with 4 workers
+#   bench/meeting.sh [SEEDS]     for each sound queue SEEDS runs (default 50)
+#                                with 2 and with 4 workers
 #
-# Needs rustc and python3 beside what the program needs. The figures mean something on an idle machine alone: the last line
-# says how busy it was.
+# Needs rustc and python3 beside what the program needs. The figures mean
+# something on an idle machine alone: the last line says how busy it was.
 set -euo pipefail
 top=$(cd "$(dirname "${BASH_SOURCE[0]}")/.." && pwd)
+. "$top/extras/heads"
 folder=$(mktemp -d)
 trap 'rm -rf "$folder"' EXIT
 rustc --edition 2021 -O "$top/bench/plain_recorder.rs" -o "$folder/plain_recorder"
