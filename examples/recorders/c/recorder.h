@@ -479,7 +479,7 @@ static inline int recorder_judge_pending(const struct recorder_settings *one, co
         if (status == 0) {
             fprintf(stderr, "YES: a right queue can have behaved so until then. %s\n  see it:  ", fault);
             if (calls <= RECORDER_MAX_DRAWN && one->initial <= RECORDER_MAX_DRAWN) {
-                fprintf(stderr, "%s complete < %s | %s draw --text\n", program, pending, program);
+                fprintf(stderr, "%s draw --text < %s\n", program, pending);
             } else {
                 fprintf(stderr, "tail -n 40 < %s\n", pending);
             }

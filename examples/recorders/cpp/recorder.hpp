@@ -445,7 +445,7 @@ public:
         if (status == 0) {
             const int answer = check(true);
             if (answer == 0) {
-                const std::string drawn = program_ + " complete < " + pending + " | " + program_ + " draw --text";
+                const std::string drawn = program_ + " draw --text < " + pending;
                 std::cerr << "YES: a right queue can have behaved so until then. " << fault << "\n  see it:  "
                           << (history.is_drawn() ? drawn : "tail -n 40 < " + pending) << std::endl;
             }

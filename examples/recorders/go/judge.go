@@ -131,7 +131,7 @@ func (options *Options) judgePending(history *History, pending string) (Answer, 
 		}
 		fmt.Fprintf(os.Stderr, "YES: a right queue can have behaved so until then. If the queue promises %s, ", promise)
 		fmt.Fprintf(os.Stderr, "the %s itself is the fault.\n", history.ending)
-		see := program + " complete < " + pending + " | " + program + " draw --text"
+		see := program + " draw --text < " + pending
 		if len(history.events)+len(history.openCalls()) > 2*maxDrawn || len(history.initial) > maxDrawn {
 			see = "tail -n 40 < " + pending
 		}

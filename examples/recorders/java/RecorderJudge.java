@@ -171,7 +171,7 @@ final class RecorderJudge {
                     + ", the " + history.ending + " itself is the fault.");
             int ends = history.events.size() + history.openCalls().size();
             boolean isDrawn = Math.max(ends, 2 * history.initial.size()) <= 2 * MAX_DRAWN;
-            String drawn = program() + " complete < " + pending + " | " + program() + " draw --text";
+            String drawn = program() + " draw --text < " + pending;
             System.err.println("  see it:  " + (isDrawn ? drawn : "tail -n 40 < " + pending));
             if (tellAgain != null) {
                 tellAgain.accept(history.ending);

@@ -700,7 +700,7 @@ def _judge_pending(options, history, pending, tell_again):
         if answer == Answer.NO_VIOLATION:
             is_drawn = max(len(history.operations()), len(history._initial)) <= MAX_DRAWN
             program = _program(options)
-            see = f"{program} complete < {pending} | {program} draw --text" if is_drawn else f"tail -n 40 < {pending}"
+            see = f"{program} draw --text < {pending}" if is_drawn else f"tail -n 40 < {pending}"
             print(f"YES: a right queue can have behaved so until then. {_FAULTS[history.ending]}\n"
                   f"  see it:  {see}", file=sys.stderr, flush=True)
             if tell_again is not None:

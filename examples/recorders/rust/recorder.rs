@@ -781,7 +781,7 @@ fn judge_pending(options: &Options, of: &History, pending: &Path, fault: &str) -
         if answer == Answer::NoViolation {
             // `draw` refuses more than 400 operations or initial values.
             let twice = (of.events.len() + of.open_calls().len()).max(2 * of.initial.len());
-            let drawn = (twice <= 800).then(|| format!("{program} complete < {pending} | {program} draw --text"));
+            let drawn = (twice <= 800).then(|| format!("{program} draw --text < {pending}"));
             let see = drawn.unwrap_or(format!("tail -n 40 < {pending}"));
             say(&format!("YES: a right queue can have behaved so until then. {fault}\n  see it:  {see}"));
         }

@@ -142,7 +142,7 @@ static void tell_completable(const char *program, const char *pending, const str
     bool is_drawn = tape->events + open_calls(tape, open) <= 800 && tape->initial <= 400;
     fprintf(stderr, "YES: a right queue can have behaved so until then. %s\n  see it:  ", name_early(outcome).fault);
     if (is_drawn) {
-        fprintf(stderr, "%s complete < %s | %s draw --text\n", program, pending, program);
+        fprintf(stderr, "%s draw --text < %s\n", program, pending);
     } else {
         fprintf(stderr, "tail -n 40 < %s\n", pending);
     }
