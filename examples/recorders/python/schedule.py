@@ -573,13 +573,18 @@ class Scheduler:
         self._count(seat)
         frame = sys._getframe(2)
         other = self.strategy.next(seat, why)
-        if other is None and self.has_foreign:
+        if other is None and self._has_foreign():
             other = self._wait_for_foreign(seat)
         if other is None:
             self._end("deadlock", seat)
         self._go_on(seat, other, why, frame)
         seat.relaxes = False
         self._set_stop(seat)
+
+    def _has_foreign(self):
+        """Whether a thread of the queue's own runs free. It may have taken a lock before the run began."""
+        waited = [one.waits_for for one in self.seats if isinstance(one.waits_for, locks.Lock)]
+        return self.has_foreign or any(lock.foreign for lock in waited)
 
     def _wait_for_foreign(self, seat):
         """A thread of the queue's own may release what the others wait for. The watchdog bounds this."""
@@ -632,7 +637,7 @@ class Scheduler:
             return
         seat.point += 1
         other = self.strategy.next(seat, "leaves")
-        if other is None and self.has_foreign:
+        if other is None and self._has_foreign():
             other = self._wait_for_foreign(seat)
         if other is None:
             self._end("deadlock", None)

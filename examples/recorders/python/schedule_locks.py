@@ -24,12 +24,19 @@ class Lock:
 
     def __init__(self):
         self._lock = REAL["Lock"]()
+        self.foreign = set()    # threads of the queue's own that take it, or have it
 
     def acquire(self, blocking=True, timeout=-1):
-        seat = seats.get(threading.get_ident())
+        me = threading.get_ident()
+        seat = seats.get(me)
         if seat is None:
             _note_foreign()
-            return self._lock.acquire(blocking, timeout)
+            if me not in _makers:
+                self.foreign.add(me)
+            is_taken = self._lock.acquire(blocking, timeout)
+            if not is_taken:
+                self.foreign.discard(me)
+            return is_taken
         seat.touch()
         seconds = None if timeout < 0 else timeout
         while not self._lock.acquire(False):
@@ -39,6 +46,7 @@ class Lock:
 
     def release(self):
         self._lock.release()
+        self.foreign.discard(threading.get_ident())
         scheduler = now[0]
         if scheduler is not None:
             scheduler.released(self)
