@@ -112,7 +112,7 @@ abbrev pub IsDrawableOf : Ahead → Drawable → Type 0
 IsDrawableOf input (alone text) = HasPendingText text × IsWhole (pending_text text) input
 IsDrawableOf input (with_claim claim) = IsClaimOf input claim
 
--- the fault of what comes after a text of so many lines: after one that counts pending calls, that the input isn't over;
+-- the fault of what comes after a text, by its number of lines: after one that counts pending calls, that the input isn't over;
 -- after a history that of a verdict, but input that is over has none
 abbrev pub FaultBehind : Option ℕ → ℕ → Ending → List ℕ → TextFault → Type 0
 FaultBehind (Some calls) lines ending rest fault = IsFaultOfEnd ending rest fault
