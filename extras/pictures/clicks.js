@@ -11,7 +11,7 @@
 
   is('what is shown', false, document.querySelector('aside').hidden);
   is('the lines', '2 9 1 empty,0 1 0 enq 7,5 6 0 deq 7,3 4 0 enq 9,10 11 0 deq 9', buttons.map(b => b.textContent).join());
-  is('the history', HISTORY, by('text').value);
+  is('what is copied', REPORT, by('text').value);
   is('what is asked for elsewhere', 0, performance.getEntriesByType('resource').filter(e => !e.name.startsWith('data:')).length);
 
   // The empty answer: 7 was enqueued before it, 9 was dequeued after it, and the others overlap it.

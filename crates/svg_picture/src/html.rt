@@ -37,8 +37,8 @@ g[data-how=after] rect:not(.pill),.after{fill:#e3daf5;stroke:#5b3f9e;background:
 <p id='say' aria-live='polite'>Choose an operation to see what precedes it.</p>\n\
 <p><span class='before'>precedes it</span> <span class='beside'>overlaps it</span>\n\
 <span class='after'>follows it</span></p>\n\
-<details><summary>what is drawn, as text</summary>\n\
-<textarea id='text' rows='12' readonly aria-label='what is drawn, as text'></textarea>\n\
+<details><summary>what shows it, as text</summary>\n\
+<textarea id='text' rows='12' readonly aria-label='what shows it, as text'></textarea>\n\
 <button id='copy'>copy</button></details>\n\
 </aside>\n\
 <main>\n";
@@ -51,16 +51,17 @@ fn page_head() -> &'static [u8]
 }
 
 /// The end of the picture, and the script: the bars by their titles; what precedes an operation, overlaps it and follows it; the lines
-/// of the verdict, and the history as text, a pending one if a call never returned; heads that stay, and zoom to fit.
+/// of the verdict; as text the history that shows it, without what is drawn around it, and the verdict, or a pending text if a call
+/// never returned; heads that stay, and zoom to fit.
 pub(crate) const PAGE_FOOT: &[u8] = b"</main>\n\
 <script>\n\
 (() => { const by = id => document.getElementById(id); const svg = document.querySelector('svg');\n\
-const bars = [], first = []; for (const g of svg.querySelectorAll('g')) {\n\
+const bars = []; for (const g of svg.querySelectorAll('g')) {\n\
 const told = g.querySelector('title').textContent;\n\
 const number = +(/, number ([0-9]+)$/.exec(told) || [])[1] || 0;\n\
 const o = /^thread ([0-9]+): (enq|deq|not|empty) ?([0-9]*), tickets? ([0-9]+)(?: to ([0-9]+))?/.exec(told);\n\
-const v = /^init ([0-9]+)/.exec(told); if (v) { first.push(v[1]);\n\
-bars.push({g, told, number, call: -1, ret: -1, line: v[0]}); } else {\n\
+const v = /^init ([0-9]+)/.exec(told);\n\
+if (v) { bars.push({g, told, number, call: -1, ret: -1, value: v[1], line: v[0]}); } else {\n\
 const line = [o[4], o[5] || 'pending', o[1], o[2], o[3]].join(' ').trim();\n\
 const ret = o[5] ? +o[5] : Infinity;\n\
 bars.push({g, told, number, call: +o[4], ret, thread: o[1], kind: o[2], value: o[3], line}); } }\n\
@@ -75,19 +76,25 @@ for (const b of bars) { b.g.setAttribute('tabindex', '0'); b.g.setAttribute('rol
 b.g.setAttribute('aria-label', b.told); b.g.addEventListener('click', () => mark(b));\n\
 b.g.addEventListener('keydown', e => { if (e.key === 'Enter' || e.key === ' ') { e.preventDefault(); mark(b);\n\
 } }); } document.addEventListener('keydown', e => e.key === 'Escape' && clear());\n\
-for (const b of bars.filter(b => b.number).sort((a, b) => a.number - b.number)) {\n\
+const numbered = bars.filter(b => b.number).sort((a, b) => a.number - b.number); for (const b of numbered) {\n\
 const line = document.createElement('li'); const button = document.createElement('button');\n\
 button.textContent = b.line; button.addEventListener('click', () => { mark(b);\n\
 b.g.scrollIntoView({block: 'center', inline: 'center'}); b.g.focus({preventScroll: true}); });\n\
-line.append(button); by('lines').append(line); } const events = []; for (const b of bars) if (b.kind) {\n\
+line.append(button); by('lines').append(line); }\n\
+const kinds = {'not there': 'VFresh', 'twice': 'VRepeat', 'of their enqueues': 'VOrd', 'never empty': 'VWit'};\n\
+const headline = svg.querySelector('title').textContent, yes = headline.startsWith('YES');\n\
+const kind = Object.keys(kinds).find(end => headline.endsWith(end));\n\
+const verdict = [yes ? 'YES' : 'NO ' + kinds[kind], ...numbered.map(b => b.line)];\n\
+const shown = bars.filter(b => yes || b.number), values = shown.filter(b => !b.kind).map(b => b.value);\n\
+const events = []; for (const b of shown) if (b.kind) {\n\
 const enq = b.kind === 'enq' || b.kind === 'not';\n\
 events.push([b.call, b.thread, enq ? 'call-enq ' + b.value : 'call-deq']);\n\
 if (b.ret < Infinity)\n\
 events.push([b.ret, b.thread, b.kind === 'deq' ? 'ret-deq ' + b.value : 'ret-' + b.kind]); }\n\
-events.sort((a, b) => a[0] - b[0]); const open = bars.filter(b => b.ret === Infinity).length;\n\
+events.sort((a, b) => a[0] - b[0]); const open = shown.filter(b => b.ret === Infinity).length;\n\
 const name = open ? 'fifo-pending ' : 'fifo-history ';\n\
-const head = first.length ? [name + 2, 'initial ' + first.length, ...first] : [name + 1];\n\
-const foot = [...(open ? ['open ' + open] : []), 'end ' + events.length, ''];\n\
+const head = values.length ? [name + 2, 'initial ' + values.length, ...values] : [name + 1];\n\
+const foot = [...(open ? ['open ' + open] : []), 'end ' + events.length, ...(open ? [] : verdict), ''];\n\
 const texts = [...head, ...events.map(e => e.join(' ')), ...foot];\n\
 by('text').value = texts.join(String.fromCharCode(10)); by('copy').addEventListener('click', () => {\n\
 by('text').select(); document.execCommand('copy'); });\n\
