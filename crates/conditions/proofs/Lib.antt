@@ -1,0 +1,9 @@
+-- The way of the argument:
+-- Showing: what lines show in a selection they show in the whole.
+-- Weaker: so the selections of a linearizable history are linearizable.
+-- Parts: the events of a selection.
+-- Places: a verdict on a selection, by the places of the whole.
+pub mod Showing
+pub mod Weaker
+pub mod Parts
+pub mod Places

@@ -1,0 +1,3 @@
+-- Relations that serve the contracts of private functions: no public promise names one.
+pub mod Moved
+pub mod Parts

@@ -1,0 +1,13 @@
+//! Laws of the conditions. The functions do nothing when they run.
+ghost use Rattle.conditions.specs.Laws.{ConditionsAreWeaker, SelectionsStayLinearizable, ViolationsAreOfTheWhole};
+
+/// Proves that what shows a violation in a selection of a history shows it in the whole history.
+pub fn violations_are_of_the_whole()
+    ensures { ViolationsAreOfTheWhole }
+{}
+
+/// Proves that each selection of a linearizable history is linearizable, so that it is linearizable under each weaker condition.
+pub fn conditions_are_weaker()
+    ensures selections { SelectionsStayLinearizable }
+    ensures conditions { ConditionsAreWeaker }
+{}

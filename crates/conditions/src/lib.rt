@@ -1,0 +1,12 @@
+//! Conditions weaker than linearizability, judged by selections of a history.
+#![tactic(auto)]
+
+mod laws;
+mod moved;
+mod part;
+mod producer;
+mod weak;
+
+pub use laws::{conditions_are_weaker, violations_are_of_the_whole};
+pub use producer::{Emptiness, Producer};
+pub use weak::{decide_weakly_empty, without_empties};
