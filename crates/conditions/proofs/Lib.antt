@@ -2,8 +2,10 @@
 -- Showing: what lines show in a selection they show in the whole.
 -- Weaker: so the selections of a linearizable history are linearizable.
 -- Parts: the events of a selection.
+-- Producing: who produces a value, and what belongs to a producer's selection.
 -- Places: a verdict on a selection, by the places of the whole.
 pub mod Showing
 pub mod Weaker
 pub mod Parts
+pub mod Producing
 pub mod Places

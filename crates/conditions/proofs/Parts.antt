@@ -3,7 +3,7 @@ use Rattle.std.proofs.Common.{◌≡◌, ℕ, ◌+◌, ◌<◌, ◌≤◌, ◌++
 use Rattle.std.specs.Prelude.{Contains, filter, flat_map, IsPermutation, nat_lt, slice_get}
 use Rattle.std.specs.List.Sorted.{IsNonDecreasingBy}
 use Rattle.std.proofs.lemmas.Bool.Decides.{nat_tests}
-use Rattle.std.proofs.lemmas.List.{append_assoc, append-nil, flat_map_more, map-append}
+use Rattle.std.proofs.lemmas.List.{append_assoc, append-nil, flat_map_more, map-append, take_all}
 use Rattle.std.proofs.lemmas.List.Elements.{All-contains, filter-append}
 use Rattle.std.proofs.lemmas.List.Sorted.{IsPermutation-cons, IsPermutation-middle, IsPermutation-refl, IsPermutation-sym, IsPermutation-trans}
 use Rattle.std.proofs.lemmas.Option.{get_or_from_slice_get, slice_get_within}
@@ -167,3 +167,8 @@ module _ (whole : HistoryView) (complete : IsCompleteFrom whole.initial whole.ev
 pub all_pass : {X : Type 0} (xs : List X) → filter (λ x. true) xs ≡ xs
 all_pass [] = refl
 all_pass (x ∷ xs) = ap (λ ys. x ∷ ys) (all_pass xs)
+
+-- at the end of the walk
+pub places_of_all : (test : Operation → Bool) (operations : List Operation) (i : ℕ) (places : List ℕ) → length operations ≤ i
+    → ArePlacesOf operations places (filter test (take i operations)) → ArePlacesOf operations places (filter test operations)
+places_of_all test operations i places past are = subst (λ os. ArePlacesOf operations places (filter test os)) (take_all i operations past) are

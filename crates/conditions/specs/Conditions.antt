@@ -1,6 +1,8 @@
 -- Conditions weaker than linearizability: selections of a history are linearizable.
-use Rattle.std.specs.Prelude.{ℕ, Bool, true, false, nat_eq, find, Option, Some, option_map, if◌then◌else◌}
+use Rattle.std.specs.Prelude.{ℕ, ◌<◌, ◌&&◌, Bool, true, false, nat_eq, List, ◌∷◌, filter, find, is_some, map, Option, Some, option_map, ⊤, if◌then◌else◌}
+use Rattle.std.specs.List.{list_any, range_with_len}
 use Rattle.std.specs.Option.{option_map_or}
+use Rattle.event_records.specs.declared.limits.TheConstants.{MAX_THREADS}
 use Rattle.history_merge.specs.declared.operation.Operation.{Operation}
 use Rattle.history_merge.specs.Faults.{is_initial}
 use Rattle.history_merge.specs.Initial.{Contents}
@@ -55,3 +57,24 @@ selection_of emptiness p whole = select (counts_for whole p) (λ call. judges_em
 -- the selection of each producer has a linearization
 abbrev pub IsLocallyLinearizable : Emptiness → Contents → Type 0
 IsLocallyLinearizable emptiness whole = (p : Producer) → AreLinearizable (selection_of emptiness p whole)
+
+-- ---- the producers of a history
+
+-- whether the producer may have values: a thread if it enqueues any, successfully or not
+abbrev pub has_values : Contents → Producer → Bool
+has_values whole Initial = true
+has_values whole (Thread t) = list_any (λ o. nat_eq o.thread t && is_some (enqueued_value o.kind)) whole.operations
+
+-- all producers in their order: that of the initial values, and then the threads by number
+abbrev pub all_producers : List Producer
+all_producers = Initial ∷ map Thread (range_with_len 0 MAX_THREADS)
+
+-- those of a history
+abbrev pub producers_of : Contents → List Producer
+producers_of whole = filter (has_values whole) all_producers
+
+-- the first producer comes before the second in this order
+abbrev pub ComesBefore : Producer → Producer → Type 0
+ComesBefore Initial (Thread t) = ⊤
+ComesBefore (Thread s) (Thread t) = s < t
+ComesBefore p Initial = ⊥

@@ -1,3 +1,4 @@
 -- Relations that serve the contracts of private functions: no public promise names one.
 pub mod Moved
 pub mod Parts
+pub mod Producers

@@ -2,11 +2,15 @@
 #![tactic(auto)]
 
 mod laws;
+mod local;
 mod moved;
 mod part;
 mod producer;
+mod producers;
+mod sharing;
 mod weak;
 
 pub use laws::{conditions_are_weaker, violations_are_of_the_whole};
+pub use local::{LocalOrder, LocalOrders, LocalVerdict, selection};
 pub use producer::{Emptiness, Producer};
 pub use weak::{decide_weakly_empty, without_empties};

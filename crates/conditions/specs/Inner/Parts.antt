@@ -7,6 +7,8 @@ use Rattle.history_merge.specs.Initial.{Contents, HistoryView, IsCompleteFrom}
 use Rattle.history_merge.specs.Legal.{ArePlacesOf}
 use Rattle.verdicts.specs.Selection.{ArePartOf, contents_of, select, selects}
 use Rattle.conditions.specs.declared.part.Part.{Part}
+use Rattle.conditions.specs.declared.producer.Producer.{Producer}
+use Rattle.conditions.specs.declared.producer.Producer.TheVariants.{Initial, Thread}
 
 -- the initial values, and the operations at the places, are this selection of the history
 pub record AreSelected (whole : Contents) (values empties : ℕ → Bool) (initial places : List ℕ) : Type 0 where
@@ -23,3 +25,8 @@ pub record IsPart (whole : HistoryView) (selected : Contents) (part : Part) : Ty
   pub events : ArePartOf whole.events part.history.events
   pub complete : IsCompleteFrom part.history.initial part.history.events
   pub places : ArePlacesOf (contents_of whole).operations part.places.items selected.operations
+
+-- the initial values of a producer's selection: all, or none
+abbrev pub initial_of : Producer → List ℕ → List ℕ
+initial_of Initial initial = initial
+initial_of (Thread t) initial = []
