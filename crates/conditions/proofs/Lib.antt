@@ -3,9 +3,11 @@
 -- Weaker: so the selections of a linearizable history are linearizable.
 -- Parts: the events of a selection.
 -- Producing: who produces a value, and what belongs to a producer's selection.
+-- SharedOut: the places of operations by producer.
 -- Places: a verdict on a selection, by the places of the whole.
 pub mod Showing
 pub mod Weaker
 pub mod Parts
 pub mod Producing
+pub mod SharedOut
 pub mod Places

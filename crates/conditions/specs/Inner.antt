@@ -2,3 +2,5 @@
 pub mod Moved
 pub mod Parts
 pub mod Producers
+pub mod Sharing
+pub mod Judging

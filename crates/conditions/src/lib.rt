@@ -1,16 +1,18 @@
 //! Conditions weaker than linearizability, judged by selections of a history.
 #![tactic(auto)]
 
+mod buckets;
 mod laws;
 mod local;
 mod moved;
 mod part;
 mod producer;
 mod producers;
+mod ranks;
 mod sharing;
 mod weak;
 
 pub use laws::{conditions_are_weaker, violations_are_of_the_whole};
-pub use local::{LocalOrder, LocalOrders, LocalVerdict, selection};
+pub use local::{LocalOrder, LocalOrders, LocalVerdict, decide_local, selection};
 pub use producer::{Emptiness, Producer};
 pub use weak::{decide_weakly_empty, without_empties};

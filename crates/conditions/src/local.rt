@@ -1,19 +1,28 @@
 //! Local linearizability.
-ghost use Rattle.std.specs.Prelude.{◌≡◌, IfOk};
+ghost use Rattle.std.specs.Prelude.{◌≡◌, ◌≤◌, IfOk, length};
+ghost use Rattle.event_records.specs.declared.limits.TheConstants.{MAX_INITIAL};
 ghost use Rattle.history_merge.specs.Initial.{IsCompleteFrom};
+ghost use Rattle.history_merge.specs.Legal.{ArePlacesOf};
+ghost use Rattle.history_merge.specs.Operations.{operations_of};
 ghost use Rattle.verdicts.specs.Selection.{ArePartOf, contents_of};
+ghost use Rattle.conditions.specs.declared.producer.Emptiness.{Emptiness};
 ghost use Rattle.conditions.specs.Conditions.{selection_of};
+ghost use Rattle.conditions.specs.Decided.{IsDecidedOf, IsLocallyDecided};
 ghost use Rattle.conditions.specs.Inner.Parts.{IsPart, initial_of};
+ghost use Rattle.conditions.specs.Inner.Sharing.{AreSharedOut};
 
+use crate::buckets::{Bucket, share_out};
+use crate::moved::moved_verdict;
 use crate::part::{Part, part_of};
 use crate::producer::{Emptiness, Producer};
 use crate::producers::Producers;
+use crate::ranks::{PRODUCERS, marked, ranked};
 use crate::sharing::places_selected;
 use event_records::OwnedSlice;
-use history_merge::History;
+use history_merge::{History, OpId};
 use std::alloc::{AllocError, Global};
 use value_match::Violation;
-use verdicts::Order;
+use verdicts::{Order, Verdict, decide};
 
 /// A linearization of a producer's selection.
 #[derive(Debug, Drop)]
@@ -83,4 +92,72 @@ pub fn selection(
 {
     let Part { history, places: _ } = part_for(alloc, history, producer, emptiness)?;
     Ok(history)
+}
+
+/// Decides whether a producer's selection is linearizable, by places of the whole history.
+fn decide_selection(
+    alloc: Global,
+    history: &History,
+    producer: Producer,
+    places: &[OpId],
+) -> Result<Verdict, AllocError>
+    requires { (emptiness : Emptiness) × ArePlacesOf (operations_of history.now.events) places.now (selection_of emptiness producer (contents_of history.now)).operations }
+    ensures { IfOk result (λ verdict. (emptiness : Emptiness)
+        → ArePlacesOf (operations_of history.now.events) places.now (selection_of emptiness producer (contents_of history.now)).operations
+        → IsDecidedOf (contents_of history.now) (selection_of emptiness producer (contents_of history.now)) verdict) }
+{
+    let initial = initial_of(alloc, history.initial(), producer)?;
+    let copied = Vec::from_slice(alloc, places)?;
+    let part = part_of(alloc, history, initial, copied)?;
+    let verdict = decide(alloc, &part.history)?;
+    moved_verdict(alloc, places, &verdict)
+}
+
+/// Decides for each producer's selection, up to the first that isn't linearizable.
+fn decide_selections(
+    alloc: Global,
+    history: &History,
+    used: &[bool],
+    buckets: &[Bucket],
+) -> Result<LocalVerdict, AllocError>
+    requires complete { IsCompleteFrom history.now.initial history.now.events }
+    requires few { length history.now.initial ≤ MAX_INITIAL }
+    requires shared { (emptiness : Emptiness) × AreSharedOut emptiness (contents_of history.now) used.now buckets.now }
+    ensures { IfOk result (λ verdict. (emptiness : Emptiness) → AreSharedOut emptiness (contents_of history.now) used.now buckets.now
+        → IsLocallyDecided emptiness (contents_of history.now) verdict) }
+{
+    let mut orders = Vec::new(alloc);
+    for rank in 0..PRODUCERS {
+        if used[rank] {
+            let producer = ranked(rank);
+            match decide_selection(alloc, history, producer, buckets[rank].as_slice())? {
+                Verdict::Yes(order) => orders.push(LocalOrder { producer, order })?,
+                Verdict::No(violation) => return Ok(LocalVerdict::No(producer, violation)),
+            }
+        }
+    }
+    Ok(LocalVerdict::Yes(LocalOrders::from_vec(orders)))
+}
+
+/// Decides whether a history is locally linearizable (Haas, Henzinger, Holzer, Kirsch, Lippautz, Payer, Sezgin, Sokolova and Veith,
+/// CONCUR 2016): whether each producer's [`selection`] is linearizable.
+///
+/// `Yes` has a linearization for each producer of the history: for that of the initial values, and then for each thread that enqueues
+/// a value, by number. `No` has the first of these whose selection isn't linearizable, with the violation that [`verdicts::decide`]
+/// chooses in it. All is named by places of the whole history, of which the violation is one too.
+///
+/// Time O((n + p e) log n) for n events, p producers and e empty dequeues, and memory in proportion to n + p e.
+pub fn decide_local(
+    alloc: Global,
+    history: &History,
+    emptiness: Emptiness,
+) -> Result<LocalVerdict, AllocError>
+    ensures { IfOk result (IsLocallyDecided emptiness (contents_of history.now)) }
+{
+    let producers = Producers::new(alloc, history)?;
+    let operations = history.operations();
+    let used = marked(&operations);
+    let buckets = share_out(alloc, &operations, &producers, emptiness, &used)?;
+    let _initial = history.initial();
+    decide_selections(alloc, history, &used, buckets.as_slice())
 }

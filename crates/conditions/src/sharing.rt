@@ -43,7 +43,7 @@ fn share_of_value(producer: Option<Producer>) -> Share
 }
 
 /// Returns whose selections an operation belongs to that did this.
-fn share_of(producers: &Producers, emptiness: Emptiness, kind: OpKind) -> Share
+pub(crate) fn share_of(producers: &Producers, emptiness: Emptiness, kind: OpKind) -> Share
     ensures { (whole : Contents) → AreProducers whole producers.now.by_value.items → result ≡ share_of whole emptiness kind }
 {
     match kind {
