@@ -4,10 +4,12 @@
 -- Parts: the events of a selection.
 -- Producing: who produces a value, and what belongs to a producer's selection.
 -- SharedOut: the places of operations by producer.
+-- Judged: one producer's selection after another is judged.
 -- Places: a verdict on a selection, by the places of the whole.
 pub mod Showing
 pub mod Weaker
 pub mod Parts
 pub mod Producing
 pub mod SharedOut
+pub mod Judged
 pub mod Places

@@ -188,14 +188,24 @@ module _ (whole : Contents) (values empties : ℕ → Bool) (places : List ℕ)
         }
 
 -- the same of a part of a history
+pub decided_at : (whole : HistoryView) (values empties : ℕ → Bool) (part : Part) (verdict : Verdict) (places : List ℕ) (moved : Verdict)
+    → IsPart whole (select values empties (contents_of whole)) part
+    → ArePlacesOf (operations_of whole.events) places (select values empties (contents_of whole)).operations
+    → ((p : ℕ) → p < length (filter values whole.initial) → slice_get whole.initial p ≡ slice_get (filter values whole.initial) p)
+    → IsDecided part.history.initial (operations_of part.history.events) verdict → moved ≡ moved_verdict places verdict
+    → IsDecidedOf (contents_of whole) (select values empties (contents_of whole)) moved
+decided_at whole values empties part verdict places moved is_part at same_initial decided is =
+    let chosen = select values empties (contents_of whole) in
+    let decided' : IsDecided chosen.initial chosen.operations verdict =
+    subst (λ (c : Contents). IsDecided c.initial c.operations verdict) is_part.contents decided in
+    subst (IsDecidedOf (contents_of whole) chosen) (sym is)
+    (decided_by_places (contents_of whole) values empties places at same_initial verdict decided')
+
 pub decided_of_part : (whole : HistoryView) (values empties : ℕ → Bool) (part : Part) (verdict : Verdict) (places : List ℕ) (moved : Verdict)
     → IsPart whole (select values empties (contents_of whole)) part → places ≡ part.places.items
     → ((p : ℕ) → p < length (filter values whole.initial) → slice_get whole.initial p ≡ slice_get (filter values whole.initial) p)
     → IsDecided part.history.initial (operations_of part.history.events) verdict → moved ≡ moved_verdict places verdict
     → IsDecidedOf (contents_of whole) (select values empties (contents_of whole)) moved
 decided_of_part whole values empties part verdict places moved is_part is_places same_initial decided is =
-    let chosen = select values empties (contents_of whole) in
-    let decided' : IsDecided chosen.initial chosen.operations verdict =
-    subst (λ (c : Contents). IsDecided c.initial c.operations verdict) is_part.contents decided in
-    subst (IsDecidedOf (contents_of whole) chosen) (sym (is ∙ ap (λ ps. moved_verdict ps verdict) is_places))
-    (decided_by_places (contents_of whole) values empties part.places.items is_part.places same_initial verdict decided')
+    let at = subst (λ ps. ArePlacesOf (operations_of whole.events) ps (select values empties (contents_of whole)).operations) (sym is_places) is_part.places in
+    decided_at whole values empties part verdict places moved is_part at same_initial decided is

@@ -1,11 +1,11 @@
 -- Who produces a value, as it is looked up, and what belongs to a producer's selection.
-use Rattle.std.proofs.Common.{◌≡◌, ◌≢◌, ℕ, zero, suc, ◌+◌, ◌-◌, ◌<◌, ◌≤◌, ◌⊎◌, ◌++◌, inl, inr, Bool, true, false, cond, List, [], ◌∷◌, length, get_or, map}
+use Rattle.std.proofs.Common.{◌≡◌, ◌≢◌, ℕ, zero, ◌+◌, ◌<◌, ◌≤◌, ◌⊎◌, inl, inr, Bool, true, false, cond, List, [], ◌∷◌, length, get_or, map}
 use Rattle.std.proofs.Common.{Option, Some, None, Result, Ok, Err, refl, ap, sym, subst, ◌∙◌, arith}
 use Rattle.std.specs.Prelude.{Contains, filter, filter_map, find, IsPermutation, MatchResult, nat_eq, nat_lt, option_map, slice_get}
 use Rattle.std.specs.List.Sorted.{IsBinarySearchResult, IsNonDecreasingBy, IsSearchInRange}
 use Rattle.std.specs.Option.{option_map_or}
 use Rattle.std.specs.Ordering.{nat_cmp, ordering_index}
-use Rattle.std.proofs.lemmas.Bool.{cases_Bool, cases_lt, eq-eqb, eqb-true, le-leb, lt-ltb}
+use Rattle.std.proofs.lemmas.Bool.{cases_Bool, cases_lt, eq-eqb, eqb-true, lt-ltb}
 use Rattle.std.proofs.lemmas.Bool.Decides.{nat_tests}
 use Rattle.std.proofs.lemmas.Cmp.{ranked}
 use Rattle.std.proofs.lemmas.List.Elements.{Contains-append_cases, Contains-append_left, Contains-append_right, Contains-get_or, filter_agree}
@@ -22,7 +22,7 @@ use Rattle.history_merge.specs.Initial.{Contents, initial_enqueues, later_by}
 use Rattle.history_merge.specs.Inner.Timeline.{timeline}
 use Rattle.history_merge.specs.Operations.{enqueued_value}
 use Rattle.history_merge.proofs.Distinct.{contains_cons, found_first, not_in_none, place_of, contains_at, same_value_call}
-use Rattle.value_match.specs.Times.{initial_enqueue, initial_time}
+use Rattle.value_match.specs.Times.{initial_enqueue}
 use Rattle.value_match.proofs.Lists.{keeps, kept, mapped_from, mapped_to, one_deeper}
 use Rattle.value_match.proofs.ToldPlaces.{enqueue_place, enqueue_stands, few_initial, mapped_option}
 use Rattle.verdicts.specs.Selection.{selects, value_of}
@@ -77,7 +77,7 @@ calls_for (Not w) v is = let same : w ≡ v = cc in inr (ap Not same)
 calls_for (Deq w) v is = cc
 calls_for Empty v is = cc
 
-value_told : (o : Option ℕ) (v : ℕ) → option_map_or (λ w. nat_eq w v) o false ≡ true → o ≡ Some v
+pub value_told : (o : Option ℕ) (v : ℕ) → option_map_or (λ w. nat_eq w v) o false ≡ true → o ≡ Some v
 value_told None v is = cc
 value_told (Some w) v is = ap (λ x. Some x) (eqb-true w v is)
 
@@ -182,9 +182,11 @@ module _ (whole : Contents) (complete : AreComplete (timeline whole.initial whol
     | inr other ↦
         let mapped : option_map (λ (o : Operation). Thread o.thread) (find (enqueues v) whole.operations) ≡ Some p = rw other at is in
         let some = mapped_option (λ (o : Operation). Thread o.thread) (find (enqueues v) whole.operations) p mapped in
-        let first = found_first (enqueues v) whole.operations some.0 some.1 in
-        (later_by ORIGIN some.0, later_in some.0 (contains_at whole.operations first.place some.0 first.at),
-        value_told (enqueued_value some.0.kind) v first.passes)
+        let first = found_first (enqueues v) whole.operations some.0 some.1 in (
+          later_by ORIGIN some.0,
+          later_in some.0 (contains_at whole.operations first.place some.0 first.at),
+          value_told (enqueued_value some.0.kind) v first.passes,
+        )
   ]
 
   -- the values that are enqueued, by value, are those with a producer

@@ -1,11 +1,10 @@
 -- What lines show in a selection of a history they show in the whole.
-use Rattle.std.proofs.Common.{◌≡◌, ℕ, zero, suc, ◌<◌, ◌⊎◌, inl, inr, Bool, true, false, cond, List, [], ◌∷◌, Some, refl, ap, sym, subst, ◌∙◌, arith}
+use Rattle.std.proofs.Common.{◌≡◌, ℕ, zero, suc, ◌<◌, inl, inr, Bool, true, false, cond, List, [], ◌∷◌, Some, refl, ap, sym, subst, ◌∙◌, arith}
 use Rattle.std.specs.Prelude.{Contains, filter, slice_get}
 use Rattle.history_merge.specs.declared.operation.Operation.{Operation}
 use Rattle.history_merge.specs.declared.operation.OpKind.{OpKind}
 use Rattle.history_merge.specs.declared.operation.OpKind.TheVariants.{Deq, Empty, Enq, Not}
 use Rattle.history_merge.specs.Initial.{Contents}
-use Rattle.history_merge.specs.Operations.{Precedes}
 use Rattle.history_merge.proofs.Distinct.{contains_at, place_of}
 use Rattle.value_match.proofs.Lists.{passed_filter, passes_filter}
 use Rattle.verdicts.specs.declared.verifying.ClaimLine.{ClaimLine}
@@ -13,8 +12,8 @@ use Rattle.verdicts.specs.declared.verifying.ClaimLine.TheVariants.{Initial, Op}
 use Rattle.verdicts.specs.declared.verifying.ViolationKind.{ViolationKind}
 use Rattle.verdicts.specs.declared.verifying.ViolationKind.TheVariants.{VFresh, VOrd, VRepeat, VWit}
 use Rattle.verdicts.specs.Selection.{select, selects, value_of}
-use Rattle.verdicts.specs.Showing.{ComesBefore, EnqueuedBefore, LeavesAfter, LineDid, LinePrecedes, LinesCover, NoLineDid}
-use Rattle.verdicts.specs.Showing.{Shows, ShowsFresh, ShowsOrder, ShowsRepeat, ShowsWitness}
+use Rattle.verdicts.specs.Showing.{EnqueuedBefore, LeavesAfter, LineDid, LinePrecedes, LinesCover, NoLineDid}
+use Rattle.verdicts.specs.Showing.{ShowsFresh, ShowsOrder, ShowsRepeat, ShowsWitness}
 use Rattle.verdicts.proofs.NamedLines.{selects_as_value}
 use Rattle.conditions.specs.Laws.{ShowsIn, ViolationsAreOfTheWhole}
 

@@ -1,5 +1,5 @@
 -- The selections of a linearizable history are linearizable.
-use Rattle.std.proofs.Common.{◌≡◌, ℕ, ◌≤◌, Bool, true, false, List, length, ap, sym, subst, ◌∙◌, arith}
+use Rattle.std.proofs.Common.{◌≡◌, ℕ, ◌≤◌, Bool, true, false, List, length, subst, arith}
 use Rattle.std.specs.Prelude.{filter}
 use Rattle.event_records.specs.declared.event.Event.{Event}
 use Rattle.event_records.specs.declared.limits.TheConstants.{MAX_INITIAL}
@@ -8,7 +8,7 @@ use Rattle.history_merge.specs.Initial.{HistoryView, IsCompleteFrom}
 use Rattle.history_merge.specs.Legal.{IsLinearizable}
 use Rattle.history_merge.specs.Operations.{operations_of}
 use Rattle.verdicts.specs.Claiming.{lines_at, violation_kind}
-use Rattle.verdicts.specs.Selection.{AreLinearizable, contents_of, select, selects}
+use Rattle.verdicts.specs.Selection.{AreLinearizable, contents_of, selects}
 use Rattle.verdicts.specs.Showing.{Shows}
 use Rattle.verdicts.specs.Shown.{violation_places}
 use Rattle.verdicts.specs.Verdicts.{IsEvidence}

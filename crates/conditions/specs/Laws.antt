@@ -7,7 +7,6 @@ use Rattle.verdicts.specs.declared.verifying.ViolationKind.{ViolationKind}
 use Rattle.verdicts.specs.Selection.{AreLinearizable, contents_of, select}
 use Rattle.verdicts.specs.Showing.{Shows}
 use Rattle.conditions.specs.declared.producer.Emptiness.{Emptiness}
-use Rattle.conditions.specs.declared.producer.Emptiness.TheVariants.{Strict, Weak}
 use Rattle.conditions.specs.Conditions.{IsLocallyLinearizable, IsWeaklyLinearizable}
 
 -- what lines show in these contents

@@ -75,11 +75,7 @@ fn push_to(buckets: &mut Vec<Bucket>, rank: usize, place: OpId) -> Result<(), Al
 }
 
 /// Adds the place to each bucket in use.
-fn push_to_used(
-    buckets: &mut Vec<Bucket>,
-    used: &[bool],
-    place: OpId,
-) -> Result<(), AllocError>
+fn push_to_used(buckets: &mut Vec<Bucket>, used: &[bool], place: OpId) -> Result<(), AllocError>
     requires { length used.now ≡ length buckets.old.items }
     ensures sized { OnOk result (length buckets.new.items ≡ length buckets.old.items) }
     ensures pushed { OnOk result ((k : ℕ) → k < length buckets.old.items → slice_index_or used.now k false ≡ true

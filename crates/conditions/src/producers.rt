@@ -59,10 +59,7 @@ fn produced_by(operation: Operation) -> Option<Produced>
 }
 
 /// Returns the values that operations enqueue, with their producers, in the order of the operations.
-fn all_produced(
-    alloc: Global,
-    by_time: &[PackedOperation],
-) -> Result<Vec<Produced>, AllocError>
+fn all_produced(alloc: Global, by_time: &[PackedOperation]) -> Result<Vec<Produced>, AllocError>
     ensures { IfOk result (λ all. all.items ≡ filter_map produced_by by_time.now) }
 {
     let mut all = Vec::new(alloc);

@@ -5,7 +5,7 @@ use Rattle.history_merge.specs.declared.operation.Operation.{Operation}
 use Rattle.history_merge.specs.Events.{call_event, return_event}
 use Rattle.history_merge.specs.Initial.{Contents, HistoryView, IsCompleteFrom}
 use Rattle.history_merge.specs.Legal.{ArePlacesOf}
-use Rattle.verdicts.specs.Selection.{ArePartOf, contents_of, select, selects}
+use Rattle.verdicts.specs.Selection.{ArePartOf, contents_of, selects}
 use Rattle.conditions.specs.declared.part.Part.{Part}
 use Rattle.conditions.specs.declared.producer.Producer.{Producer}
 use Rattle.conditions.specs.declared.producer.Producer.TheVariants.{Initial, Thread}

@@ -12,7 +12,7 @@ use Rattle.conditions.specs.declared.producer.Producer.TheVariants.{Initial, Thr
 use Rattle.conditions.specs.declared.producers.Produced.{Produced}
 use Rattle.conditions.specs.declared.ranks.TheConstants.{PRODUCERS}
 use Rattle.conditions.specs.declared.sharing.Share.{Share}
-use Rattle.conditions.specs.Conditions.{has_values, selection_of}
+use Rattle.conditions.specs.Conditions.{selection_of}
 use Rattle.conditions.specs.Inner.Producers.{AreProducers, goes_to, share_of}
 
 -- the producer of this rank: its place among all producers

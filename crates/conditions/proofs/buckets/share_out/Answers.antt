@@ -1,4 +1,4 @@
-use Rattle.std.proofs.Common.{◌∙◌, ◌+◌, ap, arith, subst, sym, Global, List, Vec}
+use Rattle.std.proofs.Common.{◌∙◌, ◌+◌, ap, arith, subst, sym}
 use Rattle.std.specs.Prelude.{slice_get}
 use Rattle.conditions.specs.Inner.Sharing.{HasSharedOut}
 use Rattle.conditions.proofs.SharedOut.{all_shared_out, nothing_past, shared_further}

@@ -26,10 +26,12 @@ selected whole emptiness p read own from places is_own is_read is_from are = rec
 
 pub part_of-requires-clause-selected : goal.part_of-requires-clause-selected
 part_of-requires-clause-selected c =
-    let whole = c.args.history.now in
-    (counts_for (contents_of whole) c.args.producer, (λ call. judges_empties c.args.emptiness),
-    selected whole c.args.emptiness c.args.producer _ c.in_ok-initial.initial.items _ c.in_ok-places.places.items c.in_ok-initial.ensures c.initial.ensures.initial
-    c.operations.ensures.operations (c.in_ok-places.ensures (contents_of whole) c.in_ok-producers.ensures))
+    let whole = c.args.history.now in (
+      counts_for (contents_of whole) c.args.producer,
+      (λ call. judges_empties c.args.emptiness),
+      selected whole c.args.emptiness c.args.producer _ c.in_ok-initial.initial.items _ c.in_ok-places.places.items c.in_ok-initial.ensures c.initial.ensures.initial
+          c.operations.ensures.operations (c.in_ok-places.ensures (contents_of whole) c.in_ok-producers.ensures),
+    )
 
 pub returns : goal.returns
 returns c =

@@ -1,4 +1,4 @@
-use Rattle.std.proofs.Common.{◌∙◌, ◌++◌, ◌∷◌, [], ap, sym, List}
+use Rattle.std.proofs.Common.{◌∙◌, ◌++◌, ◌∷◌, [], ap, sym}
 use Rattle.std.specs.Prelude.{slice_get}
 use Rattle.event_records.specs.declared.event.Event.{Event}
 use Rattle.conditions.proofs.Parts.{listed_more, listed_same}

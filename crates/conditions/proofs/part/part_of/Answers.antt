@@ -1,8 +1,8 @@
-use Rattle.std.proofs.Common.{◌≡◌, ◌≤◌, ◌∙◌, ap, arith, length, subst, sym, List}
+use Rattle.std.proofs.Common.{◌≤◌, ◌∙◌, length, subst, sym, List}
 use Rattle.event_records.specs.declared.event.Event.{Event}
 use Rattle.event_records.specs.declared.limits.TheConstants.{MAX_EVENTS}
 use Rattle.history_merge.specs.Initial.{IsCompleteFrom}
-use Rattle.conditions.proofs.Parts.{complete_selected, events_selected, few_selected, part_is, sorted_are_selected}
+use Rattle.conditions.proofs.Parts.{complete_selected, few_selected, part_is, sorted_are_selected}
 use Rattle.conditions.proofs.part.part_of.Goals as goal
 
 pub history_of-requires-clause-few_events : goal.history_of-requires-clause-few_events

@@ -1,8 +1,6 @@
-use Rattle.std.proofs.Common.{◌≡◌, ◌∙◌, ap, subst, sym, true, false, List}
+use Rattle.std.proofs.Common.{ap, sym, true, false}
 use Rattle.std.specs.Prelude.{slice_get}
 use Rattle.std.proofs.lemmas.Result.{IfOk-weaker}
-use Rattle.verdicts.specs.Selection.{contents_of}
-use Rattle.conditions.specs.Conditions.{without_empties}
 use Rattle.conditions.proofs.Places.{decided_of_part}
 use Rattle.conditions.proofs.Parts.{all_pass}
 use Rattle.conditions.proofs.weak.decide_weakly_empty.Goals as goal
