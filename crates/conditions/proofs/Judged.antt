@@ -1,5 +1,7 @@
 -- One producer's selection after another is judged, and then all are.
-use Rattle.std.proofs.Common.{◌≡◌, ◌≢◌, ℕ, zero, suc, ◌+◌, ◌<◌, ◌≤◌, ◌++◌, inl, inr, Bool, true, false, cond, List, [], ◌∷◌, length, get_or, map, take, Option, Some, None, refl, ap, ap₂, sym, subst, ◌∙◌, arith}
+use Rattle.std.proofs.Common.{◌≡◌, ◌≢◌, ℕ, zero, suc, ◌+◌, ◌<◌, ◌≤◌, ◌++◌, inl, inr, Bool, true, false, cond, List}
+use Rattle.std.proofs.Common.{[], ◌∷◌, length, get_or, map, take, Option, Some, None, refl, ap, ap₂, sym, subst, ◌∙◌}
+use Rattle.std.proofs.Common.{arith}
 use Rattle.std.specs.Prelude.{All, filter, find, is_some, nat_eq, option_map, slice_get, ◌&&◌}
 use Rattle.std.specs.List.{range_with_len}
 use Rattle.std.specs.Option.{option_map_or}
@@ -26,7 +28,8 @@ use Rattle.conditions.specs.declared.producer.Emptiness.TheVariants.{Strict, Wea
 use Rattle.conditions.specs.declared.producer.Producer.{Producer}
 use Rattle.conditions.specs.declared.producer.Producer.TheVariants.{Initial, Thread}
 use Rattle.conditions.specs.declared.ranks.TheConstants.{PRODUCERS}
-use Rattle.conditions.specs.Conditions.{all_producers, ComesBefore, counts_for, enqueues, has_values, is_producer, judges_empties, producer_of, selection_of}
+use Rattle.conditions.specs.Conditions.{all_producers, ComesBefore, counts_for, enqueues, has_values, is_producer}
+use Rattle.conditions.specs.Conditions.{judges_empties, producer_of, selection_of}
 use Rattle.conditions.specs.Decided.{AreLocalOrders, IsDecidedOf, IsFirstRefuted}
 use Rattle.conditions.specs.Inner.Judging.{AreJudged}
 use Rattle.conditions.specs.Inner.Sharing.{AreMarked, AreSharedOut, enqueues_in, ranked}

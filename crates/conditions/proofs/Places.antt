@@ -1,5 +1,6 @@
 -- A verdict on a selection, by the places of the whole history.
-use Rattle.std.proofs.Common.{◌≡◌, ℕ, zero, suc, ◌<◌, ◌++◌, Bool, List, [], ◌∷◌, length, get_or, map, Option, Some, None, refl, ap, ap₂, sym, subst, ◌∙◌, arith}
+use Rattle.std.proofs.Common.{◌≡◌, ℕ, zero, suc, ◌<◌, ◌++◌, Bool, List, [], ◌∷◌, length, get_or, map, Option, Some}
+use Rattle.std.proofs.Common.{None, refl, ap, ap₂, sym, subst, ◌∙◌, arith}
 use Rattle.std.specs.Prelude.{All, Contains, filter, flat_map, option_map, slice_get}
 use Rattle.std.specs.List.{cons_option}
 use Rattle.std.proofs.lemmas.List.{map-append}
@@ -16,7 +17,8 @@ use Rattle.value_match.specs.declared.violation.CoverStep.{CoverStep}
 use Rattle.value_match.specs.declared.violation.Violation.{Violation}
 use Rattle.value_match.specs.declared.violation.Violation.TheVariants.{Fresh, Order, Repeat, Witness}
 use Rattle.value_match.proofs.Lists.{mapped_from, one_deeper}
-use Rattle.verdicts.specs.Claiming.{IsPlaceWithin, IsWithin, line_at, lines_at, operations_at, verdict_places, violation_kind}
+use Rattle.verdicts.specs.Claiming.{IsPlaceWithin, IsWithin, line_at, lines_at, operations_at, verdict_places}
+use Rattle.verdicts.specs.Claiming.{violation_kind}
 use Rattle.verdicts.specs.Decided.{IsDecided}
 use Rattle.verdicts.specs.Selection.{contents_of, select}
 use Rattle.verdicts.specs.Shown.{maybe_place, place_of_source, places_of_step, violation_places}

@@ -1,5 +1,6 @@
 //! Places of operations, by the producers to whose selections the operations belong.
-ghost use Rattle.std.specs.Prelude.{◌≡◌, ◌<◌, ◌≤◌, ◌++◌, ◌∷◌, ℕ, [], IfOk, OnOk, false, length, nat_eq, slice_index_or, true, vec_len, if◌then◌else◌};
+ghost use Rattle.std.specs.Prelude.{◌≡◌, ◌<◌, ◌≤◌, ◌++◌, ◌∷◌, ℕ, [], IfOk, OnOk, false, length, nat_eq};
+ghost use Rattle.std.specs.Prelude.{slice_index_or, true, vec_len, if◌then◌else◌};
 ghost use Rattle.event_records.specs.declared.limits.TheConstants.{MAX_EVENTS};
 ghost use Rattle.history_merge.specs.Initial.{Contents};
 ghost use Rattle.conditions.specs.Inner.Producers.{AreProducers};

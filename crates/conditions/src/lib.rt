@@ -13,6 +13,6 @@ mod sharing;
 mod weak;
 
 pub use laws::{conditions_are_weaker, violations_are_of_the_whole};
-pub use local::{LocalOrder, LocalOrders, LocalVerdict, decide_local, selection};
+pub use local::{LocalOrder, LocalOrders, LocalVerdict, decide_local, decide_local_par, selection};
 pub use producer::{Emptiness, Producer};
-pub use weak::{decide_weakly_empty, without_empties};
+pub use weak::{decide_weakly_empty, decide_weakly_empty_par, without_empties};

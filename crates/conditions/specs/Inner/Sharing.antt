@@ -1,5 +1,6 @@
 -- Places of operations, by the producers to whose selections the operations belong.
-use Rattle.std.specs.Prelude.{◌≡◌, ℕ, zero, suc, ◌<◌, ◌++◌, ◌&&◌, Bool, true, false, nat_eq, List, [], ◌∷◌, filter, is_some, length, slice_index_or, take, if◌then◌else◌}
+use Rattle.std.specs.Prelude.{◌≡◌, ℕ, zero, suc, ◌<◌, ◌++◌, ◌&&◌, Bool, true, false, nat_eq, List, [], ◌∷◌, filter}
+use Rattle.std.specs.Prelude.{is_some, length, slice_index_or, take, if◌then◌else◌}
 use Rattle.std.specs.List.{list_any}
 use Rattle.event_records.specs.declared.limits.TheConstants.{MAX_THREADS}
 use Rattle.history_merge.specs.declared.operation.Operation.{Operation}
