@@ -2,6 +2,7 @@
 #![tactic(auto)]
 
 mod buckets;
+mod in_pieces;
 mod laws;
 mod local;
 mod moved;
@@ -12,7 +13,8 @@ mod ranks;
 mod sharing;
 mod weak;
 
+pub use in_pieces::{decide_local_par, decide_weakly_empty_par};
 pub use laws::{conditions_are_weaker, violations_are_of_the_whole};
-pub use local::{LocalOrder, LocalOrders, LocalVerdict, decide_local, decide_local_par, selection};
+pub use local::{LocalOrder, LocalOrders, LocalVerdict, decide_local, selection};
 pub use producer::{Emptiness, Producer};
-pub use weak::{decide_weakly_empty, decide_weakly_empty_par, without_empties};
+pub use weak::{decide_weakly_empty, without_empties};

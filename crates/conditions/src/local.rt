@@ -4,7 +4,6 @@ ghost use Rattle.event_records.specs.declared.limits.TheConstants.{MAX_INITIAL};
 ghost use Rattle.history_merge.specs.Initial.{IsCompleteFrom};
 ghost use Rattle.history_merge.specs.Legal.{ArePlacesOf};
 ghost use Rattle.history_merge.specs.Operations.{operations_of};
-ghost use Rattle.parallel_finders.specs.declared.TheConstants.{MAX_PIECES};
 ghost use Rattle.verdicts.specs.Selection.{ArePartOf, contents_of};
 ghost use Rattle.conditions.specs.declared.producer.Emptiness.{Emptiness};
 ghost use Rattle.conditions.specs.Conditions.{selection_of};
@@ -22,9 +21,8 @@ use crate::sharing::places_selected;
 use event_records::OwnedSlice;
 use history_merge::{History, OpId};
 use std::alloc::{AllocError, Global};
-use std::thread::Threads;
 use value_match::Violation;
-use verdicts::{Order, Verdict, decide, decide_par};
+use verdicts::{Order, Verdict, decide};
 
 /// A linearization of a producer's selection.
 #[derive(Debug, Drop)]
@@ -48,7 +46,11 @@ pub enum LocalVerdict {
 }
 
 /// Returns the initial values of a producer's selection.
-fn initial_of(alloc: Global, initial: &[u64], producer: Producer) -> Result<Vec<u64>, AllocError>
+pub(crate) fn initial_of(
+    alloc: Global,
+    initial: &[u64],
+    producer: Producer,
+) -> Result<Vec<u64>, AllocError>
     ensures { IfOk result (λ own. own.items ≡ initial_of producer initial.now) }
 {
     match producer {
@@ -115,28 +117,6 @@ fn decide_selection(
     moved_verdict(alloc, places, &verdict)
 }
 
-/// The same by a search for a cover in pieces.
-fn decide_selection_par<R: Threads + Sync>(
-    rt: &R,
-    alloc: Global,
-    history: &History,
-    producer: Producer,
-    places: &[OpId],
-    pieces: usize,
-) -> Result<Verdict, AllocError>
-    requires pieces { (1 ≤ pieces) × (pieces ≤ MAX_PIECES) }
-    requires places { (emptiness : Emptiness) × ArePlacesOf (operations_of history.now.events) places.now (selection_of emptiness producer (contents_of history.now)).operations }
-    ensures { IfOk result (λ verdict. (emptiness : Emptiness)
-        → ArePlacesOf (operations_of history.now.events) places.now (selection_of emptiness producer (contents_of history.now)).operations
-        → IsDecidedOf (contents_of history.now) (selection_of emptiness producer (contents_of history.now)) verdict) }
-{
-    let initial = initial_of(alloc, history.initial(), producer)?;
-    let copied = Vec::from_slice(alloc, places)?;
-    let part = part_of(alloc, history, initial, copied)?;
-    let verdict = decide_par(rt, alloc, &part.history, pieces)?;
-    moved_verdict(alloc, places, &verdict)
-}
-
 /// Decides for each producer's selection, up to the first that isn't linearizable.
 fn decide_selections(
     alloc: Global,
@@ -155,36 +135,6 @@ fn decide_selections(
         if used[rank] {
             let producer = ranked(rank);
             match decide_selection(alloc, history, producer, buckets[rank].as_slice())? {
-                Verdict::Yes(order) => orders.push(LocalOrder { producer, order })?,
-                Verdict::No(violation) => return Ok(LocalVerdict::No(producer, violation)),
-            }
-        }
-    }
-    Ok(LocalVerdict::Yes(LocalOrders::from_vec(orders)))
-}
-
-/// The same by searches for covers in pieces.
-fn decide_selections_par<R: Threads + Sync>(
-    rt: &R,
-    alloc: Global,
-    history: &History,
-    used: &[bool],
-    buckets: &[Bucket],
-    pieces: usize,
-) -> Result<LocalVerdict, AllocError>
-    requires pieces { (1 ≤ pieces) × (pieces ≤ MAX_PIECES) }
-    requires complete { IsCompleteFrom history.now.initial history.now.events }
-    requires few { length history.now.initial ≤ MAX_INITIAL }
-    requires shared { (emptiness : Emptiness) × AreSharedOut emptiness (contents_of history.now) used.now buckets.now }
-    ensures { IfOk result (λ verdict. (emptiness : Emptiness) → AreSharedOut emptiness (contents_of history.now) used.now buckets.now
-        → IsLocallyDecided emptiness (contents_of history.now) verdict) }
-{
-    let mut orders = Vec::new(alloc);
-    for rank in 0..PRODUCERS {
-        if used[rank] {
-            let producer = ranked(rank);
-            let places = buckets[rank].as_slice();
-            match decide_selection_par(rt, alloc, history, producer, places, pieces)? {
                 Verdict::Yes(order) => orders.push(LocalOrder { producer, order })?,
                 Verdict::No(violation) => return Ok(LocalVerdict::No(producer, violation)),
             }
@@ -214,25 +164,4 @@ pub fn decide_local(
     let buckets = share_out(alloc, &operations, &producers, emptiness, &used)?;
     let _initial = history.initial();
     decide_selections(alloc, history, &used, buckets.as_slice())
-}
-
-/// What [`decide_local`] answers, where the searches for covers run in pieces that may run at once.
-///
-/// It uses [`verdicts::decide_par`]: whatever the number of pieces, the answer is the same.
-pub fn decide_local_par<R: Threads + Sync>(
-    rt: &R,
-    alloc: Global,
-    history: &History,
-    emptiness: Emptiness,
-    pieces: usize,
-) -> Result<LocalVerdict, AllocError>
-    requires { (1 ≤ pieces) × (pieces ≤ MAX_PIECES) }
-    ensures { IfOk result (IsLocallyDecided emptiness (contents_of history.now)) }
-{
-    let producers = Producers::new(alloc, history)?;
-    let operations = history.operations();
-    let used = marked(&operations);
-    let buckets = share_out(alloc, &operations, &producers, emptiness, &used)?;
-    let _initial = history.initial();
-    decide_selections_par(rt, alloc, history, &used, buckets.as_slice(), pieces)
 }

@@ -4,7 +4,6 @@ ghost use Rattle.event_records.specs.declared.limits.TheConstants.{MAX_EVENTS};
 ghost use Rattle.history_merge.specs.Initial.{IsCompleteFrom};
 ghost use Rattle.history_merge.specs.declared.operation.Operation.{Operation};
 ghost use Rattle.history_merge.specs.Legal.{ArePlacesOf};
-ghost use Rattle.parallel_finders.specs.declared.TheConstants.{MAX_PIECES};
 ghost use Rattle.verdicts.specs.Selection.{ArePartOf, contents_of, selects};
 ghost use Rattle.conditions.specs.Conditions.{without_empties};
 ghost use Rattle.conditions.specs.Decided.{IsDecidedOf};
@@ -14,8 +13,7 @@ use crate::moved::moved_verdict;
 use crate::part::{Part, part_of};
 use history_merge::{History, OpId, OpKind, Operations};
 use std::alloc::{AllocError, Global};
-use std::thread::Threads;
-use verdicts::{Verdict, decide, decide_par};
+use verdicts::{Verdict, decide};
 
 /// Returns whether the operation at this place has a value: it is no empty dequeue.
 fn has_value(operations: &Operations<'_>, place: OpId) -> bool
@@ -49,7 +47,7 @@ fn places_without_empties(
 }
 
 /// Returns the part of a history without its empty dequeues.
-fn part_without_empties(alloc: Global, history: &History) -> Result<Part, AllocError>
+pub(crate) fn part_without_empties(alloc: Global, history: &History) -> Result<Part, AllocError>
     ensures { IfOk result (IsPart history.now (without_empties (contents_of history.now))) }
 {
     let places = places_without_empties(alloc, &history.operations())?;
@@ -79,22 +77,5 @@ pub fn decide_weakly_empty(alloc: Global, history: &History) -> Result<Verdict, 
 {
     let part = part_without_empties(alloc, history)?;
     let verdict = decide(alloc, &part.history)?;
-    moved_verdict(alloc, part.places.as_slice(), &verdict)
-}
-
-/// What [`decide_weakly_empty`] answers, where the search for a cover runs in pieces that may run at once.
-///
-/// It uses [`verdicts::decide_par`]: whatever the number of pieces, the answer is the same.
-pub fn decide_weakly_empty_par<R: Threads + Sync>(
-    rt: &R,
-    alloc: Global,
-    history: &History,
-    pieces: usize,
-) -> Result<Verdict, AllocError>
-    requires { (1 ≤ pieces) × (pieces ≤ MAX_PIECES) }
-    ensures { IfOk result (IsDecidedOf (contents_of history.now) (without_empties (contents_of history.now))) }
-{
-    let part = part_without_empties(alloc, history)?;
-    let verdict = decide_par(rt, alloc, &part.history, pieces)?;
     moved_verdict(alloc, part.places.as_slice(), &verdict)
 }

@@ -11,7 +11,7 @@ use Rattle.conditions.specs.Inner.Parts.{AreSelected, initial_of}
 use Rattle.conditions.proofs.Judged.{initial_places}
 use Rattle.conditions.proofs.Places.{decided_at}
 use Rattle.conditions.proofs.Producing.{initial_selected}
-use Rattle.conditions.proofs.local.decide_selection_par.Goals as goal
+use Rattle.conditions.proofs.in_pieces.decide_selection_par.Goals as goal
 
 selected : (whole : HistoryView) (emptiness : Emptiness) (p : Producer) (read own places copied : List ℕ) → own ≡ initial_of p read
     → read ≡ whole.initial → copied ≡ places → ArePlacesOf (operations_of whole.events) places (selection_of emptiness p (contents_of whole)).operations
@@ -22,7 +22,7 @@ selected whole emptiness p read own places copied is_own is_read is_copy at = re
 }
 
 pub part_of-requires-clause-selected : goal.part_of-requires-clause-selected
-part_of-requires-clause-selected c =
+part_of-requires-clause-selected g c =
     let whole = c.args.history.now in
     let emptiness = c.requires.places.0 in (
       counts_for (contents_of whole) c.args.producer,
@@ -32,7 +32,7 @@ part_of-requires-clause-selected c =
     )
 
 pub returns : goal.returns
-returns c =
+returns g c =
     let whole = c.args.history.now in
     let p = c.args.producer in
     IfOk-weaker c.moved_verdict.result _ _ (λ moved is. λ emptiness at.
