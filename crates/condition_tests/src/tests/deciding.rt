@@ -4,10 +4,15 @@ use super::small_histories::{
     EACH_OVERTAKES, FAILED, INITIAL_LAST, INITIAL_SWAPPED, NEVER_ENQUEUED, NOT_EMPTY, OVERTAKING,
     Row, history_behind,
 };
-use conditions::{Emptiness, LocalVerdict, Producer, decide_local, decide_weakly_empty};
+use conditions::{
+    Emptiness, LocalVerdict, Producer, decide_local, decide_local_par, decide_weakly_empty,
+    decide_weakly_empty_par,
+};
 use history_merge::{History, OpId};
+use parallel_finders::MAX_PIECES;
 use std::alloc::{AllocError, Global};
 use std::test::Fail;
+use std::thread::Threads;
 use value_match::{Source, Violation};
 use verdicts::{Verdict, claim, verify};
 
@@ -113,18 +118,47 @@ fn tell_local(numbers: &mut Vec<usize>, verdict: &LocalVerdict) -> Result<(), Al
     }
 }
 
-/// What weak emptiness alone says of a history, or local linearizability.
-fn said(
-    alloc: Global,
+/// What local linearizability says of a history, by searches in pieces if there are any.
+fn local_verdict<R: AllocGlobal + Threads + Sync>(
+    rt: &R,
+    history: &History,
+    emptiness: Emptiness,
+    pieces: usize,
+) -> Result<LocalVerdict, AllocError> {
+    match pieces {
+        1..=MAX_PIECES => decide_local_par(rt, rt.alloc(), history, emptiness, pieces),
+        _ => decide_local(rt.alloc(), history, emptiness),
+    }
+}
+
+/// What weak emptiness alone says of a history, by a search in pieces if there are any.
+fn weak_verdict<R: AllocGlobal + Threads + Sync>(
+    rt: &R,
+    history: &History,
+    pieces: usize,
+) -> Result<Verdict, AllocError> {
+    match pieces {
+        1..=MAX_PIECES => decide_weakly_empty_par(rt, rt.alloc(), history, pieces),
+        _ => decide_weakly_empty(rt.alloc(), history),
+    }
+}
+
+/// What is said of a history, in numbers: of local linearizability, or of weak emptiness alone.
+fn said<R: AllocGlobal + Threads + Sync>(
+    rt: &R,
     initial: &[u64],
     rows: &[Row],
     local: Option<Emptiness>,
+    pieces: usize,
 ) -> Result<Vec<usize>, Fail> {
-    let history = history_behind(alloc, initial, rows)?;
-    let mut numbers = Vec::new(alloc);
+    let history = history_behind(rt.alloc(), initial, rows)?;
+    let mut numbers = Vec::new(rt.alloc());
     match local {
-        Some(emptiness) => tell_local(&mut numbers, &decide_local(alloc, &history, emptiness)?)?,
-        None => tell_verdict(&mut numbers, &decide_weakly_empty(alloc, &history)?)?,
+        Some(emptiness) => tell_local(
+            &mut numbers,
+            &local_verdict(rt, &history, emptiness, pieces)?,
+        )?,
+        None => tell_verdict(&mut numbers, &weak_verdict(rt, &history, pieces)?)?,
     }
     Ok(numbers)
 }
@@ -191,11 +225,13 @@ static SAID: [Case; 12] = [
 #[test]
 fn decides_under_weaker_conditions(rt: HostRuntime) -> Result<(), Fail> {
     for (initial, rows, local, numbers) in &SAID {
-        let found = said(rt.alloc(), initial, rows, *local)?;
-        assert!(rt;
-            found.as_slice() == *numbers,
-            "{rows:?} {local:?} {found:?}"
-        );
+        for pieces in [0, 4] {
+            let found = said(&rt, initial, rows, *local, pieces)?;
+            assert!(rt;
+                found.as_slice() == *numbers,
+                "{rows:?} {local:?} {found:?}"
+            );
+        }
     }
     Ok(())
 }
