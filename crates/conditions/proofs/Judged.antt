@@ -34,6 +34,7 @@ use Rattle.conditions.specs.Decided.{AreLocalOrders, IsDecidedOf, IsFirstRefuted
 use Rattle.conditions.specs.Inner.Judging.{AreJudged}
 use Rattle.conditions.specs.Inner.Sharing.{AreMarked, AreSharedOut, enqueues_in, ranked}
 use Rattle.conditions.proofs.Producing.{initial_selected, value_told}
+use Rattle.conditions.proofs.Twice.{filtered_twice}
 use Rattle.conditions.proofs.Weaker.{selections_stay_linearizable}
 
 -- ---- a thread that enqueues nothing
@@ -41,17 +42,6 @@ use Rattle.conditions.proofs.Weaker.{selections_stay_linearizable}
 and_left : (a b : Bool) → a && b ≡ true → a ≡ true
 and_left true b is = refl
 and_left false b is = is
-
--- what passes one test and then another passes both
-filtered_twice : {X : Type 0} (p q r : X → Bool) (xs : List X) → ((x : X) → r x ≡ cond (q x) (p x) false) → filter p (filter q xs) ≡ filter r xs
-filtered_twice p q r [] both = refl
-filtered_twice {X} p q r (x ∷ xs) both = pick (q x) (p x) (r x) (both x) refl (filtered_twice p q r xs both)
-  where
-    pick : (b c d : Bool) → d ≡ cond b c false → p x ≡ c → filter p (filter q xs) ≡ filter r xs
-        → filter p (cond b (x ∷ filter q xs) (filter q xs)) ≡ cond d (x ∷ filter r xs) (filter r xs)
-    pick true true d is test more = rw (is, test) (ap (λ ys. x ∷ ys) more)
-    pick true false d is test more = rw (is, test) more
-    pick false c d is test more = rw is more
 
 -- nobody enqueues the value
 abbrev is_nobodys : Contents → ℕ → Bool

@@ -239,7 +239,8 @@ counts_initial whole v p among =
     list_any_at (λ w. nat_eq w v) whole.initial among.0 v among.1 (eq-eqb (get_or whole.initial among.0 v) v among.2) in
     rw initial refl
 
-kept_each : {X : Type 0} (q : X → Bool) (xs : List X) → ((x : X) → Contains xs x → q x ≡ true) → filter q xs ≡ xs
+-- what keeps each element keeps all
+pub kept_each : {X : Type 0} (q : X → Bool) (xs : List X) → ((x : X) → Contains xs x → q x ≡ true) → filter q xs ≡ xs
 kept_each q [] each = refl
 kept_each q (x ∷ xs) each = rw (each x (zero, omega arith, refl)) (ap (λ ys. x ∷ ys) (kept_each q xs (λ y among. each y (one_deeper x xs y among))))
 

@@ -1,5 +1,6 @@
 //! Laws of the conditions. The functions do nothing when they run.
-ghost use Rattle.conditions.specs.Laws.{ConditionsAreWeaker, SelectionsStayLinearizable, ViolationsAreOfTheWhole};
+ghost use Rattle.conditions.specs.Laws.{BothAreWeakest, ConditionsAreWeaker, SelectionsStayLinearizable};
+ghost use Rattle.conditions.specs.Laws.{StaysLocallyMinimal, StaysWeaklyMinimal, ViolationsAreOfTheWhole};
 
 /// Proves that what shows a violation in a selection of a history shows it in the whole history.
 pub fn violations_are_of_the_whole()
@@ -10,4 +11,12 @@ pub fn violations_are_of_the_whole()
 pub fn conditions_are_weaker()
     ensures selections { SelectionsStayLinearizable }
     ensures conditions { ConditionsAreWeaker }
+    ensures both { BothAreWeakest }
+{}
+
+/// Proves that what [`verdicts::shrink`] makes of a history without its empty dequeues is minimal for weak emptiness, and what it
+/// makes of a producer's selection is minimal for local linearizability.
+pub fn shrunk_selections_are_minimal()
+    ensures weak { StaysWeaklyMinimal }
+    ensures local { StaysLocallyMinimal }
 {}

@@ -14,7 +14,7 @@ mod sharing;
 mod weak;
 
 pub use in_pieces::{decide_local_par, decide_weakly_empty_par};
-pub use laws::{conditions_are_weaker, violations_are_of_the_whole};
+pub use laws::{conditions_are_weaker, shrunk_selections_are_minimal, violations_are_of_the_whole};
 pub use local::{LocalOrder, LocalOrders, LocalVerdict, decide_local, selection};
 pub use producer::{Emptiness, Producer};
 pub use weak::{decide_weakly_empty, without_empties};

@@ -16,7 +16,7 @@ use std::thread::Threads;
 use value_match::{Source, Violation};
 use verdicts::{Verdict, claim, verify};
 
-/// What a verdict says in numbers: places of operations, and these above them.
+/// A verdict in numbers: places of operations, and these above them.
 const YES: usize = 100;
 
 const FRESH: usize = 101;
@@ -118,7 +118,7 @@ fn tell_local(numbers: &mut Vec<usize>, verdict: &LocalVerdict) -> Result<(), Al
     }
 }
 
-/// What local linearizability says of a history, by searches in pieces if there are any.
+/// Decides local linearizability, by searches in pieces if there are any.
 fn local_verdict<R: AllocGlobal + Threads + Sync>(
     rt: &R,
     history: &History,
@@ -131,7 +131,7 @@ fn local_verdict<R: AllocGlobal + Threads + Sync>(
     }
 }
 
-/// What weak emptiness alone says of a history, by a search in pieces if there are any.
+/// Decides weak emptiness alone, by a search in pieces if there are any.
 fn weak_verdict<R: AllocGlobal + Threads + Sync>(
     rt: &R,
     history: &History,
@@ -143,7 +143,7 @@ fn weak_verdict<R: AllocGlobal + Threads + Sync>(
     }
 }
 
-/// What is said of a history, in numbers: of local linearizability, or of weak emptiness alone.
+/// Decides local linearizability, or weak emptiness alone, and returns the verdict in numbers.
 fn said<R: AllocGlobal + Threads + Sync>(
     rt: &R,
     initial: &[u64],
@@ -163,7 +163,7 @@ fn said<R: AllocGlobal + Threads + Sync>(
     Ok(numbers)
 }
 
-/// A history, a condition, and what it says.
+/// A history, a condition, and the verdict in numbers.
 type Case = (
     &'static [u64],
     &'static [Row],
@@ -236,7 +236,7 @@ fn decides_under_weaker_conditions(rt: HostRuntime) -> Result<(), Fail> {
     Ok(())
 }
 
-/// Whether the verdict of a history that isn't locally linearizable is evidence in the whole history.
+/// Returns whether the verdict on a history that isn't locally linearizable is evidence in the whole history.
 fn is_evidence(alloc: Global, history: &History) -> Result<bool, AllocError> {
     match decide_local(alloc, history, Emptiness::Strict)? {
         LocalVerdict::Yes(_) => Ok(false),

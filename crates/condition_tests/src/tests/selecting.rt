@@ -6,7 +6,7 @@ use history_merge::History;
 use std::alloc::{AllocError, Global};
 use std::test::Fail;
 
-/// The number of initial values, and then the call tickets of the operations.
+/// Returns the number of initial values, and then the call tickets of the operations.
 fn shown(alloc: Global, history: &History) -> Result<Vec<u64>, AllocError> {
     let mut numbers = Vec::new(alloc);
     numbers.push(history.initial().len() as u64)?;

@@ -52,7 +52,7 @@ pub(crate) const INITIAL_SWAPPED: &[Row] = &[
     (4, 5, 0, Deq(3)),
 ];
 
-/// The call and the return of an operation.
+/// Returns the call and the return of an operation.
 fn told(kind: OpKind) -> (What, What) {
     match kind {
         Enq(value) => (What::CallEnq(value), What::RetEnq),
@@ -62,7 +62,7 @@ fn told(kind: OpKind) -> (What, What) {
     }
 }
 
-/// The events of these operations, each of which returns before the next is called.
+/// Returns the events of these operations, each of which returns before the next is called.
 fn events_of(alloc: Global, rows: &[Row]) -> Result<Vec<Event>, AllocError> {
     let mut events = Vec::new(alloc);
     for (call, ret, thread, kind) in rows {
@@ -78,7 +78,7 @@ fn events_of(alloc: Global, rows: &[Row]) -> Result<Vec<Event>, AllocError> {
     Ok(events)
 }
 
-/// The history of these operations, of a queue that starts with these values.
+/// Returns the history of these operations, of a queue that starts with these values.
 pub(crate) fn history_behind(
     alloc: Global,
     initial: &[u64],
