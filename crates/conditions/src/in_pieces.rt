@@ -51,7 +51,8 @@ fn decide_selection_par<R: Threads + Sync>(
     pieces: usize,
 ) -> Result<Verdict, AllocError>
     requires pieces { (1 ≤ pieces) × (pieces ≤ MAX_PIECES) }
-    requires places { (emptiness : Emptiness) × ArePlacesOf (operations_of history.now.events) places.now (selection_of emptiness producer (contents_of history.now)).operations }
+    requires places { (emptiness : Emptiness) × ArePlacesOf (operations_of history.now.events) places.now
+        (selection_of emptiness producer (contents_of history.now)).operations }
     ensures { IfOk result (λ verdict. (emptiness : Emptiness)
         → ArePlacesOf (operations_of history.now.events) places.now (selection_of emptiness producer (contents_of history.now)).operations
         → IsDecidedOf (contents_of history.now) (selection_of emptiness producer (contents_of history.now)) verdict) }

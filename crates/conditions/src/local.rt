@@ -41,7 +41,8 @@ pub type LocalOrders = OwnedSlice<LocalOrder>;
 pub enum LocalVerdict {
     /// It is: these are linearizations of its selections, by producer.
     Yes(LocalOrders),
-    /// It isn't: this is the first producer whose selection isn't linearizable, with a violation, which is one of the whole history.
+    /// It isn't: this is the first producer whose selection isn't linearizable, with a violation in it. The violation is one
+    /// of the whole history too.
     No(Producer, Violation),
 }
 
@@ -80,10 +81,11 @@ fn part_for(
     part_of(alloc, history, initial, places)
 }
 
-/// Returns the selection of a producer: the history of its values, and of those that nobody enqueues, with all their operations, by
-/// whomever; and of the empty dequeues if they are judged. All keeps its tickets, and so its order.
+/// Returns the selection of a producer: its values, and those that nobody enqueues, with all their operations, by whomever;
+/// and all empty dequeues with strict emptiness, none with weak. Operations keep their tickets, and so their order.
 ///
-/// A thread's values are those that it enqueues, successfully or not. Time O(n log n) for n events, and memory in proportion.
+/// A thread's values are those that it enqueues, successfully or not. Time O(n log n) for n events, and memory in
+/// proportion.
 pub fn selection(
     alloc: Global,
     history: &History,
@@ -105,7 +107,8 @@ fn decide_selection(
     producer: Producer,
     places: &[OpId],
 ) -> Result<Verdict, AllocError>
-    requires { (emptiness : Emptiness) × ArePlacesOf (operations_of history.now.events) places.now (selection_of emptiness producer (contents_of history.now)).operations }
+    requires { (emptiness : Emptiness) × ArePlacesOf (operations_of history.now.events) places.now
+        (selection_of emptiness producer (contents_of history.now)).operations }
     ensures { IfOk result (λ verdict. (emptiness : Emptiness)
         → ArePlacesOf (operations_of history.now.events) places.now (selection_of emptiness producer (contents_of history.now)).operations
         → IsDecidedOf (contents_of history.now) (selection_of emptiness producer (contents_of history.now)) verdict) }
@@ -143,14 +146,18 @@ fn decide_selections(
     Ok(LocalVerdict::Yes(LocalOrders::from_vec(orders)))
 }
 
-/// Decides whether a history is locally linearizable (Haas, Henzinger, Holzer, Kirsch, Lippautz, Payer, Sezgin, Sokolova and Veith,
-/// CONCUR 2016): whether each producer's [`selection`] is linearizable.
+/// Decides whether a history is locally linearizable (Haas, Henzinger, Holzer, Kirsch, Lippautz, Payer, Sezgin, Sokolova
+/// and Veith, CONCUR 2016): whether each producer's [`selection`] is linearizable.
 ///
-/// `Yes` has a linearization for each producer of the history: for that of the initial values, and then for each thread that enqueues
-/// a value, by number. `No` has the first of these whose selection isn't linearizable, with the violation that [`verdicts::decide`]
-/// chooses in it. All is named by places of the whole history, of which the violation is one too.
+/// `Yes` has a linearization for each producer of the history: first for the initial values, even if there are none, and
+/// then for each thread that enqueues a value, by number. `No` has the first of these whose selection isn't linearizable,
+/// with the violation that [`verdicts::decide`] chooses in it. Both name places of the whole history. The violation is one
+/// of the whole history, so [`verdicts::verify`] accepts its claim.
 ///
-/// Time O((n + p e) log n) for n events, p producers and e empty dequeues, and memory in proportion to n + p e.
+/// A dequeue of a value that nobody enqueued is in each selection, so the initial values' producer has it.
+///
+/// The operations are shared out in one pass. Time O((n + p e) log n) for n events, p producers and e empty dequeues, and
+/// memory in proportion to n + p e.
 pub fn decide_local(
     alloc: Global,
     history: &History,

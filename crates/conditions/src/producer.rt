@@ -1,16 +1,16 @@
-/// Who enqueues a value.
+/// A source of values: a thread that enqueues them, or the initial values.
 #[derive(Clone, Copy, Debug, PartialEq, Eq)]
 pub enum Producer {
-    /// The initial values, as if one more thread had enqueued them before all else.
+    /// The initial values.
     Initial,
     /// The thread with this number.
     Thread(u8),
 }
 
-/// What a dequeue promises that finds the queue empty.
+/// The promise of a dequeue that finds the queue empty.
 #[derive(Clone, Copy, Debug, PartialEq, Eq)]
 pub enum Emptiness {
-    /// That the queue was empty at some moment during the call.
+    /// The queue was empty at some moment during the call.
     Strict,
     /// Nothing.
     Weak,

@@ -8,10 +8,10 @@ use crate::producer::Producer;
 use event_records::MAX_THREADS;
 use history_merge::{OpId, Operation, Operations};
 
-/// How many producers there are: that of the initial values, and the threads.
+/// Number of producers: the initial values, and the threads.
 pub(crate) const PRODUCERS: usize = MAX_THREADS + 1;
 
-/// Returns the producer of this rank: the initial values' first, and then the threads by number.
+/// Returns the producer of this rank: the initial values first, and then the threads by number.
 pub(crate) fn ranked(rank: usize) -> Producer
     requires { rank < PRODUCERS }
     ensures { result ≡ ranked rank }
@@ -33,7 +33,7 @@ pub(crate) fn rank_of(producer: Producer) -> usize
     }
 }
 
-/// Marks the rank of the thread that enqueues a value, if the operation does.
+/// Marks the rank of the operation's thread if the operation is an enqueue.
 fn mark(used: &mut [bool], operation: Operation)
     requires { length used.old ≡ PRODUCERS }
     ensures { (seen : List Operation) → AreMarked seen used.old → AreMarked (seen ++ operation ∷ []) used.new }
@@ -46,7 +46,7 @@ fn mark(used: &mut [bool], operation: Operation)
     }
 }
 
-/// Returns marks for no thread.
+/// Returns the marks of a history without operations.
 fn no_marks() -> [bool; PRODUCERS]
     ensures { AreMarked [] result }
 {
@@ -55,7 +55,7 @@ fn no_marks() -> [bool; PRODUCERS]
     used
 }
 
-/// Returns for each rank whether the history with these operations has the producer.
+/// Marks the ranks of the producers that a history with these operations has.
 pub(crate) fn marked(operations: &Operations<'_>) -> [bool; PRODUCERS]
     requires { length operations.now ≤ MAX_EVENTS }
     ensures { AreMarked operations.now result }

@@ -1,4 +1,4 @@
-//! Whose selections operations belong to.
+//! The producers to whose selections operations belong.
 ghost use Rattle.std.specs.Prelude.{◌≡◌, ◌≤◌, IfOk, Some, filter, length, slice_get};
 ghost use Rattle.event_records.specs.declared.limits.TheConstants.{MAX_EVENTS};
 ghost use Rattle.history_merge.specs.declared.operation.Operation.{Operation};
@@ -11,7 +11,7 @@ use crate::producers::Producers;
 use history_merge::{OpId, OpKind, Operations};
 use std::alloc::{AllocError, Global};
 
-/// Whose selections an operation belongs to.
+/// The producers to whose selections an operation belongs.
 #[derive(Clone, Copy)]
 pub(crate) enum Share {
     Nobody,
@@ -20,7 +20,7 @@ pub(crate) enum Share {
 }
 
 impl Share {
-    /// Returns whether it belongs to this producer's.
+    /// Returns whether this producer is one of them.
     fn goes_to(self, producer: Producer) -> bool
         ensures { result ≡ goes_to producer self }
     {
@@ -32,7 +32,7 @@ impl Share {
     }
 }
 
-/// Returns whose an operation of a value of this producer is.
+/// Returns the producers to whose selections the operations on a value belong, given the value's own producer.
 fn share_of_value(producer: Option<Producer>) -> Share
     ensures { result ≡ share_of_value producer }
 {
@@ -42,7 +42,7 @@ fn share_of_value(producer: Option<Producer>) -> Share
     }
 }
 
-/// Returns whose selections an operation belongs to that did this.
+/// Returns the producers to whose selections an operation of this kind belongs.
 pub(crate) fn share_of(producers: &Producers, emptiness: Emptiness, kind: OpKind) -> Share
     ensures { (whole : Contents) → AreProducers whole producers.now.by_value.items → result ≡ share_of whole emptiness kind }
 {

@@ -70,8 +70,8 @@ pub fn without_empties(alloc: Global, history: &History) -> Result<History, Allo
 /// Decides whether a history is linearizable if a dequeue that finds the queue empty promises nothing: `Yes` with a
 /// linearization of all other operations, or `No` with a violation, which is one of the whole history too.
 ///
-/// It is what [`verdicts::decide`] answers for the history without its empty dequeues, by places of the whole history. Time
-/// O(n log n) for n events, and memory in proportion.
+/// It is what [`verdicts::decide`] returns for the history without its empty dequeues, by places of the whole history.
+/// Time O(n log n) for n events, and memory in proportion.
 pub fn decide_weakly_empty(alloc: Global, history: &History) -> Result<Verdict, AllocError>
     ensures { IfOk result (IsDecidedOf (contents_of history.now) (without_empties (contents_of history.now))) }
 {

@@ -1,4 +1,4 @@
--- The producers of values, looked up by value, and whose selections an operation belongs to.
+-- The producers of values, looked up by value, and the producers to whose selections an operation belongs.
 use Rattle.std.specs.Prelude.{◌≡◌, ℕ, Bool, true, false, nat_lt, List, Contains, Option, Some, None, option_map, if◌then◌else◌}
 use Rattle.std.specs.List.Sorted.{IsNonDecreasingBy}
 use Rattle.std.specs.Option.{option_map_or}
@@ -30,17 +30,17 @@ pub record AreProducers (whole : Contents) (by_value : List Produced) : Type 0 w
   pub right : (x : Produced) → Contains by_value x → producer_of whole x.value ≡ Some x.producer
   pub all : (v : ℕ) (p : Producer) → producer_of whole v ≡ Some p → (x : Produced) × Contains by_value x × (x.value ≡ v)
 
--- whose an operation of this value is: its producer's alone, or everybody's if it has none
+-- the producers to whose selections the operations on a value belong: its own alone, or all if it has none
 abbrev pub share_of_value : Option Producer → Share
 share_of_value None = Everybody
 share_of_value (Some p) = Only p
 
--- whose selections an operation that did this belongs to
+-- the same of an operation that did this; an empty dequeue belongs to all, or to none
 abbrev pub share_of : Contents → Emptiness → OpKind → Share
 share_of whole emptiness kind =
     option_map_or (λ v. share_of_value (producer_of whole v)) (value_of kind) (if judges_empties emptiness then Everybody else Nobody)
 
--- whether it belongs to this producer's
+-- whether this producer is one of them
 abbrev pub goes_to : Producer → Share → Bool
 goes_to p Nobody = false
 goes_to p (Only q) = is_producer p q
