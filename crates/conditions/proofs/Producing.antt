@@ -252,3 +252,7 @@ kept_none q (x ∷ xs) each = rw (each x (zero, omega arith, refl)) (kept_none q
 pub initial_selected : (whole : Contents) (p : Producer) → filter (counts_for whole p) whole.initial ≡ initial_of p whole.initial
 initial_selected whole Initial = kept_each (counts_for whole Initial) whole.initial (λ v among. counts_initial whole v Initial among)
 initial_selected whole (Thread t) = kept_none (counts_for whole (Thread t)) whole.initial (λ v among. counts_initial whole v (Thread t) among)
+
+-- the same of an equal list
+pub value_at : (xs ys : List Produced) (v i : ℕ) → xs ≡ ys → ((d : Produced) → (get_or xs i d).value ≡ v) → (d : Produced) → (get_or ys i d).value ≡ v
+value_at xs ys v i same at d = subst (λ (zs : List Produced). (get_or zs i d).value ≡ v) same (at d)

@@ -9,7 +9,7 @@ ghost use Rattle.conditions.specs.Inner.Sharing.{AreMarked, AreSharedOut, IsShar
 use crate::producer::Emptiness;
 use crate::producers::Producers;
 use crate::ranks::{PRODUCERS, rank_of};
-use crate::sharing::{Share, share_of};
+use crate::sharing::{GUESSES, Share, share_of};
 use history_merge::{OpId, Operations};
 use std::alloc::{AllocError, Global};
 use std::marker::Model;
@@ -120,11 +120,12 @@ pub(crate) fn share_out(
     ensures { IfOk result (λ buckets. (whole : Contents) → whole.operations ≡ operations.now → AreProducers whole producers.now.by_value.items
         → AreSharedOut emptiness whole used.now buckets.items) }
 {
+    let mut guesses = [0; GUESSES];
     let mut buckets = empty_buckets(alloc)?;
     for place in 0..operations.len() {
         let id = OpId::new(place as u32);
         if let Some(operation) = operations.get(id) {
-            let share = share_of(producers, emptiness, operation.kind);
+            let share = share_of(producers, &mut guesses, emptiness, operation.kind);
             share_out_place(&mut buckets, used, share, id)?;
         }
     }

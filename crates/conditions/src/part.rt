@@ -26,7 +26,7 @@ fn events_listed(
 ) -> Result<Vec<Event>, AllocError>
     ensures { IfOk result (λ events. events.items ≡ flat_map both_events (operations_at operations.now places.now)) }
 {
-    let mut events = Vec::new(alloc);
+    let mut events = Vec::with_capacity(alloc, places.len().saturating_mul(2))?;
     for place in places {
         if let Some(operation) = operations.get(*place) {
             events.push(operation.call_event())?;

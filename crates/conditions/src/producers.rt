@@ -1,5 +1,6 @@
 //! The producers of a history's values.
-ghost use Rattle.std.specs.Prelude.{◌≡◌, IfOk, filter_map};
+ghost use Rattle.std.specs.Prelude.{◌≡◌, ◌<◌, ◌↔◌, IfOk, IfSome, IsTrue, MatchOption, None, filter_map, length, slice_index_or};
+ghost use Rattle.conditions.specs.declared.producers.Produced.{Produced};
 ghost use Rattle.history_merge.specs.Initial.{Contents};
 ghost use Rattle.verdicts.specs.Selection.{contents_of};
 ghost use Rattle.conditions.specs.Conditions.{producer_of};
@@ -33,15 +34,59 @@ impl Producers {
         Ok(Producers { by_value })
     }
 
-    /// Returns the producer of a value, if anybody enqueues it.
-    pub(crate) fn producer_of(&self, value: u64) -> Option<Producer>
-        ensures { (whole : Contents) → AreProducers whole self.now.by_value.items → result ≡ producer_of whole value }
+    /// Returns the place of a value, if anybody enqueues it. The guess costs little if it is right.
+    fn find(&self, guess: usize, value: u64) -> Option<usize>
+        ensures within { IfSome result (λ place. place < length self.now.by_value.items) }
+        ensures found { (whole : Contents) → AreProducers whole self.now.by_value.items
+            → MatchOption result (None ≡ producer_of whole value) (λ place. (d : Produced) → (slice_index_or self.now.by_value.items place d).value ≡ value) }
     {
         let by_value = self.by_value.as_slice();
+        if guess < by_value.len() && stands_at(by_value, guess, value) {
+            return Some(guess);
+        }
         match by_value.binary_search_by_key(&value, |produced| produced.value) {
-            Ok(place) => Some(by_value[place].producer),
+            Ok(place) => Some(place),
             Err(_) => None,
         }
+    }
+
+    /// Returns the producer of a value, if anybody enqueues it.
+    ///
+    /// A thread's values mostly come in order, so each one is looked for where it stands after the last one of its name.
+    pub(crate) fn producer_of(
+        &self,
+        guesses: &mut [usize],
+        slot: usize,
+        value: u64,
+    ) -> Option<Producer>
+        ensures { (whole : Contents) → AreProducers whole self.now.by_value.items → result ≡ producer_of whole value }
+    {
+        let place = self.find(guess_in(guesses, slot), value)?;
+        note(guesses, slot, place);
+        Some(self.by_value[place].producer)
+    }
+}
+
+/// Returns whether the value stands at the place.
+fn stands_at(by_value: &[Produced], place: usize, value: u64) -> bool
+    requires { place < length by_value.now }
+    ensures { (d : Produced) → IsTrue result ↔ ((slice_index_or by_value.now place d).value ≡ value) }
+{
+    by_value[place].value == value
+}
+
+/// Returns the guess in a slot, or 0.
+fn guess_in(guesses: &[usize], slot: usize) -> usize {
+    match guesses.get(slot) {
+        Some(guess) => *guess,
+        None => 0,
+    }
+}
+
+/// Guesses that the next value of a slot stands after this place.
+fn note(guesses: &mut [usize], slot: usize, place: usize) {
+    if slot < guesses.len() {
+        guesses[slot] = place.wrapping_add(1);
     }
 }
 

@@ -8,8 +8,17 @@ ghost use Rattle.conditions.specs.Inner.Producers.{AreProducers, goes_to, share_
 
 use crate::producer::{Emptiness, Producer};
 use crate::producers::Producers;
+use event_records::MAX_THREADS;
 use history_merge::{OpId, OpKind, Operations};
 use std::alloc::{AllocError, Global};
+
+/// Number of slots for guesses: two for each thread.
+pub(crate) const GUESSES: usize = 2 * MAX_THREADS;
+
+/// Returns the slot for the guess of a value: of those that a recorder's name gives to one thread, enqueues and dequeues apart.
+fn slot_of(value: u64, which: usize) -> usize {
+    ((value >> 32) as usize).wrapping_mul(2).wrapping_add(which)
+}
 
 /// The producers to whose selections an operation belongs.
 #[derive(Clone, Copy)]
@@ -43,12 +52,20 @@ fn share_of_value(producer: Option<Producer>) -> Share
 }
 
 /// Returns the producers to whose selections an operation of this kind belongs.
-pub(crate) fn share_of(producers: &Producers, emptiness: Emptiness, kind: OpKind) -> Share
+pub(crate) fn share_of(
+    producers: &Producers,
+    guesses: &mut [usize],
+    emptiness: Emptiness,
+    kind: OpKind,
+) -> Share
     ensures { (whole : Contents) → AreProducers whole producers.now.by_value.items → result ≡ share_of whole emptiness kind }
 {
     match kind {
-        OpKind::Enq(value) | OpKind::Not(value) | OpKind::Deq(value) => {
-            share_of_value(producers.producer_of(value))
+        OpKind::Enq(value) | OpKind::Not(value) => {
+            share_of_value(producers.producer_of(guesses, slot_of(value, 0), value))
+        }
+        OpKind::Deq(value) => {
+            share_of_value(producers.producer_of(guesses, slot_of(value, 1), value))
         }
         OpKind::Empty => match emptiness {
             Emptiness::Strict => Share::Everybody,
@@ -62,6 +79,7 @@ fn is_selected(
     operations: &Operations<'_>,
     place: OpId,
     producers: &Producers,
+    guesses: &mut [usize],
     emptiness: Emptiness,
     producer: Producer,
 ) -> bool
@@ -69,7 +87,10 @@ fn is_selected(
         → result ≡ goes_to producer (share_of whole emptiness o.kind) }
 {
     match operations.get(place) {
-        Some(operation) => share_of(producers, emptiness, operation.kind).goes_to(producer),
+        Some(operation) => {
+            let share = share_of(producers, guesses, emptiness, operation.kind);
+            share.goes_to(producer)
+        }
         None => false,
     }
 }
@@ -86,10 +107,11 @@ pub(crate) fn places_selected(
     ensures { IfOk result (λ places. (whole : Contents) → AreProducers whole producers.now.by_value.items
         → ArePlacesOf operations.now places.items (filter (λ o. goes_to producer (share_of whole emptiness o.kind)) operations.now)) }
 {
+    let mut guesses = [0; GUESSES];
     let mut places = Vec::new(alloc);
     for place in 0..operations.len() {
         let id = OpId::new(place as u32);
-        if is_selected(operations, id, producers, emptiness, producer) {
+        if is_selected(operations, id, producers, &mut guesses, emptiness, producer) {
             places.push(id)?;
         }
     }
