@@ -1,0 +1,3 @@
+mod deciding;
+mod selecting;
+mod small_histories;

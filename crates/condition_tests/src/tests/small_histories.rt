@@ -1,0 +1,92 @@
+//! Small histories.
+
+use event_records::{Event, MAX_EVENTS, MAX_INITIAL, What};
+use history_merge::OpKind::{Deq, Empty, Enq, Not};
+use history_merge::{History, OpKind, history_from};
+use std::alloc::{AllocError, Global};
+use std::test::Fail;
+
+/// An operation: the tickets of its call and its return, its thread, and what it did.
+pub(crate) type Row = (u64, u64, u8, OpKind);
+
+/// Two threads' values overtake each other, and no thread's own values do: `VOrd`, but locally linearizable.
+pub(crate) const OVERTAKING: &[Row] = &[
+    (0, 1, 0, Enq(7)),
+    (2, 3, 1, Enq(9)),
+    (4, 5, 2, Deq(9)),
+    (6, 7, 2, Deq(7)),
+];
+
+/// Thread 2 enqueues 7 and then 8, and thread 1 enqueues 5 and then 6; each one's second value is dequeued first.
+pub(crate) const EACH_OVERTAKES: &[Row] = &[
+    (0, 1, 0, Enq(1)),
+    (2, 3, 2, Enq(7)),
+    (4, 5, 2, Enq(8)),
+    (6, 7, 1, Enq(5)),
+    (8, 9, 1, Enq(6)),
+    (10, 11, 0, Deq(8)),
+    (12, 13, 0, Deq(6)),
+    (14, 15, 3, Deq(5)),
+];
+
+/// A dequeue finds the queue empty that holds 7.
+pub(crate) const NOT_EMPTY: &[Row] = &[(0, 1, 0, Enq(7)), (2, 3, 1, Empty)];
+
+/// A dequeue of a value that nobody enqueued, and one of a value whose enqueue failed.
+pub(crate) const NEVER_ENQUEUED: &[Row] = &[(0, 1, 0, Enq(7)), (2, 3, 1, Deq(9))];
+
+pub(crate) const FAILED: &[Row] = &[(0, 1, 5, Not(7)), (2, 3, 1, Deq(7))];
+
+/// The initial value is dequeued after one that was enqueued later.
+pub(crate) const INITIAL_LAST: &[Row] = &[
+    (0, 1, 0, Enq(7)),
+    (2, 3, 1, Deq(7)),
+    (4, 5, 1, Deq(3)),
+    (6, 7, 1, Empty),
+];
+
+/// The second initial value is dequeued first.
+pub(crate) const INITIAL_SWAPPED: &[Row] = &[
+    (0, 1, 0, Enq(7)),
+    (2, 3, 0, Deq(4)),
+    (4, 5, 0, Deq(3)),
+];
+
+/// Returns the call and the return of an operation.
+fn told(kind: OpKind) -> (What, What) {
+    match kind {
+        Enq(value) => (What::CallEnq(value), What::RetEnq),
+        Not(value) => (What::CallEnq(value), What::RetNot),
+        Deq(value) => (What::CallDeq, What::RetDeq(value)),
+        Empty => (What::CallDeq, What::RetEmpty),
+    }
+}
+
+/// Returns the events of these operations, each of which returns before the next is called.
+fn events_of(alloc: Global, rows: &[Row]) -> Result<Vec<Event>, AllocError> {
+    let mut events = Vec::new(alloc);
+    for (call, ret, thread, kind) in rows {
+        let (called, answered) = told(*kind);
+        for (ticket, what) in [(*call, called), (*ret, answered)] {
+            events.push(Event {
+                ticket,
+                thread: *thread,
+                what,
+            })?;
+        }
+    }
+    Ok(events)
+}
+
+/// Returns the history of these operations, of a queue that starts with these values.
+pub(crate) fn history_behind(
+    alloc: Global,
+    initial: &[u64],
+    rows: &[Row],
+) -> Result<History, Fail> {
+    let events = events_of(alloc, rows)?;
+    if initial.len() > MAX_INITIAL || events.len() > MAX_EVENTS {
+        return Err("too many values or events")?;
+    }
+    Ok(history_from(alloc, initial.to_vec(alloc)?, events.as_slice())?)
+}

@@ -1,0 +1,32 @@
+-- A selection of a history, with the places of its operations.
+use Rattle.std.specs.Prelude.{◌≡◌, ℕ, Bool, List, [], ◌∷◌, filter}
+use Rattle.event_records.specs.declared.event.Event.{Event}
+use Rattle.history_merge.specs.declared.operation.Operation.{Operation}
+use Rattle.history_merge.specs.Events.{call_event, return_event}
+use Rattle.history_merge.specs.Initial.{Contents, HistoryView, IsCompleteFrom}
+use Rattle.history_merge.specs.Legal.{ArePlacesOf}
+use Rattle.verdicts.specs.Selection.{ArePartOf, contents_of, selects}
+use Rattle.conditions.specs.declared.part.Part.{Part}
+use Rattle.conditions.specs.declared.producer.Producer.{Producer}
+use Rattle.conditions.specs.declared.producer.Producer.TheVariants.{Initial, Thread}
+
+-- the initial values, and the operations at the places, are this selection of the history
+pub record AreSelected (whole : Contents) (values empties : ℕ → Bool) (initial places : List ℕ) : Type 0 where
+  pub initial_values : initial ≡ filter values whole.initial
+  pub operations : ArePlacesOf whole.operations places (filter (selects values empties) whole.operations)
+
+-- the two events of an operation
+abbrev pub both_events : Operation → List Event
+both_events o = call_event o ∷ return_event o ∷ []
+
+-- these are the initial values and the operations of the part, which has some of the events, and the places of its operations in the whole
+pub record IsPart (whole : HistoryView) (selected : Contents) (part : Part) : Type 0 where
+  pub contents : contents_of part.history ≡ selected
+  pub events : ArePartOf whole.events part.history.events
+  pub complete : IsCompleteFrom part.history.initial part.history.events
+  pub places : ArePlacesOf (contents_of whole).operations part.places.items selected.operations
+
+-- the initial values of a producer's selection: all, or none
+abbrev pub initial_of : Producer → List ℕ → List ℕ
+initial_of Initial initial = initial
+initial_of (Thread t) initial = []

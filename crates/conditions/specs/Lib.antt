@@ -1,0 +1,4 @@
+pub mod Conditions
+pub mod Decided
+pub mod Laws
+pub mod Inner
