@@ -12,7 +12,7 @@ ghost use Rattle.commands.specs.Outcomes.{answer_of, answer_of_fault, fault_of_c
 
 use crate::input::pending_of;
 use crate::outcome::{Fault, Outcome, Report};
-use completions::{CompletionFault, count_pending};
+use completions::{Completion, CompletionFault};
 use event_records::Event;
 use history_merge::{History, history_from};
 use history_text::{EventList, PendingText, TextFault, TextSource, Values, Version};
@@ -50,21 +50,21 @@ pub(crate) fn completed(
     ensures completable { OnOk result (IsCompletable text) }
     ensures fault { IfErr result (λ fault. LacksCompletion text (answer_of_fault fault) ⊎ (answer_of_fault fault ≡ memory_fault)) }
 {
-    let counts = counts_pending(&text);
     let PendingText {
         version,
         initial,
         events,
-        ..
+        open_calls,
     } = text;
     let made = match completions::complete(alloc, initial.as_slice(), events.into_vec()) {
         Ok(made) => made,
         Err(fault) => return Err(refusal_of(fault)),
     };
-    if !counts {
+    let Completion { events, pending } = made;
+    if !counts(open_calls, pending) {
         return Err(Fault::Text(TextFault::Count));
     }
-    Ok((version, initial, made))
+    Ok((version, initial, events))
 }
 
 /// Why nothing is found where a history has no completion.
@@ -77,13 +77,12 @@ fn refusal_of(fault: CompletionFault) -> Fault
     }
 }
 
-/// Whether the text counts its pending calls rightly, if it counts them.
-fn counts_pending(text: &PendingText) -> bool
-    requires { All (λ e. e.thread ≤ MAX_THREAD) text.now.events }
-    ensures { IsTrue result ↔ CountsPending text.now }
+/// Whether so many calls are pending, if a text counts them.
+fn counts(open_calls: Option<usize>, pending: usize) -> bool
+    ensures { IsTrue result ↔ IfSome open_calls (λ calls. calls ≡ pending) }
 {
-    match text.open_calls {
-        Some(calls) => calls == count_pending(text.events.as_slice()),
+    match open_calls {
+        Some(calls) => calls == pending,
         None => true,
     }
 }

@@ -2,12 +2,11 @@
 ghost use Rattle.std.specs.Prelude.{◌≡◌, ◌≤◌, ◌++◌, List, All, IfOk, OnOk, filter, filter_map, true};
 ghost use Rattle.event_records.specs.declared.event.Event.{Event};
 ghost use Rattle.event_records.specs.declared.limits.TheConstants.{MAX_THREAD};
-ghost use Rattle.completions.specs.Completed.{answers_to, calls_dequeue, enqueue_answer, is_answered, paired};
-ghost use Rattle.completions.specs.Inner.Walk.{AreGiven, AreLast};
+ghost use Rattle.completions.specs.Completed.{answers_to, calls_dequeue, enqueue_answer, is_answered, paired, pending_calls};
+ghost use Rattle.completions.specs.Inner.Walk.{AreGiven};
 
 use crate::given::{is_given, sorted_given};
 use crate::left::left_values;
-use crate::pending::pending_calls;
 use event_records::{Event, What};
 use std::alloc::{AllocError, Global};
 
@@ -90,22 +89,21 @@ pub(crate) fn is_answered(answers: &[Answer], call: Event) -> bool
         .any(|answer| answer.call.ticket == call.ticket)
 }
 
-/// Returns the answers to pending calls.
+/// Returns the answers to the pending calls, which are these.
 pub(crate) fn answers_to(
     alloc: Global,
     values: &[u64],
     events: &[Event],
-    last: &[Option<Event>],
+    calls: &[Event],
 ) -> Result<Vec<Answer>, AllocError>
     requires threads { All (λ e. e.thread ≤ MAX_THREAD) events.now }
-    requires last { AreLast events.now last.now }
+    requires calls { calls.now ≡ pending_calls events.now }
     ensures { IfOk result (λ answers. answers.items ≡ answers_to values.now events.now) }
 {
-    let calls = pending_calls(alloc, events, last)?;
     let given = sorted_given(alloc, events)?;
     let left = left_values(alloc, values, events, given.as_slice())?;
-    let dequeues = dequeue_calls(alloc, calls.as_slice())?;
-    let mut answers = enqueue_answers(alloc, calls.as_slice(), given.as_slice())?;
+    let dequeues = dequeue_calls(alloc, calls)?;
+    let mut answers = enqueue_answers(alloc, calls, given.as_slice())?;
     push_dequeue_answers(&mut answers, dequeues.as_slice(), left.as_slice())?;
     Ok(answers)
 }

@@ -5,7 +5,7 @@ ghost use Rattle.history_merge.specs.Initial.{IsCompleteFrom};
 ghost use Rattle.history_merge.specs.declared.fault.HistoryFault.TheVariants.{Pending};
 ghost use Rattle.completions.specs.declared.fault.CompletionFault.TheVariants.{History};
 ghost use Rattle.event_records.specs.declared.event.Event.{Event};
-ghost use Rattle.completions.specs.Completed.{completed, is_left_out, next_ticket, returns_from};
+ghost use Rattle.completions.specs.Completed.{completed, is_left_out, next_ticket, pending_calls, returns_from};
 ghost use Rattle.completions.specs.Faults.{IsBeyondLimits, IsCompletionFault, MayBePending};
 ghost use Rattle.completions.specs.Inner.Walk.{AreLast};
 ghost use Rattle.completions.specs.Pending.{IsDeciding, IsHistoryFrom};
@@ -13,7 +13,7 @@ ghost use Rattle.completions.specs.Pending.{IsDeciding, IsHistoryFrom};
 use crate::answers::{Answer, answers_to, is_answered};
 use crate::fault::CompletionFault;
 use crate::last::last_events;
-use crate::pending::is_pending;
+use crate::pending::{is_pending, pending_calls};
 use event_records::{Event, MAX_EVENTS, MAX_TICKET};
 use history_merge::{HistoryFault, history_from};
 use std::alloc::{AllocError, Global};
@@ -38,7 +38,9 @@ fn leave_out(events: &mut Vec<Event>, last: &[Option<Event>], answers: &[Answer]
     for place in 0..events.len() {
         let event = events[place];
         if !is_left_out(last, answers, event) {
-            events[kept] = event;
+            if kept != place {
+                events[kept] = event;
+            }
             kept += 1;
         }
     }
@@ -107,21 +109,31 @@ fn check_history(alloc: Global, initial: &[u64], events: &[Event]) -> Result<(),
     }
 }
 
+/// The completion of a history.
+#[derive(Drop)]
+pub struct Completion {
+    pub events: Vec<Event>,
+    /// How many calls were pending.
+    pub pending: usize,
+}
+
 /// Completes a history.
 fn complete_history(
     alloc: Global,
     initial: &[u64],
     events: Vec<Event>,
-) -> Result<Vec<Event>, CompletionFault>
+) -> Result<Completion, CompletionFault>
     requires few_initial { length initial.now ≤ MAX_INITIAL }
     requires history { IsHistoryFrom initial.now events.items }
     requires found { MayBePending initial.now events.items }
-    ensures completed { IfOk result (λ full. full.items ≡ completed initial.now events.items) }
+    ensures completed { IfOk result (λ made. made.events.items ≡ completed initial.now events.items) }
+    ensures pending { IfOk result (λ made. made.pending ≡ length (pending_calls events.items)) }
     ensures within { OnOk result (¬ (IsBeyondLimits initial.now events.items)) }
     ensures fault { IfErr result (IsCompletionFault initial.now events.items) }
 {
     let last = last_events(events.as_slice());
-    let answers = answers_to(alloc, initial, events.as_slice(), &last)?;
+    let calls = pending_calls(alloc, events.as_slice(), &last)?;
+    let answers = answers_to(alloc, initial, events.as_slice(), calls.as_slice())?;
     let ticket = next_ticket(events.as_slice());
     let mut full = events;
     leave_out(&mut full, &last, answers.as_slice());
@@ -130,7 +142,10 @@ fn complete_history(
         return Err(CompletionFault::Limit);
     }
     push_returns(&mut full, answers.as_slice(), ticket)?;
-    Ok(full)
+    Ok(Completion {
+        events: full,
+        pending: calls.len(),
+    })
 }
 
 /// Completes a history whose calls may be pending, of a queue that holds these values first (Herlihy and Wing 1990,
@@ -148,15 +163,16 @@ pub fn complete(
     alloc: Global,
     initial: &[u64],
     events: Vec<Event>,
-) -> Result<Vec<Event>, CompletionFault>
+) -> Result<Completion, CompletionFault>
     requires few_initial { length initial.now ≤ MAX_INITIAL }
     requires few_events { length events.items ≤ MAX_EVENTS }
-    ensures deciding { IfOk result (λ full. IsDeciding initial.now events.items full.items) }
-    ensures completed { IfOk result (λ full. full.items ≡ completed initial.now events.items) }
-    ensures few { IfOk result (λ full. length full.items ≤ MAX_EVENTS) }
+    ensures deciding { IfOk result (λ made. IsDeciding initial.now events.items made.events.items) }
+    ensures completed { IfOk result (λ made. made.events.items ≡ completed initial.now events.items) }
+    ensures pending { IfOk result (λ made. made.pending ≡ length (pending_calls events.items)) }
+    ensures few { IfOk result (λ made. length made.events.items ≤ MAX_EVENTS) }
     ensures within { OnOk result (¬ (IsBeyondLimits initial.now events.items)) }
     ensures found { OnOk result (MayBePending initial.now events.items) }
-    ensures same { IfOk result (λ full. IsCompleteFrom initial.now events.items → full.items ≡ events.items) }
+    ensures same { IfOk result (λ made. IsCompleteFrom initial.now events.items → made.events.items ≡ events.items) }
     ensures fault { IfErr result (IsCompletionFault initial.now events.items) }
 {
     check_history(alloc, initial, events.as_slice())?;

@@ -11,7 +11,6 @@ mod left;
 mod pending;
 
 pub use answers::Answer;
-pub use completion::{complete, next_ticket};
+pub use completion::{Completion, complete, next_ticket};
 pub use fault::CompletionFault;
 pub use laws::the_completion_decides;
-pub use pending::count_pending;

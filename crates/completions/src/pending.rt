@@ -5,7 +5,7 @@ ghost use Rattle.event_records.specs.declared.limits.TheConstants.{MAX_THREAD, M
 ghost use Rattle.completions.specs.Completed.{is_pending, pending_calls};
 ghost use Rattle.completions.specs.Inner.Walk.{AreLast};
 
-use crate::last::{is_call, last_events};
+use crate::last::is_call;
 use event_records::Event;
 use std::alloc::{AllocError, Global};
 
@@ -40,19 +40,4 @@ pub(crate) fn pending_calls(
         }
     }
     Ok(calls)
-}
-
-/// Returns how many calls are pending. Time O(n) for n events, and no memory.
-pub fn count_pending(events: &[Event]) -> usize
-    requires { All (λ e. e.thread ≤ MAX_THREAD) events.now }
-    ensures { result ≡ length (pending_calls events.now) }
-{
-    let last = last_events(events);
-    let mut count = 0;
-    for event in events {
-        if is_pending(&last, *event) {
-            count += 1;
-        }
-    }
-    count
 }

@@ -28,8 +28,11 @@ fn compared(alloc: Global, seed: u64) -> Result<(bool, bool, usize), Fail> {
     }
     let searched = is_some_linearizable(alloc, &initial, &events)?;
     let pending = pending_calls(alloc, &events)?.len();
-    let full = complete(alloc, &initial, events)?;
-    let decided = is_linearizable(alloc, &initial, &full)?;
+    let made = complete(alloc, &initial, events)?;
+    if made.pending != pending {
+        return Err(Fail::from("another number of pending calls"));
+    }
+    let decided = is_linearizable(alloc, &initial, &made.events)?;
     Ok((decided, searched, pending))
 }
 

@@ -94,7 +94,10 @@ fn completion_of(
     if initial.len() > MAX_INITIAL || events.len() > MAX_EVENTS {
         return Err("too many values or events")?;
     }
-    Ok(complete(alloc, initial, events))
+    match complete(alloc, initial, events) {
+        Ok(made) => Ok(Ok(made.events)),
+        Err(fault) => Ok(Err(fault)),
+    }
 }
 
 /// Whether these are the first `kept` of some marks, and then the returns.

@@ -11,8 +11,8 @@ left_values-requires-clause-given c = subst (AreGiven c.args.events.now) (sym c.
 pub returns : goal.returns
 returns c =
     let events = c.args.events.now in
-    let given = subst (AreGiven events) (sym c.as_slice-4.ensures.value) c.in_ok-given.ensures in
-    let dequeues = c.as_slice-5.ensures.value ∙ c.in_ok-dequeues.ensures ∙ ap (filter calls_dequeue) (c.as_slice-2.ensures.value ∙ c.in_ok-calls.ensures) in
-    let first = c.in_ok-answers.ensures events given ∙ ap (filter_map (enqueue_answer events)) (c.as_slice-3.ensures.value ∙ c.in_ok-calls.ensures) in
+    let given = subst (AreGiven events) (sym c.as_slice-2.ensures.value) c.in_ok-given.ensures in
+    let dequeues = c.as_slice-3.ensures.value ∙ c.in_ok-dequeues.ensures ∙ ap (filter calls_dequeue) c.requires.calls in
+    let first = c.in_ok-answers.ensures events given ∙ ap (filter_map (enqueue_answer events)) c.requires.calls in
     c.in_ok-push_dequeue_answers.ensures
-    ∙ ap₂ (λ (a b : List Answer). a ++ b) first (ap₂ paired dequeues (c.as_slice-6.ensures.value ∙ c.in_ok-left.ensures))
+    ∙ ap₂ (λ (a b : List Answer). a ++ b) first (ap₂ paired dequeues (c.as_slice-4.ensures.value ∙ c.in_ok-left.ensures))

@@ -12,11 +12,11 @@ pub returns-then-saturating_add-gt-MAX_EVENTS-clause-fault : goal.returns-then-s
 returns-then-saturating_add-gt-MAX_EVENTS-clause-fault c =
     let events = c.args.events.items in
     let whole = length_completed c.args.initial.now events in
-    let made = c.in_ok-answers.ensures ∙ ap (answers_to c.args.initial.now) c.as_slice-2.ensures.value in
+    let made = c.in_ok-answers.ensures ∙ ap (answers_to c.args.initial.now) c.as_slice-3.ensures.value in
     let answers = ap (λ (l : List Answer). length l) made in
-    let next = c.next_ticket-ticket.ensures.next ∙ ap next_ticket c.as_slice-3.ensures.value in
+    let next = c.next_ticket-ticket.ensures.next ∙ ap next_ticket c.as_slice-5.ensures.value in
     let kept = ap (λ (l : List Event). length l) (c.leave_out.ensures
-    ∙ ap (λ (l : List Answer). filter (λ e. not (is_left_out c.args.events.items l e)) c.args.events.items) (c.as_slice-4.ensures.value ∙ made)) in (
+    ∙ ap (λ (l : List Answer). filter (λ e. not (is_left_out c.args.events.items l e)) c.args.events.items) (c.as_slice-6.ensures.value ∙ made)) in (
       c.requires.found,
       elim c.then-saturating_add-gt-MAX_EVENTS.branch [
         | then-saturating_add-gt-MAX_EVENTS-via-then-saturating_add-gt-MAX_EVENTS w ↦
@@ -30,11 +30,11 @@ pub returns-clause-within : goal.returns-clause-within
 returns-clause-within c =
     let events = c.args.events.items in
     let whole = length_completed c.args.initial.now events in
-    let made = c.in_ok-answers.ensures ∙ ap (answers_to c.args.initial.now) c.as_slice-2.ensures.value in
+    let made = c.in_ok-answers.ensures ∙ ap (answers_to c.args.initial.now) c.as_slice-3.ensures.value in
     let answers = ap (λ (l : List Answer). length l) made in
-    let next = c.next_ticket-ticket.ensures.next ∙ ap next_ticket c.as_slice-3.ensures.value in
+    let next = c.next_ticket-ticket.ensures.next ∙ ap next_ticket c.as_slice-5.ensures.value in
     let kept = ap (λ (l : List Event). length l) (c.leave_out.ensures
-    ∙ ap (λ (l : List Answer). filter (λ e. not (is_left_out c.args.events.items l e)) c.args.events.items) (c.as_slice-4.ensures.value ∙ made)) in
+    ∙ ap (λ (l : List Answer). filter (λ e. not (is_left_out c.args.events.items l e)) c.args.events.items) (c.as_slice-6.ensures.value ∙ made)) in
     λ beyond. elim beyond [
       | inl more ↦ omega (arith, more, whole, answers, kept, c.saturating_add.ensures, c.len.ensures, c.len-count.ensures)
       | inr more ↦ omega (arith, more, answers, next, c.len-count.ensures)
@@ -43,11 +43,11 @@ returns-clause-within c =
 pub returns-clause-completed : goal.returns-clause-completed
 returns-clause-completed c =
     let events = c.args.events.items in
-    let made = c.in_ok-answers.ensures ∙ ap (answers_to c.args.initial.now) c.as_slice-2.ensures.value in
+    let made = c.in_ok-answers.ensures ∙ ap (answers_to c.args.initial.now) c.as_slice-3.ensures.value in
     let kept = c.leave_out.ensures
-    ∙ ap (λ (l : List Answer). filter (λ e. not (is_left_out events l e)) events) (c.as_slice-4.ensures.value ∙ made) in
-    let next = c.next_ticket-ticket.ensures.next ∙ ap next_ticket c.as_slice-3.ensures.value in
-    c.in_ok-push_returns.ensures ∙ ap (λ (l : List Event). l ++ returns_from c.next_ticket-ticket.result c.as_slice-5.result.now) kept
-    ∙ ap (λ (n : ℕ). filter (λ e. not (is_left_out events (answers_to c.args.initial.now events) e)) events ++ returns_from n c.as_slice-5.result.now) next
+    ∙ ap (λ (l : List Answer). filter (λ e. not (is_left_out events l e)) events) (c.as_slice-6.ensures.value ∙ made) in
+    let next = c.next_ticket-ticket.ensures.next ∙ ap next_ticket c.as_slice-5.ensures.value in
+    c.in_ok-push_returns.ensures ∙ ap (λ (l : List Event). l ++ returns_from c.next_ticket-ticket.result c.as_slice-7.result.now) kept
+    ∙ ap (λ (n : ℕ). filter (λ e. not (is_left_out events (answers_to c.args.initial.now events) e)) events ++ returns_from n c.as_slice-7.result.now) next
     ∙ ap (λ (l : List Answer). filter (λ e. not (is_left_out events (answers_to c.args.initial.now events) e)) events ++ returns_from (next_ticket events) l)
-    (c.as_slice-5.ensures.value ∙ made)
+    (c.as_slice-7.ensures.value ∙ made)
