@@ -77,7 +77,7 @@ fn refusal_of(fault: CompletionFault) -> Fault
     }
 }
 
-/// Whether so many calls are pending, if a text counts them.
+/// Returns whether a text counts its pending calls rightly, if it counts them.
 fn counts(open_calls: Option<usize>, pending: usize) -> bool
     ensures { IsTrue result ↔ IfSome open_calls (λ calls. calls ≡ pending) }
 {
