@@ -108,7 +108,10 @@ all_use_well = (
           number_uses stress_rules (codes "percent") 0 100 (codes "50") (λ v e. e),
           (
             number_uses stress_rules (codes "ring") MIN_RING MAX_RING (codes "1024") (λ v e. e),
-            (number_uses stress_rules (codes "initial") 0 MAX_STRESS_INITIAL (codes "0") (λ v e. e), (quiet_uses, (help_uses stress_rules, tt))),
+            (number_uses stress_rules (codes "initial") 0 MAX_STRESS_INITIAL (codes "0") (λ v e. e), (
+              quiet_uses,
+              (flag_uses stress_rules (codes "local") (λ v. refl), (flag_uses stress_rules (codes "weak-empty") (λ v. refl), (help_uses stress_rules, tt))),
+            )),
           ),
         ),
       ),
@@ -117,7 +120,7 @@ all_use_well = (
 )
 
 defaults_do : DefaultsPass (test stress_rules) (built_with (codes "stress") stress_rules).rules
-defaults_do = (tt, (refl, (refl, (refl, (refl, (refl, (refl, (refl, (tt, tt)))))))))
+defaults_do = (tt, (refl, (refl, (refl, (refl, (refl, (refl, (refl, (refl, (refl, (tt, tt)))))))))))
 
 any_text : (o : Option Text) (P : Text → Type 0) → IsSomeAnd o P → IsSome o
 any_text None P h = absurd h
@@ -184,13 +187,16 @@ draw_uses_well = (
     flag_uses draw_rules (codes "html") (λ v. refl),
     (
       number_uses draw_rules (codes "around") 0 MAX_AROUND (codes "0") (λ v e. e),
-      (flag_uses draw_rules (codes "all") (λ v. refl), (help_uses draw_rules, tt)),
+      (
+        flag_uses draw_rules (codes "all") (λ v. refl),
+        (flag_uses draw_rules (codes "local") (λ v. refl), (flag_uses draw_rules (codes "weak-empty") (λ v. refl), (help_uses draw_rules, tt))),
+      ),
     ),
   ),
 )
 
 draw_defaults : DefaultsPass (test draw_rules) (built_with (codes "draw") draw_rules).rules
-draw_defaults = (refl, (refl, (refl, (refl, (tt, tt)))))
+draw_defaults = (refl, (refl, (refl, (refl, (refl, (refl, (tt, tt)))))))
 
 has_distance : (rest : List Text) → level_fault (built_with (codes "draw") draw_rules) [] nothing_held rest false [] ≡ []
     → HasDistance (rows_after (built_with (codes "draw") draw_rules).rules [] rest)

@@ -6,8 +6,9 @@ use Rattle.clap.specs.Faults.{fault_of}
 use Rattle.clap.specs.Kinds.{Kinds}
 use Rattle.clap.specs.Simple.{App, new_shape, subcommand_of}
 use Rattle.clap.specs.Walk.{Row, Text}
-use Rattle.command_words.specs.Options.{IsWithinRanges, Settings, drawing_in, is_quiet, settings_in, settings_of, takes_cut, the_complete, the_draw}
-use Rattle.command_words.specs.Options.{the_judging, the_stress}
+use Rattle.command_words.specs.Options.{IsWithinRanges, Settings, condition_in, drawing_in, is_quiet, settings_in, settings_of, takes_cut, the_complete}
+use Rattle.command_words.specs.Options.{the_deciding, the_draw, the_judging, the_stress, the_verify}
+use Rattle.command_words.specs.declared.options.Condition.{Condition}
 use Rattle.command_words.specs.declared.options.DrawOptions.{DrawOptions}
 use Rattle.command_words.specs.declared.options.TheConstants.{MAX_AROUND}
 use Rattle.command_words.specs.declared.tasks.Task.{Task}
@@ -21,7 +22,7 @@ the_program_alone = record { top = record (new_shape (codes "fifobench")) { subc
 abbrev pub the_program : App
 the_program = record {
   top = record the_program_alone.top { is_leaf = false };
-  subs = the_judging (codes "check") ∷ the_judging (codes "shrink") ∷ new_shape (codes "verify")
+  subs = the_deciding (codes "check") ∷ the_deciding (codes "shrink") ∷ the_verify
       ∷ the_draw ∷ new_shape (codes "convert") ∷ the_complete ∷ new_shape (codes "stats") ∷ the_judging (codes "sim") ∷ the_stress ∷ [];
 }
 
@@ -29,11 +30,11 @@ the_program = record {
 abbrev pub faults_in : List Text → Kinds
 faults_in words = fault_of the_program words
 
--- what a command asks for
+-- what a command asks for, those that judge under a condition
 pub data Request : Type 0 where
-  check : Request
-  shrink : Request
-  verify : Request
+  check : Condition → Request
+  shrink : Condition → Request
+  verify : Condition → Request
   draw : DrawOptions → Request
   convert : Request
   -- whether a text that is cut off is taken too
@@ -45,9 +46,9 @@ pub data Request : Type 0 where
 -- the request of a subcommand, by its name and clap's matches of its options
 abbrev pub request_named : Text → List Row → Option Request
 request_named name rows =
-    if bytes_eq name (codes "check") then Some check
-    else if bytes_eq name (codes "shrink") then Some shrink
-    else if bytes_eq name (codes "verify") then Some verify
+    if bytes_eq name (codes "check") then Some (check (condition_in rows))
+    else if bytes_eq name (codes "shrink") then Some (shrink (condition_in rows))
+    else if bytes_eq name (codes "verify") then Some (verify (condition_in rows))
     else if bytes_eq name (codes "draw") then Some (draw (drawing_in rows))
     else if bytes_eq name (codes "convert") then Some convert
     else if bytes_eq name (codes "complete") then Some (complete (takes_cut rows))
@@ -73,9 +74,9 @@ is_quiet_in words = is_quiet_subcommand (subcommand_of the_program words)
 
 -- the request that a value of the program stands for
 abbrev pub request_of : Task → Request
-request_of task.Check = check
-request_of task.Shrink = shrink
-request_of task.Verify = verify
+request_of (task.Check condition) = check condition
+request_of (task.Shrink condition) = shrink condition
+request_of (task.Verify condition) = verify condition
 request_of (task.Draw options) = draw options
 request_of task.Convert = convert
 request_of (task.Complete cut) = complete cut

@@ -10,6 +10,7 @@ use Rattle.event_records.specs.declared.limits.TheConstants.{MAX_RING, MAX_SEED,
 use Rattle.command_words.specs.declared.options.TheConstants.{MAX_AROUND}
 use Rattle.command_words.specs.declared.options.PictureForm.{PictureForm}
 use Rattle.command_words.specs.declared.options.PictureForm.TheVariants.{Html, Svg, Terminal}
+use Rattle.command_words.specs.declared.options.Condition.{Condition}
 use Rattle.command_words.specs.declared.options.DrawOptions.{DrawOptions}
 use Rattle.command_words.specs.declared.options.StressOptions.{StressOptions}
 
@@ -51,10 +52,23 @@ quiet_rule = record (new_rule (codes "quiet")) {
 abbrev pub the_judging : Text → Shape
 the_judging name = record (new_shape name) { rules = quiet_rule ∷ [] }
 
+-- the flags for a weaker condition
+abbrev pub condition_rules : List Rule
+condition_rules = flag_rule (codes "local") ∷ flag_rule (codes "weak-empty") ∷ []
+
+-- a command that judges under a condition, with these flags too
+abbrev pub the_deciding : Text → Shape
+the_deciding name = record (new_shape name) { rules = quiet_rule ∷ condition_rules }
+
+-- `verify` with these flags
+abbrev pub the_verify : Shape
+the_verify = record (new_shape (codes "verify")) { rules = condition_rules }
+
 -- the flags of `draw`, and how many events around a violation it draws
 abbrev pub draw_rules : List Rule
 draw_rules =
-    flag_rule (codes "text") ∷ flag_rule (codes "html") ∷ number_rule (codes "around") 0 MAX_AROUND (codes "0") ∷ flag_rule (codes "all") ∷ []
+    flag_rule (codes "text") ∷ flag_rule (codes "html") ∷ number_rule (codes "around") 0 MAX_AROUND (codes "0") ∷ flag_rule (codes "all")
+    ∷ condition_rules
 
 -- `draw` with its options
 abbrev pub the_draw : Shape
@@ -71,7 +85,7 @@ stress_rules = queue_rule ∷ number_rule (codes "threads") 1 MAX_WORKERS (codes
     ∷ number_rule (codes "seed") 0 MAX_SEED (codes "1")
     ∷ number_rule (codes "percent") 0 100 (codes "50")
     ∷ number_rule (codes "ring") MIN_RING MAX_RING (codes "1024")
-    ∷ number_rule (codes "initial") 0 MAX_STRESS_INITIAL (codes "0") ∷ quiet_rule ∷ []
+    ∷ number_rule (codes "initial") 0 MAX_STRESS_INITIAL (codes "0") ∷ quiet_rule ∷ condition_rules
 
 -- the subcommand with its options
 abbrev pub the_stress : Shape
@@ -88,6 +102,7 @@ pub record Settings : Type 0 where
   pub percent : ℕ
   pub ring : ℕ
   pub initial : ℕ
+  pub condition : Condition
 
 -- the settings that a value of the program stands for
 abbrev pub settings_of : StressOptions → Settings
@@ -99,6 +114,7 @@ settings_of o = record {
   percent = o.percent;
   ring = o.ring;
   initial = o.initial;
+  condition = o.condition;
 }
 
 -- the text of an option; there is one in all words that are a command
@@ -126,6 +142,14 @@ is_quiet rows = has_flag (codes "quiet") rows
 abbrev pub takes_cut : List Row → Bool
 takes_cut rows = has_flag (codes "cut") rows
 
+-- linearizability
+abbrev pub linearizability : Condition
+linearizability = record { is_local = false; is_weakly_empty = false }
+
+-- the condition that clap's matches of a command ask for
+abbrev pub condition_in : List Row → Condition
+condition_in rows = record { is_local = has_flag (codes "local") rows; is_weakly_empty = has_flag (codes "weak-empty") rows }
+
 -- the form of a picture that clap's matches of `draw` ask for: characters if that flag was given, else a page, else SVG
 abbrev pub form_in : List Row → PictureForm
 form_in rows = if has_flag (codes "text") rows then Terminal else (if has_flag (codes "html") rows then Html else Svg)
@@ -134,13 +158,13 @@ form_in rows = if has_flag (codes "text") rows then Terminal else (if has_flag (
 abbrev pub around_in : List Row → Option ℕ
 around_in rows = if has_flag (codes "all") rows then None else Some (number_in (codes "around") rows)
 
--- a picture in this form, with no events around a violation
+-- a picture in this form, with no events around a violation, of linearizability
 abbrev pub drawing_as : PictureForm → DrawOptions
-drawing_as form = record { form = form; around = Some 0 }
+drawing_as form = record { form = form; around = Some 0; condition = linearizability }
 
 -- how clap's matches of `draw` ask for a picture
 abbrev pub drawing_in : List Row → DrawOptions
-drawing_in rows = record { form = form_in rows; around = around_in rows }
+drawing_in rows = record { form = form_in rows; around = around_in rows; condition = condition_in rows }
 
 -- the settings that clap's matches of `stress` give, in which an option that isn't given has its default
 abbrev pub settings_in : List Row → Settings
@@ -152,6 +176,7 @@ settings_in rows = record {
   percent = number_in (codes "percent") rows;
   ring = number_in (codes "ring") rows;
   initial = number_in (codes "initial") rows;
+  condition = condition_in rows;
 }
 
 -- each number lies in the range of its option

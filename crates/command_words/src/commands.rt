@@ -4,8 +4,8 @@ ghost use Rattle.clap.specs.Simple.{Shape, app_of, new_app, shape_of, with_subco
 ghost use Rattle.clap.specs.Walk.{rule_of};
 ghost use Rattle.clap.specs.declared.builder.command.Command.TheViews.{out-Command};
 ghost use Rattle.command_words.specs.Commands.{the_program, the_program_alone};
-ghost use Rattle.command_words.specs.Inner.Built.{with_first_four, with_last_five, with_plan, with_sizes};
-ghost use Rattle.command_words.specs.Options.{flag_rule, number_rule, queue_rule, quiet_rule, the_complete, the_draw, the_judging, the_stress};
+ghost use Rattle.command_words.specs.Inner.Built.{with_condition, with_first_four, with_last_five, with_plan, with_sizes};
+ghost use Rattle.command_words.specs.Options.{flag_rule, number_rule, queue_rule, quiet_rule, the_complete, the_deciding, the_draw, the_judging, the_stress, the_verify};
 
 use crate::help;
 use crate::options::MAX_AROUND;
@@ -28,12 +28,11 @@ pub(crate) fn the_command<'a>(alloc: Global) -> Result<Command<'a>, AllocError>
 fn with_first_four<'a>(alloc: Global, app: Command<'a>) -> Result<Command<'a>, AllocError>
     ensures { IfOk result (λ c. app_of c ≡ with_first_four (app_of app.entry)) }
 {
-    let check = judging_command(alloc, "check", help::CHECK_ABOUT, help::CHECK_LONG);
+    let check = deciding_command(alloc, "check", help::CHECK_ABOUT, help::CHECK_LONG);
     let with_check = with(app, check)?;
-    let shrink = judging_command(alloc, "shrink", help::SHRINK_ABOUT, help::SHRINK_LONG);
+    let shrink = deciding_command(alloc, "shrink", help::SHRINK_ABOUT, help::SHRINK_LONG);
     let with_shrink = with(with_check, shrink)?;
-    let verify = plain_command(alloc, "verify", help::VERIFY_ABOUT, help::VERIFY_LONG);
-    let with_verify = with(with_shrink, Ok(verify))?;
+    let with_verify = with(with_shrink, verify_command(alloc))?;
     with(with_verify, draw_command(alloc))
 }
 
@@ -99,6 +98,39 @@ fn judging_command<'a>(
     plain_command(alloc, name, about, long).arg(quiet_option(alloc))
 }
 
+// A subcommand that judges under a condition.
+fn deciding_command<'a>(
+    alloc: Global,
+    name: &'a str,
+    about: &'a str,
+    long: &'a str,
+) -> Result<Command<'a>, AllocError>
+    ensures shape { IfOk result (λ c. shape_of c ≡ the_deciding name.entry.now) }
+    ensures local { IfOk result (λ c. (out-Command c).has_globals ≡ false) }
+{
+    let quiet = plain_command(alloc, name, about, long).arg(quiet_option(alloc))?;
+    with_condition(alloc, quiet)
+}
+
+fn verify_command<'a>(alloc: Global) -> Result<Command<'a>, AllocError>
+    ensures shape { IfOk result (λ c. shape_of c ≡ the_verify) }
+    ensures local { IfOk result (λ c. (out-Command c).has_globals ≡ false) }
+{
+    let command = plain_command(alloc, "verify", help::VERIFY_ABOUT, help::VERIFY_LONG);
+    with_condition(alloc, command)
+}
+
+// The subcommand with the flags for a weaker condition.
+fn with_condition<'a>(alloc: Global, command: Command<'a>) -> Result<Command<'a>, AllocError>
+    requires { (out-Command command).has_globals ≡ false }
+    ensures app { IfOk result (λ c. app_of c ≡ with_condition (app_of command.entry)) }
+    ensures local { IfOk result (λ c. (out-Command c).has_globals ≡ false) }
+{
+    command
+        .arg(flag_option(alloc, "local", help::LOCAL_HELP))?
+        .arg(flag_option(alloc, "weak-empty", help::WEAK_EMPTY_HELP))
+}
+
 fn quiet_option<'a>(alloc: Global) -> Arg<'a>
     ensures rule { rule_of result ≡ quiet_rule }
     ensures local { result.global ≡ false }
@@ -114,11 +146,12 @@ fn draw_command<'a>(alloc: Global) -> Result<Command<'a>, AllocError>
     ensures shape { IfOk result (λ c. shape_of c ≡ the_draw) }
     ensures local { IfOk result (λ c. (out-Command c).has_globals ≡ false) }
 {
-    plain_command(alloc, "draw", help::DRAW_ABOUT, help::DRAW_LONG)
+    let command = plain_command(alloc, "draw", help::DRAW_ABOUT, help::DRAW_LONG)
         .arg(flag_option(alloc, "text", help::TEXT_HELP))?
         .arg(flag_option(alloc, "html", help::HTML_HELP))?
         .arg(number_option(alloc, "around", (0, MAX_AROUND), "0", help::AROUND_HELP))?
-        .arg(flag_option(alloc, "all", help::ALL_HELP))
+        .arg(flag_option(alloc, "all", help::ALL_HELP))?;
+    with_condition(alloc, command)
 }
 
 fn complete_command<'a>(alloc: Global) -> Result<Command<'a>, AllocError>
@@ -148,7 +181,8 @@ fn stress_command<'a>(alloc: Global) -> Result<Command<'a>, AllocError>
 {
     let command = plain_command(alloc, "stress", help::STRESS_ABOUT, help::STRESS_LONG);
     let half = with_plan(alloc, command)?;
-    with_sizes(alloc, half)
+    let strict = with_sizes(alloc, half)?;
+    with_condition(alloc, strict)
 }
 
 // The subcommand with the queue, the workers, how many operations each makes, and the seed.

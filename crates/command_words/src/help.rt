@@ -50,6 +50,15 @@ their enqueues; VWit, an empty answer although the queue was never empty
 meanwhile. A line has the tickets of an operation's call and return, its thread,
 and what it did; `init VALUE` stands for a value that the queue held first.
 
+With `--local` the values of each producer are judged alone (local
+linearizability): for each thread the operations on the values that it enqueues,
+by whomever, and all empty dequeues have to be linearizable; initial values
+count as one more thread's. `YES` lists their linearizations one after another,
+that of the initial values first, then by thread; `NO` shows a violation of the
+first that has none. With `--weak-empty` an empty dequeue promises nothing: the
+history without its empty dequeues is judged. `verify` takes the verdict with
+the same flags, and a `NO` without them too.
+
 Lines count from 1 and events from 0: event i stands in line i + 2, and after K
 initial values in line i + K + 3. A text that goes on after its line `end N` is
 `REFUSED Trailing`: of what `stress` writes, take the history on its own by
@@ -77,6 +86,10 @@ Input: the text of a history, as for `check`, from its first line to the line
 Output: where the history is not linearizable, the text of the shrunk history,
 of the version of the input, and then its verdict; else the verdict alone, as
 `check` prints it.
+
+With `--local` or `--weak-empty` a history is shrunk that doesn't meet this
+condition, as for `check`. What is shown doesn't meet it either; each smaller
+part does.
 
 A text that goes on after its line `end N` is `REFUSED Trailing`: of what
 `stress` writes, take the history on its own by `sed '/^end /q'`.
@@ -107,6 +120,9 @@ Input: the text of a history, as for `check`, from its first line to the line
 
 Output: `VALID` where the verdict's operations are evidence for it in that
 history, else `INVALID`. Lines count from 1 through both texts.
+
+With `--local` and `--weak-empty` the verdict is one under that condition, as
+`check` writes it with the same flags.
 
 Status:
   0  valid
@@ -149,6 +165,11 @@ are drawn; a row `... 250 events ...` stands for what is left out between. With
 `--around 20` so are the 20 events before and after each operation that shows
 it, and all that is pending meanwhile; in characters what overlaps no numbered
 operation has `(`, `)` and `:`. With `--all` everything is drawn.
+
+With `--local` and `--weak-empty` the verdict is one under that condition, as of
+`check`. With `--weak-empty` empty dequeues aren't drawn. A `YES` with `--local`
+is `REFUSED Orders`: it has a linearization for each producer, and no picture of
+one. A pending text's completion is judged, which decides linearizability alone.
 
 More than 400 operations to be drawn, values that the queue holds first, or
 lines of the verdict are `REFUSED Size`: shrink the history first. Lines count
@@ -347,6 +368,9 @@ Output: the text of the recorded history and its verdict, which `verify` reads.
 Runs of several workers differ, also with the same options, since the workers
 run at the same time.
 
+With `--local` and `--weak-empty` the run is judged under that condition, as by
+`check`.
+
 With `--initial K` the queue is given the values 274877906944, 274877906945, ..
 before any worker starts, K of them, and the text of the history is of version
 2. Where the queue has no room for one of them, `FAULT Preload PLACE` says for
@@ -374,6 +398,10 @@ Example:
 ";
 
 pub(crate) const QUIET_HELP: &str = "Prints the first line of the verdict alone";
+
+pub(crate) const LOCAL_HELP: &str = "Judges the values of each producer alone";
+
+pub(crate) const WEAK_EMPTY_HELP: &str = "Judges without empty dequeues";
 
 pub(crate) const QUEUE_HELP: &str = "Name of the queue";
 

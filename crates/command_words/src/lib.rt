@@ -8,5 +8,5 @@ mod options;
 mod tasks;
 
 pub use laws::words_without_a_fault_are_a_command;
-pub use options::{DrawOptions, MAX_AROUND, PictureForm, StressOptions};
+pub use options::{Condition, DrawOptions, MAX_AROUND, PictureForm, StressOptions};
 pub use tasks::{Order, Task, order_in};

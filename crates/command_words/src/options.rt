@@ -2,11 +2,42 @@
 ghost use Rattle.std.specs.Prelude.{◌≡◌, ◌≤◌, ℕ, Some, IfSome};
 ghost use Rattle.clap.specs.Matches.{found_of};
 ghost use Rattle.clap.specs.Walk.{rows_of};
-ghost use Rattle.command_words.specs.Options.{IsWithinRanges, around_in, drawing_as, drawing_in, form_in, has_flag, is_given, is_quiet};
+ghost use Rattle.command_words.specs.Options.{IsWithinRanges, around_in, condition_in, drawing_as, drawing_in, form_in, has_flag, is_given, is_quiet, linearizability};
 ghost use Rattle.command_words.specs.Options.{number_in, settings_in, settings_of, takes_cut};
 ghost use Rattle.command_words.specs.Inner.Options.{HasDistance, HasNumber, HasSettings};
 
 use clap::ArgMatches;
+
+/// The condition that is judged: linearizability, or a weaker one.
+#[derive(Clone, Copy, PartialEq, Eq)]
+pub struct Condition {
+    /// Whether the values of each producer are judged alone.
+    pub is_local: bool,
+    /// Whether an empty dequeue promises nothing.
+    pub is_weakly_empty: bool,
+}
+
+impl Condition {
+    /// Linearizability.
+    pub fn linearizable() -> Condition
+        ensures { result ≡ linearizability }
+    {
+        Condition {
+            is_local: false,
+            is_weakly_empty: false,
+        }
+    }
+}
+
+/// Returns the condition in the matches of a command.
+pub(crate) fn judged_condition(matches: &ArgMatches<'_>) -> Condition
+    ensures { result ≡ condition_in (rows_of (found_of matches.now)) }
+{
+    Condition {
+        is_local: has_flag(matches, "local"),
+        is_weakly_empty: has_flag(matches, "weak-empty"),
+    }
+}
 
 /// How a picture is drawn.
 #[derive(Clone, Copy, PartialEq, Eq)]
@@ -28,6 +59,8 @@ pub struct DrawOptions {
     pub form: PictureForm,
     /// Of a `NO`, how many events before and after the operations that show it are drawn; all of the history, if `None`.
     pub around: Option<usize>,
+    /// The condition under which the history is decided, or the claim is evidence.
+    pub condition: Condition,
 }
 
 impl DrawOptions {
@@ -38,6 +71,7 @@ impl DrawOptions {
         DrawOptions {
             form,
             around: Some(0),
+            condition: Condition::linearizable(),
         }
     }
 }
@@ -51,6 +85,7 @@ pub(crate) fn draw_options(matches: &ArgMatches<'_>) -> DrawOptions
     DrawOptions {
         form: picture_form(matches),
         around: distance(matches),
+        condition: judged_condition(matches),
     }
 }
 
@@ -125,6 +160,8 @@ pub struct StressOptions<'a> {
     pub ring: usize,
     /// Values that the queue holds before the run, 0 to 1,000.
     pub initial: usize,
+    /// The condition under which the run is decided.
+    pub condition: Condition,
 }
 
 /// The options in the matches of `stress`.
@@ -144,6 +181,7 @@ pub(crate) fn stress_options<'a>(matches: &ArgMatches<'a>) -> StressOptions<'a>
         percent: number(matches, "percent") as u8,
         ring: number(matches, "ring") as usize,
         initial: number(matches, "initial") as usize,
+        condition: judged_condition(matches),
     }
 }
 

@@ -7,7 +7,7 @@ ghost use Rattle.command_words.specs.Inner.Commands.{IsAnswerable};
 
 use crate::commands::the_command;
 use crate::options::{
-    DrawOptions, StressOptions, draw_options, is_quiet, stress_options, takes_cut,
+    Condition, DrawOptions, StressOptions, draw_options, is_quiet, judged_condition, stress_options, takes_cut,
 };
 use clap::{ArgMatches, Error};
 use std::alloc::Global;
@@ -17,11 +17,11 @@ use std::convert::AsStr;
 #[derive(Clone, Copy, PartialEq, Eq)]
 pub enum Task<'a> {
     /// Read a history and print its verdict.
-    Check,
+    Check(Condition),
     /// Read a history and print a smaller one that shows the same kind of violation, and its verdict.
-    Shrink,
+    Shrink(Condition),
     /// Read a history and a claimed verdict, and print whether the verdict holds.
-    Verify,
+    Verify(Condition),
     /// Read a history and a claimed verdict, and print a picture of both.
     Draw(DrawOptions),
     /// Read a history of either version of the text, and write it in version 2.
@@ -91,9 +91,9 @@ fn task_of<'a>(matches: &ArgMatches<'a>) -> Task<'a>
         unreachable!()
     };
     match name {
-        "check" => Task::Check,
-        "shrink" => Task::Shrink,
-        "verify" => Task::Verify,
+        "check" => Task::Check(judged_condition(options)),
+        "shrink" => Task::Shrink(judged_condition(options)),
+        "verify" => Task::Verify(judged_condition(options)),
         "draw" => Task::Draw(draw_options(options)),
         "convert" => Task::Convert,
         "complete" => Task::Complete {

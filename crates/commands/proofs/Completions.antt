@@ -6,6 +6,7 @@ use Rattle.commands.proofs.Common.{No, None, operations_of, Option, refl, Reply,
 use Rattle.commands.proofs.Common.{true, Verdict, Version, Yes, ℕ, ◌++◌, ◌+◌, ◌∙◌, ◌∷◌, ◌≡◌, ◌≢◌, ◌≤◌, ◌⊎◌}
 use Rattle.commands.proofs.Inputs.{answered_of, one_answer, one_history, one_pending}
 use Rattle.commands.proofs.OneAnswer.{have_lines, history_fault_fails, not_both, one_by_whether, text_fault_fails}
+use Rattle.command_words.specs.Options.{linearizability}
 use Rattle.commands.specs.Answers.{answer_of_history_fault, answer_status, refused_limit, refused_text}
 use Rattle.commands.specs.Completing.{completion_in, Completes, FaultOrCompletion, IsCompletable, IsFaultyBefore, IsPendingOf}
 use Rattle.commands.specs.Completing.{LacksCompletion}
@@ -308,12 +309,12 @@ completed_is_decided takes_cut bytes text to claimed reads answers checks =
     let written = completed_is_history takes_cut bytes to answers in
     let one = (one_pending takes_cut).one_value (input_of bytes) is.text text is.input_of reads in
     let done = completed is.text.initial is.text.events in
-    let judged_so = verdict_of to claimed written.1 (answered_of one_history Judges (input_of (text_of to)) to (judged claimed) written.0 checks) in
+    let judged_so = verdict_of to claimed written.1 (answered_of one_history (Judges linearizability) (input_of (text_of to)) to (judged claimed) written.0 checks) in
     let yes = subst (λ (t : HistoryText). IsYes claimed ↔ IsLinearizable t.initial (operations_of t.events)) is.is judged_so in
     subst (λ (t : PendingText). IsYes claimed ↔ CompletesLinearizably t.initial t.events) one
     ((λ is_yes. (done, deciding.completion, yes.0 is_yes)), (λ some. yes.1 (deciding.decides some)))
   where
-    verdict_of : (t : HistoryText) (c : Claimed) → IsSound (said_by t) → AnswersOrNoMemory Judges t (judged c)
+    verdict_of : (t : HistoryText) (c : Claimed) → IsSound (said_by t) → AnswersOrNoMemory (Judges linearizability) t (judged c)
         → IsYes c ↔ IsLinearizable t.initial (operations_of t.events)
     verdict_of t c sound (inr memory) = let other : judged c ≡ memory_fault = memory in absurd (cc)
     verdict_of t c sound (inl (inl faulty)) = absurd (not_both (said_by t) (judged c) faulty sound)

@@ -24,7 +24,13 @@ use Rattle.clap.specs.declared.error.Error.{Error}
 use Rattle.command_words.specs.Commands.{check, convert, Request, shrink, sim, stats, verify}
 use Rattle.commands.specs.Answers.{answer_of_history_fault, answer_status, counted, run_fault, ShowsNoViolation}
 use Rattle.commands.specs.Inner.Running.{Explains}
-use Rattle.commands.specs.Judging.{FaultOr, IsEvident, IsFaulty}
+use Rattle.command_words.specs.Options.{linearizability}
+use Rattle.command_words.specs.declared.options.Condition.{Condition}
+use Rattle.commands.proofs.Conditions.{no_is_not_linearizable, no_is_of_the_whole, one_claim_under, one_refuted, true_under}
+use Rattle.commands.specs.Conditions.{IsDecidedUnder, IsTrueUnder}
+use Rattle.commands.specs.Evidence.{CheckedIsValidUnder, RefutedIsValid}
+use Rattle.commands.specs.Judging.{FaultOr, IsEvident, IsFaulty, IsOfVerdictUnder, IsShrunkPart, ShrinksBy}
+use Rattle.verdicts.specs.Selection.{contents_of}
 use Rattle.commands.specs.Judging.{IsOfValue, IsPlayed, IsShrunk, IsVerdictClaim, Shrinks, Simulates, SimulatesIn}
 use Rattle.commands.specs.Stressing.{first_values, IsFirstNamed, IsShownRun, RunsOrFails}
 use Rattle.commands.specs.declared.stress.TheConstants.{TRIES}
@@ -135,7 +141,7 @@ pub recorded_run : (may : Question → Answer → Type 0) (may_preload : ℕ →
     → IsSeeded settings.seed settings.threads settings.operations settings.percent plan
     → (recorded : RecordedView) → IsRun may plan recorded.lists recorded.total → AreRecorded recorded.lists
     → (given : List ℕ) → given ≡ first_values settings.initial → Replays settings.ring given recorded.lists → AreTaken may_preload given
-    → (answer : Reply) → AnswersOrNoMemory (IsShownRun settings.initial) recorded.lists answer → RunsOrFails may may_preload settings answer
+    → (answer : Reply) → AnswersOrNoMemory (IsShownRun settings.condition settings.initial) recorded.lists answer → RunsOrFails may may_preload settings answer
 recorded_run may may_preload settings plan seeded recorded run are_recorded given first replays taken answer (inl found) = inl (record {
   preloaded = subst (AreTaken may_preload) first taken;
   plan = plan;
@@ -274,21 +280,24 @@ few_values text has = (have_lines text.version text.initial has.initial).few
 -- ---- verdicts
 
 -- one thing is made of the verdict on a complete history
-pub one_of_verdict : {A : Type 0} (history : HistoryView) (made_of : Claimed → A) (x y : A) → length history.initial ≤ MAX_INITIAL → IsSound history
-    → IsOfVerdict history made_of x → IsOfVerdict history made_of y → x ≡ y
-one_of_verdict history made_of x y few complete p q = grind (arith, verdict_is_one)
+pub one_of_verdict : {A : Type 0} (condition : Condition) (history : HistoryView) (made_of : Claimed → A) (x y : A) → length history.initial ≤ MAX_INITIAL
+    → IsSound history → IsOfVerdictUnder condition history made_of x → IsOfVerdictUnder condition history made_of y → x ≡ y
+one_of_verdict condition history made_of x y few complete p q =
+    p.is ∙ ap made_of (one_claim_under history complete few condition p.verdict q.verdict p.decided q.decided) ∙ sym q.is
 
 -- the claim of the verdict on a complete history is true
-pub decided_is_true : (history : HistoryView) (claimed : Claimed) → IsSound history → length history.initial ≤ MAX_INITIAL → IsVerdictClaim history claimed
-    → IsTrueClaim history.initial (operations_of history.events) claimed
-decided_is_true history claimed complete few right = grind (arith, evidence_is_true)
+pub decided_is_true : (condition : Condition) (history : HistoryView) (claimed : Claimed) → IsSound history → length history.initial ≤ MAX_INITIAL
+    → IsVerdictClaim condition history claimed → IsTrueUnder condition history claimed
+decided_is_true condition history claimed complete few right =
+    subst (IsTrueUnder condition history) (sym right.is) (true_under history complete few condition right.verdict right.decided)
 
 -- the verdict on a linearizable history shows no violation
-pub shows_none : (version : Version) (history : HistoryView) (verdict : Verdict)
-    → IsExact history.initial (operations_of history.events) verdict → IsLinearizable history.initial (operations_of history.events)
+pub shows_none : (condition : Condition) (version : Version) (history : HistoryView) (verdict : Verdict) → IsSound history
+    → length history.initial ≤ MAX_INITIAL → IsDecidedUnder condition history verdict → IsLinearizable history.initial (operations_of history.events)
     → ShowsNoViolation (shown (said_in version history) (claim_of history.initial (operations_of history.events) verdict))
-shows_none version history (Yes places) exact linearizable = tt
-shows_none version history (No violation) exact linearizable = absurd (exact linearizable)
+shows_none condition version history (Yes places) complete few decided linearizable = tt
+shows_none condition version history (No violation) complete few decided linearizable =
+    absurd (no_is_not_linearizable history complete few condition violation decided linearizable)
 
 -- ---- from what is answered of a value to what is answered of an input
 
@@ -307,17 +316,17 @@ faults_answered P input answer found = grind (arith, ⊎_map, faulty_or)
 -- ---- an input has one answer
 
 -- a history has one judgement
-one_judgement : (text : HistoryText) (a b : Reply) → HasText text → Judges text a → Judges text b → a ≡ b
-one_judgement text a b has = one_of_history (said_by text) a b (one_of_verdict (said_by text) judged a b (few_values text has))
+one_judgement : (condition : Condition) (text : HistoryText) (a b : Reply) → HasText text → Judges condition text a → Judges condition text b → a ≡ b
+one_judgement condition text a b has = one_of_history (said_by text) a b (one_of_verdict condition (said_by text) judged a b (few_values text has))
 
-pub check_has_one : HasOneAnswer check
-check_has_one = one_answer one_history Judges (λ input text a b is. one_judgement text a b is.0)
+pub check_has_one : (condition : Condition) → HasOneAnswer (check condition)
+check_has_one condition = one_answer one_history (Judges condition) (λ input text a b is. one_judgement condition text a b is.0)
 
 -- a complete history of a queue that is empty first
 pub from_nothing : (events : List Event) → IsCompleteHistory events → IsCompleteFrom [] events
 from_nothing events complete = record { complete = complete; values_are_distinct = complete.values_are_distinct }
 
-few_of_part : (whole part : List ℕ) → ArePartOf whole part → length whole ≤ MAX_INITIAL → length part ≤ MAX_INITIAL
+pub few_of_part : (whole part : List ℕ) → ArePartOf whole part → length whole ≤ MAX_INITIAL → length part ≤ MAX_INITIAL
 few_of_part whole part is few = omega (arith, no_longer is.0 whole, ap length is.1, few)
 
 one_small : (text : HistoryText) (a b : Reply) → length text.initial ≤ MAX_INITIAL → IsSound (said_by text) → (x : IsShrunk text a) (y : IsShrunk text b)
@@ -337,22 +346,40 @@ one_small text a b few complete x y =
     is_whole small part complete = record { complete = complete; few = few_of_part text.initial small.initial part few }
 
 one_shrunk : (text : HistoryText) (a b : Reply) → length text.initial ≤ MAX_INITIAL → IsSound (said_by text) → IsShrunk text a → IsShrunk text b → a ≡ b
-one_shrunk text a b few complete x y = one_of_verdict y.small (shown (said_in text.version y.small)) a b
+one_shrunk text a b few complete x y = one_of_verdict linearizability y.small (shown (said_in text.version y.small)) a b
     (few_of_part text.initial y.small.initial y.initial few) y.small_is_complete
     (subst (λ h. IsOfVerdict h (shown (said_in text.version h)) a) (one_small text a b few complete x y) x.answered) y.answered
 
-pub shrink_has_one : HasOneAnswer shrink
-shrink_has_one = one_answer one_history Shrinks (λ input text a b is. let few = few_values text is.0 in one_of_history (said_by text) a b (λ complete.
-    one_by_whether (one_of_verdict (said_by text) judged a b few complete) (one_shrunk text a b few complete)))
+-- a part in which a `NO` is found is shown in one way
+one_shrunk_part : (condition : Condition) (text : HistoryText) (a b : Reply) → length text.initial ≤ MAX_INITIAL → IsSound (said_by text)
+    → IsShrunkPart condition text a → IsShrunkPart condition text b → a ≡ b
+one_shrunk_part condition text a b few complete x y =
+    let contents = one_refuted condition.is_local condition.is_weakly_empty (contents_of (said_by text)) (contents_of x.part) (contents_of y.part) x.found y.found in
+    let events = part_is_one text.events x.part.events y.part.events complete.complete x.events y.events x.complete.complete y.complete.complete
+    (ap (λ (c : Contents). c.operations) contents) in
+    let parts : x.part ≡ y.part = λ i. record { initial = ap (λ (c : Contents). c.initial) contents i; events = events i } in
+    one_shrunk (said_in text.version y.part) a b (few_of_part text.initial y.part.initial y.initial few) y.complete
+    (subst (λ part. IsShrunk (said_in text.version part) a) parts x.shrunk) y.shrunk
+
+one_shrunk_by : (is_local is_weak : Bool) (text : HistoryText) (a b : Reply) → length text.initial ≤ MAX_INITIAL → IsSound (said_by text)
+    → ShrinksBy is_local is_weak text a → ShrinksBy is_local is_weak text b → a ≡ b
+one_shrunk_by false false text a b few complete = one_shrunk text a b few complete
+one_shrunk_by false true text a b few complete = one_shrunk_part (record { is_local = false; is_weakly_empty = true }) text a b few complete
+one_shrunk_by true is_weak text a b few complete = one_shrunk_part (record { is_local = true; is_weakly_empty = is_weak }) text a b few complete
+
+pub shrink_has_one : (condition : Condition) → HasOneAnswer (shrink condition)
+shrink_has_one condition = one_answer one_history (Shrinks condition) (λ input text a b is. let few = few_values text is.0 in one_of_history (said_by text) a b (λ complete.
+    one_by_whether (one_of_verdict condition (said_by text) judged a b few complete)
+    (one_shrunk_by condition.is_local condition.is_weakly_empty text a b few complete)))
 
 -- a claim on a history is verified in one way, in whichever version the history is written
-one_verification : (v w : Version) (history : HistoryView) (claimed : Claimed) (a b : Reply) → Verifies (claim_on (said_in v history) claimed) a
-    → Verifies (claim_on (said_in w history) claimed) b → a ≡ b
-one_verification v w history claimed a b = one_of_history history a b (λ complete. one_by_whether same same)
+one_verification : (condition : Condition) (v w : Version) (history : HistoryView) (claimed : Claimed) (a b : Reply)
+    → Verifies condition (claim_on (said_in v history) claimed) a → Verifies condition (claim_on (said_in w history) claimed) b → a ≡ b
+one_verification condition v w history claimed a b = one_of_history history a b (λ complete. one_by_whether same same)
 
-pub verify_has_one : HasOneAnswer verify
-verify_has_one = one_answer one_claim Verifies
-    (λ input claim a b is. one_verification claim.text.version claim.text.version (said_by claim.text) claim.claimed a b)
+pub verify_has_one : (condition : Condition) → HasOneAnswer (verify condition)
+verify_has_one condition = one_answer one_claim (Verifies condition)
+    (λ input claim a b is. one_verification condition claim.text.version claim.text.version (said_by claim.text) claim.claimed a b)
 
 -- lists merge to one complete history
 one_merged : (lists : List (List Event)) (xs ys : List Event) → IsMerged lists xs → IsMerged lists ys → IsCompleteHistory xs → IsCompleteHistory ys → xs ≡ ys
@@ -370,7 +397,7 @@ one_played setting steps a b none x y =
     let events = one_merged (collected_lists setting steps) x.events y.events x.merged y.merged x.complete y.complete in
     let whole : List Event → HistoryView = λ es. record { initial = setting.initial; events = es } in
     let moved = subst (λ es. IsOfVerdict (whole es) (played (rejections setting steps) es) a) events x.answered in
-    one_of_verdict (whole y.events) (played (rejections setting steps) y.events) a b (rw none (omega arith))
+    one_of_verdict linearizability (whole y.events) (played (rejections setting steps) y.events) a b (rw none (omega arith))
     (rw none (from_nothing y.events y.complete)) moved y.answered
 
 pub sim_has_one : HasOneAnswer sim
@@ -408,17 +435,21 @@ found_of_history : (P : HistoryText → Reply → Type 0) (input : Ahead) (answe
 found_of_history P input answer well (inr faulty) = absurd (omega (arith, well, ap answer_status faulty.is, text_fault_fails faulty.fault))
 found_of_history P input answer well (inl read) = grind (arith, history_fault_fails)
 
--- the verdict on a history that has a text
-pub record IsWritten (t : HistoryText) (claimed : Claimed) : Type 0 where
+-- the verdict under a condition on a history that has a text
+pub record IsWrittenUnder (condition : Condition) (t : HistoryText) (claimed : Claimed) : Type 0 where
   pub complete : IsSound (said_by t)
   pub history : HasText t
-  pub right : IsVerdictClaim (said_by t) claimed
+  pub right : IsVerdictClaim condition (said_by t) claimed
+
+abbrev pub IsWritten : HistoryText → Claimed → Type 0
+IsWritten t claimed = IsWrittenUnder linearizability t claimed
 
 -- what is judged is the verdict on the history of the input
-pub judged_is_written : (input : Ahead) (claimed : Claimed) → AnswersFor IsHistoryOf IsFaultOfHistoryInput Judges input (judged claimed)
-    → (t : HistoryText) × IsHistoryOf input t × IsWritten t claimed
-judged_is_written input claimed checked =
-    let read = found_of_history (λ text. IsOfVerdict (said_by text) judged) input (judged claimed) (verdict_is_no_failure claimed) checked in
+pub judged_is_written : (condition : Condition) (input : Ahead) (claimed : Claimed)
+    → AnswersFor IsHistoryOf IsFaultOfHistoryInput (Judges condition) input (judged claimed)
+    → (t : HistoryText) × IsHistoryOf input t × IsWrittenUnder condition t claimed
+judged_is_written condition input claimed checked =
+    let read = found_of_history (λ text. IsOfVerdictUnder condition (said_by text) judged) input (judged claimed) (verdict_is_no_failure claimed) checked in
     let is = read.answered.1 in
     let e : judged claimed ≡ judged (claim_of read.value.initial (operations_of read.value.events) is.verdict) = is.is in (
       read.value,
@@ -439,26 +470,41 @@ values_have_lines : (version : Version) (keeps : ℕ → Bool) (initial : List �
 values_have_lines One keeps initial none = ap (filter keeps) none
 values_have_lines Two keeps initial have = grind (arith, lines_kept, no_longer)
 
+-- part of a history that has a text has one
+part_is_text : (text : HistoryText) (part : HistoryView) → HasText text → ArePartOf text.initial part.initial → ArePartOf text.events part.events
+    → HasText (said_in text.version part)
+part_is_text text part has initial events = record {
+  initial = rw initial.1 (values_have_lines text.version initial.0 text.initial has.initial);
+  events = rw events.1 (part_has_text events.0 text.events has.events);
+}
+
 -- what is shown of a history is a part of it, with its verdict
-shown_is_written : (input : Ahead) (small : HistoryText) (claimed : Claimed)
-    → AnswersFor IsHistoryOf IsFaultOfHistoryInput Shrinks input (shown small claimed) → IsWritten small claimed
-shown_is_written input small claimed shrinks =
-    let found = found_of_history ShrinksSound input (shown small claimed) (verdict_is_no_failure claimed) shrinks in
+shrunk_is_written : (text small : HistoryText) (claimed : Claimed) → HasText text → IsShrunk text (shown small claimed) → IsWritten small claimed
+shrunk_is_written text small claimed has is =
+    let said = said_in text.version is.small in
+    let e : shown small claimed ≡ shown said (claim_of is.small.initial (operations_of is.small.events) is.answered.verdict) = is.answered.is in
+    let smalls : said ≡ small = cc in
+    subst (λ t. IsWritten t claimed) smalls (record {
+      complete = is.small_is_complete;
+      history = part_is_text text is.small has is.initial is.events;
+      right = record { verdict = is.answered.verdict; decided = is.answered.decided; is = cc };
+    })
+
+shrunk_by_is_written : (is_local is_weak : Bool) (text small : HistoryText) (claimed : Claimed) → HasText text
+    → ShrinksBy is_local is_weak text (shown small claimed) → IsWritten small claimed
+shrunk_by_is_written false false text small claimed has is = shrunk_is_written text small claimed has is
+shrunk_by_is_written false true text small claimed has is =
+    shrunk_is_written (said_in text.version is.part) small claimed (part_is_text text is.part has is.initial is.events) is.shrunk
+shrunk_by_is_written true is_weak text small claimed has is =
+    shrunk_is_written (said_in text.version is.part) small claimed (part_is_text text is.part has is.initial is.events) is.shrunk
+
+shown_is_written : (condition : Condition) (input : Ahead) (small : HistoryText) (claimed : Claimed)
+    → AnswersFor IsHistoryOf IsFaultOfHistoryInput (Shrinks condition) input (shown small claimed) → IsWritten small claimed
+shown_is_written condition input small claimed shrinks =
+    let found = found_of_history (ShrinksSound condition) input (shown small claimed) (verdict_is_no_failure claimed) shrinks in
     elim found.answered.1 [
-      | inl linear ↦ let other = linear.1.is in absurd (cc)
-      | inr part ↦
-          let is = part.1 in
-          let said = said_in found.value.version is.small in
-          let e : shown small claimed ≡ shown said (claim_of is.small.initial (operations_of is.small.events) is.answered.verdict) = is.answered.is in
-          let smalls : said ≡ small = cc in
-          subst (λ t. IsWritten t claimed) smalls (record {
-            complete = is.small_is_complete;
-            history = record {
-              initial = rw is.initial.1 (values_have_lines found.value.version is.initial.0 found.value.initial found.input_of.0.initial);
-              events = rw is.events.1 (part_has_text is.events.0 found.value.events found.input_of.0.events);
-            };
-            right = record { verdict = is.answered.verdict; decided = is.answered.decided; is = cc };
-          })
+      | inl met ↦ let other = met.1.is in absurd (cc)
+      | inr part ↦ shrunk_by_is_written condition.is_local condition.is_weakly_empty found.value small claimed found.input_of.0 part.1
     ]
 
 -- ---- the two texts, read
@@ -468,41 +514,64 @@ pub claim_is_written : (t : HistoryText) (claimed : Claimed) → IsWritten t cla
 claim_is_written t claimed is = grind (arith, few_values, verdict_has_few_lines, claim_has_text)
 
 -- what is answered of a claim that is true
-true_is_valid : (claim : ClaimOnText) (answer : Reply) → IsSound (said_by claim.text) → IsEvident claim → AnswersOrNoMemory Verifies claim answer
-    → IsValidOrNoMemory answer
-true_is_valid claim answer complete holds (inl (inl faulty)) = absurd (not_both (said_by claim.text) answer faulty complete)
-true_is_valid claim answer complete holds (inl (inr (sound, inl (evident, is)))) = inl is
-true_is_valid claim answer complete holds (inl (inr (sound, inr (untrue, is)))) = absurd (untrue holds)
-true_is_valid claim answer complete holds (inr none) = inr none
+true_is_valid : (condition : Condition) (claim : ClaimOnText) (answer : Reply) → IsSound (said_by claim.text) → IsEvident condition claim
+    → AnswersOrNoMemory (Verifies condition) claim answer → IsValidOrNoMemory answer
+true_is_valid condition claim answer complete holds (inl (inl faulty)) = absurd (not_both (said_by claim.text) answer faulty complete)
+true_is_valid condition claim answer complete holds (inl (inr (sound, inl (evident, is)))) = inl is
+true_is_valid condition claim answer complete holds (inl (inr (sound, inr (untrue, is)))) = absurd (untrue holds)
+true_is_valid condition claim answer complete holds (inr none) = inr none
+
+-- a history with the text of a claim that is evidence is answered with `VALID`
+evidence_is_valid : (condition : Condition) (bytes : List ℕ) (t : HistoryText) (claimed : Claimed) (answer : Reply) → IsHistoryOf (input_of bytes) t
+    → IsSound (said_by t) → HasVerdictText claimed → IsTrueUnder condition (said_by t) claimed
+    → AnswersFor IsClaimOf IsFaultOfClaimInput (Verifies condition) (input_of (bytes ++ verdict_text claimed)) answer → IsValidOrNoMemory answer
+evidence_is_valid condition bytes t claimed answer read complete has evident answers =
+    true_is_valid condition (claim_on t claimed) answer complete evident
+    (answered_of one_claim (Verifies condition) (input_of (bytes ++ verdict_text claimed)) (claim_on t claimed) answer
+    (claim_after bytes t claimed has read) answers)
 
 -- a history with the text of its verdict is answered with `VALID`
-written_is_valid : (bytes : List ℕ) (t : HistoryText) (claimed : Claimed) (answer : Reply) → IsHistoryOf (input_of bytes) t → IsWritten t claimed
-    → AnswersFor IsClaimOf IsFaultOfClaimInput Verifies (input_of (bytes ++ verdict_text claimed)) answer → IsValidOrNoMemory answer
-written_is_valid bytes t claimed answer read is answers =
-    true_is_valid (claim_on t claimed) answer is.complete
-    (decided_is_true (said_by t) claimed is.complete (few_values t is.history) is.right)
-    (answered_of one_claim Verifies (input_of (bytes ++ verdict_text claimed)) (claim_on t claimed) answer
-    (claim_after bytes t claimed (claim_is_written t claimed is) read) answers)
+written_is_valid : (condition : Condition) (bytes : List ℕ) (t : HistoryText) (claimed : Claimed) (answer : Reply) → IsHistoryOf (input_of bytes) t
+    → HasVerdictText claimed → IsWrittenUnder condition t claimed
+    → AnswersFor IsClaimOf IsFaultOfClaimInput (Verifies condition) (input_of (bytes ++ verdict_text claimed)) answer → IsValidOrNoMemory answer
+written_is_valid condition bytes t claimed answer read has is =
+    evidence_is_valid condition bytes t claimed answer read is.complete has
+    (decided_is_true condition (said_by t) claimed is.complete (few_values t is.history) is.right)
 
 -- the verdict that `check` writes is valid
 pub checked_is_valid : CheckedIsValid
 checked_is_valid bytes claimed answer checked verifies =
-    let is = judged_is_written (input_of bytes) claimed checked in
-    written_is_valid bytes is.0 claimed answer is.1 is.2 verifies
+    let is = judged_is_written linearizability (input_of bytes) claimed checked in
+    written_is_valid linearizability bytes is.0 claimed answer is.1 (claim_is_written is.0 claimed is.2) is.2 verifies
+
+-- so it is under a condition
+pub checked_is_valid_under : (condition : Condition) → CheckedIsValidUnder condition
+checked_is_valid_under condition bytes claimed answer has checked verifies =
+    let is = judged_is_written condition (input_of bytes) claimed checked in
+    written_is_valid condition bytes is.0 claimed answer is.1 has is.2 verifies
+
+-- and a `NO` under a condition is without one
+pub refuted_is_valid : (condition : Condition) → RefutedIsValid condition
+refuted_is_valid condition bytes kind lines answer has checked verifies =
+    let is = judged_is_written condition (input_of bytes) (claim.No kind lines) checked in
+    let evident = decided_is_true condition (said_by is.0) (claim.No kind lines) is.2.complete (few_values is.0 is.2.history) is.2.right in
+    evidence_is_valid linearizability bytes is.0 (claim.No kind lines) answer is.1 is.2.complete has
+    (no_is_of_the_whole condition (said_by is.0) kind lines evident) verifies
 
 -- what `shrink` writes is valid
-pub shrunk_is_valid : ShrunkIsValid
-shrunk_is_valid bytes small claimed answer shrinks verifies =
-    let is = shown_is_written (input_of bytes) small claimed shrinks in
-    written_is_valid (text_of small) small claimed answer (is.history, record { bytes = refl; ending = refl }) is verifies
+pub shrunk_is_valid : (condition : Condition) → ShrunkIsValid condition
+shrunk_is_valid condition bytes small claimed answer shrinks verifies =
+    let is = shown_is_written condition (input_of bytes) small claimed shrinks in
+    written_is_valid linearizability (text_of small) small claimed answer (is.history, record { bytes = refl; ending = refl })
+    (claim_is_written small claimed is) is verifies
 
 -- the shrunk history has the verdict that is written after the history
-pub shrunk_is_checked : ShrunkIsChecked
-shrunk_is_checked bytes small claimed answer shrinks checks =
-    let is = shown_is_written (input_of bytes) small claimed shrinks in
-    let found = answered_of one_history Judges (input_of (text_of small)) small answer (is.history, record { bytes = refl; ending = refl }) checks in
+pub shrunk_is_checked : (condition : Condition) → ShrunkIsChecked condition
+shrunk_is_checked condition bytes small claimed answer shrinks checks =
+    let is = shown_is_written condition (input_of bytes) small claimed shrinks in
+    let found = answered_of one_history (Judges linearizability) (input_of (text_of small)) small answer (is.history, record { bytes = refl; ending = refl }) checks in
     let right : IsOfVerdict (said_by small) judged (judged claimed) = record { verdict = is.right.verdict; decided = is.right.decided; is = ap (λ c. judged c) is.right.is } in
-    ⊎_map (λ x. one_judgement small answer (judged claimed) is.history x (inr (is.complete, right))) (λ none. none) found
+    ⊎_map (λ x. one_judgement linearizability small answer (judged claimed) is.history x (inr (is.complete, right))) (λ none. none) found
 
 -- ---- a text and its conversion are answered alike
 
@@ -540,17 +609,17 @@ converted_alike P one bytes to a b answers =
     alike one_history P (input_of bytes) (input_of (text_of to)) is.0 (in_version_2 is.0) a b is.1 (says_same bytes to is.0 is.1 is.2) (one is.0 a b is.1.0)
 
 -- `check` answers both alike
-pub converted_is_checked : ConvertedIsChecked
-converted_is_checked = converted_alike Judges one_judgement
+pub converted_is_checked : (condition : Condition) → ConvertedIsChecked condition
+converted_is_checked condition = converted_alike (Judges condition) (one_judgement condition)
 
 -- and so does `stats`
 pub converted_is_counted : ConvertedIsCounted
 converted_is_counted = converted_alike Counts (λ text a b has. one_counting text.version Two (said_by text) a b)
 
 -- and so does `verify`
-pub converted_is_verified : ConvertedIsVerified
-converted_is_verified bytes to claimed a b has answers =
+pub converted_is_verified : (condition : Condition) → ConvertedIsVerified condition
+converted_is_verified condition bytes to claimed a b has answers =
     let is = conversion bytes to answers in
-    alike one_claim Verifies (input_of (bytes ++ verdict_text claimed)) (input_of (text_of to ++ verdict_text claimed)) (claim_on is.0 claimed)
+    alike one_claim (Verifies condition) (input_of (bytes ++ verdict_text claimed)) (input_of (text_of to ++ verdict_text claimed)) (claim_on is.0 claimed)
     (claim_on (in_version_2 is.0) claimed) a b (claim_after bytes is.0 claimed has is.1)
-    (claim_after (text_of to) (in_version_2 is.0) claimed has (says_same bytes to is.0 is.1 is.2)) (one_verification is.0.version Two (said_by is.0) claimed a b)
+    (claim_after (text_of to) (in_version_2 is.0) claimed has (says_same bytes to is.0 is.1 is.2)) (one_verification condition is.0.version Two (said_by is.0) claimed a b)

@@ -45,6 +45,8 @@ pub data Reply : Type 0 where
   refused_history : HistoryFault → Reply
   -- the history or the verdict is too large to be drawn
   refused_size : Reply
+  -- the verdict has a linearization for each producer, and no one picture
+  refused_orders : Reply
   -- the words are refused: no queue has this name, or there are too many operations
   refused_queue : Reply
   refused_limit : Reply
@@ -93,6 +95,7 @@ answer_text (drawn picture) = picture
 answer_text (refused_text fault) = line (beginning true ++ named (text_names.name_of fault) (text_names.line_in fault))
 answer_text (refused_history fault) = line (beginning true ++ named (history_names.name_of fault) (history_names.place_in fault))
 answer_text refused_size = line (beginning true ++ codes "Size")
+answer_text refused_orders = line (beginning true ++ codes "Orders")
 answer_text refused_queue = line (beginning true ++ codes "Queue")
 answer_text refused_limit = line (beginning true ++ codes "Limit")
 answer_text read_fault = line (beginning false ++ codes "Read")
@@ -138,6 +141,7 @@ answer_status (verified valid) = if valid then 0 else 1
 answer_status (refused_text fault) = fault_status true
 answer_status (refused_history fault) = fault_status true
 answer_status refused_size = fault_status true
+answer_status refused_orders = fault_status true
 answer_status refused_queue = fault_status true
 answer_status refused_limit = fault_status true
 answer_status read_fault = fault_status false

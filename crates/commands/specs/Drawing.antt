@@ -1,5 +1,6 @@
 -- What `draw` answers of a history, of one with a claim, and of one whose calls may be pending.
-use Rattle.std.specs.Prelude.{◌≡◌, ◌≤◌, ℕ, false, List, length, Option, Some, None}
+use Rattle.std.specs.Prelude.{◌≡◌, ◌≤◌, ℕ, Bool, false, true, List, length, Option, Some, None, ⊤}
+use Rattle.command_words.specs.declared.options.Condition.{Condition}
 use Rattle.command_words.specs.declared.options.DrawOptions.{DrawOptions}
 use Rattle.command_words.specs.declared.options.PictureForm.{PictureForm}
 use Rattle.command_words.specs.declared.options.PictureForm.TheVariants.{Html, Svg, Terminal}
@@ -10,15 +11,18 @@ use Rattle.drawing.specs.Scene.{SceneView, scene_of}
 use Rattle.drawing.specs.Terminal.{terminal_picture}
 use Rattle.drawing.specs.declared.columns.TheConstants.{MOST_DRAWN}
 use Rattle.history_merge.specs.Initial.{HistoryView}
-use Rattle.history_text.specs.Versions.{HistoryText}
+use Rattle.history_text.specs.Versions.{HistoryText, said_in}
 use Rattle.history_text.specs.declared.pending_text.PendingText.{PendingText}
 use Rattle.svg_picture.specs.Html.{html_picture}
 use Rattle.svg_picture.specs.Picture.{svg_picture}
+use Rattle.conditions.specs.Conditions.{without_empties}
+use Rattle.verdicts.specs.Selection.{ArePartOf, contents_of}
 use Rattle.verdicts.specs.declared.verifying.Claimed.{Claimed}
-use Rattle.commands.specs.Answers.{Reply, drawn, refused_size, verified}
+use Rattle.verdicts.specs.declared.verifying.Claimed.TheVariants.{No, Yes}
+use Rattle.commands.specs.Answers.{Reply, drawn, refused_orders, refused_size, verified}
 use Rattle.commands.specs.Completing.{FaultOrCompletion, completion_in}
 use Rattle.commands.specs.Inputs.{ClaimOnText, Drawable, alone, claim_on, history_in, with_claim}
-use Rattle.commands.specs.Judging.{FaultOr, IsEvident, IsVerdictClaim, Whether, said_by}
+use Rattle.commands.specs.Judging.{FaultOr, IsEvident, IsSound, IsVerdictClaim, Whether, said_by}
 
 -- ---- what is small enough
 
@@ -45,20 +49,49 @@ abbrev pub picture_of : DrawOptions → Option ℕ → HistoryView → Claimed �
 picture_of options added history claimed =
     picture_in options.form (scene_of history claimed (drawn_operations history claimed options.around) added)
 
--- of a complete history: the picture with the claim, if they are small and the claim is evidence
+-- ---- under a condition
+
+-- the condition without what it says of empty dequeues
+abbrev pub strict : Condition → Condition
+strict condition = record { is_local = condition.is_local; is_weakly_empty = false }
+
+-- the claim is a violation or one linearization: not those of several producers
+abbrev pub IsOneOrder : Bool → Claimed → Type 0
+IsOneOrder true (Yes lines) = ⊥
+IsOneOrder true (No kind lines) = ⊤
+IsOneOrder false claimed = ⊤
+
+-- this is answered of the text of a history; or of it without its empty dequeues, where these promise nothing
+pub record IsDrawnWithout (text : HistoryText) (OfText : HistoryText → Reply → Type 0) (answer : Reply) : Type 0 where
+  pub part : HistoryView
+  pub selected : contents_of part ≡ without_empties (contents_of (said_by text))
+  pub events : ArePartOf text.events part.events
+  pub complete : IsSound part
+  pub answered : OfText (said_in text.version part) answer
+
+abbrev pub DrawsPart : Bool → HistoryText → (HistoryText → Reply → Type 0) → Reply → Type 0
+DrawsPart false text OfText answer = OfText text answer
+DrawsPart true text OfText answer = IsDrawnWithout text OfText answer
+
+-- ---- of a complete history
+
+-- the picture with the claim, if they are small and the claim is evidence; but the linearizations of several producers have none
 abbrev pub DrawsSound : DrawOptions → Option ℕ → ClaimOnText → Reply → Type 0
 DrawsSound options added claim answer = Whether (IsSmall options claim)
-    (Whether (IsEvident claim) (answer ≡ drawn (picture_of options added (said_by claim.text) claim.claimed)) (answer ≡ verified false))
+    (Whether (IsEvident (strict options.condition) claim)
+    (Whether (IsOneOrder options.condition.is_local claim.claimed) (answer ≡ drawn (picture_of options added (said_by claim.text) claim.claimed))
+    (answer ≡ refused_orders))
+    (answer ≡ verified false))
     (answer ≡ refused_size)
 
 -- this is answered of a history with the claim of its verdict, which is evidence
 pub record IsDrawnDecided (options : DrawOptions) (added : Option ℕ) (text : HistoryText) (answer : Reply) : Type 0 where
   pub claimed : Claimed
-  pub right : IsVerdictClaim (said_by text) claimed
-  pub evident : IsEvident (claim_on text claimed)
+  pub right : IsVerdictClaim (strict options.condition) (said_by text) claimed
+  pub evident : IsEvident (strict options.condition) (claim_on text claimed)
   pub answered : DrawsSound options added (claim_on text claimed) answer
 
--- of a complete history: the picture with the claim of its verdict, if they are small
+-- the picture with the claim of its verdict, if they are small
 abbrev pub DrawsDecided : DrawOptions → Option ℕ → HistoryText → Reply → Type 0
 DrawsDecided options added text answer =
     Whether (HasFewValues (said_by text)) (IsDrawnDecided options added text answer) (answer ≡ refused_size)
@@ -67,16 +100,17 @@ DrawsDecided options added text answer =
 
 -- the first fault of the history, or the picture with the claim, if they are small and the claim is evidence
 abbrev pub DrawsClaim : DrawOptions → ClaimOnText → Reply → Type 0
-DrawsClaim options claim answer = FaultOr (said_by claim.text) (DrawsSound options None claim) answer
+DrawsClaim options claim answer = FaultOr (said_by claim.text)
+    (DrawsPart options.condition.is_weakly_empty claim.text (λ text a. DrawsSound options None (claim_on text claim.claimed) a)) answer
 
 -- the first fault of the history, or the picture with the claim of its verdict
 abbrev pub DrawsHistory : DrawOptions → HistoryText → Reply → Type 0
-DrawsHistory options text answer = FaultOr (said_by text) (DrawsDecided options None text) answer
+DrawsHistory options text answer = FaultOr (said_by text) (DrawsPart options.condition.is_weakly_empty text (DrawsDecided options None)) answer
 
 -- why there is no completion; or its picture with the claim of its verdict, in which the calls that it answers are open
 abbrev pub DrawsPending : DrawOptions → PendingText → Reply → Type 0
-DrawsPending options text answer =
-    FaultOrCompletion text (DrawsDecided options (Some (next_ticket text.events)) (completion_in text)) answer
+DrawsPending options text answer = FaultOrCompletion text
+    (DrawsPart options.condition.is_weakly_empty (completion_in text) (DrawsDecided options (Some (next_ticket text.events)))) answer
 
 -- a text that counts its pending calls is drawn as its completion, and the text of a history as this
 abbrev pub DrawsAlone : DrawOptions → PendingText → Option ℕ → Reply → Type 0

@@ -6,11 +6,15 @@ use Rattle.history_text.specs.Claims.{HasVerdictText}
 use Rattle.history_text.specs.Verdicts.{verdict_text}
 use Rattle.history_text.specs.Versions.{HistoryText, text_of}
 use Rattle.history_text.specs.declared.version.Version.TheVariants.{Two}
+use Rattle.verdicts.specs.declared.verifying.ClaimLine.{ClaimLine}
 use Rattle.verdicts.specs.declared.verifying.Claimed.{Claimed}
 use Rattle.verdicts.specs.declared.verifying.Claimed.TheVariants as claim
+use Rattle.verdicts.specs.declared.verifying.ViolationKind.{ViolationKind}
 use Rattle.completions.specs.Pending.{CompletesLinearizably}
 use Rattle.history_text.specs.declared.pending_text.PendingText.{PendingText}
 use Rattle.command_words.specs.Commands.{check, shrink, verify, draw, convert, complete, stats, Request}
+use Rattle.command_words.specs.Options.{linearizability}
+use Rattle.command_words.specs.declared.options.Condition.{Condition}
 use Rattle.command_words.specs.declared.options.DrawOptions.{DrawOptions}
 use Rattle.commands.specs.Answers.{Reply, judged, shown, verified, memory_fault, answer_text, converted}
 use Rattle.commands.specs.Inputs.{IsHistoryOf}
@@ -41,23 +45,37 @@ IsValidOrNoMemory answer = (answer ≡ verified true) ⊎ (answer ≡ memory_fau
 -- where `check` answers an input with a verdict, `verify` answers that input, followed by the verdict's text, with
 -- `VALID`
 abbrev pub CheckedIsValid : Type 0
-CheckedIsValid = (bytes : List ℕ) (claimed : Claimed) (answer : Reply) → AnswersOf check (input_of bytes) (judged claimed)
-    → AnswersOf verify (input_of (bytes ++ answer_text (judged claimed))) answer → IsValidOrNoMemory answer
+CheckedIsValid = (bytes : List ℕ) (claimed : Claimed) (answer : Reply) → AnswersOf (check linearizability) (input_of bytes) (judged claimed)
+    → AnswersOf (verify linearizability) (input_of (bytes ++ answer_text (judged claimed))) answer → IsValidOrNoMemory answer
+
+-- so it is under each condition, if `verify` can read a text of so many lines
+abbrev pub CheckedIsValidUnder : Condition → Type 0
+CheckedIsValidUnder condition = (bytes : List ℕ) (claimed : Claimed) (answer : Reply) → HasVerdictText claimed
+    → AnswersOf (check condition) (input_of bytes) (judged claimed)
+    → AnswersOf (verify condition) (input_of (bytes ++ answer_text (judged claimed))) answer → IsValidOrNoMemory answer
+
+-- and a `NO` under any condition is evidence that the history isn't linearizable
+abbrev pub RefutedIsValid : Condition → Type 0
+RefutedIsValid condition = (bytes : List ℕ) (kind : ViolationKind) (lines : List ClaimLine) (answer : Reply) → HasVerdictText (claim.No kind lines)
+    → AnswersOf (check condition) (input_of bytes) (judged (claim.No kind lines))
+    → AnswersOf (verify linearizability) (input_of (bytes ++ answer_text (judged (claim.No kind lines)))) answer → IsValidOrNoMemory answer
 
 -- where `shrink` answers an input with a history and its verdict, `verify` answers these two texts with `VALID`
-abbrev pub ShrunkIsValid : Type 0
-ShrunkIsValid = (bytes : List ℕ) (small : HistoryText) (claimed : Claimed) (answer : Reply) → AnswersOf shrink (input_of bytes) (shown small claimed)
-    → AnswersOf verify (input_of (answer_text (shown small claimed))) answer → IsValidOrNoMemory answer
+abbrev pub ShrunkIsValid : Condition → Type 0
+ShrunkIsValid condition = (bytes : List ℕ) (small : HistoryText) (claimed : Claimed) (answer : Reply)
+    → AnswersOf (shrink condition) (input_of bytes) (shown small claimed)
+    → AnswersOf (verify linearizability) (input_of (answer_text (shown small claimed))) answer → IsValidOrNoMemory answer
 
 -- and `check` answers the text of that history with that same verdict, or memory runs out
-abbrev pub ShrunkIsChecked : Type 0
-ShrunkIsChecked = (bytes : List ℕ) (small : HistoryText) (claimed : Claimed) (answer : Reply) → AnswersOf shrink (input_of bytes) (shown small claimed)
-    → AnswersOf check (input_of (text_of small)) answer → (answer ≡ judged claimed) ⊎ (answer ≡ memory_fault)
+abbrev pub ShrunkIsChecked : Condition → Type 0
+ShrunkIsChecked condition = (bytes : List ℕ) (small : HistoryText) (claimed : Claimed) (answer : Reply)
+    → AnswersOf (shrink condition) (input_of bytes) (shown small claimed)
+    → AnswersOf (check linearizability) (input_of (text_of small)) answer → (answer ≡ judged claimed) ⊎ (answer ≡ memory_fault)
 
--- where `check` answers an input with a verdict, `draw` answers that input as it answers it followed by the verdict's
--- text, or memory runs out
+-- where `check` answers an input with a verdict, `draw` without a weaker condition answers that input as it answers it followed
+-- by the verdict's text, or memory runs out
 abbrev pub DrawnAsChecked : DrawOptions → Type 0
-DrawnAsChecked options = (bytes : List ℕ) (claimed : Claimed) (a b : Reply) → AnswersOf check (input_of bytes) (judged claimed)
+DrawnAsChecked options = options.condition ≡ linearizability → (bytes : List ℕ) (claimed : Claimed) (a b : Reply) → AnswersOf (check linearizability) (input_of bytes) (judged claimed)
     → AnswersOf (draw options) (input_of bytes) a → AnswersOf (draw options) (input_of (bytes ++ answer_text (judged claimed))) b → SameOrNoMemory a b
 
 -- ---- completions
@@ -76,7 +94,7 @@ IsYes (claim.No kind lines) = ⊥
 abbrev pub CompletedIsDecided : Bool → Type 0
 CompletedIsDecided takes_cut = (bytes : List ℕ) (text : PendingText) (to : HistoryText) (claimed : Claimed)
     → IsPendingOf takes_cut (input_of bytes) text → AnswersOf (complete takes_cut) (input_of bytes) (converted to)
-    → AnswersOf check (input_of (text_of to)) (judged claimed) → IsYes claimed ↔ CompletesLinearizably text.initial text.events
+    → AnswersOf (check linearizability) (input_of (text_of to)) (judged claimed) → IsYes claimed ↔ CompletesLinearizably text.initial text.events
 
 -- a complete history comes out as it is
 abbrev pub CompletedIsKept : Bool → Type 0
@@ -96,9 +114,9 @@ ConvertedIsKept = (bytes : List ℕ) (text to : HistoryText) → IsHistoryOf (in
     → AnswersOf convert (input_of bytes) (converted to) → text_of to ≡ bytes
 
 -- `check` answers a text and its conversion alike, or memory runs out
-abbrev pub ConvertedIsChecked : Type 0
-ConvertedIsChecked = (bytes : List ℕ) (to : HistoryText) (a b : Reply) → AnswersOf convert (input_of bytes) (converted to)
-    → AnswersOf check (input_of bytes) a → AnswersOf check (input_of (text_of to)) b → SameOrNoMemory a b
+abbrev pub ConvertedIsChecked : Condition → Type 0
+ConvertedIsChecked condition = (bytes : List ℕ) (to : HistoryText) (a b : Reply) → AnswersOf convert (input_of bytes) (converted to)
+    → AnswersOf (check condition) (input_of bytes) a → AnswersOf (check condition) (input_of (text_of to)) b → SameOrNoMemory a b
 
 -- so does `stats`
 abbrev pub ConvertedIsCounted : Type 0
@@ -106,7 +124,7 @@ ConvertedIsCounted = (bytes : List ℕ) (to : HistoryText) (a b : Reply) → Ans
     → AnswersOf stats (input_of bytes) a → AnswersOf stats (input_of (text_of to)) b → SameOrNoMemory a b
 
 -- `verify` answers a claim alike behind a text and behind its conversion, or memory runs out
-abbrev pub ConvertedIsVerified : Type 0
-ConvertedIsVerified = (bytes : List ℕ) (to : HistoryText) (claimed : Claimed) (a b : Reply) → HasVerdictText claimed
-    → AnswersOf convert (input_of bytes) (converted to) → AnswersOf verify (input_of (bytes ++ verdict_text claimed)) a
-    → AnswersOf verify (input_of (text_of to ++ verdict_text claimed)) b → SameOrNoMemory a b
+abbrev pub ConvertedIsVerified : Condition → Type 0
+ConvertedIsVerified condition = (bytes : List ℕ) (to : HistoryText) (claimed : Claimed) (a b : Reply) → HasVerdictText claimed
+    → AnswersOf convert (input_of bytes) (converted to) → AnswersOf (verify condition) (input_of (bytes ++ verdict_text claimed)) a
+    → AnswersOf (verify condition) (input_of (text_of to ++ verdict_text claimed)) b → SameOrNoMemory a b

@@ -1,5 +1,5 @@
 -- What the commands that read answer of what they read.
-use Rattle.std.specs.Prelude.{◌≡◌, ◌≢◌, false, true, List, [], ◌⊎◌}
+use Rattle.std.specs.Prelude.{◌≡◌, ◌≢◌, Bool, false, true, List, [], ◌⊎◌}
 use Rattle.event_records.specs.declared.event.Event.{Event}
 use Rattle.history_merge.specs.declared.fault.HistoryFault.{HistoryFault}
 use Rattle.history_merge.specs.declared.fault.HistoryFault.TheVariants.{Memory}
@@ -7,7 +7,6 @@ use Rattle.history_merge.specs.Faults.{IsFirstFault}
 use Rattle.history_merge.specs.Gathering.{BuilderView, HasGathered}
 use Rattle.history_merge.specs.Initial.{HistoryView, IsCompleteFrom}
 use Rattle.history_merge.specs.Complete.{IsCompleteHistory}
-use Rattle.history_merge.specs.Legal.{IsLinearizable}
 use Rattle.history_merge.specs.Merge.{IsMerged}
 use Rattle.history_merge.specs.Operations.{operations_of}
 use Rattle.history_stats.specs.declared.statistics.Statistics.{Statistics}
@@ -19,16 +18,17 @@ use Rattle.recorder_core.specs.Laws.{IsDone, collected_lists}
 use Rattle.simulation.specs.Simulations.{schedule_of, rejections}
 use Rattle.verdicts.specs.declared.verifying.Claimed.{Claimed}
 use Rattle.verdicts.specs.declared.verdict.Verdict.{Verdict}
-use Rattle.verdicts.specs.Claims.{IsTrueClaim}
 use Rattle.verdicts.specs.Claiming.{claim_of}
 use Rattle.value_match.specs.Outcome.{IsChosenViolation}
-use Rattle.verdicts.specs.Decided.{IsDecided}
 use Rattle.verdicts.specs.Selection.{KeepsViolation, StaysChosen, IsMinimal, HasShortestCover, ArePartOf, contents_of}
 use Rattle.history_text.specs.Versions.{HistoryText, said_in}
 use Rattle.history_text.specs.declared.version.Version.TheVariants.{Two}
 use Rattle.text_lines.specs.declared.fault.TextFault.{TextFault}
 use Rattle.history_text.specs.declared.schedule.Schedule.{Schedule}
 use Rattle.text_lines.specs.Input.{Ahead}
+use Rattle.command_words.specs.Options.{linearizability}
+use Rattle.command_words.specs.declared.options.Condition.{Condition}
+use Rattle.commands.specs.Conditions.{IsDecidedUnder, IsMinimalUnder, IsRefutedPart, IsTrueUnder, Meets}
 use Rattle.commands.specs.Inputs.{ClaimOnText}
 use Rattle.commands.specs.Answers.{Reply, judged, shown, left_open, played, verified, converted, counted, memory_fault, answer_of_text_fault}
 use Rattle.commands.specs.Answers.{answer_of_history_fault}
@@ -47,16 +47,19 @@ from_none events = record { initial = []; events = events }
 abbrev pub IsSound : HistoryView → Type 0
 IsSound history = IsCompleteFrom history.initial history.events
 
--- made so of the claim of the chosen verdict on a history, which is evidence: `YES` if and only if a linearization
--- exists
-pub record IsOfVerdict {A : Type 0} (history : HistoryView) (made_of : Claimed → A) (made : A) : Type 0 where
+-- made so of the claim of the chosen verdict on a history under a condition, which is evidence: `YES` if and only if it meets the condition
+pub record IsOfVerdictUnder {A : Type 0} (condition : Condition) (history : HistoryView) (made_of : Claimed → A) (made : A) : Type 0 where
   pub verdict : Verdict
-  pub decided : IsDecided history.initial (operations_of history.events) verdict
+  pub decided : IsDecidedUnder condition history verdict
   pub is : made ≡ made_of (claim_of history.initial (operations_of history.events) verdict)
 
+-- the same of linearizability
+abbrev pub IsOfVerdict : {A : Type 0} → HistoryView → (Claimed → A) → A → Type 0
+IsOfVerdict history made_of made = IsOfVerdictUnder linearizability history made_of made
+
 -- the claim of its verdict
-abbrev pub IsVerdictClaim : HistoryView → Claimed → Type 0
-IsVerdictClaim history claimed = IsOfVerdict history (λ claim. claim) claimed
+abbrev pub IsVerdictClaim : Condition → HistoryView → Claimed → Type 0
+IsVerdictClaim condition history claimed = IsOfVerdictUnder condition history (λ claim. claim) claimed
 
 -- it is no complete history, and this is its first fault
 pub record IsFaulty (history : HistoryView) (answer : Reply) : Type 0 where
@@ -74,12 +77,12 @@ abbrev pub Whether : Type 0 → Type 0 → Type 0 → Type 0
 Whether P Then Else = (P × Then) ⊎ ((¬ P) × Else)
 
 -- the first fault of a history, or its verdict
-abbrev pub JudgesHistory : HistoryView → Reply → Type 0
-JudgesHistory history answer = FaultOr history (IsOfVerdict history judged) answer
+abbrev pub JudgesHistory : Condition → HistoryView → Reply → Type 0
+JudgesHistory condition history answer = FaultOr history (IsOfVerdictUnder condition history judged) answer
 
 -- `check`: the first fault of the history that a text says, or its verdict
-abbrev pub Judges : HistoryText → Reply → Type 0
-Judges text answer = JudgesHistory (said_by text) answer
+abbrev pub Judges : Condition → HistoryText → Reply → Type 0
+Judges condition text answer = JudgesHistory condition (said_by text) answer
 
 -- the initial values and the events of this history were gathered
 abbrev pub IsGathered : HistoryView → BuilderView → Type 0
@@ -101,26 +104,41 @@ pub record IsShrunk (text : HistoryText) (answer : Reply) : Type 0 where
   pub shortest : HasShortestCover (said_by text) violation
   pub answered : IsOfVerdict small (shown (said_in text.version small)) answer
 
+-- what shows a `NO` under a weaker condition: what `shrink` shows of the part in which it is found, which is minimal for the condition
+pub record IsShrunkPart (condition : Condition) (text : HistoryText) (answer : Reply) : Type 0 where
+  pub part : HistoryView
+  pub found : IsRefutedPart condition (said_by text) part
+  pub complete : IsSound part
+  pub initial : ArePartOf text.initial part.initial
+  pub events : ArePartOf text.events part.events
+  pub shrunk : IsShrunk (said_in text.version part) answer
+  pub minimal : IsMinimalUnder condition shrunk.small
+
+-- what shows a `NO`: of the whole history, or of a part
+abbrev pub ShrinksBy : Bool → Bool → HistoryText → Reply → Type 0
+ShrinksBy false false text answer = IsShrunk text answer
+ShrinksBy false true text answer = IsShrunkPart (record { is_local = false; is_weakly_empty = true }) text answer
+ShrinksBy true is_weak text answer = IsShrunkPart (record { is_local = true; is_weakly_empty = is_weak }) text answer
+
 -- of a complete history: its verdict if that is `YES`, or what shows `NO`
-abbrev pub ShrinksSound : HistoryText → Reply → Type 0
-ShrinksSound text answer =
-    Whether (IsLinearizable text.initial (operations_of text.events)) (IsOfVerdict (said_by text) judged answer)
-    (IsShrunk text answer)
+abbrev pub ShrinksSound : Condition → HistoryText → Reply → Type 0
+ShrinksSound condition text answer = Whether (Meets condition (said_by text)) (IsOfVerdictUnder condition (said_by text) judged answer)
+    (ShrinksBy condition.is_local condition.is_weakly_empty text answer)
 
 -- `shrink`: the first fault of the history, or its verdict if that is `YES`, or what shows `NO`
-abbrev pub Shrinks : HistoryText → Reply → Type 0
-Shrinks text answer = FaultOr (said_by text) (ShrinksSound text) answer
+abbrev pub Shrinks : Condition → HistoryText → Reply → Type 0
+Shrinks condition text answer = FaultOr (said_by text) (ShrinksSound condition text) answer
 
 -- ---- claims
 
--- the claim is evidence in the history
-abbrev pub IsEvident : ClaimOnText → Type 0
-IsEvident claim = IsTrueClaim claim.text.initial (operations_of claim.text.events) claim.claimed
+-- the claim is evidence in the history under the condition
+abbrev pub IsEvident : Condition → ClaimOnText → Type 0
+IsEvident condition claim = IsTrueUnder condition (said_by claim.text) claim.claimed
 
 -- `verify`: the first fault of the history, or whether the claim is evidence
-abbrev pub Verifies : ClaimOnText → Reply → Type 0
-Verifies claim answer =
-    FaultOr (said_by claim.text) (λ a. Whether (IsEvident claim) (a ≡ verified true) (a ≡ verified false)) answer
+abbrev pub Verifies : Condition → ClaimOnText → Reply → Type 0
+Verifies condition claim answer =
+    FaultOr (said_by claim.text) (λ a. Whether (IsEvident condition claim) (a ≡ verified true) (a ≡ verified false)) answer
 
 -- ---- conversions
 

@@ -1,5 +1,6 @@
 pub mod Inputs
 pub mod Answers
+pub mod Conditions
 pub mod Judging
 pub mod Completing
 pub mod Drawing

@@ -16,8 +16,8 @@ use Rattle.commands.specs.declared.outcome.Report.{Report}
 use Rattle.commands.specs.declared.outcome.Report.TheVariants.{Judged, Shown, LeftOpen, Played, Verified, Converted, Completed, Counted}
 use Rattle.commands.specs.declared.outcome.Report.TheVariants.{Drawn}
 use Rattle.commands.specs.declared.outcome.Fault.{Fault}
-use Rattle.commands.specs.declared.outcome.Fault.TheVariants.{Text, History, Size, Queue, Limit, Memory, Run}
-use Rattle.commands.specs.Answers.{Reply, judged, shown, left_open, played, verified, converted, counted, drawn, refused_size}
+use Rattle.commands.specs.declared.outcome.Fault.TheVariants.{Text, History, Size, Orders, Queue, Limit, Memory, Run}
+use Rattle.commands.specs.Answers.{Reply, judged, shown, left_open, played, verified, converted, counted, drawn, refused_orders, refused_size}
 use Rattle.commands.specs.Answers.{refused_queue, refused_limit, memory_fault, run_fault, answer_of_text_fault, answer_of_history_fault}
 
 -- the answer that is printed of what was found: of a verdict what it claims, of the rest the same
@@ -39,6 +39,7 @@ abbrev pub answer_of_fault : Fault → Reply
 answer_of_fault (Text fault) = answer_of_text_fault fault
 answer_of_fault (History incomplete) = answer_of_history_fault incomplete.fault
 answer_of_fault Size = refused_size
+answer_of_fault Orders = refused_orders
 answer_of_fault Queue = refused_queue
 answer_of_fault Limit = refused_limit
 answer_of_fault Memory = memory_fault
@@ -65,6 +66,7 @@ abbrev pub name_of : Fault → List ℕ
 name_of (Text fault) = text_names.name_of fault
 name_of (History incomplete) = history_names.name_of incomplete.fault
 name_of Size = codes "Size"
+name_of Orders = codes "Orders"
 name_of Queue = codes "Queue"
 name_of Limit = codes "Limit"
 name_of Memory = codes "Memory"

@@ -45,9 +45,9 @@ PrintsSaid quiet old new refused result answer = Prints old new refused result (
 
 -- what a command answers of an input; `stress` reads none
 abbrev pub AnswersOf : Request → Ahead → Reply → Type 0
-AnswersOf check input answer = AnswersFor IsHistoryOf IsFaultOfHistoryInput Judges input answer
-AnswersOf shrink input answer = AnswersFor IsHistoryOf IsFaultOfHistoryInput Shrinks input answer
-AnswersOf verify input answer = AnswersFor IsClaimOf IsFaultOfClaimInput Verifies input answer
+AnswersOf (check condition) input answer = AnswersFor IsHistoryOf IsFaultOfHistoryInput (Judges condition) input answer
+AnswersOf (shrink condition) input answer = AnswersFor IsHistoryOf IsFaultOfHistoryInput (Shrinks condition) input answer
+AnswersOf (verify condition) input answer = AnswersFor IsClaimOf IsFaultOfClaimInput (Verifies condition) input answer
 AnswersOf (draw options) input answer = AnswersFor IsDrawableOf IsFaultOfDrawableInput (Draws options) input answer
 AnswersOf convert input answer = AnswersFor IsHistoryOf IsFaultOfHistoryInput Converts input answer
 AnswersOf (complete takes_cut) input answer = AnswersFor (IsPendingOf takes_cut) (IsFaultOfPendingInput takes_cut) Completes input answer

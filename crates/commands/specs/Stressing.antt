@@ -19,10 +19,11 @@ use Rattle.stress_run.specs.Operations.{IsRun}
 use Rattle.stress_run.specs.Failed.{IsFaultOfRun}
 use Rattle.stress_run.specs.Preloaded.{AreTaken, IsFirstRefused}
 use Rattle.command_words.specs.Options.{Settings}
+use Rattle.command_words.specs.declared.options.Condition.{Condition}
 use Rattle.commands.specs.declared.stress.TheConstants.{TRIES}
 use Rattle.queue_interface.specs.Answers.{AnswersInKind, TakesOrRefuses}
 use Rattle.commands.specs.Answers.{Reply, ShowsNoViolation, shown, refused_queue, refused_limit, memory_fault, run_fault}
-use Rattle.commands.specs.Judging.{IsOfVerdict, Whether}
+use Rattle.commands.specs.Judging.{IsOfVerdictUnder, Whether}
 
 -- x is the first element of the list that this name fits
 pub record IsFirstNamed {X : Type 0} (name_of : X → List ℕ) (name : List ℕ) (xs : List X) (x : X) : Type 0 where
@@ -44,12 +45,12 @@ run_history count events = record { initial = first_values count; events = event
 abbrev pub run_version : ℕ → Version
 run_version count = if count == 0 then One else Two
 
--- the lists of a run by ticket, whose queue held this many values first, with their verdict
-pub record IsShownRun (count : ℕ) (lists : List (List Event)) (answer : Reply) : Type 0 where
+-- the lists of a run by ticket, whose queue held this many values first, with their verdict under the condition
+pub record IsShownRun (condition : Condition) (count : ℕ) (lists : List (List Event)) (answer : Reply) : Type 0 where
   pub events : List Event
   pub merged : IsMerged lists events
   pub complete : IsCompleteFrom (first_values count) events
-  pub answered : IsOfVerdict (run_history count events) (shown (said_in (run_version count) (run_history count events))) answer
+  pub answered : IsOfVerdictUnder condition (run_history count events) (shown (said_in (run_version count) (run_history count events))) answer
 
 -- a run of the seed's plan on a queue that may answer so and took the first values: its lists by ticket, with their verdict
 pub record IsRecordedRun (may : Question → Answer → Type 0) (may_preload : ℕ → Bool → Type 0) (settings : Settings) (answer : Reply) : Type 0 where
@@ -61,7 +62,7 @@ pub record IsRecordedRun (may : Question → Answer → Type 0) (may_preload : �
   pub run : IsRun may plan lists total
   pub recorded : AreRecorded lists
   pub replays : Replays settings.ring (first_values settings.initial) lists
-  pub answered : IsShownRun settings.initial lists answer
+  pub answered : IsShownRun settings.condition settings.initial lists answer
 
 -- no history: a fault that a run of the seed's plan may have, on a queue that may answer so, with rings and tries of these sizes; the place
 -- that it names is that of the first value which the queue refused

@@ -69,9 +69,9 @@ fn reads_of(command: &str) -> Option<Reads> {
 /// The command's name.
 fn name_of(task: &Task<'_>) -> &'static str {
     match task {
-        Task::Check => "check",
-        Task::Shrink => "shrink",
-        Task::Verify => "verify",
+        Task::Check(_) => "check",
+        Task::Shrink(_) => "shrink",
+        Task::Verify(_) => "verify",
         Task::Draw(_) => "draw",
         Task::Convert => "convert",
         Task::Complete { .. } => "complete",
@@ -112,6 +112,7 @@ fn complaint_of<'a>(
             Complaint::History(incomplete.fault, incomplete.clash, given)
         }
         (Fault::Size, _) => Complaint::Size,
+        (Fault::Orders, _) => Complaint::Orders,
         (Fault::Queue, Task::Stress(options)) => Complaint::Queue {
             name: options.queue,
             names,

@@ -12,10 +12,11 @@ ghost use Rattle.clap.specs.Values.{kind_of};
 use crate::beside::{Ended, Terminals, greet, say_at_end, say_mistake};
 use crate::complete::complete;
 use crate::draw::draw;
-use crate::histories::{check, convert, shrink, stats, verify};
+use crate::histories::{check, convert, stats, verify};
 use crate::outcome::Outcome;
 use crate::pipes::{Muted, Piped};
 use crate::print::{print_memory, print_outcome, print_text};
+use crate::shrink::shrink;
 use crate::sim::sim;
 use crate::stress::{NamedQueue, stress};
 use clap::Error;
@@ -186,9 +187,9 @@ where
     ensures places { NamesPlaces result }
 {
     match task {
-        Task::Check => return check(rt, rt.alloc(), reader),
-        Task::Shrink => return shrink(rt.alloc(), reader),
-        Task::Verify => return verify(rt.alloc(), reader),
+        Task::Check(condition) => return check(rt, rt.alloc(), reader, condition),
+        Task::Shrink(condition) => return shrink(rt.alloc(), reader, condition),
+        Task::Verify(condition) => return verify(rt.alloc(), reader, condition),
         Task::Draw(options) => return draw(rt.alloc(), reader, options),
         Task::Convert => return convert(rt.alloc(), reader),
         Task::Complete { takes_cut } => return complete(rt.alloc(), reader, takes_cut),

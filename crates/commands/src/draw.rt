@@ -1,31 +1,34 @@
 //! `draw`: the picture of a history and a verdict on it.
-ghost use Rattle.std.specs.Prelude.{◌≡◌, ◌≤◌, ℕ, IfOk, IfErr, IfSome, OnOk, None, Option, length};
-ghost use Rattle.history_merge.specs.Operations.{operations_of};
-ghost use Rattle.verdicts.specs.Claims.{IsTrueClaim};
+ghost use Rattle.std.specs.Prelude.{◌≡◌, ◌≤◌, ℕ, IfOk, IfErr, IfSome, OnOk, None, Option, false, length, true};
 ghost use Rattle.drawing.specs.Claim.{count_of_lines};
 ghost use Rattle.drawing.specs.Drawn.{drawn_operations};
 ghost use Rattle.drawing.specs.Scene.{scene_on, scene_of};
 ghost use Rattle.history_text.specs.declared.version.Version.{Version};
 ghost use Rattle.history_text.specs.Histories.{HasHistoryText};
 ghost use Rattle.history_text.specs.Versions.{HaveValueLines, said_in};
-ghost use Rattle.commands.specs.Answers.{refused_size};
-ghost use Rattle.commands.specs.Drawing.{Draws, DrawsAlone, DrawsClaim, DrawsDecided, DrawsPending, DrawsSound, HasFewValues};
-ghost use Rattle.commands.specs.Drawing.{IsDrawnDecided, picture_in};
+ghost use Rattle.commands.specs.Answers.{refused_orders, refused_size};
+ghost use Rattle.commands.specs.Conditions.{IsTrueUnder};
+ghost use Rattle.commands.specs.Drawing.{Draws, DrawsAlone, DrawsClaim, DrawsDecided, DrawsPart, DrawsPending, DrawsSound, HasFewValues};
+ghost use Rattle.commands.specs.Drawing.{IsDrawnDecided, IsOneOrder, picture_in, strict};
+ghost use Rattle.conditions.specs.Conditions.{without_empties};
+ghost use Rattle.verdicts.specs.Selection.{ArePartOf, contents_of};
 ghost use Rattle.commands.specs.Inputs.{IsDrawableOf, IsFaultOfDrawableInput, claim_on, history_in};
 ghost use Rattle.commands.specs.Judging.{AnswersFor, AnswersOrNoMemory, IsSound, IsVerdictClaim};
 ghost use Rattle.commands.specs.Outcomes.{answer_of, answer_of_fault, NamesPlaces};
 
 use crate::complete::{completed, history_of_completion};
 use crate::input::{drawable_of, history_in};
+use crate::judging::{decide_under, verify_under};
 use crate::outcome::{Fault, Outcome, Report};
-use command_words::{DrawOptions, PictureForm};
+use command_words::{Condition, DrawOptions, PictureForm};
 use completions::next_ticket;
+use conditions::without_empties;
 use drawing::{MOST_DRAWN, Scene, count_of_lines, drawn_operations, scene_of, terminal_picture};
 use history_merge::{History, Operation};
 use history_text::{PendingText, TextSource};
 use std::alloc::{AllocError, Global};
 use svg_picture::{html_picture, svg_picture};
-use verdicts::{Claimed, claim, decide};
+use verdicts::{Claimed, claim};
 
 /// What `draw` finds in what the reader gives.
 pub(crate) fn draw<S: TextSource + Drop>(alloc: Global, reader: S, options: DrawOptions) -> Outcome
@@ -50,7 +53,8 @@ fn draw_claimed(
     ensures found { AnswersOrNoMemory (DrawsClaim options) (claim_on (history_in text.now) claimed.now) (answer_of result) }
     ensures places { NamesPlaces result }
 {
-    let history = history_in(alloc, text)?;
+    let whole = history_in(alloc, text)?;
+    let history = drawn_part(alloc, whole, options.condition.is_weakly_empty)?;
     check_few_values(&history)?;
     draw_claim(alloc, &history, claimed, options)
 }
@@ -64,8 +68,8 @@ fn draw_alone(alloc: Global, text: PendingText, options: DrawOptions) -> Outcome
     match text.open_calls {
         Some(_) => draw_pending(alloc, text, options),
         None => {
-            let history = history_in(alloc, &text)?;
-            draw_decided(alloc, &history, None, options)
+            let whole = history_in(alloc, &text)?;
+            draw_whole(alloc, whole, None, options)
         }
     }
 }
@@ -78,8 +82,59 @@ fn draw_pending(alloc: Global, text: PendingText, options: DrawOptions) -> Outco
 {
     let added_from = next_ticket(text.events.as_slice());
     let (_version, initial, events) = completed(alloc, text)?;
-    let history = history_of_completion(alloc, initial.into_vec(), events.as_slice())?;
-    draw_decided(alloc, &history, Some(added_from), options)
+    let whole = history_of_completion(alloc, initial.into_vec(), events.as_slice())?;
+    draw_whole(alloc, whole, Some(added_from), options)
+}
+
+/// The history, or without its empty dequeues if these promise nothing.
+fn drawn_part(alloc: Global, whole: History, is_weakly_empty: bool) -> Result<History, AllocError>
+    ensures whole { is_weakly_empty ≡ false → IfOk result (λ part. part ≡ whole.entry) }
+    ensures selected { is_weakly_empty ≡ true → IfOk result (λ part. contents_of part ≡ without_empties (contents_of whole.entry)) }
+    ensures events { is_weakly_empty ≡ true → IfOk result (λ part. ArePartOf whole.entry.events part.events) }
+    ensures complete { IfOk result (λ part. IsSound part) }
+{
+    if is_weakly_empty {
+        without_empties(alloc, &whole)
+    } else {
+        let _initial = whole.initial();
+        Ok(whole)
+    }
+}
+
+/// The picture of what is drawn of a history, with its verdict.
+fn draw_whole(
+    alloc: Global,
+    whole: History,
+    added_from: Option<u64>,
+    options: DrawOptions,
+) -> Outcome
+    ensures found { (version : Version) → AnswersOrNoMemory (λ text. DrawsPart options.condition.is_weakly_empty text (DrawsDecided options added_from))
+        (said_in version whole.entry) (answer_of result) }
+    ensures places { NamesPlaces result }
+{
+    let history = drawn_part(alloc, whole, options.condition.is_weakly_empty)?;
+    draw_decided(alloc, &history, added_from, options)
+}
+
+/// The condition without what it says of empty dequeues.
+fn strict(condition: Condition) -> Condition
+    ensures { result ≡ strict condition }
+{
+    Condition {
+        is_local: condition.is_local,
+        is_weakly_empty: false,
+    }
+}
+
+/// Refuses the linearizations of several producers.
+fn check_one_order(claimed: &Claimed, is_local: bool) -> Result<(), Fault>
+    ensures one { OnOk result (IsOneOrder is_local claimed.now) }
+    ensures several { IfErr result (λ fault. (answer_of_fault fault ≡ refused_orders) × (¬ (IsOneOrder is_local claimed.now))) }
+{
+    match claimed {
+        Claimed::Yes(_) if is_local => Err(Fault::Orders),
+        _ => Ok(()),
+    }
 }
 
 /// The picture of a history with its verdict.
@@ -140,7 +195,7 @@ fn draw_claim(alloc: Global, history: &History, claimed: &Claimed, options: Draw
     ensures places { NamesPlaces result }
 {
     let drawn = drawn_if_few(alloc, history, claimed, options)?;
-    if !verdicts::verify(alloc, history, claimed)? {
+    if !verify_under(alloc, history, claimed, strict(options.condition))? {
         return Ok(Report::Verified(false));
     }
     draw_evidence(alloc, history, claimed, drawn, None, options)
@@ -159,16 +214,20 @@ fn draw_verdict(
         → AnswersOrNoMemory (IsDrawnDecided options added_from) (said_in version history.now) (answer_of result) }
     ensures places { NamesPlaces result }
 {
-    let claimed = decided_claim(alloc, history)?;
+    let claimed = decided_claim(alloc, history, strict(options.condition))?;
     let drawn = drawn_if_few(alloc, history, &claimed, options)?;
     draw_evidence(alloc, history, &claimed, drawn, added_from, options)
 }
 
 /// The claim of the verdict on a history.
-fn decided_claim(alloc: Global, history: &History) -> Result<Claimed, AllocError>
-    ensures { IfOk result (IsVerdictClaim history.now) }
+fn decided_claim(
+    alloc: Global,
+    history: &History,
+    condition: Condition,
+) -> Result<Claimed, AllocError>
+    ensures { IfOk result (IsVerdictClaim condition history.now) }
 {
-    let verdict = decide(alloc, history)?;
+    let verdict = decide_under(alloc, history, condition)?;
     claim(alloc, history, &verdict)
 }
 
@@ -186,11 +245,12 @@ fn draw_evidence(
     requires few_lines { count_of_lines claimed.now ≤ MOST_DRAWN }
     requires drawn { drawn.items ≡ drawn_operations history.now claimed.now options.around }
     requires few { length drawn.items ≤ MOST_DRAWN }
-    requires evidence { IsTrueClaim history.now.initial (operations_of history.now.events) claimed.now }
+    requires evidence { IsTrueUnder (strict options.condition) history.now claimed.now }
     ensures found { (version : Version)
         → AnswersOrNoMemory (DrawsSound options added_from) (claim_on (said_in version history.now) claimed.now) (answer_of result) }
     ensures places { NamesPlaces result }
 {
+    check_one_order(claimed, options.condition.is_local)?;
     let scene = scene_of(alloc, history, claimed, drawn, added_from)?;
     let picture = picture_in(alloc, &scene, options.form)?;
     Ok(Report::Drawn(picture))

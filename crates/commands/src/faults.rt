@@ -20,6 +20,7 @@ impl Fault {
             Fault::Text(fault) => fault.name(),
             Fault::History(incomplete) => incomplete.fault.name(),
             Fault::Size => "Size",
+            Fault::Orders => "Orders",
             Fault::Queue => "Queue",
             Fault::Limit => "Limit",
             Fault::Memory => "Memory",
@@ -35,7 +36,7 @@ impl Fault {
             Fault::Text(fault) => fault.line(),
             Fault::History(incomplete) => incomplete.fault.place(),
             Fault::Run(fault) => fault.place(),
-            Fault::Size | Fault::Queue | Fault::Limit | Fault::Memory => None,
+            Fault::Size | Fault::Orders | Fault::Queue | Fault::Limit | Fault::Memory => None,
         }
     }
 

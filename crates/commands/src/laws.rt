@@ -9,12 +9,13 @@ ghost use Rattle.recorder_core.specs.Laws.{IsDone};
 ghost use Rattle.recorder_core.specs.Replay.{IsHonest};
 ghost use Rattle.simulation.specs.Simulations.{rejections};
 ghost use Rattle.verdicts.specs.declared.verifying.Claimed.TheVariants.{Yes};
+ghost use Rattle.command_words.specs.declared.options.Condition.{Condition};
 ghost use Rattle.command_words.specs.declared.options.DrawOptions.{DrawOptions};
 ghost use Rattle.command_words.specs.Commands.{check, shrink, verify, draw, convert, complete, stats, sim};
 ghost use Rattle.command_words.specs.Options.{Settings};
 ghost use Rattle.commands.specs.Answers.{Reply, ShowsNoViolation, played};
 ghost use Rattle.commands.specs.Evidence.{CompletedIsDecided, CompletedIsHistory, CompletedIsKept};
-ghost use Rattle.commands.specs.Evidence.{CheckedIsValid, ConvertedIsChecked, ConvertedIsCounted, ConvertedIsKept, ConvertedIsSameHistory};
+ghost use Rattle.commands.specs.Evidence.{CheckedIsValid, CheckedIsValidUnder, RefutedIsValid, ConvertedIsChecked, ConvertedIsCounted, ConvertedIsKept, ConvertedIsSameHistory};
 ghost use Rattle.commands.specs.Evidence.{ConvertedIsVerified, DrawnAsChecked, HasOneAnswer, ShrunkIsChecked, ShrunkIsValid};
 ghost use Rattle.commands.specs.Judging.{SimulatesIn};
 ghost use Rattle.commands.specs.Stressing.{StressesUnshelved, proved_name};
@@ -30,9 +31,9 @@ pub fn honest_schedules_get_a_yes()
 /// An input has one answer: two answers that the contract allows of a command that reads, on one input, are the same,
 /// or one of them says that memory ran out.
 pub fn one_answer()
-    ensures check { HasOneAnswer check }
-    ensures shrink { HasOneAnswer shrink }
-    ensures verify { HasOneAnswer verify }
+    ensures check { (condition : Condition) → HasOneAnswer (check condition) }
+    ensures shrink { (condition : Condition) → HasOneAnswer (shrink condition) }
+    ensures verify { (condition : Condition) → HasOneAnswer (verify condition) }
     ensures draw { (options : DrawOptions) → HasOneAnswer (draw options) }
     ensures convert { HasOneAnswer convert }
     ensures complete { (takes_cut : Bool) → HasOneAnswer (complete takes_cut) }
@@ -47,14 +48,17 @@ pub fn runs_of_the_proved_queue_are_linearizable()
 {}
 
 /// Every answer is evidence. `verify` answers an input, followed by the verdict that `check` writes of it, with
-/// `VALID`. What `shrink` writes of a history that is not linearizable is the text of a history and of its verdict:
-/// `verify` answers it with `VALID`, and `check` answers the history with that same verdict. `draw` decides a history
-/// as `check` does: it answers a history on its own as it answers the history followed by the verdict of `check`. Or
-/// memory runs out.
+/// `VALID`; so it does under each condition, if the verdict has no more lines than it reads, and a `NO` under any
+/// condition is evidence without one. What `shrink` writes of a history that doesn't meet a condition is the text of a
+/// history and of its verdict: `verify` answers it with `VALID`, and `check` answers the history with that same
+/// verdict. `draw` decides a history as `check` does: it answers a history on its own as it answers the history
+/// followed by the verdict of `check`. Or memory runs out.
 pub fn every_answer_is_evidence()
     ensures checked { CheckedIsValid }
-    ensures shrunk { ShrunkIsValid }
-    ensures checked_again { ShrunkIsChecked }
+    ensures checked_under { (condition : Condition) → CheckedIsValidUnder condition }
+    ensures refuted { (condition : Condition) → RefutedIsValid condition }
+    ensures shrunk { (condition : Condition) → ShrunkIsValid condition }
+    ensures checked_again { (condition : Condition) → ShrunkIsChecked condition }
     ensures drawn { (options : DrawOptions) → DrawnAsChecked options }
 {}
 
@@ -73,7 +77,7 @@ pub fn completion_decides()
 pub fn conversion_keeps_answers()
     ensures same_history { ConvertedIsSameHistory }
     ensures kept { ConvertedIsKept }
-    ensures checked { ConvertedIsChecked }
+    ensures checked { (condition : Condition) → ConvertedIsChecked condition }
     ensures counted { ConvertedIsCounted }
-    ensures verified { ConvertedIsVerified }
+    ensures verified { (condition : Condition) → ConvertedIsVerified condition }
 {}

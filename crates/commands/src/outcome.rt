@@ -52,6 +52,8 @@ pub enum Fault {
     History(Incomplete),
     /// The history or the verdict has more initial values, operations or lines than are drawn.
     Size,
+    /// The verdict has a linearization for each producer, which one picture can't show.
+    Orders,
     /// No queue has the name that was asked for.
     Queue,
     /// More operations were asked for than a run may have, or a completion is beyond the limits of a history.

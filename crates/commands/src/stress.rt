@@ -13,9 +13,9 @@ ghost use Rattle.commands.specs.Judging.{AnswersOrNoMemory};
 ghost use Rattle.commands.specs.Outcomes.{answer_of, NamesPlaces};
 ghost use Rattle.commands.specs.Stressing.{IsFirstNamed, IsShownRun, RunsOrFails, Stresses, StressesQueue, StressesUnshelved, first_values, run_version};
 
-use crate::histories::PIECES;
+use crate::judging::decide_under_par;
 use crate::outcome::{Fault, Outcome, Report};
-use command_words::StressOptions;
+use command_words::{Condition, StressOptions};
 use event_records::{LEAST_INITIAL_NAME, MAX_OPERATIONS};
 use history_text::Version;
 use queue_interface::TestQueue;
@@ -23,7 +23,6 @@ use std::alloc::{AllocError, Global};
 use std::sync::Wait;
 use std::thread::Threads;
 use stress_run::{Recorded, run_from, run_proved};
-use verdicts::decide_par;
 use workloads::Plan;
 
 /// How often a push into a full ring is tried again before its worker gives up.
@@ -117,7 +116,7 @@ fn run_plan<'a, R: Threads + Sync>(
 {
     let (plan, initial) = plan_of(alloc, options)?;
     let recorded = run_from(rt, alloc, queue, &initial, &plan, options.ring, TRIES)?;
-    judge_run(rt, alloc, &recorded, options.initial)
+    judge_run(rt, alloc, &recorded, options.initial, options.condition)
 }
 
 /// What a run of the proved queue gives.
@@ -136,7 +135,7 @@ fn stress_proved<'a, R: Threads + Wait + Sync>(
     }
     let (plan, initial) = plan_of(alloc, options)?;
     let recorded = run_proved(rt, alloc, &initial, &plan, options.ring, TRIES)?;
-    judge_run(rt, alloc, &recorded, options.initial)
+    judge_run(rt, alloc, &recorded, options.initial, options.condition)
 }
 
 /// The seed's plan, and the values that the queue is to hold first.
@@ -158,15 +157,22 @@ fn plan_of<'a>(alloc: Global, options: &StressOptions<'a>) -> Result<(Plan, Vec<
 }
 
 /// The verdict on what was recorded of a run, whose queue held this many values first.
-fn judge_run<R: Threads + Sync>(rt: &R, alloc: Global, recorded: &Recorded, count: usize) -> Outcome
+fn judge_run<R: Threads + Sync>(
+    rt: &R,
+    alloc: Global,
+    recorded: &Recorded,
+    count: usize,
+    condition: Condition,
+) -> Outcome
     requires { recorded.now.initial ≡ first_values count }
-    ensures found { AnswersOrNoMemory (IsShownRun count) recorded.now.lists (answer_of result) }
+    ensures found { AnswersOrNoMemory (IsShownRun condition count) recorded.now.lists (answer_of result) }
     ensures linearizable { ((events : List Event) → IsMerged recorded.now.lists events
         → IsLinearizable (first_values count) (operations_of events)) → ShowsNoViolation (answer_of result) }
     ensures places { NamesPlaces result }
 {
     let history = recorded.history(alloc)?;
-    let verdict = decide_par(rt, alloc, &history, PIECES)?;
+    let _initial = history.initial();
+    let verdict = decide_under_par(rt, alloc, &history, condition)?;
     Ok(Report::Shown(run_version(count), history, verdict))
 }
 

@@ -9,41 +9,42 @@ ghost use Rattle.commands.specs.Outcomes.{answer_of, NamesPlaces};
 ghost use Rattle.commands.specs.Running.{AnswersOf};
 
 use crate::complete::complete;
+use crate::judging::decide_under;
 use crate::draw::draw;
-use crate::histories::{shrink, stats, verify};
+use crate::histories::{stats, verify};
 use crate::input::given_history;
 use crate::outcome::{Outcome, Report};
 use crate::print::write_outcome;
-use command_words::DrawOptions;
+use crate::shrink::shrink;
+use command_words::{Condition, DrawOptions};
 use history_merge::HistoryBuilder;
 use history_text::{MemorySource, Watched};
 use std::alloc::{AllocError, Global};
-use verdicts::decide;
 
 /// What `check` finds in a text. Time and memory as of the command in one thread.
-pub fn check_text(alloc: Global, text: &[u8]) -> Outcome
-    ensures found { AnswersOf check (input_of text.now) (answer_of result) }
+pub fn check_text(alloc: Global, text: &[u8], condition: Condition) -> Outcome
+    ensures found { AnswersOf (check condition) (input_of text.now) (answer_of result) }
     ensures places { NamesPlaces result }
 {
     let (_version, history) = given_history(alloc, MemorySource::new(text))?;
-    let verdict = decide(alloc, &history)?;
+    let verdict = decide_under(alloc, &history, condition)?;
     Ok(Report::Judged(history, verdict))
 }
 
 /// What `shrink` finds in a text.
-pub fn shrink_text(alloc: Global, text: &[u8]) -> Outcome
-    ensures found { AnswersOf shrink (input_of text.now) (answer_of result) }
+pub fn shrink_text(alloc: Global, text: &[u8], condition: Condition) -> Outcome
+    ensures found { AnswersOf (shrink condition) (input_of text.now) (answer_of result) }
     ensures places { NamesPlaces result }
 {
-    shrink(alloc, MemorySource::new(text))
+    shrink(alloc, MemorySource::new(text), condition)
 }
 
 /// What `verify` finds in a text.
-pub fn verify_text(alloc: Global, text: &[u8]) -> Outcome
-    ensures found { AnswersOf verify (input_of text.now) (answer_of result) }
+pub fn verify_text(alloc: Global, text: &[u8], condition: Condition) -> Outcome
+    ensures found { AnswersOf (verify condition) (input_of text.now) (answer_of result) }
     ensures places { NamesPlaces result }
 {
-    verify(alloc, MemorySource::new(text))
+    verify(alloc, MemorySource::new(text), condition)
 }
 
 /// What `draw` finds in a text.
@@ -71,12 +72,12 @@ pub fn stats_text(alloc: Global, text: &[u8]) -> Outcome
 }
 
 /// What `check` finds in the history that a history builder was given.
-pub fn judge_gathered(alloc: Global, builder: HistoryBuilder) -> Outcome
-    ensures found { (history : HistoryView) → IsGathered history builder → AnswersOrNoMemory JudgesHistory history (answer_of result) }
+pub fn judge_gathered(alloc: Global, builder: HistoryBuilder, condition: Condition) -> Outcome
+    ensures found { (history : HistoryView) → IsGathered history builder → AnswersOrNoMemory (JudgesHistory condition) history (answer_of result) }
     ensures places { NamesPlaces result }
 {
     let history = builder.finish()?;
-    let verdict = decide(alloc, &history)?;
+    let verdict = decide_under(alloc, &history, condition)?;
     Ok(Report::Judged(history, verdict))
 }
 

@@ -1,3 +1,4 @@
+mod claiming;
 mod deciding;
 mod selecting;
 mod small_histories;

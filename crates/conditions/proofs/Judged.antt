@@ -44,7 +44,7 @@ and_left true b is = refl
 and_left false b is = is
 
 -- nobody enqueues the value
-abbrev is_nobodys : Contents → ℕ → Bool
+abbrev pub is_nobodys : Contents → ℕ → Bool
 is_nobodys whole v = option_map_or (λ (q : Producer). false) (producer_of whole v) true
 
 module _ (whole : Contents) (t : ℕ) (none : has_values whole (Thread t) ≡ false) where
@@ -87,7 +87,7 @@ module _ (whole : Contents) (t : ℕ) (none : has_values whole (Thread t) ≡ fa
   selects_by emptiness (Some v) = counts_as_nobodys v
 
   -- so its selection is one of theirs
-  selection_within : (emptiness : Emptiness)
+  pub selection_within : (emptiness : Emptiness)
       → select (is_nobodys whole) (λ call. judges_empties emptiness) (selection_of emptiness Initial whole) ≡ selection_of emptiness (Thread t) whole
   selection_within emptiness =
       let values = filtered_twice (is_nobodys whole) (counts_for whole Initial) (counts_for whole (Thread t)) whole.initial counts_as_nobodys in
@@ -95,6 +95,24 @@ module _ (whole : Contents) (t : ℕ) (none : has_values whole (Thread t) ≡ fa
       (selects (counts_for whole Initial) (λ call. judges_empties emptiness)) (selects (counts_for whole (Thread t)) (λ call. judges_empties emptiness))
       whole.operations (λ o. selects_by emptiness (value_of o.kind)) in
       λ i. record { initial = values i; operations = operations i }
+
+-- ---- producers by rank
+
+pub rank_stands : (k : ℕ) → k < PRODUCERS → get_or all_producers k Initial ≡ ranked k
+rank_stands zero below = refl
+rank_stands (suc t) below = thread_stands 0 64 t (omega arith) ∙ ap Thread (omega arith)
+  where
+    thread_stands : (a n t : ℕ) → t < n → get_or (map Thread (range_with_len a n)) t Initial ≡ Thread (a + t)
+    thread_stands a zero t below = absurd (omega arith)
+    thread_stands a (suc n) zero below = ap Thread (omega arith)
+    thread_stands a (suc n) (suc t) below = thread_stands (a + 1) n t (omega arith) ∙ ap Thread (omega arith)
+
+-- what is marked as used
+pub used_is : (whole : Contents) (used : List Bool) (k : ℕ) → AreMarked whole.operations used → k < PRODUCERS → get_or used k false ≡ has_values whole (ranked k)
+used_is whole used zero marked below = marked.initial
+used_is whole used (suc t) marked below = marked.threads t (omega arith)
+
+-- ---- a history
 
 module _ (history : HistoryView) (complete : IsCompleteFrom history.initial history.events) (few : length history.initial ≤ MAX_INITIAL)
     (emptiness : Emptiness) where
@@ -114,7 +132,7 @@ module _ (history : HistoryView) (complete : IsCompleteFrom history.initial hist
   first_contents = λ i. record { initial = first_selection.initial; operations = first_operations i }
 
   -- it is linearizable if that of the initial values is
-  idle_is_linearizable : (t : ℕ) → has_values whole (Thread t) ≡ false → AreLinearizable (selection_of emptiness Initial whole)
+  pub idle_is_linearizable : (t : ℕ) → has_values whole (Thread t) ≡ false → AreLinearizable (selection_of emptiness Initial whole)
       → AreLinearizable (selection_of emptiness (Thread t) whole)
   idle_is_linearizable t none linearizable =
       let shorter = no_longer (counts_for whole Initial) history.initial in
@@ -124,7 +142,7 @@ module _ (history : HistoryView) (complete : IsCompleteFrom history.initial hist
       subst AreLinearizable (ap (select (is_nobodys whole) (λ call. judges_empties emptiness)) first_contents ∙ selection_within whole t none emptiness) stays
 
   -- a thread beyond the greatest enqueues nothing
-  none_beyond : (t : ℕ) → MAX_THREADS ≤ t → has_values whole (Thread t) ≡ false
+  pub none_beyond : (t : ℕ) → MAX_THREADS ≤ t → has_values whole (Thread t) ≡ false
   none_beyond t beyond = elim (cases_Bool (has_values whole (Thread t))) [
     | inr none ↦ none
     | inl some ↦
@@ -137,15 +155,6 @@ module _ (history : HistoryView) (complete : IsCompleteFrom history.initial hist
   ]
 
   -- ---- one producer after another
-
-  rank_stands : (k : ℕ) → k < PRODUCERS → get_or all_producers k Initial ≡ ranked k
-  rank_stands zero below = refl
-  rank_stands (suc t) below = thread_stands 0 64 t (omega arith) ∙ ap Thread (omega arith)
-    where
-      thread_stands : (a n t : ℕ) → t < n → get_or (map Thread (range_with_len a n)) t Initial ≡ Thread (a + t)
-      thread_stands a zero t below = absurd (omega arith)
-      thread_stands a (suc n) zero below = ap Thread (omega arith)
-      thread_stands a (suc n) (suc t) below = thread_stands (a + 1) n t (omega arith) ∙ ap Thread (omega arith)
 
   long_enough : length all_producers ≡ PRODUCERS
   long_enough = refl
@@ -160,10 +169,6 @@ module _ (history : HistoryView) (complete : IsCompleteFrom history.initial hist
       ∙ filter-append (has_values whole) (take k all_producers) (get_or all_producers k Initial ∷ [])
       ∙ ap (λ (p : Producer). filter (has_values whole) (take k all_producers) ++ filter (has_values whole) (p ∷ [])) (rank_stands k below)
       ∙ ap (λ (b : Bool). filter (has_values whole) (take k all_producers) ++ cond b (ranked k ∷ []) []) is
-
-  used_is : (used : List Bool) (k : ℕ) → AreMarked whole.operations used → k < PRODUCERS → get_or used k false ≡ has_values whole (ranked k)
-  used_is used zero marked below = marked.initial
-  used_is used (suc t) marked below = marked.threads t (omega arith)
 
   further : (rank : ℕ) (P : ℕ → Type 0) → ((k : ℕ) → k < rank → P k) → P rank → (k : ℕ) → k < rank + 1 → P k
   further rank P before here k below = elim (cases_lt k rank) [
@@ -182,7 +187,7 @@ module _ (history : HistoryView) (complete : IsCompleteFrom history.initial hist
         producers =
             ap (map (λ (y : LocalOrder). y.producer)) is_now ∙ map-append (λ (y : LocalOrder). y.producer) orders (x ∷ [])
             ∙ ap₂ (λ (ps : List Producer) (q : Producer). ps ++ q ∷ []) judged.producers is_ranked
-            ∙ sym (producers_further rank true below (sym (used_is used rank marked below) ∙ in_use));
+            ∙ sym (producers_further rank true below (sym (used_is whole used rank marked below) ∙ in_use));
         decided = subst (All HasOne) (sym is_now) (All-append HasOne orders (x ∷ []) judged.decided (All-cons HasOne x [] decided (All-nil HasOne)));
       }
 
@@ -190,7 +195,7 @@ module _ (history : HistoryView) (complete : IsCompleteFrom history.initial hist
       → get_or used rank false ≡ false → now ≡ orders → AreJudged emptiness whole rank orders → AreJudged emptiness whole (rank + 1) now
   judged_same used zero orders now marked below idle is_now judged = let clash : true ≡ false = sym marked.initial ∙ idle in cc
   judged_same used (suc t) orders now marked below idle is_now judged =
-      let none : has_values whole (Thread t) ≡ false = sym (used_is used (suc t) marked below) ∙ idle in record {
+      let none : has_values whole (Thread t) ≡ false = sym (used_is whole used (suc t) marked below) ∙ idle in record {
         linearizable = further (suc t) (λ k. AreLinearizable (selection_of emptiness (ranked k) whole)) judged.linearizable
             (idle_is_linearizable t none (judged.linearizable 0 (omega arith)));
         producers =

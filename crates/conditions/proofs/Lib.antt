@@ -7,6 +7,8 @@
 -- SharedOut: the places of operations by producer.
 -- Minimal: which conditions are weaker than which, and what is minimal for one.
 -- Judged: one producer's selection after another is judged.
+-- ClaimLaws: what verdicts claim under weaker conditions.
+-- InTurn: one producer's selection after another is compared with a claim.
 -- Places: a verdict on a selection, by the places of the whole.
 pub mod Showing
 pub mod Weaker
@@ -17,3 +19,5 @@ pub mod SharedOut
 pub mod Minimal
 pub mod Judged
 pub mod Places
+pub mod ClaimLaws
+pub mod InTurn

@@ -31,7 +31,7 @@ use Rattle.conditions.proofs.Weaker.{selections_stay_linearizable}
 
 module _ (history : HistoryView) (complete : IsCompleteFrom history.initial history.events) (few : length history.initial ≤ MAX_INITIAL)
     (values empties : ℕ → Bool) where
-  abbrev selected : HistoryView
+  abbrev pub selected : HistoryView
   selected = record {
     initial = filter values history.initial;
     events = events_kept history.initial history.events complete values (selects values empties);
@@ -40,7 +40,7 @@ module _ (history : HistoryView) (complete : IsCompleteFrom history.initial hist
   selected_operations : operations_of selected.events ≡ filter (selects values empties) (operations_of history.events)
   selected_operations = operations_kept history.initial history.events complete values (selects values empties)
 
-  selected_contents : contents_of selected ≡ select values empties (contents_of history)
+  pub selected_contents : contents_of selected ≡ select values empties (contents_of history)
   selected_contents = λ i. record { initial = selected.initial; operations = selected_operations i }
 
   -- it is linearizable too

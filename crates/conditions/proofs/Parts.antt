@@ -1,4 +1,4 @@
--- The events of a selection: those of its operations, by ticket.
+-- The events of a selection.
 use Rattle.std.proofs.Common.{◌≡◌, ℕ, ◌+◌, ◌<◌, ◌≤◌, ◌++◌, Bool, true, false, cond, List, [], ◌∷◌, length, get_or}
 use Rattle.std.proofs.Common.{take, map, Some, None, refl, ap, ap₂, sym, subst, ◌∙◌, arith}
 use Rattle.std.specs.Prelude.{Contains, filter, flat_map, IsPermutation, nat_lt, slice_get}
@@ -33,22 +33,6 @@ use Rattle.conditions.specs.declared.part.Part.{Part}
 
 -- ---- walks over places
 
--- the events of one operation more
-pub listed_more : (operations : List Operation) (places : List ℕ) (i d : ℕ) (before called now : List Event) (o : Operation) → i < length places
-    → before ≡ flat_map both_events (operations_at operations (take i places)) → slice_get operations (get_or places i d) ≡ Some o
-    → called ≡ before ++ call_event o ∷ [] → now ≡ called ++ return_event o ∷ []
-    → now ≡ flat_map both_events (operations_at operations (take (i + 1) places))
-listed_more operations places i d before called now o within was at calls returns =
-    returns ∙ ap (λ (es : List Event). es ++ return_event o ∷ []) calls ∙ append_assoc before (call_event o ∷ []) (return_event o ∷ [])
-    ∙ ap (λ (es : List Event). es ++ both_events o) was ∙ flat_map_more both_events [] (operations_at operations (take i places)) o
-    ∙ ap (flat_map both_events) (found_one (slice_get operations) places i d (operations_at operations (take i places)) within refl o _ at refl)
-
-pub listed_same : (operations : List Operation) (places : List ℕ) (i d : ℕ) (before : List Event) → i < length places
-    → before ≡ flat_map both_events (operations_at operations (take i places)) → slice_get operations (get_or places i d) ≡ None
-    → before ≡ flat_map both_events (operations_at operations (take (i + 1) places))
-listed_same operations places i d before within was at =
-    was ∙ ap (flat_map both_events) (found_none (slice_get operations) places i d (operations_at operations (take i places)) within refl at)
-
 -- an operation, to stand past the end of a list
 abbrev pub past_end : Operation
 past_end = record { call = 0; ret = 0; thread = 0; kind = Empty }
@@ -75,35 +59,6 @@ module _ (test : Operation → Bool) (operations : List Operation) (i : ℕ) (o 
       are ∙ ap (map (λ x. Some x)) (sym (one_further ∙ ap (λ (b : Bool). filter test (take i operations) ++ cond b (o ∷ []) []) fails
       ∙ append-nil (filter test (take i operations))))
 
--- ---- the events of operations are those of each, in another order
-
-put_permutes : (e : Event) (events : List Event) → IsPermutation (e ∷ events) (put_by_ticket e events)
-put_permutes e [] = IsPermutation-refl (e ∷ [])
-put_permutes e (f ∷ later) = pick (nat_lt e.ticket f.ticket) (put_permutes e later)
-  where
-    pick : (b : Bool) → IsPermutation (e ∷ later) (put_by_ticket e later)
-        → IsPermutation (e ∷ f ∷ later) (cond b (e ∷ f ∷ later) (f ∷ put_by_ticket e later))
-    pick true more = IsPermutation-refl (e ∷ f ∷ later)
-    pick false more =
-        IsPermutation-trans (e ∷ f ∷ later) (f ∷ e ∷ later) (f ∷ put_by_ticket e later)
-        (IsPermutation-sym (f ∷ e ∷ later) (e ∷ f ∷ later) (IsPermutation-middle (f ∷ []) e later))
-        (IsPermutation-cons f (e ∷ later) (put_by_ticket e later) more)
-
-has_returned : (o : Operation) → 0 < o.ret → maybe_return o ≡ Some (return_event o)
-has_returned o late = grind (arith, nat_tests)
-
-events_permute : (operations : List Operation) → ((o : Operation) → Contains operations o → 0 < o.ret)
-    → IsPermutation (flat_map both_events operations) (events_of operations)
-events_permute [] each = IsPermutation-refl []
-events_permute (o ∷ later) each =
-    let more = events_permute later (λ x among. each x (one_deeper o later x among)) in
-    let put = IsPermutation-trans (return_event o ∷ flat_map both_events later) (return_event o ∷ events_of later)
-    (put_by_ticket (return_event o) (events_of later))
-    (IsPermutation-cons (return_event o) (flat_map both_events later) (events_of later) more) (put_permutes (return_event o) (events_of later)) in
-    IsPermutation-cons (call_event o) (return_event o ∷ flat_map both_events later) (put_maybe (maybe_return o) (events_of later))
-    (subst (λ r. IsPermutation (return_event o ∷ flat_map both_events later) (put_maybe r (events_of later)))
-    (sym (has_returned o (each o (0, omega arith, refl)))) put)
-
 -- ---- the part that a selection is
 
 module _ (whole : HistoryView) (complete : IsCompleteFrom whole.initial whole.events) (values empties : ℕ → Bool) (initial places : List ℕ)
@@ -120,37 +75,19 @@ module _ (whole : HistoryView) (complete : IsCompleteFrom whole.initial whole.ev
   is_complete : IsCompleteFrom (filter values whole.initial) events_selected
   is_complete = kept_is_complete_from whole.initial whole.events complete values test
 
-  late : (o : Operation) → Contains operations o → 0 < o.ret
-  late o among =
-      (All-contains IsTimed (operations_of whole.events) o (operations_are_complete whole.events complete.complete).timed
-      (passed_filter test (operations_of whole.events) o among).0).above_zero
-
-  abbrev listed : List Event
-  listed = flat_map both_events (operations_at (operations_of whole.events) places)
-
-  listed_are_kept : IsPermutation events_selected listed
-  listed_are_kept =
-      let told : events_of operations ≡ events_selected =
-      ap events_of (sym (operations_kept whole.initial whole.events complete values test)) ∙ events_told events_selected is_complete.complete in
-      let there = operations_there (operations_of whole.events) places operations selected.operations in
-      IsPermutation-sym listed events_selected
-      (subst (λ (os : List Operation). IsPermutation (flat_map both_events os) events_selected) (sym there)
-      (subst (IsPermutation (flat_map both_events operations)) told (events_permute operations late)))
-
-  -- sorted, they are the events that are kept
-  pub sorted_are_selected : (from : List Operation) (at : List ℕ) (sorted : List Event) → from ≡ operations_of whole.events → at ≡ places
-      → IsPermutation (flat_map both_events (operations_at from at)) sorted → IsNonDecreasingBy (λ e. e.ticket) sorted → sorted ≡ events_selected
-  sorted_are_selected from at sorted is_from is_at moved rise =
-      let moved' : IsPermutation listed sorted =
-      subst (λ (ps : List ℕ). IsPermutation (flat_map both_events (operations_at (operations_of whole.events) ps)) sorted) is_at
-      (subst (λ (os : List Operation). IsPermutation (flat_map both_events (operations_at os at)) sorted) is_from moved) in
-      (sorted_tells (λ e. e.ticket) events_selected listed sorted is_complete.complete.tickets_rise moved' rise).1 listed_are_kept
-
   pub few_selected : length whole.events ≤ MAX_EVENTS → length events_selected ≤ MAX_EVENTS
   few_selected few = let shorter = no_longer (λ (e : Event). holds_ticket operations e.ticket) whole.events in omega arith
 
   pub complete_selected : IsCompleteFrom initial events_selected
   complete_selected = subst (λ vs. IsCompleteFrom vs events_selected) (sym selected.initial_values) is_complete
+
+  -- its operations stand at the places
+  pub stands_there : length whole.events ≤ MAX_EVENTS → IsPartAt whole initial places events_selected
+  stands_there few = record {
+    complete = complete_selected;
+    few = few_selected few;
+    stand_there = subst (ArePlacesOf (operations_of whole.events) places) (sym (operations_kept whole.initial whole.events complete values test)) selected.operations;
+  }
 
   pub part_is : (part : Part) → part.history.initial ≡ initial → part.history.events ≡ events_selected → part.places.items ≡ places
       → IsPart whole (select values empties (contents_of whole)) part

@@ -10,6 +10,7 @@ use Rattle.history_merge.specs.declared.operation.Operation.{Operation}
 use Rattle.history_merge.specs.Initial.{Contents, HistoryView}
 use Rattle.history_merge.specs.Legal.{ArePlacesOf}
 use Rattle.history_merge.specs.Operations.{operations_of}
+use Rattle.history_merge.proofs.PlaceLists.{placed_at}
 use Rattle.history_merge.proofs.Timelines.{map_map}
 use Rattle.value_match.specs.declared.life.Source.{Source}
 use Rattle.value_match.specs.declared.life.Source.TheVariants as source
@@ -43,17 +44,6 @@ stands_at [] p below = absurd (omega arith)
 stands_at (x ∷ xs) zero below = (x, refl)
 stands_at (x ∷ xs) (suc p) below = stands_at xs p (omega arith)
 
--- the place at a place of the list is that of the operation there
-moved_at : (operations : List Operation) (places : List ℕ) (listed : List Operation) (p d : ℕ) → ArePlacesOf operations places listed
-    → p < length listed → slice_get operations (get_or places p d) ≡ slice_get listed p
-moved_at operations [] [] p d at below = absurd (omega arith)
-moved_at operations [] (o ∷ listed) p d at below = cc
-moved_at operations (q ∷ places) [] p d at below = absurd (omega arith)
-moved_at operations (q ∷ places) (o ∷ listed) zero d at below = cc
-moved_at operations (q ∷ places) (o ∷ listed) (suc p) d at below =
-    let later : map (slice_get operations) places ≡ map (λ x. Some x) listed = cc in
-    moved_at operations places listed p d later (omega arith)
-
 module _ (whole selected : Contents) (places : List ℕ) (at : ArePlacesOf whole.operations places selected.operations)
     (same_initial : (p : ℕ) → p < length selected.initial → slice_get whole.initial p ≡ slice_get selected.initial p) where
   abbrev moved : LinePlace → LinePlace
@@ -62,13 +52,13 @@ module _ (whole selected : Contents) (places : List ℕ) (at : ArePlacesOf whole
 
   same_line : (place : LinePlace) → IsPlaceWithin selected.initial selected.operations place
       → line_at whole.initial whole.operations (moved place) ≡ line_at selected.initial selected.operations place
-  same_line (Op p) within = ap (option_map line.Op) (moved_at whole.operations places selected.operations p p at within)
+  same_line (Op p) within = ap (option_map line.Op) (placed_at whole.operations places selected.operations p p at within)
   same_line (Initial p) within = ap (option_map line.Initial) (same_initial p within)
 
   within_moved : (place : LinePlace) → IsPlaceWithin selected.initial selected.operations place → IsPlaceWithin whole.initial whole.operations (moved place)
   within_moved (Op p) within =
       let there = stands_at selected.operations p within in
-      slice_get_within whole.operations (moved_place places p) there.0 (moved_at whole.operations places selected.operations p p at within ∙ there.1)
+      slice_get_within whole.operations (moved_place places p) there.0 (placed_at whole.operations places selected.operations p p at within ∙ there.1)
   within_moved (Initial p) within =
       let there = stands_at selected.initial p within in
       slice_get_within whole.initial p there.0 (same_initial p within ∙ there.1)
@@ -140,7 +130,7 @@ module _ (whole selected : Contents) (places : List ℕ) (at : ArePlacesOf whole
       let first : slice_get selected.operations p ≡ Some o = cc in
       let later : map (slice_get selected.operations) order ≡ map (λ x. Some x) listed = cc in
       ap₂ (λ (x : Option Operation) (xs : List (Option Operation)). x ∷ xs)
-      (moved_at whole.operations places selected.operations p p at (slice_get_within selected.operations p o first) ∙ first)
+      (placed_at whole.operations places selected.operations p p at (slice_get_within selected.operations p o first) ∙ first)
       (order_moved order listed later)
   order_moved _ _ is = cc
 

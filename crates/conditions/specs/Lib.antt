@@ -1,4 +1,6 @@
 pub mod Conditions
 pub mod Decided
+pub mod Claims
 pub mod Laws
+pub mod ClaimLaws
 pub mod Inner

@@ -11,13 +11,11 @@ ghost use Rattle.conditions.specs.Conditions.{selection_of, without_empties};
 ghost use Rattle.conditions.specs.Decided.{IsDecidedOf, IsLocallyDecided};
 ghost use Rattle.conditions.specs.Inner.Sharing.{AreSharedOut};
 
-use crate::buckets::{Bucket, share_out};
-use crate::local::{LocalOrder, LocalOrders, LocalVerdict, initial_of};
+use crate::local::{LocalOrder, LocalOrders, LocalVerdict};
 use crate::moved::moved_verdict;
-use crate::part::part_of;
 use crate::producer::{Emptiness, Producer};
-use crate::producers::Producers;
-use crate::ranks::{PRODUCERS, marked, ranked};
+use crate::ranks::{PRODUCERS, ranked};
+use crate::selections::{Selections, part_at, selections_of};
 use crate::weak::part_without_empties;
 use history_merge::{History, OpId};
 use std::alloc::{AllocError, Global};
@@ -57,9 +55,7 @@ fn decide_selection_par<R: Threads + Sync>(
         → ArePlacesOf (operations_of history.now.events) places.now (selection_of emptiness producer (contents_of history.now)).operations
         → IsDecidedOf (contents_of history.now) (selection_of emptiness producer (contents_of history.now)) verdict) }
 {
-    let initial = initial_of(alloc, history.initial(), producer)?;
-    let copied = Vec::from_slice(alloc, places)?;
-    let part = part_of(alloc, history, initial, copied)?;
+    let part = part_at(alloc, history, producer, places)?;
     let verdict = decide_par(rt, alloc, &part.history, pieces)?;
     moved_verdict(alloc, places, &verdict)
 }
@@ -69,22 +65,21 @@ fn decide_selections_par<R: Threads + Sync>(
     rt: &R,
     alloc: Global,
     history: &History,
-    used: &[bool],
-    buckets: &[Bucket],
+    selections: &Selections,
     pieces: usize,
 ) -> Result<LocalVerdict, AllocError>
     requires pieces { (1 ≤ pieces) × (pieces ≤ MAX_PIECES) }
     requires complete { IsCompleteFrom history.now.initial history.now.events }
     requires few { length history.now.initial ≤ MAX_INITIAL }
-    requires shared { (emptiness : Emptiness) × AreSharedOut emptiness (contents_of history.now) used.now buckets.now }
-    ensures { IfOk result (λ verdict. (emptiness : Emptiness) → AreSharedOut emptiness (contents_of history.now) used.now buckets.now
+    requires shared { (emptiness : Emptiness) × AreSharedOut emptiness (contents_of history.now) selections.now.used selections.now.buckets.items }
+    ensures { IfOk result (λ verdict. (emptiness : Emptiness) → AreSharedOut emptiness (contents_of history.now) selections.now.used selections.now.buckets.items
         → IsLocallyDecided emptiness (contents_of history.now) verdict) }
 {
     let mut orders = Vec::new(alloc);
     for rank in 0..PRODUCERS {
-        if used[rank] {
+        if selections.used[rank] {
             let producer = ranked(rank);
-            let places = buckets[rank].as_slice();
+            let places = selections.buckets[rank].as_slice();
             match decide_selection_par(rt, alloc, history, producer, places, pieces)? {
                 Verdict::Yes(order) => orders.push(LocalOrder { producer, order })?,
                 Verdict::No(violation) => return Ok(LocalVerdict::No(producer, violation)),
@@ -107,10 +102,7 @@ pub fn decide_local_par<R: Threads + Sync>(
     requires { (1 ≤ pieces) × (pieces ≤ MAX_PIECES) }
     ensures { IfOk result (IsLocallyDecided emptiness (contents_of history.now)) }
 {
-    let producers = Producers::new(alloc, history)?;
-    let operations = history.operations();
-    let used = marked(&operations);
-    let buckets = share_out(alloc, &operations, &producers, emptiness, &used)?;
+    let selections = selections_of(alloc, history, emptiness)?;
     let _initial = history.initial();
-    decide_selections_par(rt, alloc, history, &used, buckets.as_slice(), pieces)
+    decide_selections_par(rt, alloc, history, &selections, pieces)
 }

@@ -1,4 +1,6 @@
 //! Laws of the conditions. The functions do nothing when they run.
+ghost use Rattle.conditions.specs.ClaimLaws.{FirstRefutedIsOne, LocalEvidenceIsTrueClaim, LocalVerdictIsOne, RefutedIsRefutedInTheWhole};
+ghost use Rattle.conditions.specs.ClaimLaws.{TrueLocalClaimDecides, TrueWeakClaimDecides, WeakEvidenceIsTrueClaim, WeakVerdictIsOne};
 ghost use Rattle.conditions.specs.Laws.{BothAreWeakest, ConditionsAreWeaker, SelectionsStayLinearizable};
 ghost use Rattle.conditions.specs.Laws.{StaysLocallyMinimal, StaysWeaklyMinimal, ViolationsAreOfTheWhole};
 
@@ -20,4 +22,25 @@ pub fn conditions_are_weaker()
 pub fn shrunk_selections_are_minimal()
     ensures weak { StaysWeaklyMinimal }
     ensures local { StaysLocallyMinimal }
+{}
+
+/// Proves that the claim of a local verdict is evidence under local linearizability, as [`crate::verify_local`] accepts it, and that
+/// a `NO` that it accepts is evidence in the whole history, as [`verdicts::verify`] accepts it; the same of weak emptiness.
+pub fn evidence_is_a_true_local_claim()
+    ensures local { LocalEvidenceIsTrueClaim }
+    ensures weak { WeakEvidenceIsTrueClaim }
+    ensures refuted { RefutedIsRefutedInTheWhole }
+{}
+
+/// Proves that a history with a `YES` that is evidence under a weaker condition meets it, and one with such a `NO` doesn't.
+pub fn true_claims_decide_conditions()
+    ensures local { TrueLocalClaimDecides }
+    ensures weak { TrueWeakClaimDecides }
+{}
+
+/// Proves that the claims of two verdicts on one history under one condition are equal.
+pub fn one_verdict_under_a_condition()
+    ensures local { LocalVerdictIsOne }
+    ensures weak { WeakVerdictIsOne }
+    ensures refuted { FirstRefutedIsOne }
 {}

@@ -1,22 +1,23 @@
 //! Local linearizability.
-ghost use Rattle.std.specs.Prelude.{◌≡◌, ◌≤◌, IfOk, length};
+ghost use Rattle.std.specs.Prelude.{◌≡◌, ◌≤◌, IfOk, flat_map, length};
 ghost use Rattle.event_records.specs.declared.limits.TheConstants.{MAX_INITIAL};
 ghost use Rattle.history_merge.specs.Initial.{IsCompleteFrom};
 ghost use Rattle.history_merge.specs.Legal.{ArePlacesOf};
 ghost use Rattle.history_merge.specs.Operations.{operations_of};
 ghost use Rattle.verdicts.specs.Selection.{ArePartOf, contents_of};
 ghost use Rattle.conditions.specs.declared.producer.Emptiness.{Emptiness};
+ghost use Rattle.conditions.specs.Claims.{verdict_of};
 ghost use Rattle.conditions.specs.Conditions.{selection_of};
 ghost use Rattle.conditions.specs.Decided.{IsDecidedOf, IsLocallyDecided};
-ghost use Rattle.conditions.specs.Inner.Parts.{IsPart, initial_of};
+ghost use Rattle.conditions.specs.Inner.Parts.{IsPart};
 ghost use Rattle.conditions.specs.Inner.Sharing.{AreSharedOut};
 
-use crate::buckets::{Bucket, share_out};
 use crate::moved::moved_verdict;
 use crate::part::{Part, part_of};
 use crate::producer::{Emptiness, Producer};
 use crate::producers::Producers;
-use crate::ranks::{PRODUCERS, marked, ranked};
+use crate::ranks::{PRODUCERS, ranked};
+use crate::selections::{Selections, initial_of, part_at, selections_of};
 use crate::sharing::places_selected;
 use event_records::OwnedSlice;
 use history_merge::{History, OpId};
@@ -46,18 +47,32 @@ pub enum LocalVerdict {
     No(Producer, Violation),
 }
 
-/// Returns the initial values of a producer's selection.
-pub(crate) fn initial_of(
-    alloc: Global,
-    initial: &[u64],
-    producer: Producer,
-) -> Result<Vec<u64>, AllocError>
-    ensures { IfOk result (λ own. own.items ≡ initial_of producer initial.now) }
-{
-    match producer {
-        Producer::Initial => Vec::from_slice(alloc, initial),
-        Producer::Thread(_) => Ok(Vec::new(alloc)),
+impl LocalVerdict {
+    /// Returns a verdict by which the evidence can be written: `Yes` with the linearizations one after another, or the `No`.
+    ///
+    /// [`crate::verify_local`] accepts its claim. Time and memory in proportion to the linearizations.
+    pub fn into_verdict(self, alloc: Global) -> Result<Verdict, AllocError>
+        ensures { IfOk result (λ verdict. verdict ≡ verdict_of self) }
+    {
+        match self {
+            LocalVerdict::Yes(orders) => {
+                let joined = joined(alloc, orders.as_slice())?;
+                Ok(Verdict::Yes(Order::from_vec(joined)))
+            }
+            LocalVerdict::No(_producer, violation) => Ok(Verdict::No(violation)),
+        }
     }
+}
+
+/// Returns the places of these orders, one after another.
+fn joined(alloc: Global, orders: &[LocalOrder]) -> Result<Vec<OpId>, AllocError>
+    ensures { IfOk result (λ places. places.items ≡ flat_map (λ x. x.order) orders.now) }
+{
+    let mut places = Vec::new(alloc);
+    for local in orders {
+        places.extend_from_slice(local.order.as_slice())?;
+    }
+    Ok(places)
 }
 
 /// Returns a producer's selection.
@@ -113,9 +128,7 @@ fn decide_selection(
         → ArePlacesOf (operations_of history.now.events) places.now (selection_of emptiness producer (contents_of history.now)).operations
         → IsDecidedOf (contents_of history.now) (selection_of emptiness producer (contents_of history.now)) verdict) }
 {
-    let initial = initial_of(alloc, history.initial(), producer)?;
-    let copied = Vec::from_slice(alloc, places)?;
-    let part = part_of(alloc, history, initial, copied)?;
+    let part = part_at(alloc, history, producer, places)?;
     let verdict = decide(alloc, &part.history)?;
     moved_verdict(alloc, places, &verdict)
 }
@@ -124,20 +137,20 @@ fn decide_selection(
 fn decide_selections(
     alloc: Global,
     history: &History,
-    used: &[bool],
-    buckets: &[Bucket],
+    selections: &Selections,
 ) -> Result<LocalVerdict, AllocError>
     requires complete { IsCompleteFrom history.now.initial history.now.events }
     requires few { length history.now.initial ≤ MAX_INITIAL }
-    requires shared { (emptiness : Emptiness) × AreSharedOut emptiness (contents_of history.now) used.now buckets.now }
-    ensures { IfOk result (λ verdict. (emptiness : Emptiness) → AreSharedOut emptiness (contents_of history.now) used.now buckets.now
+    requires shared { (emptiness : Emptiness) × AreSharedOut emptiness (contents_of history.now) selections.now.used selections.now.buckets.items }
+    ensures { IfOk result (λ verdict. (emptiness : Emptiness) → AreSharedOut emptiness (contents_of history.now) selections.now.used selections.now.buckets.items
         → IsLocallyDecided emptiness (contents_of history.now) verdict) }
 {
     let mut orders = Vec::new(alloc);
     for rank in 0..PRODUCERS {
-        if used[rank] {
+        if selections.used[rank] {
             let producer = ranked(rank);
-            match decide_selection(alloc, history, producer, buckets[rank].as_slice())? {
+            let places = selections.buckets[rank].as_slice();
+            match decide_selection(alloc, history, producer, places)? {
                 Verdict::Yes(order) => orders.push(LocalOrder { producer, order })?,
                 Verdict::No(violation) => return Ok(LocalVerdict::No(producer, violation)),
             }
@@ -165,10 +178,7 @@ pub fn decide_local(
 ) -> Result<LocalVerdict, AllocError>
     ensures { IfOk result (IsLocallyDecided emptiness (contents_of history.now)) }
 {
-    let producers = Producers::new(alloc, history)?;
-    let operations = history.operations();
-    let used = marked(&operations);
-    let buckets = share_out(alloc, &operations, &producers, emptiness, &used)?;
+    let selections = selections_of(alloc, history, emptiness)?;
     let _initial = history.initial();
-    decide_selections(alloc, history, &used, buckets.as_slice())
+    decide_selections(alloc, history, &selections)
 }

@@ -4,7 +4,7 @@ pub use Rattle.std.proofs.Common.{length, length-take-le, List, map, None, Optio
 pub use Rattle.std.proofs.Common.{sym, take, take-suc, zero, ℕ}
 pub use Rattle.event_records.specs.declared.event.Event.{Event}
 pub use Rattle.command_words.specs.Commands.{check, complete, draw, shrink, stats, verify}
-pub use Rattle.command_words.specs.Options.{drawing_as}
+pub use Rattle.command_words.specs.Options.{drawing_as, linearizability}
 pub use Rattle.commands.specs.Evidence.{input_of}
 pub use Rattle.commands.specs.Judging.{AnswersOrNoMemory, from_none, JudgesHistory}
 pub use Rattle.commands.specs.Running.{AnswersOf}

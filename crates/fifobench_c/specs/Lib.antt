@@ -1,2 +1,3 @@
+pub mod Conditions
 pub mod Filling
 pub mod Recorded

@@ -14,18 +14,19 @@ ghost use Rattle.std.specs.Prelude.{◌≡◌, ◌<◌, ◌≤◌, ◌⊎◌, fa
 ghost use Rattle.event_records.specs.declared.event.Event.{Event};
 ghost use Rattle.event_records.specs.declared.limits.TheConstants.{MAX_EVENTS};
 ghost use Rattle.command_words.specs.Commands.{check, complete, draw, shrink, stats, verify};
-ghost use Rattle.command_words.specs.Options.{drawing_as};
+ghost use Rattle.command_words.specs.Options.{drawing_as, linearizability};
 ghost use Rattle.command_words.specs.declared.options.PictureForm.TheVariants.{Svg, Terminal};
 ghost use Rattle.commands.specs.Answers.{refused_limit, memory_fault};
 ghost use Rattle.commands.specs.Evidence.{input_of};
 ghost use Rattle.commands.specs.Judging.{AnswersOrNoMemory, JudgesHistory, from_none};
 ghost use Rattle.commands.specs.Running.{AnswersOf};
+ghost use Rattle.fifobench_c.specs.Conditions.{condition_of};
 ghost use Rattle.fifobench_c.specs.Filling.{Tells, TellsAnswer, TellsOneOf};
 ghost use Rattle.fifobench_c.specs.Recorded.{AreEvents, IsFirstUnknown, bad_what_line};
 
 use crate::filling::{tell, tell_bad_what};
 use crate::recorded::gathered;
-use command_words::{DrawOptions, PictureForm};
+use command_words::{Condition, DrawOptions, PictureForm};
 use commands::{
     Fault, check_text, complete_text, draw_text, judge_gathered, shrink_text, stats_text,
     verify_text,
@@ -48,9 +49,9 @@ pub extern "C" fn fifobench_check(
     answer: &mut [u8],
     needed: &mut usize,
 ) -> u8
-    ensures { TellsOneOf (AnswersOrNoMemory (AnswersOf check) (input_of text.now)) answer.old answer.new needed.new result }
+    ensures { TellsOneOf (AnswersOrNoMemory (AnswersOf (check linearizability)) (input_of text.now)) answer.old answer.new needed.new result }
 {
-    tell(alloc, &check_text(alloc, text), answer, needed)
+    tell(alloc, &check_text(alloc, text, Condition::linearizable()), answer, needed)
 }
 
 /// What `shrink` answers of the text.
@@ -61,9 +62,9 @@ pub extern "C" fn fifobench_shrink(
     answer: &mut [u8],
     needed: &mut usize,
 ) -> u8
-    ensures { TellsOneOf (AnswersOrNoMemory (AnswersOf shrink) (input_of text.now)) answer.old answer.new needed.new result }
+    ensures { TellsOneOf (AnswersOrNoMemory (AnswersOf (shrink linearizability)) (input_of text.now)) answer.old answer.new needed.new result }
 {
-    tell(alloc, &shrink_text(alloc, text), answer, needed)
+    tell(alloc, &shrink_text(alloc, text, Condition::linearizable()), answer, needed)
 }
 
 /// What `verify` answers of the text.
@@ -74,9 +75,63 @@ pub extern "C" fn fifobench_verify(
     answer: &mut [u8],
     needed: &mut usize,
 ) -> u8
-    ensures { TellsOneOf (AnswersOrNoMemory (AnswersOf verify) (input_of text.now)) answer.old answer.new needed.new result }
+    ensures { TellsOneOf (AnswersOrNoMemory (AnswersOf (verify linearizability)) (input_of text.now)) answer.old answer.new needed.new result }
 {
-    tell(alloc, &verify_text(alloc, text), answer, needed)
+    tell(alloc, &verify_text(alloc, text, Condition::linearizable()), answer, needed)
+}
+
+/// What `check` answers of the text under a condition: linearizability, or the weaker ones of its bits.
+///
+/// Bit 0 asks for `--local`, and bit 1 for `--weak-empty`; the others say nothing.
+#[unsafe(no_mangle)]
+pub extern "C" fn fifobench_check_under(
+    alloc: Global,
+    text: &[u8],
+    condition: u32,
+    answer: &mut [u8],
+    needed: &mut usize,
+) -> u8
+    ensures { TellsOneOf (AnswersOrNoMemory (AnswersOf (check (condition_of condition))) (input_of text.now)) answer.old answer.new needed.new result }
+{
+    tell(alloc, &check_text(alloc, text, condition_of(condition)), answer, needed)
+}
+
+/// What `shrink` answers of the text under a condition, by its bits.
+#[unsafe(no_mangle)]
+pub extern "C" fn fifobench_shrink_under(
+    alloc: Global,
+    text: &[u8],
+    condition: u32,
+    answer: &mut [u8],
+    needed: &mut usize,
+) -> u8
+    ensures { TellsOneOf (AnswersOrNoMemory (AnswersOf (shrink (condition_of condition))) (input_of text.now)) answer.old answer.new needed.new result }
+{
+    tell(alloc, &shrink_text(alloc, text, condition_of(condition)), answer, needed)
+}
+
+/// What `verify` answers of the text under a condition, by its bits.
+#[unsafe(no_mangle)]
+pub extern "C" fn fifobench_verify_under(
+    alloc: Global,
+    text: &[u8],
+    condition: u32,
+    answer: &mut [u8],
+    needed: &mut usize,
+) -> u8
+    ensures { TellsOneOf (AnswersOrNoMemory (AnswersOf (verify (condition_of condition))) (input_of text.now)) answer.old answer.new needed.new result }
+{
+    tell(alloc, &verify_text(alloc, text, condition_of(condition)), answer, needed)
+}
+
+/// The condition of these bits.
+fn condition_of(bits: u32) -> Condition
+    ensures { result ≡ condition_of bits }
+{
+    Condition {
+        is_local: bits % 2 == 1,
+        is_weakly_empty: bits / 2 % 2 == 1,
+    }
 }
 
 /// What `draw` answers of the text: an SVG document.
@@ -145,7 +200,7 @@ pub extern "C" fn fifobench_check_events(
 ) -> u8
     // Events of known kinds are judged as `check` judges a history, of a queue that is empty first.
     ensures judged { (list : List Event) → AreEvents events.now list → length list ≤ MAX_EVENTS
-        → TellsOneOf (AnswersOrNoMemory JudgesHistory (from_none list)) answer.old answer.new needed.new result }
+        → TellsOneOf (AnswersOrNoMemory (JudgesHistory linearizability) (from_none list)) answer.old answer.new needed.new result }
     ensures unknown { (place : ℕ) → length events.now ≤ MAX_EVENTS → IsFirstUnknown events.now place
         → Tells (bad_what_line place) 2 answer.old answer.new needed.new result ⊎ TellsAnswer memory_fault answer.old answer.new needed.new result }
     ensures many { MAX_EVENTS < length events.now
@@ -155,7 +210,7 @@ pub extern "C" fn fifobench_check_events(
         return tell(alloc, &Err(Fault::Limit), answer, needed);
     }
     match gathered(alloc, events) {
-        Ok(builder) => tell(alloc, &judge_gathered(alloc, builder), answer, needed),
+        Ok(builder) => tell(alloc, &judge_gathered(alloc, builder, Condition::linearizable()), answer, needed),
         Err(place) => tell_bad_what(alloc, place, answer, needed),
     }
 }

@@ -3,6 +3,7 @@
 -- TheirEvents: the operations determine the events.
 -- Distinct: what a run enqueued and dequeued, and where; what the operations of a complete history have in common, and what
 -- distinguishes them and their values.
+-- PlaceLists: operations at places of a list.
 -- KnownValues: values that rise, and which values are known.
 -- Formed: what the builder holds after each event.
 -- Faults: a list of events is a complete history if and only if it has no fault; there is one first fault, and what contradicts what.
@@ -14,4 +15,5 @@ pub mod Distinct
 pub mod Turns
 pub mod Faults
 pub mod Timelines
+pub mod PlaceLists
 pub mod KnownValues

@@ -50,6 +50,15 @@ impl History {
         History { timeline }
     }
 
+    /// Returns what it keeps.
+    pub(crate) fn timeline(&self) -> &Timeline
+        ensures initial { result.now.initial ≡ self.now.initial }
+        ensures operations { result.now.operations ≡ operations_of self.now.events }
+        ensures complete { IsCompleteHistory self.now.events }
+    {
+        &self.timeline
+    }
+
     /// Returns the values that the queue holds before the first event, front first.
     pub fn initial(&self) -> &[u64]
         ensures initial { result.now ≡ self.now.initial }

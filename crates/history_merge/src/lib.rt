@@ -15,6 +15,7 @@ mod merging;
 mod operation;
 mod operations;
 mod packed;
+mod part;
 mod recorded;
 mod timeline;
 
@@ -28,4 +29,5 @@ pub use merging::merge;
 pub use operation::{OpId, OpKind, Operation};
 pub use operations::Operations;
 pub use packed::{PACKED_LIMIT, PackedOperation};
+pub use part::part_at;
 pub use recorded::merged_from;

@@ -40,7 +40,19 @@ impl Timeline {
         requires few { vec_len initial ≤ MAX_INITIAL }
         ensures { IfOk result (λ t. (t.initial ≡ initial.items) × (t.operations ≡ [])) }
     {
-        let mut all = Vec::with_capacity(alloc, initial.len())?;
+        Timeline::with_capacity(alloc, initial, 0)
+    }
+
+    /// Begins with the enqueues of these values, and room for operations.
+    pub(crate) fn with_capacity(
+        alloc: Global,
+        initial: Vec<u64>,
+        operations: usize,
+    ) -> Result<Timeline, AllocError>
+        requires few { vec_len initial ≤ MAX_INITIAL }
+        ensures { IfOk result (λ t. (t.initial ≡ initial.items) × (t.operations ≡ [])) }
+    {
+        let mut all = Vec::with_capacity(alloc, initial.len().saturating_add(operations))?;
         let start = ORIGIN - initial.len() as u64;
         for (place, value) in initial.iter().enumerate() {
             all.push(enqueue_at(start + place as u64, *value))?;

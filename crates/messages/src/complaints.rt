@@ -38,6 +38,8 @@ pub enum Complaint<'a> {
     History(HistoryFault, Option<Clash>, Given<'a>),
     /// The history or the verdict is too large to be drawn.
     Size,
+    /// The verdict has a linearization for each producer, and no one picture.
+    Orders,
     /// None of these queues has this name.
     Queue { name: &'a str, names: &'a [&'a str] },
     /// This many threads, with this many operations each, are more than a run may have.

@@ -133,6 +133,15 @@ fn size_message(alloc: Global) -> Result<Message, AllocError> {
     )
 }
 
+fn orders_message(alloc: Global) -> Result<Message, AllocError> {
+    Message::of(
+        alloc,
+        "a YES with --local has a linearization for each producer, and no picture of one",
+        &[],
+        "`fifobench check --local` prints them",
+    )
+}
+
 /// The lines of a message, without the program's name.
 fn message_of(alloc: Global, complaint: &Complaint<'_>) -> Result<Message, AllocError> {
     match complaint {
@@ -141,6 +150,7 @@ fn message_of(alloc: Global, complaint: &Complaint<'_>) -> Result<Message, Alloc
             history_message(alloc, *fault, clash.as_ref(), given)
         }
         Complaint::Size => size_message(alloc),
+        Complaint::Orders => orders_message(alloc),
         Complaint::Queue { name, names } => queue_message(alloc, name, names),
         Complaint::Limit {
             threads,

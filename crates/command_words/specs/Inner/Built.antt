@@ -2,13 +2,13 @@
 use Rattle.std.specs.Prelude.{codes}
 use Rattle.clap.specs.Simple.{App, new_shape, with_rule, with_subcommand}
 use Rattle.event_records.specs.declared.limits.TheConstants.{MAX_RING, MAX_SEED, MAX_STRESS_INITIAL, MAX_THREAD_OPERATIONS, MAX_WORKERS, MIN_RING}
-use Rattle.command_words.specs.Options.{number_rule, queue_rule, quiet_rule, the_complete, the_draw, the_judging, the_stress}
+use Rattle.command_words.specs.Options.{flag_rule, number_rule, queue_rule, quiet_rule, the_complete, the_deciding, the_draw, the_judging, the_stress, the_verify}
 
 -- the program with the first four of its subcommands
 abbrev pub with_first_four : App → App
 with_first_four app =
-    with_subcommand (with_subcommand (with_subcommand (with_subcommand app (the_judging (codes "check"))) (the_judging (codes "shrink")))
-    (new_shape (codes "verify"))) the_draw
+    with_subcommand (with_subcommand (with_subcommand (with_subcommand app (the_deciding (codes "check"))) (the_deciding (codes "shrink")))
+    the_verify) the_draw
 
 -- with the last five too
 abbrev pub with_last_five : App → App
@@ -27,3 +27,7 @@ abbrev pub with_sizes : App → App
 with_sizes app =
     with_rule (with_rule (with_rule (with_rule app (number_rule (codes "percent") 0 100 (codes "50")))
     (number_rule (codes "ring") MIN_RING MAX_RING (codes "1024"))) (number_rule (codes "initial") 0 MAX_STRESS_INITIAL (codes "0"))) quiet_rule
+
+-- a command with the flags for a weaker condition too
+abbrev pub with_condition : App → App
+with_condition app = with_rule (with_rule app (flag_rule (codes "local"))) (flag_rule (codes "weak-empty"))

@@ -1,8 +1,5 @@
 -- A selection of a history, with the places of its operations.
-use Rattle.std.specs.Prelude.{◌≡◌, ℕ, Bool, List, [], ◌∷◌, filter}
-use Rattle.event_records.specs.declared.event.Event.{Event}
-use Rattle.history_merge.specs.declared.operation.Operation.{Operation}
-use Rattle.history_merge.specs.Events.{call_event, return_event}
+use Rattle.std.specs.Prelude.{◌≡◌, ℕ, Bool, List, [], filter}
 use Rattle.history_merge.specs.Initial.{Contents, HistoryView, IsCompleteFrom}
 use Rattle.history_merge.specs.Legal.{ArePlacesOf}
 use Rattle.verdicts.specs.Selection.{ArePartOf, contents_of, selects}
@@ -14,10 +11,6 @@ use Rattle.conditions.specs.declared.producer.Producer.TheVariants.{Initial, Thr
 pub record AreSelected (whole : Contents) (values empties : ℕ → Bool) (initial places : List ℕ) : Type 0 where
   pub initial_values : initial ≡ filter values whole.initial
   pub operations : ArePlacesOf whole.operations places (filter (selects values empties) whole.operations)
-
--- the two events of an operation
-abbrev pub both_events : Operation → List Event
-both_events o = call_event o ∷ return_event o ∷ []
 
 -- these are the initial values and the operations of the part, which has some of the events, and the places of its operations in the whole
 pub record IsPart (whole : HistoryView) (selected : Contents) (part : Part) : Type 0 where

@@ -1,4 +1,4 @@
-use Rattle.fifobench_c.proofs.Common.{subst, AnswersOrNoMemory, from_none, JudgesHistory}
+use Rattle.fifobench_c.proofs.Common.{subst, AnswersOrNoMemory, from_none, JudgesHistory, linearizability}
 use Rattle.commands.specs.Outcomes.{answer_of}
 use Rattle.fifobench_c.proofs.Structs.{none_unknown, one_first, one_list}
 use Rattle.fifobench_c.proofs.Telling.{told_one}
@@ -9,8 +9,8 @@ returns-in-Ok-clause-judged c = λ list are few.
     let read = c.in-Ok.ensures.events in
     let same = one_list c.args.events.now read.0 list read.1 are in
     let answered = c.judge_gathered.ensures.found (from_none read.0) read.2 in
-    let found = subst (λ events. AnswersOrNoMemory JudgesHistory (from_none events) (answer_of c.judge_gathered.result)) same answered in
-    told_one JudgesHistory (from_none list) _ _ _ _ _ found c.tell-in-Ok.ensures
+    let found = subst (λ events. AnswersOrNoMemory (JudgesHistory linearizability) (from_none events) (answer_of c.judge_gathered.result)) same answered in
+    told_one (JudgesHistory linearizability) (from_none list) _ _ _ _ _ found c.tell-in-Ok.ensures
 
 pub returns-in-Ok-clause-unknown : goal.returns-in-Ok-clause-unknown
 returns-in-Ok-clause-unknown c = λ place few first.

@@ -3,4 +3,4 @@ use Rattle.fifobench_c.proofs.Telling.{told_one}
 use Rattle.fifobench_c.proofs.fifobench_shrink.Goals as goal
 
 pub returns : goal.returns
-returns c = told_one (AnswersOf shrink) (input_of c.args.text.now) _ _ _ _ _ (inl c.shrink_text.ensures.found) c.tell.ensures
+returns c = told_one (AnswersOf (shrink linearizability)) (input_of c.args.text.now) _ _ _ _ _ (inl c.shrink_text.ensures.found) c.tell.ensures

@@ -1,7 +1,27 @@
 use clap::error::ErrorKind;
-use command_words::{DrawOptions, Order, PictureForm, StressOptions, Task, order_in};
+use command_words::{Condition, DrawOptions, Order, PictureForm, StressOptions, Task, order_in};
 use std::alloc::{AllocError, Global};
 use std::test::Fail;
+
+const STRICT: Condition = Condition {
+    is_local: false,
+    is_weakly_empty: false,
+};
+
+const LOCAL: Condition = Condition {
+    is_local: true,
+    is_weakly_empty: false,
+};
+
+const WEAK: Condition = Condition {
+    is_local: false,
+    is_weakly_empty: true,
+};
+
+const BOTH: Condition = Condition {
+    is_local: true,
+    is_weakly_empty: true,
+};
 
 /// Whether a line of words asks for this task, and for this kind of answer.
 fn asks_for(alloc: Global, line: &str, task: Task<'_>, is_quiet: bool) -> Result<bool, Fail> {
@@ -21,18 +41,26 @@ fn has_fault(alloc: Global, line: &str, kind: ErrorKind) -> Result<bool, AllocEr
 
 /// A picture of this form, of what is this near or of all.
 fn drawing(form: PictureForm, around: Option<usize>) -> Task<'static> {
-    Task::Draw(DrawOptions { form, around })
+    Task::Draw(DrawOptions {
+        form,
+        around,
+        condition: STRICT,
+    })
 }
 
 #[test]
 fn words_name_tasks(rt: HostRuntime) -> Result<(), Fail> {
     let svg = Task::Draw(DrawOptions::new(PictureForm::Svg));
     let tasks = [
-        ("fifobench check", Task::Check, false),
-        ("fifobench check -q", Task::Check, true),
-        ("fifobench check --quiet", Task::Check, true),
-        ("fifobench shrink", Task::Shrink, false),
-        ("fifobench verify", Task::Verify, false),
+        ("fifobench check", Task::Check(STRICT), false),
+        ("fifobench check -q", Task::Check(STRICT), true),
+        ("fifobench check --quiet", Task::Check(STRICT), true),
+        ("fifobench shrink", Task::Shrink(STRICT), false),
+        ("fifobench verify", Task::Verify(STRICT), false),
+        ("fifobench check --local", Task::Check(LOCAL), false),
+        ("fifobench check --weak-empty -q", Task::Check(WEAK), true),
+        ("fifobench shrink --weak-empty --local", Task::Shrink(BOTH), false),
+        ("fifobench verify --local", Task::Verify(LOCAL), false),
         ("fifobench convert", Task::Convert, false),
         (
             "fifobench complete",
@@ -83,11 +111,12 @@ const DEFAULTS: StressOptions<'_> = StressOptions {
     percent: 50,
     ring: 1024,
     initial: 0,
+    condition: STRICT,
 };
 
 /// The greatest options but one, in another order than in the help.
 const GREATEST: &str = "fifobench stress --ring=65536 --percent 0 --seed 4294967295 --ops 100000 \
-    --threads 32 --initial=1000 --queue=two-lock";
+    --weak-empty --threads 32 --initial=1000 --queue=two-lock --local";
 
 /// What they ask for.
 const GREATEST_OPTIONS: StressOptions<'_> = StressOptions {
@@ -98,6 +127,7 @@ const GREATEST_OPTIONS: StressOptions<'_> = StressOptions {
     percent: 0,
     ring: 65_536,
     initial: 1000,
+    condition: BOTH,
 };
 
 #[test]

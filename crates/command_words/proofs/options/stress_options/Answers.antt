@@ -19,4 +19,5 @@ returns-clause-settings c =
       percent = c.number-4.ensures i;
       ring = c.number-5.ensures i;
       initial = c.number-6.ensures i;
+      condition = c.judged_condition.ensures i;
     }

@@ -6,6 +6,6 @@ use Rattle.commands.proofs.histories.verify.Goals as goal
 pub returns-clause-found : goal.returns-clause-found
 returns-clause-found g c =
     let read = c.in_ok-gathered.ensures.claim in
-    of_value IsClaimOf IsFaultOfClaimInput Verifies (g.S.TextSource.ahead c.args.reader) _ _ read.3
-    (subst (λ t. AnswersOrNoMemory Verifies (claim_on t c.in_ok-gathered.claimed) (answer_of c.verify_claim.result))
+    of_value IsClaimOf IsFaultOfClaimInput (Verifies c.args.condition) (g.S.TextSource.ahead c.args.reader) _ _ read.3
+    (subst (λ t. AnswersOrNoMemory (Verifies c.args.condition) (claim_on t c.in_ok-gathered.claimed) (answer_of c.verify_claim.result))
     (c.in_ok-_version.ensures.history read.0 read.1 read.2) (c.verify_claim.ensures.found c.in_ok-_version._version))

@@ -1,6 +1,6 @@
 use Rattle.commands.proofs.Drawings.{drawn_as_checked}
-use Rattle.commands.proofs.OneAnswer.{checked_is_valid, shrunk_is_checked, shrunk_is_valid}
+use Rattle.commands.proofs.OneAnswer.{checked_is_valid, checked_is_valid_under, refuted_is_valid, shrunk_is_checked, shrunk_is_valid}
 use Rattle.commands.proofs.laws.every_answer_is_evidence.Goals as goal
 
 pub returns : goal.returns
-returns c = assumption (checked_is_valid, shrunk_is_valid, shrunk_is_checked, drawn_as_checked)
+returns c = assumption (checked_is_valid, checked_is_valid_under, refuted_is_valid, shrunk_is_valid, shrunk_is_checked, drawn_as_checked)

@@ -4,7 +4,7 @@ use Rattle.conditions.specs.Conditions.{selection_of}
 use Rattle.conditions.specs.Decided.{AreLocalOrders, IsDecidedOf}
 use Rattle.conditions.specs.Inner.Judging.{AreJudged}
 use Rattle.conditions.proofs.Judged.{all_judged, first_refuted, judged_more, judged_same, places_of_rank}
-use Rattle.conditions.proofs.local.decide_selections.Goals.{then-used-rank+in_ok-order+in-Yes+in_ok-push-in-Yes, else-used-rank}
+use Rattle.conditions.proofs.local.decide_selections.Goals.{then-selections-rank+in_ok-order+in-Yes+in_ok-push-in-Yes, else-selections-rank}
 use Rattle.conditions.proofs.local.decide_selections.Goals as goal
 
 pub returns-in-No : goal.returns-in-No
@@ -12,8 +12,8 @@ returns-in-No c = λ emptiness shared.
     let history = c.args.history.now in
     let whole = contents_of history in
     let rank = c.loop-rank.rank in
-    let at = places_of_rank emptiness whole c.args.used.now c.args.buckets.now rank c.ranked-producer.result c.index-buckets-rank.result c.as_slice.result.now shared
-    c.loop-rank-test.true c.if-used-rank.true c.ranked-producer.ensures c.index-buckets-rank.is c.as_slice.ensures in
+    let at = places_of_rank emptiness whole c.args.selections.now.used c.args.selections.now.buckets.items rank c.ranked-producer.result c.index.result.now c.as_slice-places.result.now shared
+    c.loop-rank-test.true c.if-selections-rank.true c.ranked-producer.ensures c.index.ensures c.as_slice-places.ensures in
     first_refuted history c.requires.complete c.requires.few emptiness rank c.ranked-producer.result c.in-No.violation c.loop-rank.orders.items c.ranked-producer.ensures
     (subst (IsDecidedOf whole (selection_of emptiness c.ranked-producer.result whole)) c.in-No.is (c.in_ok-order.ensures emptiness at))
     (c.loop-rank.invariant emptiness shared)
@@ -23,20 +23,20 @@ loop-rank-preserved c = λ emptiness shared.
     let history = c.args.history.now in
     let whole = contents_of history in
     let rank = c.loop-rank.rank in
-    let used = c.args.used.now in
-    elim c.if-used-rank.branch [
-      | then-used-rank+in_ok-order+in-Yes+in_ok-push-in-Yes w ↦
-          let at = places_of_rank emptiness whole used c.args.buckets.now rank w.ranked-producer.result w.index-buckets-rank.result w.as_slice.result.now shared
-          c.loop-rank-test.true w.if-used-rank.true w.ranked-producer.ensures w.index-buckets-rank.is w.as_slice.ensures in
+    let used = c.args.selections.now.used in
+    elim c.if-selections-rank.branch [
+      | then-selections-rank+in_ok-order+in-Yes+in_ok-push-in-Yes w ↦
+          let at = places_of_rank emptiness whole used c.args.selections.now.buckets.items rank w.ranked-producer.result w.index.result.now w.as_slice-places.result.now shared
+          c.loop-rank-test.true w.if-selections-rank.true w.ranked-producer.ensures w.index.ensures w.as_slice-places.ensures in
           subst (λ v. AreJudged emptiness whole (rank + 1) v.items) (sym w.orders-is)
           (judged_more history c.requires.complete c.requires.few emptiness used rank w.ranked-producer.result w.in-Yes.order c.loop-rank.orders.items _ shared.marked
-          c.loop-rank-test.true w.if-used-rank.true w.ranked-producer.ensures
+          c.loop-rank-test.true w.if-selections-rank.true w.ranked-producer.ensures
           (subst (IsDecidedOf whole (selection_of emptiness w.ranked-producer.result whole)) w.in-Yes.is (w.in_ok-order.ensures emptiness at))
           w.in_ok-push-in-Yes.ensures.items (c.loop-rank.invariant emptiness shared))
-      | else-used-rank w ↦
+      | else-selections-rank w ↦
           subst (λ v. AreJudged emptiness whole (rank + 1) v.items) (sym w.orders-is)
           (judged_same history c.requires.complete c.requires.few emptiness used rank c.loop-rank.orders.items c.loop-rank.orders.items shared.marked c.loop-rank-test.true
-          w.if-used-rank.false (λ i. c.loop-rank.orders.items) (c.loop-rank.invariant emptiness shared))
+          w.if-selections-rank.false (λ i. c.loop-rank.orders.items) (c.loop-rank.invariant emptiness shared))
     ]
 
 pub returns : goal.returns

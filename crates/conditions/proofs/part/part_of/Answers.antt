@@ -1,41 +1,25 @@
-use Rattle.std.proofs.Common.{◌≤◌, ◌∙◌, length, subst, sym, List}
-use Rattle.event_records.specs.declared.event.Event.{Event}
-use Rattle.event_records.specs.declared.limits.TheConstants.{MAX_EVENTS}
-use Rattle.history_merge.specs.Initial.{IsCompleteFrom}
-use Rattle.conditions.proofs.Parts.{complete_selected, few_selected, part_is, sorted_are_selected}
+use Rattle.std.proofs.Common.{◌∙◌, ap, subst, sym, List, ℕ}
+use Rattle.history_merge.specs.Parts.{IsPartAt}
+use Rattle.conditions.proofs.Parts.{events_selected, part_is, stands_there}
 use Rattle.conditions.proofs.part.part_of.Goals as goal
 
-pub history_of-requires-clause-few_events : goal.history_of-requires-clause-few_events
-history_of-requires-clause-few_events c =
+pub part_at-requires-clause-part : goal.part_at-requires-clause-part
+part_at-requires-clause-part c =
     let whole = c.args.history.now in
-    let complete = c.operations.ensures.from in
+    let operations = c.operations-_operations.ensures in
     let selected = c.requires.selected in
-    let initial = c.args.initial.items in
-    let places = c.args.places.items in
-    let is = sorted_are_selected whole complete selected.0 selected.1 initial places selected.2 _ _ c.in_ok-events.events.items
-    c.operations.ensures.operations c.as_slice.ensures.value c.in_ok-events.ensures.all c.in_ok-events.ensures.rise in
-    subst (λ (es : List Event). length es ≤ MAX_EVENTS) (sym (c.as_slice-2.ensures.value ∙ is))
-    (few_selected whole complete selected.0 selected.1 initial places selected.2 c.operations.ensures.few_events)
-
-pub history_of-requires-clause-complete : goal.history_of-requires-clause-complete
-history_of-requires-clause-complete c =
-    let whole = c.args.history.now in
-    let complete = c.operations.ensures.from in
-    let selected = c.requires.selected in
-    let initial = c.args.initial.items in
-    let places = c.args.places.items in
-    let is = sorted_are_selected whole complete selected.0 selected.1 initial places selected.2 _ _ c.in_ok-events.events.items
-    c.operations.ensures.operations c.as_slice.ensures.value c.in_ok-events.ensures.all c.in_ok-events.ensures.rise in
-    subst (IsCompleteFrom initial) (sym (c.as_slice-2.ensures.value ∙ is))
-    (complete_selected whole complete selected.0 selected.1 initial places selected.2)
+    let initial = c.args.initial.items in (
+      events_selected whole operations.from selected.0 selected.1 initial c.args.places.items selected.2,
+      subst (λ (ps : List ℕ). IsPartAt whole initial ps _) (sym c.as_slice.ensures.value)
+          (stands_there whole operations.from selected.0 selected.1 initial c.args.places.items selected.2 operations.few_events),
+    )
 
 pub returns : goal.returns
 returns c = λ values empties selected.
     let whole = c.args.history.now in
-    let complete = c.operations.ensures.from in
+    let operations = c.operations-_operations.ensures in
     let initial = c.args.initial.items in
     let places = c.args.places.items in
-    let is = sorted_are_selected whole complete values empties initial places selected _ _ c.in_ok-events.events.items
-    c.operations.ensures.operations c.as_slice.ensures.value c.in_ok-events.ensures.all c.in_ok-events.ensures.rise in
-    part_is whole complete values empties initial places selected _ c.in_ok-history.ensures.0
-    (c.in_ok-history.ensures.1 ∙ c.as_slice-2.ensures.value ∙ is) (λ i. places)
+    let there = subst (λ (ps : List ℕ). IsPartAt whole initial ps (events_selected whole operations.from values empties initial places selected)) (sym c.as_slice.ensures.value)
+    (stands_there whole operations.from values empties initial places selected operations.few_events) in
+    part_is whole operations.from values empties initial places selected _ c.in_ok-history.ensures.initial (c.in_ok-history.ensures.events _ there) (λ i. places)

@@ -1,4 +1,4 @@
-use Rattle.fifobench_c.proofs.Common.{inl, inr, List, refl, Event, from_none, input_of}
+use Rattle.fifobench_c.proofs.Common.{inl, inr, List, refl, Event, from_none, input_of, linearizability}
 use Rattle.history_text.specs.Versions.{HistoryText}
 use Rattle.history_text.specs.declared.version.Version.TheVariants.{One}
 use Rattle.history_text.specs.Histories.{history_text}
@@ -13,7 +13,7 @@ said events = said_in One (from_none events)
 pub returns : goal.returns
 returns c = λ events a b has of_events of_text.
     elim of_text [
-      | inl answered ↦ check_has_one (input_of (history_text events)) a b
+      | inl answered ↦ check_has_one linearizability (input_of (history_text events)) a b
           (inl (record {
             value = said events;
             input_of = (record { initial = refl; events = has }, record { bytes = refl; ending = refl });

@@ -1,0 +1,8 @@
+use Rattle.fifobench_c.proofs.Common.{inl, subst, AnswersOf, input_of, verify}
+use Rattle.commands.specs.Outcomes.{answer_of}
+use Rattle.fifobench_c.specs.Conditions.{condition_of}
+use Rattle.fifobench_c.proofs.Telling.{told_one}
+use Rattle.fifobench_c.proofs.fifobench_verify_under.Goals as goal
+
+pub returns : goal.returns
+returns c = told_one (AnswersOf (verify (condition_of c.args.condition))) (input_of c.args.text.now) _ _ _ _ _ (inl (subst (λ k. AnswersOf (verify k) (input_of c.args.text.now) (answer_of c.verify_text.result)) c.condition_of.ensures c.verify_text.ensures.found)) c.tell.ensures
