@@ -30,7 +30,7 @@ def pages(program):
     while min(counts.values()) < OF_EACH:
         rng = random.Random(seed)
         seed += 1
-        text, _ = look.history(rng)
+        text = look.history(rng)
         kind = look.run(program, ["check", "--quiet"], text)[0].strip()
         if counts.get(kind, OF_EACH) < OF_EACH:
             words = rng.choice([[], ["--around", "5"], ["--all"]])

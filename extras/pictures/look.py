@@ -12,7 +12,7 @@ NAME = "{http://www.w3.org/2000/svg}"
 
 
 def history(rng):
-    """The text of a history of some threads, whose answers are mostly a queue's, and how many values that holds first."""
+    """The text of a history of some threads, whose answers are mostly a queue's."""
     threads, operations = rng.randint(1, 8), rng.randint(1, 24)
     digits = rng.choice([1, 2, 5, 11, 20])
     wrong = rng.choice([0.0, 0.0, 0.1, 0.3])
@@ -26,7 +26,6 @@ def history(rng):
             given.append(value)
     queue.extend(given)
     first = ["fifo-history 2", f"initial {len(given)}"] + [str(value) for value in given] if given else ["fifo-history 1"]
-    held = len(given)
     while left or pending:
         thread = rng.choice(threads)
         ticket += rng.choice([1, 1, 1, 7])
@@ -59,7 +58,7 @@ def history(rng):
             lines.append(f"{ticket} {thread} ret-deq {queue.pop(0)}")
         else:
             lines.append(f"{ticket} {thread} ret-empty")
-    return "\n".join(first + lines + [f"end {len(lines)}", ""]), held
+    return "\n".join(first + lines + [f"end {len(lines)}", ""])
 
 
 def mistake(rng, queue, given, digits):
@@ -80,22 +79,31 @@ def run(program, words, text):
 
 
 def drawn(text, answer, around):
-    """How many operations are to be drawn with the answer, and this many events around those that it lists."""
+    """How many operations are to be drawn with the answer, and this many events around those that it lists, or all events if that is
+    None; and how many initial values: those that the answer lists, or such an operation has."""
     tickets, pending, operations = [], {}, []
     for fields in (line.split() for line in text.splitlines()):
         if len(fields) > 2:
             tickets.append(int(fields[0]))
             if fields[2].startswith("call-"):
-                pending[fields[1]] = int(fields[0])
+                pending[fields[1]] = fields
             else:
-                operations.append((pending[fields[1]], int(fields[0])))
+                call = pending[fields[1]]
+                operations.append((int(call[0]), int(fields[0]), (call + fields[3:])[-1]))
     lines = [line.split() for line in answer.splitlines()]
-    if lines[0][0] == "YES":
-        return len(operations)
-    place = {ticket: i for i, ticket in enumerate(tickets)}
-    shown = [(place[int(line[0])], place[int(line[1])]) for line in lines[1:] if line[0] != "init"]
-    places = [(place[call], place[ret]) for call, ret in operations]
-    return sum(any(call - around <= to and at - around <= ret for at, to in shown) for call, ret in places)
+    if lines[0][0] != "YES" and around is not None:
+        place = {ticket: i for i, ticket in enumerate(tickets)}
+        shown = [(place[int(line[0])], place[int(line[1])]) for line in lines[1:] if line[0] != "init"]
+        operations = [(call, ret, value) for call, ret, value in operations
+                      if any(place[call] - around <= to and at - around <= place[ret] for at, to in shown)]
+    values = {value for _, _, value in operations} | {line[1] for line in lines[1:] if line[0] == "init"}
+    return len(operations), sum(line in values for line in first_values(text))
+
+
+def first_values(text):
+    """The initial values of a text."""
+    lines = text.splitlines()
+    return lines[2:2 + int(lines[1].split()[1])] if lines[0] == "fifo-history 2" else []
 
 
 def box(element):
@@ -172,16 +180,16 @@ def faults(picture, operations, held):
 def main():
     program, looked, wrong, answers = sys.argv[1], 0, 0, {}
     for seed in range(400):
-        text, held = history(random.Random(seed))
+        text = history(random.Random(seed))
         answer, status = run(program, ["check"], text)
         if status > 1:
             answers["refused"] = answers.get("refused", 0) + 1
             continue
         kind = answer.splitlines()[0].strip()
         answers[kind] = answers.get(kind, 0) + 1
-        for words, count in (["--all"], text.count(" call-")), ([], drawn(text, answer, 0)), (["--around", "3"], drawn(text, answer, 3)):
+        for words, around in (["--all"], None), ([], 0), (["--around", "3"], 3):
             picture, status = run(program, ["draw", *words], text + answer)
-            found = faults(picture, count, held) if status == 0 else [f"status {status}"]
+            found = faults(picture, *drawn(text, answer, around)) if status == 0 else [f"status {status}"]
             looked += 1
             if found:
                 wrong += 1

@@ -156,9 +156,10 @@ that contradicts it. In characters `[` is a call, `]` its return and `|` stands
 between, and bands are `###`, `xxx` and `:::`; a call that never returned has no
 `]`. If the verdict is no evidence in the history, `INVALID`, and nothing is
 drawn. Values that the queue holds first (texts of `fifo-history 2`) have rows
-of their own above all events, front first, numbered as operations are. `6:11`
-is value 11 of thread 6 as recorders name it, 6 * 2^32 + 11, and `init:3` is
-2^38 + 3.
+of their own above all events, front first, numbered as operations are, if a
+`NO` lists them or a drawn operation has them; a row `... 298 values ...` stands
+for the others. `6:11` is value 11 of thread 6 as recorders name it,
+6 * 2^32 + 11, and `init:3` is 2^38 + 3.
 
 With `NO` only the operations that show it and those that overlap one of them
 are drawn; a row `... 250 events ...` stands for what is left out between. With

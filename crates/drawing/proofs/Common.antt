@@ -30,7 +30,7 @@ pub use Rattle.drawing.specs.Drawn.{drawn_operations, events_before, is_near_any
 pub use Rattle.drawing.specs.Drawn.{stand_near, standing_of}
 pub use Rattle.drawing.specs.Layout.{greatest_call, has_operations, is_under_way, point, stands_in, under_way}
 pub use Rattle.drawing.specs.Scene.{effect_if, event_rows, has_row, initial_row, initial_rows, lanes_before}
-pub use Rattle.drawing.specs.Scene.{left_out_rows, rows_after, scene_on, stands_above}
+pub use Rattle.drawing.specs.Scene.{left_out_rows, rows_after, scene_on, stands_above, values_left_out}
 unfoldable pub use Rattle.drawing.specs.Scene.{effect_rows, row_number, rows_of}
 pub use Rattle.drawing.specs.Terminal.{band_words, head_line, lane_column, lane_names, lane_place, lane_sign}
 pub use Rattle.drawing.specs.Terminal.{numbered_row, sign_line, strokes}

@@ -7,14 +7,18 @@ use Rattle.drawing.proofs.Common.{get_or-enumerate_from, get_or_from_slice_get, 
 use Rattle.drawing.proofs.Common.{initial_rows, InitialRowsAreFirst, InitialValuesHaveRows, inl, inr}
 use Rattle.drawing.proofs.Common.{IsPermutation-sym, left_out_rows, length, length-enumerate_from, List, max, nat_eq}
 use Rattle.drawing.proofs.Common.{nat_tests, not_in_none, one_at, Operation, operation_within, operations_of}
-use Rattle.drawing.proofs.Common.{OperationsHaveRows, pairs_at, point, Precedes, refl, returns_at_no_call, Row}
+use Rattle.drawing.proofs.Common.{OperationsHaveRows, pairs_at, passes_filter, point, Precedes, refl, returns_at_no_call, Row}
 use Rattle.drawing.proofs.Common.{row_number, rows_after, rows_of, RowsRise, RowsTellPrecedence, slice_get}
-use Rattle.drawing.proofs.Common.{slice_get_within, Some, stands_above, subst, suc, sum_by, sum_by-append, sum_by-cons}
-use Rattle.drawing.proofs.Common.{sym, take, traced, true, Yes, zero, zero-add, [], ℕ, ◌++◌, ◌+◌, ◌<◌, ◌||◌, ◌∙◌, ◌∷◌}
+use Rattle.drawing.proofs.Common.{slice_get-get_or, slice_get_within, Some, stands_above, subst, suc, sum_by, sum_by-append, sum_by-cons}
+use Rattle.drawing.proofs.Common.{sym, take, traced, true, values_left_out, Yes, zero, zero-add, [], ℕ, ◌++◌, ◌+◌, ◌-◌, ◌<◌, ◌||◌, ◌∙◌, ◌∷◌}
 use Rattle.drawing.proofs.Common.{◌≡◌, ◌≤◌, ◌⊎◌}
 use Rattle.history_merge.specs.Legal.{IsLegalOrder}
 use Rattle.drawing.specs.Laws.{EffectRowsAreInBars, EffectRowsRise, EffectsAreInBars, EffectsHaveRows, EffectsRise}
-use Rattle.drawing.specs.Claim.{order_of}
+use Rattle.drawing.specs.Laws.{Matters, values_in, ValuesAreCounted}
+use Rattle.drawing.specs.Claim.{order_of, shown_by}
+use Rattle.drawing.specs.Drawn.{drawn_initial, has_value, is_drawn_initial, is_initial}
+use Rattle.verdicts.proofs.Selections.{no_longer}
+use Rattle.verdicts.specs.declared.verifying.ClaimLine.TheVariants as line
 use Rattle.drawing.specs.declared.scene.Row.TheVariants.{Effect, Head, Initial, Ticket}
 use Rattle.drawing.proofs.Below.{fewer, one_fewer}
 use Rattle.drawing.proofs.Nearness.{any_of, in_flat_map}
@@ -131,17 +135,38 @@ in_enumerated xs i x at =
     let here = get_or-enumerate_from 0 xs i (i, x) within in
     (i, omega (arith, length-enumerate_from 0 xs), here ∙ ap₂ (λ n y. (n, y)) (zero-add i) (get_or_from_slice_get xs i x x at))
 
-pub initial_values_have_rows : InitialValuesHaveRows
+-- a drawn initial value is among the rows of initial values, where there are some
+in_initial_rows : (initial drawn : List ℕ) (j v : ℕ) → 0 < length initial → slice_get drawn j ≡ Some v → Contains (initial_rows initial drawn) (Initial j v)
+in_initial_rows [] drawn j v some at = absurd (omega arith)
+in_initial_rows (front ∷ others) drawn j v some at =
+    let own = flat_map initial_row (enumerate_from 0 drawn) in
+    let rest = values_left_out (length (front ∷ others) - length drawn) (length drawn) in
+    Contains-append_right (Head ∷ []) (own ++ rest) (Initial j v) (Contains-append_left own rest (Initial j v)
+    (in_flat_map initial_row (enumerate_from 0 drawn) (j, v) (Initial j v) (in_enumerated drawn j v at) (contains_at (Initial j v ∷ []) 0 (Initial j v) refl)))
+
+-- so is it among all rows
+drawn_has_row : (history : HistoryView) (claimed : Claimed) (drawn : List Operation) (j v : ℕ) → slice_get (drawn_initial history claimed drawn) j ≡ Some v
+    → Contains (rows_of history claimed drawn) (Initial j v)
 unfolding rows_of
-initial_values_have_rows history claimed drawn j v at =
-    Contains-append_left (initial_rows history.initial) (rows_after drawn (order_of claimed) 0 0 history.events) (Initial j v) (among history.initial at)
-  where
-    among : (initial : List ℕ) → slice_get initial j ≡ Some v → Contains (initial_rows initial) (Initial j v)
-    among [] is = absurd (cc)
-    among (front ∷ others) is =
-        Contains-append_right (Head ∷ []) (flat_map initial_row (enumerate_from 0 (front ∷ others))) (Initial j v)
-        (in_flat_map initial_row (enumerate_from 0 (front ∷ others)) (j, v) (Initial j v) (in_enumerated (front ∷ others) j v is)
-        (contains_at (Initial j v ∷ []) 0 (Initial j v) refl))
+drawn_has_row history claimed drawn j v at =
+    let values = drawn_initial history claimed drawn in
+    let within = slice_get_within values j v at in
+    let fewer = no_longer (is_drawn_initial claimed drawn) history.initial in
+    Contains-append_left (initial_rows history.initial values) (rows_after drawn (order_of claimed) 0 0 history.events) (Initial j v)
+    (in_initial_rows history.initial values j v (omega arith) at)
+
+-- an initial value that matters is drawn
+matters_is_drawn : (claimed : Claimed) (drawn : List Operation) (v : ℕ) → Matters claimed drawn v → is_drawn_initial claimed drawn v ≡ true
+matters_is_drawn claimed drawn v (inl listed) =
+    let is = any_of (is_initial v) (shown_by claimed) (line.Initial v) listed (eq-eqb v v refl) in grind (arith, is)
+matters_is_drawn claimed drawn v (inr (o, among, has)) =
+    let is = any_of (λ o. has_value v o.kind) drawn o among has in grind (arith, is)
+
+pub initial_values_have_rows : InitialValuesHaveRows
+initial_values_have_rows history claimed drawn v among matters =
+    let values = drawn_initial history claimed drawn in
+    let kept = passes_filter (is_drawn_initial claimed drawn) history.initial v (matters_is_drawn claimed drawn v matters) among in
+    (kept.0, drawn_has_row history claimed drawn kept.0 v (slice_get-get_or values kept.0 v kept.1 ∙ ap Some kept.2))
 
 -- a row that stands with an event that has its own is one of all
 module _ (drawn order : List Operation) (e : Event) (r : Row) (own : has_row drawn e.ticket ≡ true) (here : Contains (event_rows order e) r) where
@@ -165,7 +190,8 @@ with_event : (history : HistoryView) (claimed : Claimed) (drawn : List Operation
     → has_row drawn e.ticket ≡ true → Contains (event_rows (order_of claimed) e) r → Contains (rows_of history claimed drawn) r
 unfolding rows_of
 with_event history claimed drawn e r among own here =
-    Contains-append_right (initial_rows history.initial) (rows_after drawn (order_of claimed) 0 0 history.events) r
+    Contains-append_right (initial_rows history.initial (drawn_initial history claimed drawn))
+    (rows_after drawn (order_of claimed) 0 0 history.events) r
     (in_rows_after drawn (order_of claimed) e r own here 0 0 history.events among)
 
 -- the event of an operation that is drawn has its own row
@@ -187,9 +213,9 @@ operations_have_rows history claimed drawn o among drawn_too =
 
 -- ---- events are counted
 
-none_in_all : {X : Type 0} (f : X → List Row) → ((x : X) → sum_by events_in (f x) ≡ 0) → (xs : List X) → sum_by events_in (flat_map f xs) ≡ 0
-none_in_all f none [] = refl
-none_in_all f none (x ∷ xs) = grind (arith, sum_by-append, none_in_all f none xs)
+none_in_all : {X : Type 0} (m : Row → ℕ) (f : X → List Row) → ((x : X) → sum_by m (f x) ≡ 0) → (xs : List X) → sum_by m (flat_map f xs) ≡ 0
+none_in_all m f none [] = refl
+none_in_all m f none (x ∷ xs) = grind (arith, sum_by-append, none_in_all m f none xs)
 
 counted_left_out : (count last : ℕ) → sum_by events_in (left_out_rows count last) ≡ count
 counted_left_out count last = grind (arith, cond_both, eqb-true, sum_by-cons)
@@ -212,10 +238,70 @@ counted_after drawn order count last (e ∷ later) =
     ))
     (λ hidden. let after = counted_after drawn order (count + 1) e.ticket later in omega arith)
 
+-- rows of initial values stand for no events
+no_events_first : (initial drawn : List ℕ) → sum_by events_in (initial_rows initial drawn) ≡ 0
+no_events_first [] drawn = refl
+no_events_first (front ∷ others) drawn =
+    let count = length (front ∷ others) - length drawn in
+    let own = none_in_all events_in initial_row (λ x. refl) (enumerate_from 0 drawn) in
+    let rest = none_left count (length drawn) in
+    omega (arith, sum_by-append events_in (flat_map initial_row (enumerate_from 0 drawn)) (values_left_out count (length drawn)))
+  where
+    none_left : (count below : ℕ) → sum_by events_in (values_left_out count below) ≡ 0
+    none_left count below = grind (arith, cond_both, sum_by-cons)
+
 pub events_are_counted : EventsAreCounted
 unfolding rows_of
 events_are_counted history claimed drawn =
-    grind (arith, nat_tests, common_steps, counted_after, sum_by-append, none_in_all)
+    let initial = drawn_initial history claimed drawn in
+    let first = no_events_first history.initial initial in
+    let after = counted_after drawn (order_of claimed) 0 0 history.events in
+    omega (arith, sum_by-append events_in (initial_rows history.initial initial) (rows_after drawn (order_of claimed) 0 0 history.events))
+
+-- ---- initial values are counted
+
+counted_own : (a : ℕ) (values : List ℕ) → sum_by values_in (flat_map initial_row (enumerate_from a values)) ≡ length values
+counted_own a [] = refl
+counted_own a (v ∷ values) = let rest = counted_own (a + 1) values in omega (arith, sum_by-cons)
+
+counted_values_left : (count below : ℕ) → sum_by values_in (values_left_out count below) ≡ count
+counted_values_left count below = grind (arith, cond_both, eqb-true, sum_by-cons)
+
+counted_first : (initial drawn : List ℕ) → length drawn ≤ length initial → sum_by values_in (initial_rows initial drawn) ≡ length initial
+counted_first [] drawn few = refl
+counted_first (front ∷ others) drawn few =
+    let count = length (front ∷ others) - length drawn in
+    let own = counted_own 0 drawn in
+    let rest = counted_values_left count (length drawn) in
+    omega (arith, sum_by-append values_in (flat_map initial_row (enumerate_from 0 drawn)) (values_left_out count (length drawn)))
+
+no_values_left : (count last : ℕ) → sum_by values_in (left_out_rows count last) ≡ 0
+no_values_left count last = grind (arith, cond_both, sum_by-cons)
+
+no_values_with_event : (order : List Operation) (e : Event) → sum_by values_in (event_rows order e) ≡ 0
+unfolding effect_rows
+no_values_with_event order e = grind (arith, nat_tests, common_steps, none_in_all, cond_both, sum_by-append)
+
+no_values_after : (drawn order : List Operation) (count last : ℕ) (events : List Event) → sum_by values_in (rows_after drawn order count last events) ≡ 0
+no_values_after drawn order count last [] = no_values_left count last
+no_values_after drawn order count last (e ∷ later) =
+    cond_both (has_row drawn e.ticket) (left_out_rows count last ++ (event_rows order e ++ rows_after drawn order 0 last later))
+    (rows_after drawn order (count + 1) e.ticket later) (λ rows. sum_by values_in rows ≡ 0)
+    (λ shown. let after = no_values_after drawn order 0 last later in let here = no_values_left count last in let own = no_values_with_event order e in
+    omega (
+      arith,
+      sum_by-append values_in (left_out_rows count last) (event_rows order e ++ rows_after drawn order 0 last later),
+      sum_by-append values_in (event_rows order e) (rows_after drawn order 0 last later),
+    ))
+    (λ hidden. no_values_after drawn order (count + 1) e.ticket later)
+
+pub values_are_counted : ValuesAreCounted
+unfolding rows_of
+values_are_counted history claimed drawn =
+    let initial = drawn_initial history claimed drawn in
+    let first = counted_first history.initial initial (no_longer (is_drawn_initial claimed drawn) history.initial) in
+    let after = no_values_after drawn (order_of claimed) 0 0 history.events in
+    omega (arith, sum_by-append values_in (initial_rows history.initial initial) (rows_after drawn (order_of claimed) 0 0 history.events))
 
 -- an operation has its row after the event at its point
 after_its_event : (order : List Operation) (i : ℕ) (o : Operation) (e : Event) → slice_get order i ≡ Some o → e.ticket ≡ point order i
@@ -237,7 +323,7 @@ effects_have_rows history order i o complete legal at =
 
 pub initial_rows_are_first : InitialRowsAreFirst
 initial_rows_are_first history claimed drawn j later v w ticket at less =
-    grind (arith, nat_tests, initial_values_have_rows, rows_rise)
+    grind (arith, nat_tests, drawn_has_row, rows_rise)
 
 pub rows_tell_precedence : RowsTellPrecedence
 rows_tell_precedence history claimed drawn x y in_x drawn_too = (

@@ -1,14 +1,18 @@
 -- Which operations of a history are drawn: all of them, or of a `NO` those that it lists, those that overlap one of these, and those near by.
-use Rattle.std.specs.Prelude.{ℕ, ◌-◌, ◌&&◌, not, nat_lt, nat_le, Bool, false, Option, Some, None, List, [], ◌∷◌, filter, flat_map, map, count_by}
+-- Which initial values are: those of the claim and of these operations.
+use Rattle.std.specs.Prelude.{ℕ, ◌-◌, ◌&&◌, ◌||◌, not, nat_lt, nat_le, nat_eq, Bool, false, Option, Some, None, List, [], ◌∷◌, filter, flat_map, map, count_by}
 use Rattle.std.specs.List.{list_any}
 use Rattle.event_records.specs.declared.event.Event.{Event}
 use Rattle.history_merge.specs.Initial.{HistoryView}
 use Rattle.history_merge.specs.declared.operation.Operation.{Operation}
+use Rattle.history_merge.specs.declared.operation.OpKind.{OpKind}
+use Rattle.history_merge.specs.declared.operation.OpKind.TheVariants as kind
 use Rattle.history_merge.specs.Operations.{operations_of}
 use Rattle.verdicts.specs.declared.verifying.ClaimLine.{ClaimLine}
 use Rattle.verdicts.specs.declared.verifying.ClaimLine.TheVariants.{Op, Initial}
 use Rattle.verdicts.specs.declared.verifying.Claimed.{Claimed}
 use Rattle.verdicts.specs.declared.verifying.Claimed.TheVariants.{Yes, No}
+use Rattle.drawing.specs.Claim.{shown_by}
 use Rattle.drawing.specs.declared.drawn.Standing.{Standing}
 
 -- how many events come before a ticket
@@ -42,6 +46,26 @@ drawn_operations history (Yes order) around = operations_of history.events
 drawn_operations history (No kind lines) None = operations_of history.events
 drawn_operations history (No kind lines) (Some n) =
     filter (is_near_any history.events n (operations_in lines)) (operations_of history.events)
+
+-- an operation has this value: it was called with it, or returned it
+abbrev pub has_value : ℕ → OpKind → Bool
+has_value v (kind.Enq w) = nat_eq w v
+has_value v (kind.Deq w) = nat_eq w v
+has_value v (kind.Not w) = nat_eq w v
+has_value v kind.Empty = false
+
+-- the line is this initial value
+abbrev pub is_initial : ℕ → ClaimLine → Bool
+is_initial v (Initial w) = nat_eq w v
+is_initial v (Op o) = false
+
+-- an initial value is drawn if a `NO` lists it, or a drawn operation has it
+abbrev pub is_drawn_initial : Claimed → List Operation → ℕ → Bool
+is_drawn_initial claimed drawn v = list_any (is_initial v) (shown_by claimed) || list_any (λ o. has_value v o.kind) drawn
+
+-- the initial values that are drawn, front first
+abbrev pub drawn_initial : HistoryView → Claimed → List Operation → List ℕ
+drawn_initial history claimed drawn = filter (is_drawn_initial claimed drawn) history.initial
 
 -- an operation and that of a line overlap: neither precedes the other
 abbrev pub overlaps_line : Operation → ClaimLine → Bool

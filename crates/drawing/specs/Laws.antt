@@ -14,7 +14,8 @@ use Rattle.verdicts.specs.declared.verifying.Claimed.TheVariants.{Yes, No}
 use Rattle.verdicts.specs.declared.verifying.ViolationKind.{ViolationKind}
 use Rattle.verdicts.specs.Claims.{IsTrueClaim}
 use Rattle.drawing.specs.declared.columns.Columns.{Columns}
-use Rattle.drawing.specs.Drawn.{drawn_operations}
+use Rattle.drawing.specs.Claim.{shown_by}
+use Rattle.drawing.specs.Drawn.{drawn_initial, drawn_operations, has_value}
 use Rattle.drawing.specs.Names.{value_text}
 use Rattle.drawing.specs.Pending.{is_added, is_pending}
 use Rattle.drawing.specs.Layout.{initial_label, under_way, place_in, point}
@@ -104,11 +105,26 @@ EffectsRise = (order : List Operation) (i j : ℕ) → i ≤ j → point order i
 abbrev pub RowsRise : Type 0
 RowsRise = (rows : List Row) (other r : Row) → Contains rows other → stands_above other r ≡ true → row_number rows other < row_number rows r
 
--- each initial value has its row
+-- the claim lists this initial value, or a drawn operation has it
+abbrev pub Matters : Claimed → List Operation → ℕ → Type 0
+Matters claimed drawn v = Contains (shown_by claimed) (Initial v) ⊎ ((o : Operation) × Contains drawn o × (has_value v o.kind ≡ true))
+
+-- an initial value that matters has its row
 abbrev pub InitialValuesHaveRows : Type 0
 InitialValuesHaveRows =
-    (history : HistoryView) (claimed : Claimed) (drawn : List Operation) (j v : ℕ) → slice_get history.initial j ≡ Some v
-    → Contains (rows_of history claimed drawn) (row.Initial j v)
+    (history : HistoryView) (claimed : Claimed) (drawn : List Operation) (v : ℕ) → Contains history.initial v → Matters claimed drawn v
+    → (j : ℕ) × Contains (rows_of history claimed drawn) (row.Initial j v)
+
+-- how many initial values a row stands for
+abbrev pub values_in : Row → ℕ
+values_in (row.Initial place v) = 1
+values_in (row.ValuesLeftOut count drawn) = count
+values_in r = 0
+
+-- no initial value is lost: each has its row, or is counted in that of values that are left out
+abbrev pub ValuesAreCounted : Type 0
+ValuesAreCounted =
+    (history : HistoryView) (claimed : Claimed) (drawn : List Operation) → sum_by values_in (rows_of history claimed drawn) ≡ length history.initial
 
 -- the call and the return of each operation that is drawn have their rows
 abbrev pub OperationsHaveRows : Type 0
@@ -137,7 +153,8 @@ EffectsHaveRows =
 -- the rows of initial values stand one below another, and above those of all events
 abbrev pub InitialRowsAreFirst : Type 0
 InitialRowsAreFirst =
-    (history : HistoryView) (claimed : Claimed) (drawn : List Operation) (j later v w ticket : ℕ) → slice_get history.initial j ≡ Some v → j < later
+    (history : HistoryView) (claimed : Claimed) (drawn : List Operation) (j later v w ticket : ℕ)
+    → slice_get (drawn_initial history claimed drawn) j ≡ Some v → j < later
     → (row_number (rows_of history claimed drawn) (row.Initial j v) < row_number (rows_of history claimed drawn) (row.Initial later w))
     × (row_number (rows_of history claimed drawn) (row.Initial j v) < row_number (rows_of history claimed drawn) (row.Ticket ticket))
 

@@ -1,5 +1,5 @@
 -- The scene of a picture, which characters and pixels draw alike: its rows from top to bottom, and its lanes side by side.
-use Rattle.std.specs.Prelude.{ℕ, ◌+◌, ◌==◌, ◌&&◌, ◌||◌, if◌then◌else◌, max, fold, length, decimal, nat_lt, nat_eq, Bool, Option}
+use Rattle.std.specs.Prelude.{ℕ, ◌+◌, ◌-◌, ◌==◌, ◌&&◌, ◌||◌, if◌then◌else◌, max, fold, length, decimal, nat_lt, nat_eq, Bool, Option}
 use Rattle.std.specs.Prelude.{Some, None, List, [], ◌∷◌, ◌++◌, count_by, codes, option_map}
 use Rattle.std.specs.List.{concat, find, flat_map, enumerate_from, list_any}
 use Rattle.event_records.specs.declared.event.Event.{Event}
@@ -11,15 +11,16 @@ use Rattle.verdicts.specs.declared.verifying.Claimed.{Claimed}
 use Rattle.verdicts.specs.declared.verifying.Claimed.TheVariants.{No}
 use Rattle.verdicts.specs.declared.verifying.ViolationKind.TheVariants.{VRepeat}
 use Rattle.drawing.specs.Claim.{order_of, line_kind}
+use Rattle.drawing.specs.Drawn.{drawn_initial}
 use Rattle.drawing.specs.Layout.{threads_of, point, stands_in}
 use Rattle.drawing.specs.Bands.{bands_of, gap_time}
 use Rattle.drawing.specs.Pending.{is_added}
 use Rattle.drawing.specs.declared.bands.Band.{Band}
 use Rattle.drawing.specs.declared.scene.Row.{Row}
-use Rattle.drawing.specs.declared.scene.Row.TheVariants.{Head, Initial, Ticket, LeftOut, Effect}
+use Rattle.drawing.specs.declared.scene.Row.TheVariants.{Head, Initial, ValuesLeftOut, Ticket, LeftOut, Effect}
 use Rattle.drawing.specs.declared.sheet.Scene.{Scene}
 
--- what a picture shows: what the queue holds first, the operations that are drawn, the claim, their threads, bands and rows, and the
+-- what a picture shows: the initial values and the operations that are drawn, the claim, their threads, bands and rows, and the
 -- ticket from which returns were added, if some were
 pub record SceneView : Type 0 where
   pub initial : List ℕ
@@ -33,7 +34,7 @@ pub record SceneView : Type 0 where
 -- the scene that a value of the program stands for
 abbrev pub scene_on : Scene → SceneView
 scene_on scene = record {
-  initial = scene.initial.now;
+  initial = scene.initial.items;
   operations = scene.operations.items;
   claimed = scene.claimed.now;
   threads = scene.threads.items;
@@ -48,10 +49,16 @@ scene_on scene = record {
 abbrev pub initial_row : ℕ × ℕ → List Row
 initial_row (place, v) = Initial place v ∷ []
 
--- the rows of the initial values under their head, the front one first; none where there are no values
-abbrev pub initial_rows : List ℕ → List Row
-initial_rows [] = []
-initial_rows (front ∷ others) = Head ∷ flat_map initial_row (enumerate_from 0 (front ∷ others))
+-- the row of this number of initial values that are left out, below this number that are drawn; none if there are none
+abbrev pub values_left_out : ℕ → ℕ → List Row
+values_left_out count drawn = if count == 0 then [] else ValuesLeftOut count drawn ∷ []
+
+-- the rows of initial values under their head: those of the drawn ones, the front one first, and that of all others; none where there are
+-- no values
+abbrev pub initial_rows : List ℕ → List ℕ → List Row
+initial_rows [] drawn = []
+initial_rows (front ∷ others) drawn =
+    Head ∷ (flat_map initial_row (enumerate_from 0 drawn) ++ values_left_out (length (front ∷ others) - length drawn) (length drawn))
 
 -- the row of operation i of an order, if it takes effect just after this ticket
 abbrev pub effect_if : List Operation → ℕ → ℕ × Operation → List Row
@@ -82,12 +89,13 @@ rows_after drawn order count last (e ∷ later) =
 
 -- the rows of a history of which these operations are drawn, and what is claimed of it
 unfoldable pub rows_of : HistoryView → Claimed → List Operation → List Row
-rows_of history claimed drawn = initial_rows history.initial ++ rows_after drawn (order_of claimed) 0 0 history.events
+rows_of history claimed drawn =
+    initial_rows history.initial (drawn_initial history claimed drawn) ++ rows_after drawn (order_of claimed) 0 0 history.events
 
 -- the scene of a history of which these operations are drawn, what is claimed of it, and the ticket from which its returns were added
 unfoldable pub scene_of : HistoryView → Claimed → List Operation → Option ℕ → SceneView
 scene_of history claimed drawn added_from = record {
-  initial = history.initial;
+  initial = drawn_initial history claimed drawn;
   operations = drawn;
   claimed = claimed;
   threads = threads_of drawn;
@@ -102,6 +110,7 @@ scene_of history claimed drawn added_from = record {
 abbrev pub gap_of : Row → Option ℕ
 gap_of Head = None
 gap_of (Initial place v) = None
+gap_of (ValuesLeftOut count drawn) = None
 gap_of (Ticket ticket) = Some ticket
 gap_of (LeftOut count last) = Some last
 gap_of (Effect o number point) = Some point
@@ -114,6 +123,7 @@ row_time r = gap_time (gap_of r)
 abbrev pub row_turn : Row → ℕ
 row_turn Head = 0
 row_turn (Initial place v) = place + 1
+row_turn (ValuesLeftOut count drawn) = drawn + 1
 row_turn (Ticket ticket) = 0
 row_turn (LeftOut count last) = 0
 row_turn (Effect o number point) = number
@@ -128,11 +138,13 @@ row_number rows row = count_by (λ other. stands_above other row) rows
 
 -- ---- words of a row
 
--- the words of a row in the column of tickets: its ticket, that its return was added, or how many events are left out
+-- the words of a row in the column of tickets: its ticket, that its return was added, or how many events or initial values are left out
 abbrev pub ticket_words : Option ℕ → Row → List ℕ
 ticket_words added_from (Ticket ticket) = if is_added added_from ticket then codes "pending" else decimal ticket
 ticket_words added_from (LeftOut count last) =
     concat (codes "... " ∷ decimal count ∷ (if count == 1 then codes " event ..." else codes " events ...") ∷ [])
+ticket_words added_from (ValuesLeftOut count drawn) =
+    concat (codes "... " ∷ decimal count ∷ (if count == 1 then codes " value ..." else codes " values ...") ∷ [])
 ticket_words added_from r = []
 
 -- how wide that column is: for the word above it, and for what stands in it

@@ -115,7 +115,7 @@ pub(crate) fn sheet_of<'a>(alloc: Global, scene: &'a Scene<'a>) -> Sheet<'a>
     ensures scene { result.scene.now ≡ scene.now }
 {
     let ticket = usize::from(ticket_width(scene.added_from, scene.rows.as_slice()));
-    let widest_label = label_width(scene.initial, scene.operations.as_slice());
+    let widest_label = label_width(scene.initial.as_slice(), scene.operations.as_slice());
     let room = match scene.claimed {
         Claimed::Yes(order) => {
             usize::from(digits(order.as_slice().len() as u64)) + usize::from(widest_label) + 3

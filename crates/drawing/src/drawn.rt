@@ -1,13 +1,14 @@
-//! Which operations of a history are drawn.
+//! Which operations and initial values of a history are drawn.
 ghost use Rattle.std.specs.Prelude.{◌≡◌, IfOk, filter, map};
 ghost use Rattle.std.specs.List.{list_any};
 ghost use Rattle.event_records.specs.Turns.{TicketsRise};
 ghost use Rattle.drawing.specs.Drawn.{events_before, standing_of, stand_near, is_near_any, operations_in, drawn_operations, overlaps_line};
-ghost use Rattle.drawing.specs.Drawn.{is_away};
+ghost use Rattle.drawing.specs.Drawn.{is_away, has_value, is_initial, is_drawn_initial, drawn_initial};
 
+use crate::claim::shown_by;
 use crate::columns::events_of;
 use event_records::Event;
-use history_merge::{History, Operation, Operations};
+use history_merge::{History, OpKind, Operation, Operations};
 use std::alloc::{AllocError, Global};
 use verdicts::{ClaimLine, Claimed};
 
@@ -110,6 +111,62 @@ pub fn drawn_operations(
         }
         _ => history.operations().collect(alloc),
     }
+}
+
+fn has_value(value: u64, kind: OpKind) -> bool
+    ensures { result ≡ has_value value kind }
+{
+    match kind {
+        OpKind::Enq(other) | OpKind::Deq(other) | OpKind::Not(other) => other == value,
+        OpKind::Empty => false,
+    }
+}
+
+fn is_initial(value: u64, line: ClaimLine) -> bool
+    ensures { result ≡ is_initial value line }
+{
+    match line {
+        ClaimLine::Initial(other) => other == value,
+        ClaimLine::Op(_) => false,
+    }
+}
+
+fn list_initial(lines: &[ClaimLine], value: u64) -> bool
+    ensures { result ≡ list_any (is_initial value) lines.now }
+{
+    lines.iter().any(|line| is_initial(value, *line))
+}
+
+fn have_value(operations: &[Operation], value: u64) -> bool
+    ensures { result ≡ list_any (λ o. has_value value o.kind) operations.now }
+{
+    operations
+        .iter()
+        .any(|operation| has_value(value, operation.kind))
+}
+
+fn is_drawn_initial(claimed: &Claimed, drawn: &[Operation], value: u64) -> bool
+    ensures { result ≡ is_drawn_initial claimed.now drawn.now value }
+{
+    list_initial(shown_by(claimed), value) || have_value(drawn, value)
+}
+
+/// The initial values that a picture shows with these operations, front first: those that a `NO` lists or one of the operations has.
+pub(crate) fn drawn_initial(
+    alloc: Global,
+    history: &History,
+    claimed: &Claimed,
+    drawn: &[Operation],
+) -> Result<Vec<u64>, AllocError>
+    ensures { IfOk result (λ values. values.items ≡ drawn_initial history.now claimed.now drawn.now) }
+{
+    let mut values = Vec::new(alloc);
+    for value in history.initial() {
+        if is_drawn_initial(claimed, drawn, *value) {
+            values.push(*value)?;
+        }
+    }
+    Ok(values)
 }
 
 fn overlaps_line(operation: Operation, line: ClaimLine) -> bool

@@ -1,6 +1,6 @@
 ghost use Rattle.drawing.specs.Laws.{LanesAreApart, BarsAreOfOperations, NoOtherBars, EffectsAreInBars, EffectsRise, NumbersAreOfLines};
 ghost use Rattle.drawing.specs.Laws.{OverlappingAreDrawn, NoOthersAreDrawn, LinesAreDrawn, EventsAreCounted};
-ghost use Rattle.drawing.specs.Laws.{RowsRise, InitialValuesHaveRows, OperationsHaveRows, EffectsHaveRows, InitialRowsAreFirst, RowsTellPrecedence};
+ghost use Rattle.drawing.specs.Laws.{RowsRise, InitialValuesHaveRows, ValuesAreCounted, OperationsHaveRows, EffectsHaveRows, InitialRowsAreFirst, RowsTellPrecedence};
 ghost use Rattle.drawing.specs.Laws.{EffectRowsAreInBars, EffectRowsRise};
 ghost use Rattle.drawing.specs.Laws.{ValuesHaveTheirNames, InitialValuesHaveTheirNames, LinesHaveNumbers, InitialNumbersAreOfLines, InitialLinesHaveNumbers, LinesAreOfHistory};
 
@@ -26,12 +26,14 @@ pub fn effects_rise_within_bars()
     ensures rise { EffectsRise }
 {}
 
-/// Rows stand in the order of time: initial values, front first, then events by their tickets, each of an operation that is drawn in
-/// a row of its own and all others counted in rows between, and of a `YES` the effects in its order,
-/// each within its bar. Returns stand above calls as operations precede one another. The laws are the contract; the body is empty.
+/// Rows stand in the order of time: initial values, front first, each that matters in a row of its own and all others counted in one;
+/// then events by their tickets, each of an operation that is drawn in a row of its own and all others counted in rows between; and of
+/// a `YES` the effects in its order, each within its bar. Returns stand above calls as operations precede one another. The laws are the
+/// contract; the body is empty.
 pub fn rows_stand_in_time()
     ensures rise { RowsRise }
     ensures initial { InitialValuesHaveRows }
+    ensures values_counted { ValuesAreCounted }
     ensures operations { OperationsHaveRows }
     ensures counted { EventsAreCounted }
     ensures effects { EffectsHaveRows }

@@ -1,11 +1,13 @@
 //! The scene of a picture, which characters and SVG draw alike: rows from top to bottom, and lanes side by side.
-ghost use Rattle.std.specs.Prelude.{if◌then◌else◌, codes, ◌≡◌, ◌==◌, ◌++◌, ◌≤◌, ◌+◌, OnOk, IfOk, length};
-ghost use Rattle.drawing.specs.Scene.{scene_on, initial_rows, effect_rows, has_row, left_out_rows, rows_after, rows_of, scene_of};
+ghost use Rattle.std.specs.Prelude.{if◌then◌else◌, codes, flat_map, ◌≡◌, ◌==◌, ◌++◌, ◌≤◌, ◌+◌, OnOk, IfOk, length};
+ghost use Rattle.std.specs.List.{enumerate_from};
+ghost use Rattle.drawing.specs.Scene.{scene_on, initial_row, initial_rows, values_left_out, effect_rows, has_row, left_out_rows, rows_after, rows_of, scene_of};
 ghost use Rattle.drawing.specs.Scene.{gap_of, row_turn, stands_above, row_number, ticket_words, ticket_width, lanes_before, way_in};
 
 use crate::bands::{bands_of, gap_time};
 use crate::claim::{line_kind, order_of};
 use crate::columns::{digits, events_of, threads_of};
+use crate::drawn::drawn_initial;
 use crate::line::{Added, push_number};
 use crate::lookup::line_in;
 use crate::pending::is_added;
@@ -20,8 +22,10 @@ use verdicts::{Claimed, ViolationKind};
 pub enum Row {
     /// The words above the initial values.
     Head,
-    /// An initial value: its place, from 0 for the front one, and the value.
+    /// An initial value: its place among those that are drawn, from 0 for the front one, and the value.
     Initial(usize, u64),
+    /// This number of initial values are left out, below this number that are drawn.
+    ValuesLeftOut(usize, usize),
     /// The event with this ticket.
     Ticket(u64),
     /// This number of events are left out, the last of them with this ticket.
@@ -30,19 +34,37 @@ pub enum Row {
     Effect(Operation, u64, u64),
 }
 
-/// Adds the rows of the initial values under their head, where there are some.
+fn push_values_left_out(rows: &mut Vec<Row>, count: usize, drawn: usize) -> Added
+    ensures { OnOk result (rows.new.items ≡ rows.old.items ++ values_left_out count drawn) }
+{
+    if count != 0 {
+        rows.push(Row::ValuesLeftOut(count, drawn))?;
+    }
+    Ok(())
+}
+
+/// Adds the rows of the initial values that are drawn.
 #[tactic(auto, using(crate::proofs::Loops::steps))]
-fn push_initial_rows(rows: &mut Vec<Row>, initial: &[u64]) -> Added
-    ensures { OnOk result (rows.new.items ≡ rows.old.items ++ initial_rows initial.now) }
+fn push_drawn_initial(rows: &mut Vec<Row>, drawn: &[u64]) -> Added
+    ensures { OnOk result (rows.new.items ≡ rows.old.items ++ flat_map initial_row (enumerate_from 0 drawn.now)) }
+{
+    for (place, value) in drawn.iter().enumerate() {
+        rows.push(Row::Initial(place, *value))?;
+    }
+    Ok(())
+}
+
+/// Adds the rows of initial values under their head, where there are some: those that are drawn, and one for all others.
+#[tactic(auto, using(crate::proofs::Loops::steps))]
+fn push_initial_rows(rows: &mut Vec<Row>, initial: &[u64], drawn: &[u64]) -> Added
+    ensures { OnOk result (rows.new.items ≡ rows.old.items ++ initial_rows initial.now drawn.now) }
 {
     match initial {
         [] => Ok(()),
         [_, ..] => {
             rows.push(Row::Head)?;
-            for (place, value) in initial.iter().enumerate() {
-                rows.push(Row::Initial(place, *value))?;
-            }
-            Ok(())
+            push_drawn_initial(rows, drawn)?;
+            push_values_left_out(rows, initial.len().saturating_sub(drawn.len()), drawn.len())
         }
     }
 }
@@ -107,7 +129,7 @@ fn push_rows_of_events(
 /// If the history is the completion of one with pending calls, `added_from` is the ticket of the first return that was added, and an
 /// operation that returns at it or later is drawn as one that never returned. `None` if nothing was added.
 ///
-/// Time O(n d) for n events of which d have rows; memory for the events. `AllocError` comes only where a growth was refused.
+/// Time O(n d) for n events of which d have rows, and O(k d) for k initial values; memory for the events. `AllocError` comes only where a growth was refused.
 #[tactic(auto, unfolding(crate::specs::Scene::scene_of, crate::specs::Scene::rows_of))]
 pub fn scene_of<'a>(
     alloc: Global,
@@ -122,8 +144,9 @@ pub fn scene_of<'a>(
     let events = events_of(alloc, history)?;
     let threads = threads_of(alloc, drawn.as_slice())?;
     let bands = bands_of(alloc, claimed)?;
+    let initial = drawn_initial(alloc, history, claimed, drawn.as_slice())?;
     let mut rows = Vec::new(alloc);
-    push_initial_rows(&mut rows, history.initial())?;
+    push_initial_rows(&mut rows, history.initial(), initial.as_slice())?;
     push_rows_of_events(
         &mut rows,
         drawn.as_slice(),
@@ -131,7 +154,7 @@ pub fn scene_of<'a>(
         events.as_slice(),
     )?;
     Ok(Scene {
-        initial: history.initial(),
+        initial,
         operations: drawn,
         claimed,
         threads,
@@ -146,7 +169,7 @@ pub(crate) fn gap_of(row: Row) -> Option<u64>
     ensures { result ≡ gap_of row }
 {
     match row {
-        Row::Head | Row::Initial(_, _) => None,
+        Row::Head | Row::Initial(_, _) | Row::ValuesLeftOut(_, _) => None,
         Row::Ticket(ticket) | Row::LeftOut(_, ticket) | Row::Effect(_, _, ticket) => Some(ticket),
     }
 }
@@ -157,6 +180,7 @@ fn row_turn(row: Row) -> u128
     match row {
         Row::Head | Row::Ticket(_) | Row::LeftOut(_, _) => 0,
         Row::Initial(place, _) => place as u128 + 1,
+        Row::ValuesLeftOut(_, drawn) => drawn as u128 + 1,
         Row::Effect(_, number, _) => u128::from(number),
     }
 }
@@ -178,6 +202,16 @@ pub fn row_number(rows: &[Row], row: Row) -> usize
         .count()
 }
 
+fn values_word(count: usize) -> &'static [u8]
+    ensures { result.now ≡ (if count == 1 then codes " value ..." else codes " values ...") }
+{
+    if count == 1 {
+        b" value ..."
+    } else {
+        b" values ..."
+    }
+}
+
 fn events_word(count: usize) -> &'static [u8]
     ensures { result.now ≡ (if count == 1 then codes " event ..." else codes " events ...") }
 {
@@ -188,7 +222,8 @@ fn events_word(count: usize) -> &'static [u8]
     }
 }
 
-/// Returns the words of a row in the column of tickets: its ticket, that its return was added, or how many events are left out.
+/// Returns the words of a row in the column of tickets: its ticket, that its return was added, or how many events or initial
+/// values are left out.
 pub fn ticket_words(alloc: Global, added_from: Option<u64>, row: Row) -> Result<Vec<u8>, AllocError>
     ensures { IfOk result (λ words. words.items ≡ ticket_words added_from row) }
 {
@@ -200,6 +235,11 @@ pub fn ticket_words(alloc: Global, added_from: Option<u64>, row: Row) -> Result<
             words.extend_from_slice(b"... ")?;
             push_number(&mut words, count as u64)?;
             words.extend_from_slice(events_word(count))?;
+        }
+        Row::ValuesLeftOut(count, _) => {
+            words.extend_from_slice(b"... ")?;
+            push_number(&mut words, count as u64)?;
+            words.extend_from_slice(values_word(count))?;
         }
         _ => {}
     }
@@ -213,6 +253,7 @@ fn ticket_words_len(added_from: Option<u64>, row: Row) -> u8
         Row::Ticket(ticket) if is_added(added_from, ticket) => 7,
         Row::Ticket(ticket) => digits(ticket),
         Row::LeftOut(count, _) => 4 + digits(count as u64) + events_word(count).len() as u8,
+        Row::ValuesLeftOut(count, _) => 4 + digits(count as u64) + values_word(count).len() as u8,
         _ => 0,
     }
 }

@@ -14,8 +14,8 @@ use verdicts::Claimed;
 /// What a picture shows of a history and a claim.
 #[derive(Drop)]
 pub struct Scene<'a> {
-    /// What the queue holds first, front first.
-    pub initial: &'a [u64],
+    /// The values of what the queue holds first that are drawn, front first.
+    pub initial: Vec<u64>,
     /// Those that are drawn.
     pub operations: Vec<Operation>,
     pub claimed: &'a Claimed,

@@ -77,7 +77,7 @@ fn push_operation_signs(signs: &mut Vec<Sign>, scene: &Scene<'_>) -> Added
 pub fn signs_of(alloc: Global, scene: &Scene<'_>) -> Result<Vec<Sign>, AllocError>
     ensures { IfOk result (λ signs. signs.items ≡ signs_of (scene_on scene.now)) }
 {
-    let mut signs = Vec::from_slice(alloc, number_signs(scene.claimed, scene.initial))?;
+    let mut signs = Vec::from_slice(alloc, number_signs(scene.claimed, scene.initial.as_slice()))?;
     signs.extend_from_slice(band_signs(scene.claimed))?;
     push_operation_signs(&mut signs, scene)?;
     Ok(signs)

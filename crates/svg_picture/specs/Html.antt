@@ -3,7 +3,7 @@ use Rattle.std.specs.Prelude.{ℕ, List, ◌++◌}
 use Rattle.drawing.specs.Scene.{SceneView}
 use Rattle.svg_picture.specs.Markup.{text_of}
 use Rattle.svg_picture.specs.Picture.{page_content, page_of}
-use Rattle.svg_picture.specs.declared.html.TheConstants.{PAGE_HEAD, PAGE_FOOT}
+use Rattle.svg_picture.specs.declared.page.TheConstants.{PAGE_HEAD, PAGE_FOOT}
 
 -- what stands before the picture
 unfoldable pub page_head : List ℕ

@@ -10,6 +10,7 @@ mod laws;
 mod layout;
 mod lines;
 mod markup;
+mod page;
 mod picture;
 mod rows;
 mod sheet;

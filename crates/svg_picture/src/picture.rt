@@ -119,7 +119,7 @@ fn measures_of(alloc: Global, scene: &Scene<'_>) -> Result<Measures, AllocError>
     Ok(Measures {
         ticket: ticket_width(scene.added_from, scene.rows.as_slice()),
         number: digits(count_of_lines(scene.claimed) as u64),
-        label: label_width(scene.initial, scene.operations.as_slice()),
+        label: label_width(scene.initial.as_slice(), scene.operations.as_slice()),
         lanes: scene.threads.len(),
         rows: scene.rows.len(),
         heads: scene.bands.len(),

@@ -5,6 +5,7 @@ pub returns : goal.returns
 returns c = record {
   rise = rows.rows_rise;
   initial = rows.initial_values_have_rows;
+  values_counted = rows.values_are_counted;
   operations = rows.operations_have_rows;
   counted = rows.events_are_counted;
   effects = rows.effects_have_rows;
