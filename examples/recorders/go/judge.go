@@ -40,7 +40,7 @@ func (options *Options) isFound() bool {
 
 // Returns what the program writes about this text, and its status.
 func (options *Options) ask(command string, text []byte) ([]byte, int, error) {
-	judge := exec.Command(options.program(), command)
+	judge := exec.Command(options.program(), strings.Fields(command)...)
 	judge.Stdin = bytes.NewReader(text)
 	told, err := judge.Output()
 	var ended *exec.ExitError
@@ -79,13 +79,24 @@ func (options *Options) judge(text []byte, why string) (Answer, error) {
 	seed, pattern := options.Seed, options.PatternOf(options.Seed)
 	fmt.Printf("%s: seed %d, %s%s\n", firstLine(verdict), seed, pattern, why)
 	fmt.Printf("  history: %s\n  report:  %s\n", kept, report)
-	fmt.Printf("  see it:  %s draw --text < %s\n", options.program(), report)
+	fmt.Printf("  see it:  %s draw --text < %s\n%s", options.program(), report, options.drawnIn(text, kept))
 	if options.tellAgain != nil {
 		options.tellAgain(firstLine(verdict))
 		return Violation, nil
 	}
 	fmt.Printf("  again:   seed %d, pattern %s: the same plan, though threads may meet in another way\n", seed, pattern)
 	return Violation, nil
+}
+
+// Returns the second command of `see it:`, which draws the violation with what runs beside it: the report leaves that
+// out. `draw` refuses more than 400 operations; then there is none.
+func (options *Options) drawnIn(text []byte, kept string) string {
+	for _, command := range []string{"draw --text --around 20", "draw --text"} {
+		if _, status, err := options.ask(command, text); err == nil && status == 0 {
+			return fmt.Sprintf("           %s %s < %s\n", options.program(), command, kept)
+		}
+	}
+	return ""
 }
 
 // Writes a text into the folder, and gives its path.

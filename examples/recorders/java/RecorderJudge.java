@@ -60,7 +60,9 @@ final class RecorderJudge {
 
     // Returns what the program writes about this text, and its status.
     Told ask(String command, byte[] text) throws IOException {
-        Process judge = new ProcessBuilder(program(), command).redirectError(Redirect.DISCARD).start();
+        List<String> words = new ArrayList<>(List.of(program()));
+        words.addAll(List.of(command.split(" ")));
+        Process judge = new ProcessBuilder(words).redirectError(Redirect.DISCARD).start();
         try (OutputStream input = judge.getOutputStream()) {
             input.write(text);
         } catch (IOException refused) {
@@ -123,8 +125,8 @@ final class RecorderJudge {
         }
         Path report = keep(seed, "report", ask("shrink", text).text);
         Recorder.Pattern pattern = recorder.patternOf(seed);
-        System.out.printf("%s: seed %d, %s%s%n  history: %s%n  report:  %s%n  see it:  %s draw --text < %s%n",
-                verdict.firstLine(), seed, pattern, why, kept, report, program(), report);
+        System.out.printf("%s: seed %d, %s%s%n  history: %s%n  report:  %s%n  see it:  %s draw --text < %s%n%s",
+                verdict.firstLine(), seed, pattern, why, kept, report, program(), report, drawnIn(text, kept));
         if (tellAgain != null) {
             tellAgain.accept(verdict.firstLine());
         } else {
@@ -132,6 +134,17 @@ final class RecorderJudge {
                     + ": the same plan, though threads may meet in another way");
         }
         return Recorder.Answer.VIOLATION;
+    }
+
+    // The second command of `see it:`, which draws the violation with what runs beside it: the report leaves that out.
+    // `draw` refuses more than 400 operations; then there is none.
+    private String drawnIn(byte[] text, Path kept) throws IOException {
+        for (String command : List.of("draw --text --around 20", "draw --text")) {
+            if (ask(command, text).status == 0) {
+                return "           " + program() + " " + command + " < " + kept + System.lineSeparator();
+            }
+        }
+        return "";
     }
 
     // Keeps what there is of a run that ended early, says how it ended, and judges it.

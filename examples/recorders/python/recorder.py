@@ -1,6 +1,6 @@
 """Records what threads do with a FIFO queue, and searches for a run that no FIFO queue can have made.
 
-Python 3.8 or later with its standard library, this one file. In a test:
+Python 3.8 or later with its standard library, this file and recorder_judge.py beside it. In a test:
 
     import recorder
 
@@ -31,11 +31,9 @@ A queue may also have `preload(value)`, which puts an initial value in (else `en
 
 import contextlib
 import dataclasses
-import enum
 import importlib.util
 import itertools
 import os
-import subprocess
 import sys
 import threading
 import time
@@ -44,16 +42,20 @@ MAX_THREADS = 64
 MAX_OPERATIONS = 1_000_000
 MAX_EVENTS = 2_000_000
 MAX_INITIAL = 100_000
-MAX_DRAWN = 400    # operations or initial values in a picture
 PATTERNS = ("alternate", "mix", "bursts", "roles")
 
 
-class Answer(enum.IntEnum):
-    """What a search found; its number is the status that a program ends with."""
+def _beside(name):
+    """The module of this name that lies beside this file."""
+    path = os.path.join(os.path.dirname(os.path.abspath(__file__)), f"{name}.py")
+    spec = importlib.util.spec_from_file_location(f"fifobench_{name}", path)
+    module = sys.modules[spec.name] = importlib.util.module_from_spec(spec)
+    spec.loader.exec_module(module)
+    return module
 
-    NO_VIOLATION = 0
-    VIOLATION = 1
-    WRONG = 2    # no program, a refused history, a hang, an exception: what is wrong is said on standard error
+
+_judge = _beside("recorder_judge")
+Answer = _judge.Answer
 
 
 @dataclasses.dataclass
@@ -287,21 +289,6 @@ class History:
                 open_now.discard(thread)
         return len(self._events) // 2, overlapping
 
-    def end_early(self, options, tell_again=None):
-        """Keeps what there is of a run that ended early, says how it ended, and judges it."""
-        told = list(self.failures)
-        if self.ending in ("hang", "exception"):    # else said by thread, with the places
-            told.append(_told_calls(self._open_calls()))
-        _say(f"seed {options.seed}: {'; '.join(told)}")
-        try:
-            pending = _keep(options, "pending", self.text())
-            print(f"  pending: {pending}", file=sys.stderr, flush=True)
-            return _judge_pending(options, self, pending, tell_again)
-        except OSError as error:
-            _say(str(error))
-            return Answer.WRONG
-
-
 class _Journal:
     """The events of a run in a file, a few milliseconds after they are noted."""
 
@@ -309,7 +296,7 @@ class _Journal:
         self.threads = run_of.threads
         self.places = [0] * len(self.threads)    # the next event of each thread
         self.ticket = 0    # of the next event
-        self.path = _keep(run_of.options, "pending", _head("fifo-pending", run_of.initial))
+        self.path = _judge.keep(run_of.options, "pending", _head("fifo-pending", run_of.initial))
         self.file = open(self.path, "a", encoding="ascii", newline="\n")
 
     def _next(self):
@@ -329,16 +316,6 @@ class _Journal:
     def remove(self):
         self.file.close()
         os.remove(self.path)
-
-
-def _say(line):
-    print(f"fifobench: {line}", file=sys.stderr, flush=True)
-
-
-def _told_calls(calls):
-    told = [f"thread {thread} is inside " + (f"enqueue of {value}" if what == "call-enq" else "dequeue")
-            for _, thread, what, value in calls]
-    return ", ".join(told) or "no thread is inside a call"
 
 
 def _nothing(number):
@@ -413,7 +390,7 @@ class _Run:
                 self.failures.append(self.scheduler.told_block())
         history = self.history()
         if self.ending == "hang":
-            history.answer = history.end_early(self.options)
+            history.answer = _judge.end_early(self.options, history)
         return history
 
     @contextlib.contextmanager
@@ -460,7 +437,7 @@ class _Run:
             if self.threads[0].dequeue(queue.dequeue) is None:
                 return
         if room > left and (self.scheduler is None or not self.scheduler.is_again):
-            _say(f"seed {self.options.seed}: the queue gave more values than went in")
+            _judge.say(f"seed {self.options.seed}: the queue gave more values than went in")
 
 
 def record(threads, operations, work, **settings):
@@ -542,11 +519,9 @@ def _chosen(options):
     if is_asked is False:
         return None
     for name in () if _modules else ("schedule_locks", "schedule", "schedule_search"):
-        path = os.path.join(os.path.dirname(os.path.abspath(__file__)), f"{name}.py")
-        spec = importlib.util.spec_from_file_location(f"fifobench_{name}", path)
-        _modules[name] = sys.modules[spec.name] = importlib.util.module_from_spec(spec)
-        spec.loader.exec_module(_modules[name])
-    _modules["schedule"].leave_out(*(module.__file__ for module in _modules.values()), _chosen.__code__.co_filename)
+        _modules[name] = _beside(name)
+    files = (module.__file__ for module in (_judge, *_modules.values()))
+    _modules["schedule"].leave_out(*files, _chosen.__code__.co_filename)
     return _modules["schedule_search"]
 
 
@@ -561,16 +536,16 @@ def search(options, make_queue):
         return chosen.Search(sys.modules[__name__], options, make_queue).answer()
     options.check()
     operations = overlapping = 0
-    is_judged = _is_found(options)
+    is_judged = _judge.is_found(options)
     runs = options.runs or 100
-    _name_killed(options, runs)
+    _judge.name_killed(options, runs)
     for seed in range(options.seed, options.seed + runs):
         of_run = dataclasses.replace(options, seed=seed)
         history = run(of_run, make_queue())
         try:
-            answer = _answer(of_run, history, is_judged)
+            answer = _judge.answer(of_run, history, is_judged)
         except OSError as error:
-            _say(f"seed {seed}: {error}")
+            _judge.say(f"seed {seed}: {error}")
             answer = Answer.WRONG
         made, met = history.overlapping()
         operations, overlapping = operations + made, overlapping + met
@@ -578,137 +553,8 @@ def search(options, make_queue):
             break
     else:
         share = 100 * overlapping // max(1, operations)
-        answer = _tell_none(is_judged, options.seed, runs, f"; {share} of 100 operations overlap another")
-    _tell_kept(options, answer, is_judged, seed + 1 - options.seed, 2 * operations)
+        answer = _judge.tell_none(is_judged, options.seed, runs, f"; {share} of 100 operations overlap another")
+    _judge.tell_kept(options, answer, is_judged, seed + 1 - options.seed, 2 * operations)
     return answer
 
 
-def _tell_none(is_judged, first, runs, more):
-    """Says that no run is a violation, and what else there is to say."""
-    told = "no violation" if is_judged else "nothing judged"
-    print(f"{told} in {runs} runs (seeds {first} to {first + runs - 1}){more}", flush=True)
-    return Answer.NO_VIOLATION if is_judged else Answer.WRONG
-
-
-def _tell_kept(options, answer, is_judged, made, events):
-    if options.keep and is_judged and answer != Answer.WRONG:
-        print(f"  kept:    {made} judged runs with {events} events in {options.folder}", flush=True)
-
-
-def _answer(options, history, is_judged):
-    if history.answer is not None:
-        return history.answer
-    if history.failures:
-        return history.end_early(options)
-    if not is_judged or options.keep:
-        _keep(options, "history", history.text())
-    return _judge(options, history.text()) if is_judged else Answer.NO_VIOLATION
-
-
-def _keep(options, kind, text):
-    """Writes a text into the folder, and gives the path."""
-    os.makedirs(options.folder, exist_ok=True)
-    path = os.path.join(options.folder, f"{options.seed}.{kind}")
-    with open(path, "w", encoding="ascii", newline="\n") as to:
-        to.write(text)
-    return path
-
-
-def _name_killed(options, runs):
-    """Names the texts that killed runs of an earlier search have left: they lack the last line."""
-    for seed in range(options.seed, options.seed + runs):
-        path, killed = (os.path.join(options.folder, f"{seed}.{kind}") for kind in ("pending", "killed"))
-        try:
-            with open(path, "rb") as file:
-                last = file.read().splitlines(keepends=True)[-1:]
-            if not last or not (last[0].startswith(b"end ") and last[0].endswith(b"\n")):
-                os.replace(path, killed)
-                _say(f"seed {seed} was killed in an earlier search")
-                _tell_judge(options, "complete --cut", killed)
-        except FileNotFoundError:
-            pass
-
-
-def _program(options):
-    return options.program or os.environ.get("FIFOBENCH") or "fifobench"
-
-
-def _is_found(options):
-    """Whether the program can be started; if it can't, a line says so."""
-    try:
-        subprocess.run([_program(options), "help"], stdout=subprocess.DEVNULL, stderr=subprocess.DEVNULL, check=False)
-        return True
-    except OSError:
-        _say(f"no program {_program(options)}: nothing is judged, and each history is kept in {options.folder}")
-        return False
-
-
-def _ask(options, command, text):
-    """Returns what the program writes about this text, and its status."""
-    told = subprocess.run([_program(options), command], input=text.encode("ascii"), stdout=subprocess.PIPE,
-                          stderr=subprocess.DEVNULL, check=False)
-    return told.stdout.decode("ascii", "replace"), told.returncode
-
-
-def _tell_plan(options):
-    seed, pattern = options.seed, options.pattern_of(options.seed)
-    print(f"  again:   seed {seed}, pattern {pattern}: the same plan, though threads may meet in another way")
-
-
-def _tell_judge(options, command, path):
-    program = _program(options)
-    print(f"  judge:   {program} {command} < {path} | {program} check", file=sys.stderr, flush=True)
-
-
-def _judge(options, text, tell_again=None, why=""):
-    """Judges a history, and says of a violation where it is kept. `why` follows the verdict."""
-    verdict, status = _ask(options, "check", text)
-    if status == 0:
-        return Answer.NO_VIOLATION
-    kept = _keep(options, "history", text)
-    first_line = (verdict.splitlines() or [""])[0]
-    if status != 1:
-        _say(f"{_program(options)} says '{first_line}' of {kept}")
-        return Answer.WRONG
-    report = _keep(options, "report", _ask(options, "shrink", text)[0])
-    print(f"{first_line}: seed {options.seed}, {options.pattern_of(options.seed)}{why}")
-    print(f"  history: {kept}")
-    print(f"  report:  {report}")
-    print(f"  see it:  {_program(options)} draw --text < {report}")
-    if tell_again is None:
-        _tell_plan(options)
-    else:
-        tell_again(first_line)
-    sys.stdout.flush()
-    return Answer.VIOLATION
-
-
-_FAULTS = {"exception": "If the queue promises not to raise, the exception itself is the fault.",
-           **{ending: f"If the queue promises to return, the {ending} itself is the fault."
-              for ending in ("hang", "deadlock", "livelock")}}
-
-
-def _judge_pending(options, history, pending, tell_again):
-    """Judges the completion of a pending text, or prints the command that does."""
-    try:
-        completed, status = _ask(options, "complete", history.text())
-    except OSError:
-        _tell_judge(options, "complete", pending)
-        return Answer.WRONG
-    if status == 0:
-        answer = _judge(options, completed, tell_again, ": the queue is wrong, whatever the pending calls do")
-        if answer == Answer.NO_VIOLATION:
-            is_drawn = max(len(history.operations()), len(history._initial)) <= MAX_DRAWN
-            program = _program(options)
-            see = f"{program} draw --text < {pending}" if is_drawn else f"tail -n 40 < {pending}"
-            print(f"YES: a right queue can have behaved so until then. {_FAULTS[history.ending]}\n"
-                  f"  see it:  {see}", file=sys.stderr, flush=True)
-            if tell_again is not None:
-                tell_again(history.ending)
-        return Answer.VIOLATION if answer == Answer.VIOLATION else Answer.WRONG
-    if completed.startswith("REFUSED "):
-        _say(f"{_program(options)} says '{completed.splitlines()[0]}' of {pending}")
-    else:
-        _say(f"{_program(options)} has no command complete, which a later version has")
-    _tell_judge(options, "complete", pending)
-    return Answer.WRONG

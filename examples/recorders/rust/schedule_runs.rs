@@ -22,6 +22,7 @@
 //! `FIFOBENCH_SEED=17 cargo test ..` begins with that seed, whose run it makes again. A link without schedule.o fails,
 //! and names functions of the form `fifobench_schedule_..` or `__tsan_..`: they are those of schedule.c.
 
+use super::judge::program;
 use super::{make_steps, told_panic, Answer, Options, Queue, Run, Start, Steps};
 use std::ffi::{c_char, c_int, c_uint, c_void, CStr, CString};
 use std::panic::{self, AssertUnwindSafe};
@@ -149,7 +150,7 @@ pub(super) fn search<Q: Queue>(options: &Options, make_queue: impl Fn() -> Q) ->
         (!history.failures.is_empty()).then(|| history.failures.join("; "))
     };
     let context = Context { run: &run, options };
-    let [program, folder] = [&super::program(options), &options.folder].map(|path| text(&path.to_string_lossy()));
+    let [program, folder] = [&program(options), &options.folder].map(|path| text(&path.to_string_lossy()));
     let is_set = options.operations != Options::default().operations;
     let raw = RawSearch {
         program: program.as_ptr(),

@@ -253,6 +253,20 @@ static void tell_again(const struct searching *of, uint64_t seed, const struct o
             is_equal ? "replays this very run" : "makes the same plan, though the run may be another");
 }
 
+// Prints the second command of `see it:`, which draws the violation with what runs beside it: the report leaves that
+// out. `draw` refuses more than 400 operations; then there is none.
+static void tell_drawn_in(const char *program, const char *history)
+{
+    static const char *const commands[] = {"draw --text --around 20", "draw --text"};
+    int place = 0;
+    while (place < 2 && ask(program, commands[place], history, "/dev/null") != 0) {
+        place++;
+    }
+    if (place < 2) {
+        printf("           %s %s < %s\n", program, commands[place], history);
+    }
+}
+
 // `why` stands after the verdict.
 static int tell_violation(const struct searching *of, uint64_t seed, const struct outcome *outcome, const char *verdict,
                           const char *why, const char *history, const char *report)
@@ -265,6 +279,7 @@ static int tell_violation(const struct searching *of, uint64_t seed, const struc
     }
     printf("with chosen schedules%s\n  history: %s\n  report:  %s\n", why, history, report);
     printf("  see it:  %s draw --text < %s\n", of->program, report);
+    tell_drawn_in(of->program, history);
     tell_again(of, seed, outcome, stdout);
     if (status != 1) {
         fprintf(stderr, "fifobench: '%s' can't shrink %s\n", of->program, history);
