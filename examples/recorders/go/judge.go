@@ -17,6 +17,75 @@ import (
 
 const maxDrawn = 400 // operations or initial values in a picture
 
+// What the runs of a search have shown: of each seed the last one that was made.
+type found struct {
+	isJudged              bool
+	events, overlapping   int
+	withoutOverlap, again uint64
+}
+
+// Gives the answer to the run of a seed. Threads that haven't met have shown little, so a run without overlap is made
+// again: three times, and in a search no more often than it has runs.
+func (found *found) answer(options *Options, makeQueue func() Queue) (Answer, error) {
+	for left := 3; ; left-- {
+		history, err := Run(*options, makeQueue())
+		if err != nil {
+			return Wrong, err
+		}
+		answer, err := options.answer(history, found.isJudged)
+		overlapping, isLast := history.overlapping(), options.Threads == 1 || left == 0 || found.again == options.Runs
+		if err != nil || answer != NoViolation || overlapping > 0 || isLast {
+			found.events += len(history.events)
+			found.overlapping += overlapping
+			if overlapping == 0 {
+				found.withoutOverlap++
+			}
+			return answer, err
+		}
+		found.again++
+	}
+}
+
+func (found *found) told() string {
+	share := 0
+	if found.events > 0 {
+		share = 200 * found.overlapping / found.events // an operation has two events
+	}
+	return fmt.Sprintf("; %d of 100 operations overlap another; runs without overlap: %d", share, found.withoutOverlap)
+}
+
+// Says that no run is a violation, and what else there is to say.
+func (options *Options) tellNone(isJudged bool, more string) Answer {
+	told, answer := "no violation in", NoViolation
+	if !isJudged {
+		told, answer = "nothing judged in", Wrong
+	}
+	last := options.Seed + options.Runs - 1
+	fmt.Printf("%s %d runs (seeds %d to %d)%s\n", told, options.Runs, options.Seed, last, more)
+	return answer
+}
+
+func (options *Options) tellKept(answer Answer, isJudged bool, made uint64, events int) {
+	if options.Keep && isJudged && answer != Wrong {
+		fmt.Printf("  kept:    %d judged runs with %d events in %s\n", made, events, options.Folder)
+	}
+}
+
+func (options *Options) answer(history *History, isJudged bool) (Answer, error) {
+	if history.IsGivenUp() {
+		return history.answer, nil
+	}
+	if len(history.failures) > 0 {
+		return history.endEarly(options), nil
+	}
+	if !isJudged || options.Keep {
+		if _, err := options.keep("history", history.text()); err != nil || !isJudged {
+			return NoViolation, err
+		}
+	}
+	return options.judge(history.text(), "")
+}
+
 func (options *Options) program() string {
 	if options.Program != "" {
 		return options.Program

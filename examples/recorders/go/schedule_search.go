@@ -43,7 +43,7 @@ func RunScheduled(options Options, makeQueue func() Queue) (*History, error) {
 	if err != nil {
 		return nil, err
 	}
-	settings.Operations = options.Operations
+	settings.Operations = options.OperationsOf(options.Seed)
 	made, err := (&searching{options, settings, makeQueue}).make(options.Seed, variant{})
 	if err != nil {
 		return nil, err

@@ -12,6 +12,7 @@ import java.util.ArrayDeque;
 import java.util.ArrayList;
 import java.util.Deque;
 import java.util.List;
+import java.util.concurrent.Callable;
 import java.util.function.Consumer;
 
 /**
@@ -98,6 +99,41 @@ final class RecorderJudge {
             keep(history.seed, "history", history.text());
         }
         return isJudged ? judge(history.seed, history.text(), "") : Recorder.Answer.NO_VIOLATION;
+    }
+
+    /** What the runs of a search have shown: of each seed the last one that was made. */
+    final class Found {
+        final boolean isJudged = isFound();
+        private final long runs;
+        long events;
+        private long overlapping, withoutOverlap, again;
+
+        Found(long runs) {
+            this.runs = runs;
+        }
+
+        /**
+         * Returns the answer to the run of a seed. Threads that haven't met have shown little, so a run without overlap
+         * is made again: three times, and in a search no more often than it has runs.
+         */
+        Recorder.Answer answer(Callable<Recorder.History> run) throws Exception {
+            for (int left = recorder.threads == 1 ? 0 : 3;; left--, again++) {
+                Recorder.History history = run.call();
+                Recorder.Answer answer = RecorderJudge.this.answer(history, isJudged);
+                long met = history.overlapping();
+                if (answer != Recorder.Answer.NO_VIOLATION || met > 0 || left == 0 || again == runs) {
+                    events += history.events.size();
+                    overlapping += met;
+                    withoutOverlap += met == 0 ? 1 : 0;
+                    return answer;
+                }
+            }
+        }
+
+        String told() {
+            long share = events == 0 ? 0 : 200 * overlapping / events;    // an operation has two events
+            return "; " + share + " of 100 operations overlap another; runs without overlap: " + withoutOverlap;
+        }
     }
 
     // Says that no run is a violation, and what else there is to say.

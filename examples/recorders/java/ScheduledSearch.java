@@ -81,7 +81,7 @@ final class ScheduledSearch {
         Schedule.Drawn drawn = schedule.draw(seed, operations);
         recorder.operations = drawn.operations();
         Recorder.Queue queue = makeQueue.get();
-        Recorder.Run run = recorder.new Run(seed, recorder.initial);
+        Recorder.Run run = recorder.new Run(seed);
         for (long value : run.initials) {
             if (!queue.preload(value)) {
                 throw new IllegalStateException("no room for the initial value " + Long.toUnsignedString(value));

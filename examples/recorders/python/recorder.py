@@ -63,7 +63,7 @@ class Options:
     """The settings of a run and of a search."""
 
     threads: int = 4    # 1 to 64
-    operations: int = 500    # of each thread
+    operations: int = 0    # of each thread; 0: by the seed, 500, 100 or 2,500
     # alternate: enqueue, dequeue, ..; mix: by chance; bursts: 1 to 32 enqueues and then as many dequeues; roles: those
     # of even number enqueue and the others dequeue. None: the four take turns by seed.
     pattern: str = None
@@ -89,6 +89,22 @@ class Options:
         """The pattern of a seed."""
         return self.pattern or ("roles" if self.producers else PATTERNS[(seed + 3) % 4])
 
+    def operations_of(self, seed):
+        """The number of operations of each thread for a seed.
+
+        Unless it is set, seeds 1 to 4 have 500, 5 to 8 have 100, 9 to 12 have 500, and 13 to 16 have 2,500, which let a
+        ring of 1,024 places go round; and so on.
+        """
+        return self.operations or (2_500, 500, 100, 500)[(seed + 3) // 4 % 4]
+
+    def of_run(self, seed):
+        """The settings of the run of a seed."""
+        return dataclasses.replace(self, seed=seed, operations=self.operations_of(seed))
+
+    def initial_values(self):
+        """The values that the queue holds first. Before a loop of your own you put them in, in this order."""
+        return [self.value_of(MAX_THREADS, place) for place in range(self.initial)]
+
     def value_of(self, thread, n):
         """The value of operation n of a thread, and initial value n with the thread 64."""
         return self.value(thread, n) if self.value else (thread << 32) + n
@@ -97,12 +113,14 @@ class Options:
         """Raises ValueError if a setting is out of its range."""
         if not 1 <= self.threads <= MAX_THREADS:
             raise ValueError(f"1 to {MAX_THREADS} threads")
-        if not 0 <= self.threads * self.operations <= MAX_OPERATIONS:
-            raise ValueError(f"0 to {MAX_OPERATIONS} operations of all threads")
+        if self.operations < 0 or self.threads * self.operations_of(self.seed) > MAX_OPERATIONS:
+            raise ValueError(f"at most {MAX_OPERATIONS} operations of all threads")
         if not 0 <= self.producers < self.threads or self.producers and self.pattern_of(0) != "roles":
             raise ValueError("fewer producers than threads, with the pattern roles")
+        if not 0 <= self.percent <= 100:
+            raise ValueError("at most 100 percent are enqueues")
         if not 0 <= self.initial <= MAX_INITIAL:
-            raise ValueError(f"0 to {MAX_INITIAL} initial values")
+            raise ValueError(f"at most {MAX_INITIAL} initial values")
         if self.pattern is not None and self.pattern not in PATTERNS:
             raise ValueError(f'no pattern "{self.pattern}": alternate, mix, bursts or roles')
 
@@ -173,10 +191,23 @@ class Thread:
         return is_skipped
 
 
+@contextlib.contextmanager
+def _on_a_core(number):
+    """Keeps the calling thread on one core, on Linux: thread 0 on the first that it may run on, and so on."""
+    before = os.sched_getaffinity(0) if hasattr(os, "sched_setaffinity") else ()
+    if len(before) > 1:
+        os.sched_setaffinity(0, {sorted(before)[number % len(before)]})
+    try:
+        yield
+    finally:
+        if len(before) > 1:
+            os.sched_setaffinity(0, before)
+
+
 class _Start:
     """The common start: threads wait, for a bounded time, until all are there and two are seen to run at once.
 
-    Under the interpreter's lock these are two that take turns within a few looks.
+    Each waits on a core of its own; then all begin, on any core. Under the interpreter's lock these are two that take turns within a few looks.
     """
 
     LOOKS = 200
@@ -346,7 +377,8 @@ class _Run:
                 self.scheduler.enter(thread)
             getattr(queue, "enter", _nothing)(thread.number)
             if self.scheduler is None:
-                self.start.meet(thread.number)
+                with _on_a_core(thread.number):
+                    self.start.meet(thread.number)
             work(thread)
             self.ended.add(thread.number)
             if queue and thread.number == 0 and self.options.drain and self._have_all_ended():
@@ -436,18 +468,23 @@ class _Run:
         for _ in range(min(left + 1, room)):
             if self.threads[0].dequeue(queue.dequeue) is None:
                 return
-        if room > left and (self.scheduler is None or not self.scheduler.is_again):
-            _judge.say(f"seed {self.options.seed}: the queue gave more values than went in")
+        told = "the queue gave more values than went in"
+        if room <= left:
+            told = f"a history has at most {MAX_EVENTS} events, and the drain stopped there"
+        if self.scheduler is None or not self.scheduler.is_again:
+            _judge.say(f"seed {self.options.seed}: {told}")
 
 
 def record(threads, operations, work, **settings):
     """Runs `work(thread)` in each of the threads, which begin together, and gives what they recorded.
 
-    There is no drain, no initial value, no pattern and no chosen schedule. `settings` are those of Options. If a call
-    raises an exception, its thread ends and the others go on; if the run hangs, what there is is kept in the folder,
-    and the threads that hang are left. In both cases the history has failures.
+    There is no drain, no pattern and no chosen schedule. `settings` are those of Options; with initial values the
+    history says that the queue holds `Options.initial_values` first: put them in before. If a call raises an exception,
+    its thread ends and the others go on; if the run hangs, what there is is kept in the folder, and the threads that
+    hang are left. In both cases the history has failures.
     """
-    return _Run(Options(threads=threads, operations=operations, **settings), []).go(work, None)
+    options = Options(threads=threads, operations=operations, **settings)
+    return _Run(options, options.initial_values()).go(work, None)
 
 
 def run(options, queue):
@@ -462,7 +499,8 @@ def run(options, queue):
 
 
 def _run_with(options, queue, scheduler):
-    run_of = _Run(options, [options.value_of(MAX_THREADS, place) for place in range(options.initial)], scheduler)
+    options = options.of_run(options.seed)
+    run_of = _Run(options, options.initial_values(), scheduler)
     for value in run_of.initial:
         if getattr(queue, "preload", queue.enqueue)(value) is False:
             raise ValueError(f"the queue has no room for the initial value {value}")
@@ -535,26 +573,13 @@ def search(options, make_queue):
     if chosen is not None:
         return chosen.Search(sys.modules[__name__], options, make_queue).answer()
     options.check()
-    operations = overlapping = 0
-    is_judged = _judge.is_found(options)
-    runs = options.runs or 100
-    _judge.name_killed(options, runs)
-    for seed in range(options.seed, options.seed + runs):
-        of_run = dataclasses.replace(options, seed=seed)
-        history = run(of_run, make_queue())
-        try:
-            answer = _judge.answer(of_run, history, is_judged)
-        except OSError as error:
-            _judge.say(f"seed {seed}: {error}")
-            answer = Answer.WRONG
-        made, met = history.overlapping()
-        operations, overlapping = operations + made, overlapping + met
+    found = _judge.Found(options.runs or 100, _judge.is_found(options))
+    _judge.name_killed(options, found.runs)
+    for seed in range(options.seed, options.seed + found.runs):
+        answer = found.answer(options.of_run(seed), lambda of_run: run(of_run, make_queue()))
         if answer != Answer.NO_VIOLATION:
             break
     else:
-        share = 100 * overlapping // max(1, operations)
-        answer = _judge.tell_none(is_judged, options.seed, runs, f"; {share} of 100 operations overlap another")
-    _judge.tell_kept(options, answer, is_judged, seed + 1 - options.seed, 2 * operations)
+        answer = _judge.tell_none(found.is_judged, options.seed, found.runs, found.told())
+    _judge.tell_kept(options, answer, found.is_judged, seed + 1 - options.seed, 2 * found.operations)
     return answer
-
-

@@ -44,6 +44,45 @@ def end_early(options, history, tell_again=None):
         return Answer.WRONG
 
 
+class Found:
+    """What the runs of a search have shown: of each seed the last one that was made."""
+
+    def __init__(self, runs, is_judged):
+        self.runs = runs
+        self.is_judged = is_judged
+        self.operations = self.overlapping = self.without_overlap = self.again = 0
+
+    def answer(self, options, run):
+        """The answer to the run of a seed.
+
+        Threads that haven't met have shown little, so a run without overlap is made again: three times, and in a search
+        no more often than it has runs.
+        """
+        left = 3 if options.threads > 1 else 0
+        while True:
+            history = run(options)
+            given = self._answer(options, history)
+            operations, overlapping = history.overlapping()
+            if given != Answer.NO_VIOLATION or overlapping or not left or self.again == self.runs:
+                self.operations += operations
+                self.overlapping += overlapping
+                self.without_overlap += not overlapping
+                return given
+            left -= 1
+            self.again += 1
+
+    def _answer(self, options, history):
+        try:
+            return answer(options, history, self.is_judged)
+        except OSError as error:
+            say(f"seed {options.seed}: {error}")
+            return Answer.WRONG
+
+    def told(self):
+        share = 100 * self.overlapping // max(1, self.operations)
+        return f"; {share} of 100 operations overlap another; runs without overlap: {self.without_overlap}"
+
+
 def tell_none(is_judged, first, runs, more):
     """Says that no run is a violation, and what else there is to say."""
     told = "no violation" if is_judged else "nothing judged"

@@ -37,7 +37,7 @@ mod schedule;
 #[path = "recorder_crash.rs"]
 mod crash;
 
-use judge::{is_found, say, told_wrong};
+use judge::{say, told_wrong};
 use std::any::Any;
 use std::fmt::{self, Display};
 use std::io::{self, BufWriter, Write};
@@ -120,7 +120,7 @@ impl FromStr for Pattern {
 pub struct Options {
     /// 1 to 64.
     pub threads: usize,
-    /// Operations of each thread.
+    /// Operations of each thread; 0: by the seed, 500, 100 or 2,500.
     pub operations: usize,
     /// If there is none, the four take turns by seed.
     pub pattern: Option<Pattern>,
@@ -156,7 +156,7 @@ impl Default for Options {
     fn default() -> Options {
         Options {
             threads: 4,
-            operations: 500,
+            operations: 0,
             pattern: None,
             producers: 0,
             percent: 50,
@@ -182,12 +182,32 @@ impl Options {
         self.pattern.unwrap_or(if self.producers > 0 { Pattern::Roles } else { in_turn })
     }
 
+    /// The number of operations of each thread for this seed.
+    ///
+    /// Seeds 1 to 4 have 500, 5 to 8 have 100, 9 to 12 have 500, and 13 to 16 have 2,500, which let a ring of 1,024
+    /// places go round; and so on.
+    pub fn operations_of(&self, seed: u64) -> usize {
+        let of_seed = [2_500, 500, 100, 500][(seed.wrapping_add(3) / 4 % 4) as usize];
+        if self.operations == 0 { of_seed } else { self.operations }
+    }
+
+    /// The values that the queue holds first. Before a loop of your own you put them in, in this order.
+    pub fn initial_values(&self) -> Vec<u64> {
+        (0..self.initial as u64).map(|place| (self.value)(MAX_THREADS, place)).collect()
+    }
+
+    // The settings of the run of a seed.
+    fn of_run(&self, seed: u64) -> Options {
+        Options { seed, operations: self.operations_of(seed), ..self.clone() }
+    }
+
     fn check(&self) {
         assert!((1..=MAX_THREADS).contains(&self.threads), "1 to {MAX_THREADS} threads");
-        let is_met = self.threads.saturating_mul(self.operations) <= MAX_OPERATIONS;
+        let is_met = self.threads.saturating_mul(self.operations_of(self.seed)) <= MAX_OPERATIONS;
         assert!(is_met, "at most {MAX_OPERATIONS} operations of all threads");
         let has_roles = self.producers == 0 || self.pattern_of(0) == Pattern::Roles;
         assert!(self.producers < self.threads && has_roles, "fewer producers than threads, with the pattern roles");
+        assert!(self.percent <= 100, "at most 100 percent are enqueues");
         assert!(self.initial <= MAX_INITIAL, "at most {MAX_INITIAL} initial values");
         assert!(!self.journal || cfg!(fifobench_crash), "a journal needs --cfg fifobench_crash");
     }
@@ -366,7 +386,67 @@ impl Thread<'_> {
     }
 }
 
-// The common start: threads wait, for a bounded time, until all are there and two are seen to run at once.
+// The core of a thread, by a system call of Linux that the standard library doesn't have.
+#[cfg(all(target_os = "linux", target_arch = "x86_64"))]
+mod core {
+    use std::arch::asm;
+
+    // Cores as bits.
+    type Cores = [u8; 128];
+    const SET_AFFINITY: isize = 203;
+    const GET_AFFINITY: isize = 204;
+
+    // Sets or gets the cores on which the calling thread may run.
+    fn call(number: isize, cores: &mut Cores) -> isize {
+        let mut outcome = number;
+        // SAFETY: of memory the call touches the bytes of `cores` alone.
+        unsafe {
+            asm!("syscall", inlateout("rax") outcome, in("rdi") 0, in("rsi") cores.len(), in("rdx") cores.as_mut_ptr(),
+                 lateout("rcx") _, lateout("r11") _, options(nostack));
+        }
+        outcome
+    }
+
+    /// While it lives, its thread stays on one core: thread 0 on the first core that it may run on, and so on.
+    pub(super) struct Core(Option<Cores>);
+
+    impl Core {
+        pub(super) fn new(number: usize) -> Core {
+            let mut before = [0; 128];
+            let is_known = call(GET_AFFINITY, &mut before) > 0;
+            let cores: Vec<usize> = (0..1024).filter(|core| before[core / 8] >> (core % 8) & 1 == 1).collect();
+            if !is_known || cores.len() < 2 {
+                return Core(None);
+            }
+            let core = cores[number % cores.len()];
+            let mut one = [0; 128];
+            one[core / 8] = 1 << (core % 8);
+            Core((call(SET_AFFINITY, &mut one) == 0).then_some(before))
+        }
+    }
+
+    impl Drop for Core {
+        fn drop(&mut self) {
+            if let Some(before) = &mut self.0 {
+                call(SET_AFFINITY, before);
+            }
+        }
+    }
+}
+
+#[cfg(not(all(target_os = "linux", target_arch = "x86_64")))]
+mod core {
+    pub(super) struct Core;
+
+    impl Core {
+        pub(super) fn new(_number: usize) -> Core {
+            Core
+        }
+    }
+}
+
+// The common start: threads wait, each on a core of its own, for a bounded time, until all are there and two are seen
+// to run at once. Then all begin, on any core.
 struct Start {
     threads: usize,
     arrived: AtomicUsize,
@@ -381,6 +461,7 @@ impl Start {
     }
 
     fn meet(&self, number: usize) {
+        let _core = (!self.is_open.load(Ordering::SeqCst)).then(|| core::Core::new(number));
         self.arrived.fetch_add(1, Ordering::SeqCst);
         self.wait(Duration::from_secs(1), || self.arrived.load(Ordering::SeqCst) >= self.threads);
         self.wait(Duration::from_millis(100), || self.has_met(number));
@@ -491,23 +572,25 @@ pub fn record(threads: usize, operations: usize, work: impl Fn(&mut Thread) + Sy
     record_with(&Options { threads, operations, ..Options::default() }, work)
 }
 
-/// As [`record`], with more settings; there is no drain, no initial value and no pattern.
+/// As [`record`], with more settings; there is no drain and no pattern. With initial values the history says that the
+/// queue holds [`Options::initial_values`] first: put them in before.
 pub fn record_with(options: &Options, work: impl Fn(&mut Thread) + Sync) -> History {
     options.check();
-    let run = Run::new(options);
-    let failures = run_threads(&run, &[], &Steps { enter: &|_| (), work: &work, drain: &|_| (), leave: &|_| () });
-    History { events: run.events(), initial: Vec::new(), failures }
+    let (options, initial) = (options.of_run(options.seed), options.initial_values());
+    let run = Run::new(&options);
+    let failures = run_threads(&run, &initial, &Steps { enter: &|_| (), work: &work, drain: &|_| (), leave: &|_| () });
+    History { events: run.events(), initial, failures }
 }
 
 /// One run over this queue, by the pattern of the seed. Panics if a setting is out of its range, or if the queue has no
 /// room for an initial value.
 pub fn run(options: &Options, queue: &impl Queue) -> History {
     options.check();
-    let initial: Vec<u64> = (0..options.initial as u64).map(|place| (options.value)(MAX_THREADS, place)).collect();
+    let (options, initial) = (options.of_run(options.seed), options.initial_values());
     for (place, value) in initial.iter().enumerate() {
         assert!(queue.preload(*value), "the queue has no room for the initial value at place {place}");
     }
-    let run = Run::new(options);
+    let run = Run::new(&options);
     let steps = Steps {
         enter: &|number| queue.enter(number),
         work: &|thread| make_operations(thread, queue),
@@ -632,9 +715,14 @@ fn drain(thread: &mut Thread, queue: &impl Queue, initial: usize) {
             return;
         }
     }
+    let told = if room > left {
+        "the queue gave more values than went in"
+    } else {
+        "a history has at most 2000000 events, and the drain stopped there"
+    };
     // A chosen schedule is made again and again, and the verdict says it.
-    if room > left && !cfg!(fifobench_schedule) {
-        say(&format!("fifobench: seed {}: the queue gave more values than went in", thread.run.options.seed));
+    if !cfg!(fifobench_schedule) {
+        say(&format!("fifobench: seed {}: {told}", thread.run.options.seed));
     }
 }
 
@@ -655,22 +743,5 @@ fn search_runs<Q: Queue>(options: &Options, make_queue: impl Fn() -> Q) -> Resul
     }
     #[cfg(fifobench_crash)]
     let _watched = crash::Search::new(options);
-    let (mut made, mut events, mut overlapping) = (0, 0, 0);
-    let (is_judged, mut answer) = (is_found(options), Answer::NoViolation);
-    while made < options.runs && answer == Answer::NoViolation {
-        let options = Options { seed: options.seed.wrapping_add(made), ..options.clone() };
-        let history = run(&options, &make_queue());
-        answer = history.answer(&options, is_judged)?;
-        (made, events, overlapping) = (made + 1, events + history.events.len(), overlapping + history.overlapping());
-    }
-    if answer == Answer::NoViolation {
-        let share = (200 * overlapping).checked_div(events).unwrap_or(0); // an operation has two events
-        let outcome = if is_judged { "no violation in" } else { "nothing judged in" };
-        let (first, last) = (options.seed, options.seed.wrapping_add(made).wrapping_sub(1));
-        println!("{outcome} {made} runs (seeds {first} to {last}); {share} of 100 operations overlap another");
-    }
-    if options.keep && is_judged && answer != Answer::Wrong {
-        println!("  kept:    {made} judged runs with {events} events in {}", options.folder.display());
-    }
-    Ok(if is_judged || answer != Answer::NoViolation { answer } else { Answer::Wrong })
+    judge::search(options, &|options: &Options| run(options, &make_queue()))
 }

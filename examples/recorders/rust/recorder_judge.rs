@@ -8,6 +8,59 @@ use std::io::{self, Write};
 use std::path::{Path, PathBuf};
 use std::process::{Command, Stdio};
 
+/// Makes runs from the first seed on, and judges each, until one is a violation.
+pub(super) fn search(options: &Options, run: &dyn Fn(&Options) -> History) -> Result<Answer, String> {
+    let mut search = Search { is_judged: is_found(options), ..Search::default() };
+    let (mut made, mut answer) = (0, Answer::NoViolation);
+    while made < options.runs && answer == Answer::NoViolation {
+        let options = options.of_run(options.seed.wrapping_add(made));
+        answer = search.answer(&options, run)?;
+        made += 1;
+    }
+    let Search { is_judged, events, overlapping, without_overlap, .. } = search;
+    if answer == Answer::NoViolation {
+        let share = (200 * overlapping).checked_div(events).unwrap_or(0); // an operation has two events
+        let outcome = if is_judged { "no violation in" } else { "nothing judged in" };
+        let (first, last) = (options.seed, options.seed.wrapping_add(made).wrapping_sub(1));
+        let told = format!("{share} of 100 operations overlap another; runs without overlap: {without_overlap}");
+        println!("{outcome} {made} runs (seeds {first} to {last}); {told}");
+    }
+    if options.keep && is_judged && answer != Answer::Wrong {
+        println!("  kept:    {made} judged runs with {events} events in {}", options.folder.display());
+    }
+    Ok(if is_judged || answer != Answer::NoViolation { answer } else { Answer::Wrong })
+}
+
+// What the runs of a search have shown: of each seed the last one that was made.
+#[derive(Default)]
+struct Search {
+    is_judged: bool,
+    events: usize,
+    overlapping: usize,
+    without_overlap: u64,
+    again: u64,
+}
+
+impl Search {
+    // The answer to the run of a seed. Threads that haven't met have shown little, so a run without overlap is made
+    // again: three times, and in a search no more often than it has runs.
+    fn answer(&mut self, options: &Options, run: &dyn Fn(&Options) -> History) -> Result<Answer, String> {
+        let mut left = if options.threads > 1 { 3 } else { 0 };
+        loop {
+            let history = run(options);
+            let (answer, overlapping) = (history.answer(options, self.is_judged)?, history.overlapping());
+            if answer != Answer::NoViolation || overlapping > 0 || left == 0 || self.again == options.runs {
+                self.events += history.events.len();
+                self.overlapping += overlapping;
+                self.without_overlap += u64::from(overlapping == 0);
+                return Ok(answer);
+            }
+            left -= 1;
+            self.again += 1;
+        }
+    }
+}
+
 impl History {
     // The answer of a search to this run.
     pub(super) fn answer(&self, options: &Options, is_judged: bool) -> Result<Answer, String> {
@@ -63,7 +116,7 @@ pub(super) fn program(options: &Options) -> PathBuf {
 }
 
 // Whether the program can be started; if it can't, a line says so.
-pub(super) fn is_found(options: &Options) -> bool {
+fn is_found(options: &Options) -> bool {
     let program = program(options);
     let is_found = Command::new(&program).arg("help").stdout(Stdio::null()).stderr(Stdio::null()).status().is_ok();
     if !is_found {

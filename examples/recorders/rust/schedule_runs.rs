@@ -151,14 +151,13 @@ pub(super) fn search<Q: Queue>(options: &Options, make_queue: impl Fn() -> Q) ->
     };
     let context = Context { run: &run, options };
     let [program, folder] = [&program(options), &options.folder].map(|path| text(&path.to_string_lossy()));
-    let is_set = options.operations != Options::default().operations;
     let raw = RawSearch {
         program: program.as_ptr(),
         folder: folder.as_ptr(),
         seed: options.seed,
         runs: options.runs as c_uint,
         threads: options.threads as c_uint,
-        operations: if is_set { options.operations } else { 0 },
+        operations: options.operations,
         seconds: options.timeout.as_secs() as c_uint,
         keep: c_int::from(options.keep),
         run: make_run,
