@@ -715,10 +715,12 @@ static inline int recorder_search_one(const struct recorder_settings *one, const
     struct recorder *recorder = queue != NULL ? recorder_play(one, calls, queue) : NULL;
     int answer = 2;
     if (recorder == NULL) {
+        recorder_erase_progress();
         fputs(queue == NULL ? "fifobench: there is no queue\n" : "fifobench: there is no run\n", stderr);
     } else {
         *sums = recorder_sum_up(recorder);
         if (recorder->drained != NULL) {
+            recorder_erase_progress();
             fprintf(stderr, "fifobench: seed %" PRIu64 ": %s\n", one->seed, recorder->drained);
         }
         recorder_path(one, "history", path);
@@ -771,10 +773,13 @@ static inline int recorder_search(const struct recorder_settings *settings, cons
     }
     one.runs = settings->runs != 0 ? settings->runs : 100;
     RECORDER_CRASH(watch(&one));
+    double next = recorder_seconds() + 2;
     for (; made < one.runs && answer == 0; made++, one.seed++) {
+        recorder_show_progress(made, one.runs - made, &next);
         answer = recorder_search_seed(&one, calls, judges, &of);
     }
     RECORDER_CRASH(unwatch());
+    recorder_erase_progress();
     if (answer == 0) {
         remove(one.folder); // if it is empty
         printf("%s in %u runs (seeds %" PRIu64 " to %" PRIu64 "); %zu of 100 operations overlap another; runs without "

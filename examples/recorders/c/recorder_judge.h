@@ -4,6 +4,29 @@
 #define FIFOBENCH_RECORDER_JUDGE_H
 
 #include "recorder.h"
+#include <unistd.h>
+
+// How far a search is, on a terminal: from two seconds on, until something else is printed.
+static atomic_bool recorder_progress_is_shown;
+
+static inline void recorder_erase_progress(void)
+{
+    if (atomic_exchange(&recorder_progress_is_shown, false)) {
+        fputs("\r\033[K", stderr);
+        fflush(stderr);
+    }
+}
+
+// `next` is the time in seconds at which it is shown again.
+static inline void recorder_show_progress(unsigned done, unsigned left, double *next)
+{
+    if (isatty(2) && recorder_seconds() >= *next) {
+        *next = recorder_seconds() + 0.2;
+        atomic_store(&recorder_progress_is_shown, true);
+        fprintf(stderr, "\rfifobench: %u runs done, %u left, 0 found\033[K", done, left);
+        fflush(stderr);
+    }
+}
 
 // Writes FOLDER/SEED.KIND.
 static inline void recorder_path(const struct recorder_settings *one, const char *kind, char path[RECORDER_PATH_BYTES])
@@ -89,6 +112,7 @@ static inline int recorder_judge_file(const struct recorder_settings *one, const
         remove(report);
         return 0;
     }
+    recorder_erase_progress();
     if (status != 1 || strncmp(verdict, "NO ", 3) != 0) {
         fprintf(stderr, "fifobench: %s says '%s' of %s\n", program, verdict, history);
         return 2;
@@ -139,6 +163,7 @@ static inline int recorder_end_early(const struct recorder *recorder, const char
     struct recorder_sums sums = recorder_sum_up(recorder);
     char path[RECORDER_PATH_BYTES];
     const char *between = "; ";
+    recorder_erase_progress();
     fprintf(stderr, "fifobench: seed %" PRIu64 ": %s", recorder->settings.seed, how);
     for (unsigned number = 0; number < recorder->threads; number++) {
         if (sums.open[number] != NULL) {

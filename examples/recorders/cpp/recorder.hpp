@@ -658,10 +658,13 @@ public:
                       << "': nothing is judged; the histories are kept in " << settings_.folder << std::endl;
         }
         const Watch watch(settings_, runs_);
+        Progress progress;
         int answer = 0;
         for (; made_ < runs_ && answer == 0; ++made_) {
+            progress.show(made_, runs_ - made_);
             answer = answer_of(made_);
         }
+        Progress::erase();
         if (answer == 0) {
             tell_none();
         }

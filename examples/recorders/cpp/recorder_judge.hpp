@@ -5,7 +5,48 @@
 
 #include "recorder.hpp"
 
+#if __has_include(<unistd.h>)
+#include <unistd.h>
+#endif
+
 namespace fifobench::detail {
+
+// How far a search is, on a terminal: from two seconds on, until something else is printed.
+class Progress {
+public:
+    ~Progress() { erase(); }
+
+    void show(unsigned done, unsigned left) {
+        const auto now = std::chrono::steady_clock::now();
+        if (is_terminal() && now >= next_) {
+            next_ = now + std::chrono::milliseconds(200);
+            is_shown() = true;
+            std::cerr << "\rfifobench: " << done << " runs done, " << left << " left, 0 found\033[K" << std::flush;
+        }
+    }
+
+    static void erase() {
+        if (is_shown().exchange(false)) {
+            std::cerr << "\r\033[K" << std::flush;
+        }
+    }
+
+private:
+    static std::atomic<bool>& is_shown() {
+        static std::atomic<bool> is_shown{false};
+        return is_shown;
+    }
+
+    static bool is_terminal() {
+#if __has_include(<unistd.h>)
+        return isatty(2) != 0;
+#else
+        return false;
+#endif
+    }
+
+    std::chrono::steady_clock::time_point next_ = std::chrono::steady_clock::now() + std::chrono::seconds(2);
+};
 
 // The program, and the files of a run that it judges.
 class Judge {
@@ -39,6 +80,7 @@ public:
             return end_early(history, history.notes().front(), fault);
         }
         for (const std::string& sentence : history.notes()) {
+            Progress::erase();
             std::cerr << "fifobench: seed " << settings_.seed << ": " << sentence << std::endl;
         }
         keep(history, ".history");
@@ -54,6 +96,7 @@ public:
             std::filesystem::remove(report);
             return 0;
         }
+        Progress::erase();
         if (status != 1 || verdict.rfind("NO ", 0) != 0) {
             std::cerr << "fifobench: " << program_ << " says '" << verdict << "' of " << history << std::endl;
             return 2;
@@ -81,6 +124,7 @@ public:
 
     // Keeps what there is of a run that ends early, says how it ended, and judges it: 1 or 2. The fault follows YES.
     int end_early(const History& history, const std::string& how, const std::string& fault) const {
+        Progress::erase();
         std::cerr << "fifobench: seed " << settings_.seed << ": " << how << "; " << history.told_open() << std::endl;
         const std::string pending = keep(history, ".pending");
         std::cerr << "  pending: " << pending << std::endl;

@@ -12,10 +12,38 @@ import (
 	"os/exec"
 	"path/filepath"
 	"strings"
+	"sync/atomic"
 	"time"
 )
 
 const maxDrawn = 400 // operations or initial values in a picture
+
+// How far a search is, on a terminal: from two seconds on, until something else is printed.
+type progress struct {
+	next time.Time
+}
+
+var progressIsShown atomic.Bool
+
+func newProgress() *progress {
+	return &progress{next: time.Now().Add(2 * time.Second)}
+}
+
+func (progress *progress) show(done, left uint64) {
+	info, err := os.Stderr.Stat()
+	isTerminal := err == nil && info.Mode()&os.ModeCharDevice != 0
+	if isTerminal && time.Now().After(progress.next) {
+		progress.next = time.Now().Add(200 * time.Millisecond)
+		progressIsShown.Store(true)
+		fmt.Fprintf(os.Stderr, "\rfifobench: %d runs done, %d left, 0 found\033[K", done, left)
+	}
+}
+
+func eraseProgress() {
+	if progressIsShown.Swap(false) {
+		fmt.Fprint(os.Stderr, "\r\033[K")
+	}
+}
 
 // What the runs of a search have shown: of each seed the last one that was made.
 type found struct {
@@ -56,6 +84,7 @@ func (found *found) told() string {
 
 // Says that no run is a violation, and what else there is to say.
 func (options *Options) tellNone(isJudged bool, more string) Answer {
+	eraseProgress()
 	told, answer := "no violation in", NoViolation
 	if !isJudged {
 		told, answer = "nothing judged in", Wrong
@@ -146,6 +175,7 @@ func (options *Options) judge(text []byte, why string) (Answer, error) {
 		return Wrong, err
 	}
 	seed, pattern := options.Seed, options.PatternOf(options.Seed)
+	eraseProgress()
 	fmt.Printf("%s: seed %d, %s%s\n", firstLine(verdict), seed, pattern, why)
 	fmt.Printf("  history: %s\n  report:  %s\n", kept, report)
 	fmt.Printf("  see it:  %s draw --text < %s\n%s", options.program(), report, options.drawnIn(text, kept))

@@ -606,6 +606,7 @@ func (run *run) drain(queue Queue) {
 }
 
 func say(format string, words ...any) {
+	eraseProgress()
 	fmt.Fprintf(os.Stderr, "fifobench: "+format+"\n", words...)
 }
 
@@ -737,8 +738,9 @@ func search(options Options, makeQueue func() Queue) (Answer, error) {
 	}
 	options.nameKilled()
 	found := found{isJudged: options.isFound()}
-	made, answer := uint64(0), NoViolation
+	made, answer, progress := uint64(0), NoViolation, newProgress()
 	for ; made < options.Runs && answer == NoViolation; made++ {
+		progress.show(made, options.Runs-made)
 		ofRun := options.ofRun(options.Seed + made)
 		var err error
 		if answer, err = found.answer(&ofRun, makeQueue); err != nil {

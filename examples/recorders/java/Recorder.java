@@ -760,8 +760,10 @@ public final class Recorder implements AutoCloseable {
         RecorderJudge.Found found = judge.new Found(end - seed);
         Answer answer = Answer.NO_VIOLATION;
         judge.nameKilled(end);
+        RecorderJudge.Progress progress = new RecorderJudge.Progress();
         for (; ofRun < end && answer == Answer.NO_VIOLATION; ofRun++) {
             long of = ofRun;
+            progress.show(of - seed, end - of);
             answer = found.answer(() -> run(of, makeQueue.get()));
         }
         if (answer == Answer.NO_VIOLATION) {

@@ -13,6 +13,7 @@ import java.util.ArrayList;
 import java.util.Deque;
 import java.util.List;
 import java.util.concurrent.Callable;
+import java.util.concurrent.atomic.AtomicBoolean;
 import java.util.function.Consumer;
 
 /**
@@ -28,7 +29,40 @@ final class RecorderJudge {
         this.recorder = recorder;
     }
 
+    /** How far a search is, on a terminal: from two seconds on, until something else is printed. */
+    static final class Progress {
+        private static final AtomicBoolean IS_SHOWN = new AtomicBoolean();
+        private final boolean isTerminal = isTerminal();
+        private long next = System.nanoTime() + 2_000_000_000L;
+
+        // Standard error is one. Elsewhere than on Linux what can be asked is whether input and output are.
+        private static boolean isTerminal() {
+            try {
+                return Files.readSymbolicLink(Path.of("/proc/self/fd/2")).toString().matches("/dev/(pts/|tty).*");
+            } catch (IOException noLinux) {
+                return System.console() != null;
+            }
+        }
+
+        void show(long done, long left) {
+            if (isTerminal && System.nanoTime() - next >= 0) {
+                next = System.nanoTime() + 200_000_000;
+                IS_SHOWN.set(true);
+                System.err.print("\rfifobench: " + done + " runs done, " + left + " left, 0 found\033[K");
+                System.err.flush();
+            }
+        }
+
+        static void erase() {
+            if (IS_SHOWN.getAndSet(false)) {
+                System.err.print("\r\033[K");
+                System.err.flush();
+            }
+        }
+    }
+
     static void say(String line) {
+        Progress.erase();
         System.err.println("fifobench: " + line);
     }
 
@@ -138,6 +172,7 @@ final class RecorderJudge {
 
     // Says that no run is a violation, and what else there is to say.
     Recorder.Answer tellNone(boolean isJudged, long seed, long end, String more) {
+        Progress.erase();
         System.out.printf("%s %d runs (seeds %d to %d)%s%n", isJudged ? "no violation in" : "nothing judged in",
                 end - seed, seed, end - 1, more);
         return isJudged ? Recorder.Answer.NO_VIOLATION : Recorder.Answer.WRONG;
@@ -161,6 +196,7 @@ final class RecorderJudge {
         }
         Path report = keep(seed, "report", ask("shrink", text).text);
         Recorder.Pattern pattern = recorder.patternOf(seed);
+        Progress.erase();
         System.out.printf("%s: seed %d, %s%s%n  history: %s%n  report:  %s%n  see it:  %s draw --text < %s%n%s",
                 verdict.firstLine(), seed, pattern, why, kept, report, program(), report, drawnIn(text, kept));
         if (tellAgain != null) {

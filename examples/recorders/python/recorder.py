@@ -575,7 +575,9 @@ def search(options, make_queue):
     options.check()
     found = _judge.Found(options.runs or 100, _judge.is_found(options))
     _judge.name_killed(options, found.runs)
+    progress = _judge.Progress()
     for seed in range(options.seed, options.seed + found.runs):
+        progress.show(seed - options.seed, options.seed + found.runs - seed)
         answer = found.answer(options.of_run(seed), lambda of_run: run(of_run, make_queue()))
         if answer != Answer.NO_VIOLATION:
             break

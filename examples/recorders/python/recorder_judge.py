@@ -7,6 +7,7 @@ import enum
 import os
 import subprocess
 import sys
+import time
 
 MAX_DRAWN = 400    # operations or initial values in a picture
 
@@ -19,7 +20,29 @@ class Answer(enum.IntEnum):
     WRONG = 2    # no program, a refused history, a hang, an exception: what is wrong is said on standard error
 
 
+class Progress:
+    """How far a search is, on a terminal: from two seconds on, until something else is printed."""
+
+    is_shown = False
+
+    def __init__(self):
+        self.next = time.monotonic() + 2
+
+    def show(self, done, left):
+        if sys.stderr.isatty() and time.monotonic() >= self.next:
+            self.next = time.monotonic() + 0.2
+            Progress.is_shown = True
+            print(f"\rfifobench: {done} runs done, {left} left, 0 found\033[K", end="", file=sys.stderr, flush=True)
+
+    @staticmethod
+    def erase():
+        if Progress.is_shown:
+            Progress.is_shown = False
+            print("\r\033[K", end="", file=sys.stderr, flush=True)
+
+
 def say(line):
+    Progress.erase()
     print(f"fifobench: {line}", file=sys.stderr, flush=True)
 
 
@@ -85,6 +108,7 @@ class Found:
 
 def tell_none(is_judged, first, runs, more):
     """Says that no run is a violation, and what else there is to say."""
+    Progress.erase()
     told = "no violation" if is_judged else "nothing judged"
     print(f"{told} in {runs} runs (seeds {first} to {first + runs - 1}){more}", flush=True)
     return Answer.NO_VIOLATION if is_judged else Answer.WRONG
@@ -183,6 +207,7 @@ def judge_text(options, text, tell_again=None, why=""):
         say(f"{program_of(options)} says '{first_line}' of {kept}")
         return Answer.WRONG
     report = keep(options, "report", ask(options, "shrink", text)[0])
+    Progress.erase()
     print(f"{first_line}: seed {options.seed}, {options.pattern_of(options.seed)}{why}")
     print(f"  history: {kept}")
     print(f"  report:  {report}")

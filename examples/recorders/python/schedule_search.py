@@ -58,8 +58,10 @@ class Search:
         first = int(os.environ.get("FIFOBENCH_SEED") or options.seed)
         is_judged = recorder._judge.is_found(options)
         events = 0
+        progress = recorder._judge.Progress()
         with locks.Patches():
             for seed in range(first, first + runs):
+                progress.show(seed - first, first + runs - seed)
                 made = self.make(seed)
                 events += 2 * len(made.history.operations())
                 try:

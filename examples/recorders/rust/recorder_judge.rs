@@ -4,19 +4,24 @@
 use super::{Answer, Event, History, Options, CALL_ENQ};
 use std::env;
 use std::fs;
-use std::io::{self, Write};
+use std::io::{self, IsTerminal, Write};
 use std::path::{Path, PathBuf};
 use std::process::{Command, Stdio};
+use std::sync::atomic::{AtomicBool, Ordering};
+use std::time::{Duration, Instant};
 
 /// Makes runs from the first seed on, and judges each, until one is a violation.
 pub(super) fn search(options: &Options, run: &dyn Fn(&Options) -> History) -> Result<Answer, String> {
     let mut search = Search { is_judged: is_found(options), ..Search::default() };
     let (mut made, mut answer) = (0, Answer::NoViolation);
+    let mut progress = Progress::new();
     while made < options.runs && answer == Answer::NoViolation {
+        progress.show(made, options.runs - made);
         let options = options.of_run(options.seed.wrapping_add(made));
         answer = search.answer(&options, run)?;
         made += 1;
     }
+    Progress::erase();
     let Search { is_judged, events, overlapping, without_overlap, .. } = search;
     if answer == Answer::NoViolation {
         let share = (200 * overlapping).checked_div(events).unwrap_or(0); // an operation has two events
@@ -95,8 +100,36 @@ pub(super) fn keep(options: &Options, kind: &str, text: &[u8]) -> Result<PathBuf
     Ok(path)
 }
 
+// How far a search is, on a terminal: from two seconds on, until something else is printed.
+struct Progress {
+    next: Instant,
+}
+
+static PROGRESS_IS_SHOWN: AtomicBool = AtomicBool::new(false);
+
+impl Progress {
+    fn new() -> Progress {
+        Progress { next: Instant::now() + Duration::from_secs(2) }
+    }
+
+    fn show(&mut self, done: u64, left: u64) {
+        if io::stderr().is_terminal() && Instant::now() >= self.next {
+            self.next = Instant::now() + Duration::from_millis(200);
+            PROGRESS_IS_SHOWN.store(true, Ordering::SeqCst);
+            let _ = write!(io::stderr(), "\rfifobench: {done} runs done, {left} left, 0 found\x1b[K");
+        }
+    }
+
+    fn erase() {
+        if PROGRESS_IS_SHOWN.swap(false, Ordering::SeqCst) {
+            let _ = write!(io::stderr(), "\r\x1b[K");
+        }
+    }
+}
+
 // One line on standard error itself, which a test doesn't catch.
 pub(super) fn say(line: &str) {
+    Progress::erase();
     let _ = writeln!(io::stderr(), "{line}");
 }
 
@@ -164,6 +197,7 @@ fn judge(options: &Options, text: &[u8], why: &str) -> Result<Answer, String> {
     }
     let (report, _) = ask(options, "shrink", text).map_err(unasked)?;
     let report = keep(options, "report", report.as_bytes())?.display().to_string();
+    Progress::erase();
     // On standard output itself: the process may end before a test shows what it has caught.
     let told = format!("{verdict}: seed {seed}, {pattern}{why}\n  history: {history}\n  report:  {report}\n");
     let seen = format!("  see it:  {program} draw --text < {report}\n{}", drawn_in(options, text, &history));

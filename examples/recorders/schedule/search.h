@@ -17,6 +17,36 @@ static void count_overlap(struct searching *of)
     }
 }
 
+// How far a search is, on a terminal: from two seconds on, until something else is printed. `next` is the time in
+// seconds at which it is shown again.
+static bool progress_is_shown;
+
+static void erase_progress(void)
+{
+    if (progress_is_shown) {
+        progress_is_shown = false;
+        fprintf(stderr, "\r\033[K");
+        fflush(stderr);
+    }
+}
+
+static double seconds_now(void)
+{
+    struct timespec now;
+    clock_gettime(CLOCK_MONOTONIC, &now);
+    return (double)now.tv_sec + (double)now.tv_nsec / 1e9;
+}
+
+static void show_progress(unsigned done, unsigned left, double *next)
+{
+    if (isatty(2) && seconds_now() >= *next) {
+        *next = seconds_now() + 0.2;
+        progress_is_shown = true;
+        fprintf(stderr, "\rfifobench: %u runs done, %u left, 0 found\033[K", done, left);
+        fflush(stderr);
+    }
+}
+
 // Says of each thread where it is.
 static void tell_places(FILE *to)
 {
@@ -80,6 +110,7 @@ static struct early name_early(const struct outcome *outcome)
 static bool tell_early(const char *folder, uint64_t seed, const struct outcome *outcome, char path[MAX_PATH_BYTES])
 {
     const char *kind = name_early(outcome).kind;
+    erase_progress();
     fprintf(stderr, "fifobench: seed %" PRIu64 ": ", seed);
     if (outcome->has_failed) {
         fprintf(stderr, "%s\n", tape->failure);
@@ -273,6 +304,7 @@ static int tell_violation(const struct searching *of, uint64_t seed, const struc
 {
     const struct fifobench_search *settings = of->settings;
     int status = ask(of->program, "shrink", history, report);
+    erase_progress();
     printf("%s: seed %" PRIu64 ", ", verdict, seed);
     if (settings->pattern != NULL) {
         printf("%s, ", settings->pattern(settings->context, seed));
@@ -296,6 +328,7 @@ static void count_run(struct searching *of)
     count_overlap(of);
     if (tape->has_own_threads && !of->said_own_threads) {
         of->said_own_threads = true;
+        erase_progress();
         fprintf(stderr, "fifobench: the queue has threads of its own, which run free: a run may not be the same "
                         "twice\n");
     }
@@ -331,6 +364,7 @@ static int search_one(struct searching *of, uint64_t seed)
     name_file(report, folder, seed, "report");
     struct outcome outcome = make_run(of->settings, seed, NULL, 0);
     if (!outcome.is_wrong && outcome.ending == NOT_BEGUN && outcome.signal == 0 && !outcome.has_failed) {
+        erase_progress();
         fprintf(stderr, "fifobench: seed %" PRIu64 ": there is no run\n", seed);
         return 2;
     }
@@ -340,6 +374,7 @@ static int search_one(struct searching *of, uint64_t seed)
     count_run(of);
     judge(of, history, report, &outcome);
     if (outcome.is_wrong) {
+        erase_progress();
         fprintf(stderr, "fifobench: %s says '%s' of %s\n", of->program, outcome.verdict, history);
         return 2;
     }
@@ -405,9 +440,12 @@ int fifobench_search_runs(const struct fifobench_search *settings)
     }
     int answer = 0;
     unsigned made = 0;
+    double next = seconds_now() + 2;
     for (; made < runs && answer == 0; made++) {
+        show_progress(made, runs - made, &next);
         answer = search_one(&of, seed + made);
     }
+    erase_progress();
     rmdir(settings->folder); // if it is empty
     answer = answer == 0 ? tell_none(&of, seed, runs) : answer;
     if (settings->keep && of.judges && answer != 2) {
