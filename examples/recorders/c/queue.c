@@ -1,11 +1,11 @@
 // A good queue and some that are wrong on purpose, recorded and judged.
 //
 //     queue QUEUE [--runs R] [--threads T] [--producers N] [--ops N] [--pattern P] [--percent K] [--seed S]
-//                 [--folder F] [--keep 0|1] [--timeout SECONDS]
-//     queue QUEUE THREADS OPERATIONS [PATTERN [SEED]] > history
+//                 [--initial N] [--folder F] [--keep 0|1] [--timeout SECONDS]
+//     queue QUEUE THREADS OPERATIONS [PATTERN [SEED [INITIAL]]] > history
 //
 // The first makes runs until one shows a violation: status 0 none does, 1 one does, 2 something is wrong. The second
-// makes one run, and writes its history. A queue is good: a ring under a lock; wrong: every 4th value that is found
+// makes one run, and writes its history; without a pattern, or with `loop`, it is a loop of one's own. A queue is good: a ring under a lock; wrong: every 4th value that is found
 // is left in place; stack: the last value comes out first; early: it says empty too early; hang: a dequeue never
 // returns.
 #include "recorder.h"
@@ -149,9 +149,9 @@ static size_t place_of(const char *word, const char *const *words, size_t count)
 static bool set(struct recorder_settings *settings, const char *option, const char *word)
 {
     static const char *const options[] = {"--runs", "--threads", "--ops",       "--percent",
-                                          "--seed", "--timeout", "--producers", "--keep"};
-    static const uint64_t least[] = {1, 1, 0, 0, 0, 1, 0, 0};
-    static const uint64_t most[] = {1000000, 64, 1000000, 100, UINT32_MAX, 86400, 63, 1};
+                                          "--seed", "--timeout", "--producers", "--keep", "--initial"};
+    static const uint64_t least[] = {1, 1, 1, 0, 0, 1, 0, 0, 0};
+    static const uint64_t most[] = {1000000, 64, 1000000, 100, UINT32_MAX, 86400, 63, 1, RECORDER_MAX_INITIAL};
     uint64_t value = 0;
     if (strcmp(option, "--pattern") == 0) {
         return pattern(word, &settings->pattern);
@@ -160,8 +160,8 @@ static bool set(struct recorder_settings *settings, const char *option, const ch
         settings->folder = word;
         return true;
     }
-    size_t place = place_of(option, options, 8);
-    if (place == 8) {
+    size_t place = place_of(option, options, 9);
+    if (place == 9) {
         fprintf(stderr, "queue: no option '%s'\n", option);
         return false;
     }
@@ -176,7 +176,8 @@ static bool set(struct recorder_settings *settings, const char *option, const ch
     case 4: settings->seed = value; break;
     case 5: settings->timeout = (unsigned)value; break;
     case 6: settings->producers = (unsigned)value; break;
-    default: settings->keep = value == 1; break;
+    case 7: settings->keep = value == 1; break;
+    default: settings->initial = value; break;
     }
     return true;
 }
@@ -187,6 +188,9 @@ static int run_once(struct recorder_settings *settings, enum kind kind, bool has
     void *queue = fault == NULL ? make(&kind) : NULL;
     struct recorder *recorder = NULL;
     settings->drain = false;
+    for (size_t place = 0; queue != NULL && !has_pattern && place < settings->initial; place++) {
+        enqueue(queue, recorder_initial_value(settings, place));
+    }
     if (queue != NULL) {
         recorder = has_pattern ? recorder_play(settings, &calls, queue) : recorder_record(settings, work, queue);
     }
@@ -202,10 +206,11 @@ static int run_once(struct recorder_settings *settings, enum kind kind, bool has
 
 int main(int count, char **words)
 {
-    static const char *const place_options[] = {"--threads", "--ops", "--pattern", "--seed"};
+    static const char *const place_options[] = {"--threads", "--ops", "--pattern", "--seed", "--initial"};
     struct recorder_settings settings = recorder_defaults();
     size_t place = count > 1 ? place_of(words[1], kind_names, KINDS) : KINDS;
-    bool is_one = count >= 4 && count <= 6 && strncmp(words[2], "--", 2) != 0;
+    bool is_one = count >= 4 && count <= 7 && strncmp(words[2], "--", 2) != 0;
+    bool has_pattern = is_one && count > 4 && strcmp(words[4], "loop") != 0;
     enum kind kind = (enum kind)place;
     if (place == KINDS) {
         fprintf(stderr, "queue: no queue '%s': good, wrong, stack, early or hang\n", count > 1 ? words[1] : "");
@@ -213,12 +218,13 @@ int main(int count, char **words)
     }
     for (int at = 2; at < count; at += is_one ? 1 : 2) {
         const char *option = is_one ? place_options[at - 2] : words[at];
-        if (!set(&settings, option, is_one ? words[at] : words[at + 1])) {
+        bool is_loop = is_one && at == 4 && !has_pattern;
+        if (!is_loop && !set(&settings, option, is_one ? words[at] : words[at + 1])) {
             return 2;
         }
     }
     if (is_one) {
-        return run_once(&settings, kind, count > 4);
+        return run_once(&settings, kind, has_pattern);
     }
     struct recorder_queue mine = calls;
     mine.context = &kind;

@@ -1,5 +1,5 @@
 // Records what threads do with a FIFO queue, and has `fifobench check` judge it. C11 with atomics and POSIX threads,
-// this one file; link with -pthread.
+// this file and recorder_judge.h; link with -pthread.
 //
 //     static void *make(void *unused) { (void)unused; return my_queue_new(); }
 //     static bool enqueue(void *queue, uint64_t value) { return my_queue_push(queue, value); }     // false: full
@@ -43,8 +43,13 @@
 #include <sys/stat.h>
 #include <sys/wait.h>
 #include <time.h>
+#ifdef __linux__
+#include <sys/syscall.h>
+long syscall(long number, ...); // as in unistd.h, which has it unless strict C is asked for
+#endif
 
 enum { RECORDER_MAX_THREADS = 64, RECORDER_MAX_EVENTS = 2000000, RECORDER_MAX_INITIAL = 100000 };
+enum { RECORDER_MAX_BLOCKS = 20 };
 enum { RECORDER_PATH_BYTES = 4096, RECORDER_LINE_BYTES = 80, RECORDER_MAX_DRAWN = 400 };
 
 // Which operations a thread makes. Alternate: enqueue, dequeue, and so on. Mix: a percentage of enqueues, by the
@@ -56,7 +61,7 @@ static const char *const recorder_pattern_names[] = {"alternate", "mix", "bursts
 
 struct recorder_settings {
     unsigned threads;
-    size_t operations; // of each thread
+    size_t operations; // of each thread; 0: by the seed, 500, 100 or 2,500
     enum recorder_pattern pattern;
     unsigned producers;   // threads 0 to producers - 1 enqueue, the others dequeue; 0: the pattern says who does what
     unsigned percent;     // of enqueues in a mix
@@ -78,7 +83,7 @@ struct recorder_settings {
 static inline struct recorder_settings recorder_defaults(void)
 {
     return (struct recorder_settings){
-        .threads = 4, .operations = 500, .pattern = RECORDER_BY_SEED, .percent = 50, .seed = 1,
+        .threads = 4, .pattern = RECORDER_BY_SEED, .percent = 50, .seed = 1,
         .timeout = 30, .drain = true, .choose = true, .folder = "fifobench-runs"};
 }
 
@@ -112,8 +117,9 @@ struct recorder_thread {
     uint64_t asked;
     int64_t stay; // values that the queue took, less those that it gave
     atomic_size_t count;
-    size_t room;
-    struct recorder_event *events;
+    size_t room; // of the first block; each is twice as large as the one before
+    struct recorder_event *blocks[RECORDER_MAX_BLOCKS], *next, *end; // of the last block the next place, and its end
+    unsigned taken; // blocks
     char apart[64];
 };
 
@@ -133,7 +139,8 @@ struct recorder {
     const struct recorder_queue *calls; // NULL of a loop of one's own
     void *queue;
     atomic_uint worked, ended; // how many threads have made their operations, and how many have ended
-    bool has_surplus, is_chosen; // the schedule
+    const char *drained; // what went wrong in the drain, or NULL
+    bool is_chosen; // the schedule
     struct recorder_crash *crash;
     struct recorder_thread of_thread[RECORDER_MAX_THREADS];
 };
@@ -157,19 +164,62 @@ static inline uint64_t recorder_value(const struct recorder_settings *settings, 
     return settings->value != NULL ? settings->value(thread, n) : ((uint64_t)thread << 32) + first + n;
 }
 
+// The value of an initial place, from 0. Before a loop of your own you put these in, in their order.
+static inline uint64_t recorder_initial_value(const struct recorder_settings *settings, size_t place)
+{
+    return recorder_value(settings, RECORDER_MAX_THREADS, place);
+}
+
+// Seeds 1 to 4 have 500, 5 to 8 have 100, 9 to 12 have 500, and 13 to 16 have 2,500, which let a ring of 1,024 places
+// go round; and so on.
+static inline size_t recorder_operations_of(const struct recorder_settings *settings)
+{
+    static const size_t sizes[] = {2500, 500, 100, 500};
+    return settings->operations != 0 ? settings->operations : sizes[(settings->seed + 3) / 4 % 4];
+}
+
+// Returns where a thread's event of this place is, whose block is there.
+static inline struct recorder_event *recorder_at(const struct recorder_thread *thread, size_t place)
+{
+    size_t room = thread->room;
+    unsigned block = 0;
+    for (; place >= room; room *= 2) {
+        place -= room;
+        block++;
+    }
+    return &thread->blocks[block][place];
+}
+
+// Takes the next block. Returns whether there was memory.
+static inline bool recorder_make_room(struct recorder_thread *thread)
+{
+    size_t room = thread->room << thread->taken;
+    struct recorder_event *block = thread->taken < RECORDER_MAX_BLOCKS ? malloc(room * sizeof *block) : NULL;
+    if (block == NULL) {
+        return false;
+    }
+    memset(block, 0, room * sizeof *block); // the pages are there
+    thread->blocks[thread->taken++] = block;
+    thread->next = block;
+    thread->end = block + room;
+    return true;
+}
+
 // The ticket is drawn first: of a call before the queue is asked, of a return after it has answered. What came before
-// a return is seen by every call of a greater ticket, since the order is sequentially consistent. Events beyond the
-// room that was asked for end the program: a history without them would be another one.
+// a return is seen by every call of a greater ticket, since the order is sequentially consistent. An event that can't
+// be noted ends the process: a history without it would be another one.
 static inline void recorder_note(struct recorder_thread *thread, enum recorder_what what, uint64_t value)
 {
     recorder_points_notes(what);
     uint64_t ticket = atomic_fetch_add(&thread->recorder->tickets, 1);
     size_t count = atomic_load_explicit(&thread->count, memory_order_relaxed);
-    if (count == thread->room) {
-        fputs("fifobench: more operations than recorder_run was told\n", stderr);
-        abort();
+    if (ticket >= RECORDER_MAX_EVENTS || (thread->next == thread->end && !recorder_make_room(thread))) {
+        fputs(ticket >= RECORDER_MAX_EVENTS ? "fifobench: a history has at most 2000000 events\n"
+                                            : "fifobench: there is no memory for the events\n", stderr);
+        fflush(NULL);
+        _Exit(2);
     }
-    thread->events[count] = (struct recorder_event){ticket, value, thread->number, what};
+    *thread->next++ = (struct recorder_event){ticket, value, thread->number, what};
     atomic_store_explicit(&thread->count, count + 1, memory_order_release);
     recorder_points_noted(what, value);
 }
@@ -206,7 +256,9 @@ static inline void recorder_return_dequeue(struct recorder_thread *thread, bool 
 static inline void recorder_free(struct recorder *recorder)
 {
     for (unsigned number = 0; number < recorder->threads; number++) {
-        free(recorder->of_thread[number].events);
+        while (recorder->of_thread[number].taken > 0) {
+            free(recorder->of_thread[number].blocks[--recorder->of_thread[number].taken]);
+        }
     }
     free(recorder);
 }
@@ -223,9 +275,9 @@ static inline const struct recorder_event *recorder_next(struct recorder_merge *
 {
     for (unsigned number = 0; number < merge->recorder->threads; number++) {
         const struct recorder_thread *thread = &merge->recorder->of_thread[number];
-        const struct recorder_event *event = &thread->events[merge->at[number]];
         bool is_published = merge->at[number] < atomic_load_explicit(&thread->count, memory_order_acquire);
-        if (is_published && event->ticket == merge->ticket) {
+        const struct recorder_event *event = is_published ? recorder_at(thread, merge->at[number]) : NULL;
+        if (event != NULL && event->ticket == merge->ticket) {
             merge->ticket++;
             merge->at[number]++;
             return event;
@@ -269,7 +321,7 @@ static inline void recorder_write_head(const struct recorder *recorder, bool is_
         fprintf(to, "initial %zu\n", initial);
     }
     for (size_t j = 0; j < initial; j++) {
-        fprintf(to, "%" PRIu64 "\n", recorder_value(&recorder->settings, RECORDER_MAX_THREADS, j));
+        fprintf(to, "%" PRIu64 "\n", recorder_initial_value(&recorder->settings, j));
     }
 }
 
@@ -316,11 +368,57 @@ static inline bool recorder_has_met(struct recorder *recorder, unsigned number)
     return met == 64;
 }
 
-// The start of a run. A system may let the threads of a young process take turns on one core; so threads go on
-// looking until two have been seen to run at once, and then all begin. On one core that can't be, and all begin after
-// a tenth of a second.
+// The cores that a thread may run on, as bits; none where there is no such call.
+struct recorder_cores { unsigned char bits[128]; };
+
+static inline bool recorder_has_core(const struct recorder_cores *cores, unsigned core)
+{
+    return (cores->bits[core / 8] >> core % 8 & 1) != 0;
+}
+
+// Keeps the calling thread on one core, on Linux: thread 0 on the first core that it may run on, and so on. Returns
+// whether it does, and the cores that it may run on.
+static inline bool recorder_pin(unsigned number, struct recorder_cores *before)
+{
+    struct recorder_cores one = {{0}};
+    unsigned cores = 0, left;
+    *before = one;
+#ifdef __linux__
+    if (syscall(SYS_sched_getaffinity, 0, sizeof *before, before) <= 0) {
+        return false;
+    }
+    for (unsigned core = 0; core < 8 * sizeof one; core++) {
+        cores += recorder_has_core(before, core);
+    }
+    left = number % (cores + !cores);
+    for (unsigned core = 0; core < 8 * sizeof one; core++) {
+        if (recorder_has_core(before, core) && left-- == 0) {
+            one.bits[core / 8] = (unsigned char)(1 << core % 8);
+        }
+    }
+    return cores > 1 && syscall(SYS_sched_setaffinity, 0, sizeof one, &one) == 0;
+#else
+    (void)number, (void)cores, (void)left;
+    return false;
+#endif
+}
+
+static inline void recorder_let_go(const struct recorder_cores *before)
+{
+#ifdef __linux__
+    syscall(SYS_sched_setaffinity, 0, sizeof *before, before);
+#else
+    (void)before;
+#endif
+}
+
+// The start of a run. A system may let the threads of a young process take turns on one core. So each waits on a core
+// of its own, and all go on looking until two have been seen to run at once. Then all begin, on any core. On one core
+// that can't be, and all begin after a tenth of a second.
 static inline void recorder_meet(struct recorder *recorder, unsigned number)
 {
+    struct recorder_cores before;
+    bool is_pinned = !atomic_load(&recorder->open) && recorder_pin(number, &before);
     atomic_fetch_add(&recorder->arrived, 1);
     while (atomic_load(&recorder->arrived) < recorder->threads && !atomic_load(&recorder->open)) {
         sched_yield();
@@ -330,6 +428,9 @@ static inline void recorder_meet(struct recorder *recorder, unsigned number)
         sched_yield();
     }
     atomic_store(&recorder->open, true);
+    if (is_pinned) {
+        recorder_let_go(&before);
+    }
 }
 
 // What a thread does before the start, thread 0 also for the queue. False: the queue doesn't take an initial value.
@@ -341,7 +442,7 @@ static inline bool recorder_prepare(struct recorder *recorder, unsigned number)
     }
     for (size_t j = 0; calls != NULL && number == 0 && j < recorder->settings.initial; j++) {
         bool (*put)(void *, uint64_t) = calls->preload != NULL ? calls->preload : calls->enqueue;
-        if (!put(recorder->queue, recorder_value(&recorder->settings, RECORDER_MAX_THREADS, j))) {
+        if (!put(recorder->queue, recorder_initial_value(&recorder->settings, j))) {
             return false;
         }
     }
@@ -358,7 +459,8 @@ static inline bool recorder_dequeue(struct recorder_thread *thread)
     return found;
 }
 
-// In the seat of thread 0 once all others have made their operations. No sound queue gives more values than went in.
+// In the seat of thread 0 once all others have made their operations. No sound queue gives more values than went in. A
+// dequeue has two events.
 static inline void recorder_drain(struct recorder_thread *thread)
 {
     struct recorder *recorder = thread->recorder;
@@ -371,65 +473,13 @@ static inline void recorder_drain(struct recorder_thread *thread)
     for (unsigned number = 0; number < recorder->threads; number++) {
         stay += recorder->of_thread[number].stay;
     }
-    for (int64_t bound = stay > 0 ? stay + 1 : 1; found && bound > 0; bound--) {
+    int64_t bound = stay > 0 ? stay + 1 : 1;
+    for (; found && bound > 0 && atomic_load(&recorder->tickets) + 2 <= RECORDER_MAX_EVENTS; bound--) {
         found = recorder_dequeue(thread);
     }
-    recorder->has_surplus = found;
-}
-
-// Writes FOLDER/SEED.KIND.
-static inline void recorder_path(const struct recorder_settings *one, const char *kind, char path[RECORDER_PATH_BYTES])
-{
-    snprintf(path, RECORDER_PATH_BYTES, "%s/%" PRIu64 ".%s", one->folder, one->seed, kind);
-}
-
-// Makes a folder, and those in which it lies.
-static inline void recorder_make_folder(const char *folder)
-{
-    char path[RECORDER_PATH_BYTES];
-    for (int end = 1; end <= (int)strlen(folder); end++) {
-        if (folder[end] == '/' || folder[end] == '\0') {
-            snprintf(path, sizeof path, "%.*s", end, folder);
-            mkdir(path, 0777);
-        }
-    }
-}
-
-// Writes the text of a run. Replaces an older file, since a journal may still be written to it.
-static inline bool recorder_write_file(const struct recorder *recorder, const char *path)
-{
-    recorder_make_folder(recorder->settings.folder);
-    remove(path);
-    FILE *file = fopen(path, "wb");
-    bool is_written = file != NULL && recorder_write(recorder, file);
-    is_written = file != NULL && fclose(file) == 0 && is_written;
-    if (!is_written) {
-        fprintf(stderr, "fifobench: can't write %s\n", path);
-    }
-    return is_written;
-}
-
-static inline const char *recorder_program(const struct recorder_settings *settings)
-{
-    const char *named = getenv("FIFOBENCH");
-    return settings->program != NULL ? settings->program : named != NULL && *named != '\0' ? named : "fifobench";
-}
-
-// Runs `PROGRAM COMMAND` from and to a file. Returns its status, or -1, and the first line of its output.
-static inline int recorder_ask(const struct recorder_settings *settings, const char *command, const char *from,
-                               const char *to, char first[RECORDER_LINE_BYTES])
-{
-    char line[4 * RECORDER_PATH_BYTES]; // more than three of the longest paths
-    int length = snprintf(line, sizeof line, "'%s' %s <'%s' >'%s' 2>/dev/null", recorder_program(settings), command,
-                          from, to);
-    int status = length > 0 && (size_t)length < sizeof line ? system(line) : -1;
-    FILE *answer = fopen(to, "r");
-    bool has_line = answer != NULL && fgets(first, RECORDER_LINE_BYTES, answer) != NULL;
-    first[has_line ? strcspn(first, "\n") : 0] = '\0';
-    if (answer != NULL) {
-        fclose(answer);
-    }
-    return status != -1 && WIFEXITED(status) ? WEXITSTATUS(status) : -1;
+    recorder->drained = !found       ? NULL
+                        : bound == 0 ? "the queue gave more values than went in"
+                                     : "a history has at most 2000000 events, and the drain stopped there";
 }
 
 static inline enum recorder_pattern recorder_pattern_of(const struct recorder_settings *settings)
@@ -439,86 +489,7 @@ static inline enum recorder_pattern recorder_pattern_of(const struct recorder_se
     return settings->pattern != RECORDER_BY_SEED ? settings->pattern : of_seed;
 }
 
-// Judges the history in a file, which may be a completion of pending calls. Returns 0, 1 or 2.
-static inline int recorder_judge_file(const struct recorder_settings *one, const char *history, bool is_completed)
-{
-    char report[RECORDER_PATH_BYTES], verdict[RECORDER_LINE_BYTES], ignored[RECORDER_LINE_BYTES];
-    const char *program = recorder_program(one), *pattern = recorder_pattern_names[recorder_pattern_of(one)];
-    recorder_path(one, "report", report);
-    int status = recorder_ask(one, "check", history, report, verdict);
-    if (status == 0 && strcmp(verdict, "YES") == 0) {
-        if (!one->keep || is_completed) {
-            remove(history);
-        }
-        remove(report);
-        return 0;
-    }
-    if (status != 1 || strncmp(verdict, "NO ", 3) != 0) {
-        fprintf(stderr, "fifobench: %s says '%s' of %s\n", program, verdict, history);
-        return 2;
-    }
-    recorder_ask(one, "shrink", history, report, ignored);
-    printf("%s: seed %" PRIu64 ", %s%s\n", verdict, one->seed, pattern,
-           is_completed ? ": the queue is wrong, whatever the pending calls do" : "");
-    printf("  history: %s\n  report:  %s\n  see it:  %s draw --text < %s\n", history, report, program, report);
-    printf("  again:   seed %" PRIu64 ", pattern %s: the same plan, though threads may meet in another way\n",
-           one->seed, pattern);
-    return 1;
-}
-
-// Completes a pending text and judges that, or prints the command that does. Returns 1 or 2. `fault` follows YES.
-static inline int recorder_judge_pending(const struct recorder_settings *one, const char *pending, const char *fault,
-                                         size_t calls)
-{
-    char history[RECORDER_PATH_BYTES], first[RECORDER_LINE_BYTES];
-    const char *program = recorder_program(one);
-    recorder_path(one, "history", history);
-    int status = recorder_ask(one, "complete", pending, history, first);
-    if (status == 0) {
-        status = recorder_judge_file(one, history, true);
-        if (status == 0) {
-            fprintf(stderr, "YES: a right queue can have behaved so until then. %s\n  see it:  ", fault);
-            if (calls <= RECORDER_MAX_DRAWN && one->initial <= RECORDER_MAX_DRAWN) {
-                fprintf(stderr, "%s draw --text < %s\n", program, pending);
-            } else {
-                fprintf(stderr, "tail -n 40 < %s\n", pending);
-            }
-        }
-        return status == 1 ? 1 : 2;
-    }
-    remove(history);
-    if (strncmp(first, "REFUSED ", 8) == 0) {
-        fprintf(stderr, "fifobench: %s says '%s' of %s\n", program, first, pending);
-    } else if (status > 0 && status < 126) { // else the shell has found no program
-        fprintf(stderr, "fifobench: %s has no command complete, which a later version has\n", program);
-    }
-    fprintf(stderr, "  judge:   %s complete < %s | %s check\n", program, pending, program);
-    return 2;
-}
-
-// Keeps what there is of a run that ends early, says how it ended, and judges it. Returns 1 or 2.
-static inline int recorder_end_early(const struct recorder *recorder, const char *how, const char *fault)
-{
-    struct recorder_sums sums = recorder_sum_up(recorder);
-    char path[RECORDER_PATH_BYTES];
-    const char *between = "; ";
-    fprintf(stderr, "fifobench: seed %" PRIu64 ": %s", recorder->settings.seed, how);
-    for (unsigned number = 0; number < recorder->threads; number++) {
-        if (sums.open[number] != NULL) {
-            fprintf(stderr, "%sthread %u is inside ", between, number);
-            fprintf(stderr, sums.open[number]->what == RECORDER_CALL_ENQ ? "enqueue of %" PRIu64 : "dequeue",
-                    sums.open[number]->value);
-            between = ", ";
-        }
-    }
-    fputs(sums.pending == 0 ? "; no thread is inside a call\n" : "\n", stderr);
-    recorder_path(&recorder->settings, "pending", path);
-    if (!recorder_write_file(recorder, path)) {
-        return 2;
-    }
-    fprintf(stderr, "  pending: %s\n", path);
-    return recorder_judge_pending(&recorder->settings, path, fault, sums.calls);
-}
+#include "recorder_judge.h"
 
 // The threads can't be ended, so the process is.
 static inline _Noreturn void recorder_end_hung(const struct recorder *recorder)
@@ -587,18 +558,19 @@ static inline const char *recorder_fault(const struct recorder_settings *setting
     const char *program = settings->program != NULL ? settings->program : "";
     bool has_roles = settings->producers == 0 || recorder_pattern_of(settings) == RECORDER_ROLES;
     return settings->threads == 0 || settings->threads > RECORDER_MAX_THREADS ? "1 to 64 threads"
-           : settings->operations > RECORDER_MAX_EVENTS / 2 / settings->threads ? "at most 1000000 operations together"
+           : recorder_operations_of(settings) > RECORDER_MAX_EVENTS / 2 / settings->threads
+               ? "at most 1000000 operations of all threads"
            : settings->producers >= settings->threads || !has_roles
                ? "fewer producers than threads, with the pattern roles"
            : settings->journal && !RECORDER_HAS_JOURNAL ? "the setting journal needs recorder_crash.h beside recorder.h"
-           : settings->percent > 100 || settings->initial > RECORDER_MAX_INITIAL
-               ? "at most 100 percent are enqueues, and at most 100000 values initial"
+           : settings->percent > 100 ? "at most 100 percent are enqueues"
+           : settings->initial > RECORDER_MAX_INITIAL ? "at most 100000 initial values"
            : strchr(settings->folder, '\'') != NULL || strchr(program, '\'') != NULL
                ? "no quote in the names of the folder and the program"
                : NULL;
 }
 
-// A recorder with room for operations and a drain. NULL: the settings are out of range, or there is no memory.
+// A recorder with room for the operations. NULL: the settings are out of range, or there is no memory.
 static inline struct recorder *recorder_new(const struct recorder_settings *settings,
                                             const struct recorder_queue *calls, void *queue)
 {
@@ -607,21 +579,18 @@ static inline struct recorder *recorder_new(const struct recorder_settings *sett
         return NULL;
     }
     recorder->settings = *settings;
+    recorder->settings.operations = recorder_operations_of(settings);
     recorder->threads = settings->threads;
     recorder->calls = calls;
     recorder->queue = queue;
     for (unsigned number = 0; number < settings->threads; number++) {
         struct recorder_thread *thread = &recorder->of_thread[number];
-        bool drains = calls != NULL && settings->drain && number == 0;
-        size_t left = drains ? settings->threads * settings->operations + settings->initial + 1 : 0;
         *thread = (struct recorder_thread){.recorder = recorder, .number = number};
-        thread->room = 2 * (settings->operations + left);
-        thread->events = malloc((thread->room + 1) * sizeof *thread->events);
-        if (thread->events == NULL) {
+        thread->room = 2 * recorder->settings.operations + 64;
+        if (!recorder_make_room(thread)) {
             recorder_free(recorder);
             return NULL;
         }
-        memset(thread->events, 0, 2 * settings->operations * sizeof *thread->events); // the pages are there
     }
     return recorder_points_begin(recorder);
 }
@@ -661,9 +630,10 @@ static inline struct recorder *recorder_go(struct recorder *recorder, recorder_w
     return recorder;
 }
 
-// Runs `work(thread, argument)` in each of the threads, which begin together: at most the operations of the settings.
-// Gives what they recorded, for recorder_write and recorder_free; or NULL if the settings are out of range, there is no
-// memory, or a thread can't be started. A run that hangs ends the process with 1 or 2.
+// Runs `work(thread, argument)` in each of the threads, which begin together. Gives what they recorded, for
+// recorder_write and recorder_free; or NULL if the settings are out of range, there is no memory, or a thread can't be
+// started. Memory is taken ahead for the operations of the settings; more are recorded too. A run that hangs ends the
+// process with 1 or 2.
 static inline struct recorder *recorder_record(const struct recorder_settings *settings, recorder_work *work,
                                                void *argument)
 {
@@ -730,26 +700,31 @@ static inline struct recorder *recorder_play(const struct recorder_settings *set
     return recorder_go(recorder_new(settings, calls, queue), recorder_play_thread, NULL);
 }
 
-// One run of a search, over a fresh queue: 0, 1 or 2.
+// What the runs of a search have shown: of each seed the last one that was made.
+struct recorder_search_sums {
+    struct recorder_sums all;
+    unsigned without_overlap, again; // runs
+};
+
+// One run of a search, over a fresh queue: 0, 1 or 2, and its sums.
 static inline int recorder_search_one(const struct recorder_settings *one, const struct recorder_queue *calls,
-                                      bool judges, struct recorder_sums *all)
+                                      bool judges, struct recorder_sums *sums)
 {
     char path[RECORDER_PATH_BYTES];
     void *queue = calls->make(calls->context);
     struct recorder *recorder = queue != NULL ? recorder_play(one, calls, queue) : NULL;
     int answer = 2;
     if (recorder == NULL) {
+        recorder_erase_progress();
         fputs(queue == NULL ? "fifobench: there is no queue\n" : "fifobench: there is no run\n", stderr);
     } else {
-        struct recorder_sums sums = recorder_sum_up(recorder);
-        all->calls += sums.calls;
-        all->overlapping += sums.overlapping;
-        if (recorder->has_surplus) {
-            fprintf(stderr, "fifobench: seed %" PRIu64 ": the queue gave more values than went in\n", one->seed);
+        *sums = recorder_sum_up(recorder);
+        if (recorder->drained != NULL) {
+            recorder_erase_progress();
+            fprintf(stderr, "fifobench: seed %" PRIu64 ": %s\n", one->seed, recorder->drained);
         }
         recorder_path(one, "history", path);
         answer = !recorder_write_file(recorder, path) ? 2 : judges ? recorder_judge_file(one, path, false) : 0;
-        all->events += sums.events;
         recorder_free(recorder);
     }
     if (queue != NULL && calls->destroy != NULL) {
@@ -758,11 +733,29 @@ static inline int recorder_search_one(const struct recorder_settings *one, const
     return answer;
 }
 
+// The answer to the run of a seed. Threads that haven't met have shown little, so a run without overlap is made again:
+// three times, and in a search no more often than it has runs.
+static inline int recorder_search_seed(const struct recorder_settings *one, const struct recorder_queue *calls,
+                                       bool judges, struct recorder_search_sums *of)
+{
+    struct recorder_sums sums = {0};
+    unsigned left = one->threads > 1 ? 3 : 0;
+    int answer = recorder_search_one(one, calls, judges, &sums);
+    for (; answer == 0 && sums.overlapping == 0 && left > 0 && of->again < one->runs; left--, of->again++) {
+        answer = recorder_search_one(one, calls, judges, &sums);
+    }
+    of->all.calls += sums.calls;
+    of->all.overlapping += sums.overlapping;
+    of->all.events += sums.events;
+    of->without_overlap += sums.overlapping == 0;
+    return answer;
+}
+
 // Makes runs by the pattern of the settings, each over a fresh queue, until one shows a violation: 0, 1 or 2.
 static inline int recorder_search(const struct recorder_settings *settings, const struct recorder_queue *calls)
 {
     struct recorder_settings one = *settings;
-    struct recorder_sums all = {0};
+    struct recorder_search_sums of = {0};
     char first[RECORDER_LINE_BYTES];
     int answer = 0;
     unsigned made = 0;
@@ -780,18 +773,21 @@ static inline int recorder_search(const struct recorder_settings *settings, cons
     }
     one.runs = settings->runs != 0 ? settings->runs : 100;
     RECORDER_CRASH(watch(&one));
+    double next = recorder_seconds() + 2;
     for (; made < one.runs && answer == 0; made++, one.seed++) {
-        answer = recorder_search_one(&one, calls, judges, &all);
+        recorder_show_progress(made, one.runs - made, &next);
+        answer = recorder_search_seed(&one, calls, judges, &of);
     }
     RECORDER_CRASH(unwatch());
+    recorder_erase_progress();
     if (answer == 0) {
         remove(one.folder); // if it is empty
-        printf("%s in %u runs (seeds %" PRIu64 " to %" PRIu64 "); %zu of 100 operations overlap another\n",
-               judges ? "no violation" : "nothing judged", one.runs, settings->seed, one.seed - 1,
-               100 * all.overlapping / (all.calls + !all.calls));
+        printf("%s in %u runs (seeds %" PRIu64 " to %" PRIu64 "); %zu of 100 operations overlap another; runs without "
+               "overlap: %u\n", judges ? "no violation" : "nothing judged", one.runs, settings->seed, one.seed - 1,
+               100 * of.all.overlapping / (of.all.calls + !of.all.calls), of.without_overlap);
     }
     if (one.keep && judges && answer != 2) {
-        printf("  kept:    %u judged runs with %zu events in %s\n", made, all.events, one.folder);
+        printf("  kept:    %u judged runs with %zu events in %s\n", made, of.all.events, one.folder);
     }
     return answer == 0 && !judges ? 2 : answer;
 }

@@ -333,6 +333,7 @@ struct Mine {
 };
 
 int search(fifobench::Settings settings) {
+    settings.operations = 500;    // not by the seed: each has an object
     const std::size_t threads = settings.threads, count = threads * settings.operations;
     settings.value = [threads](unsigned thread, std::uint64_t n) { return threads * n + thread; };
     return fifobench::search(settings, [count] { return std::make_unique<Mine>(count); });

@@ -1,11 +1,11 @@
 // A good queue and some that are wrong on purpose, recorded and judged.
 //
 //     queue QUEUE [--runs R] [--threads T] [--producers N] [--ops N] [--pattern P] [--percent K] [--seed S]
-//                 [--folder F] [--keep 0|1] [--timeout SECONDS]
-//     queue QUEUE THREADS OPERATIONS [PATTERN [SEED]] > history
+//                 [--initial N] [--folder F] [--keep 0|1] [--timeout SECONDS]
+//     queue QUEUE THREADS OPERATIONS [PATTERN [SEED [INITIAL]]] > history
 //
 // The first makes runs until one shows a violation: status 0 none does, 1 one does, 2 something is wrong. The second
-// makes one run, and writes its history. A queue is good; wrong: every 4th value that is found is left in place;
+// makes one run, and writes its history; without a pattern, or with `loop`, it is a loop of one's own. A queue is good; wrong: every 4th value that is found is left in place;
 // stack: the last value comes out first; early: it says empty too early; hang: a dequeue never returns; throw: an
 // enqueue throws.
 #include "recorder.hpp"
@@ -158,10 +158,11 @@ fifobench::Pattern pattern(const std::string& word) {
 void set(fifobench::Settings& settings, const std::string& option, const std::string& word) {
     if (option == "--runs") settings.runs = static_cast<unsigned>(number(word, 1, 1'000'000));
     else if (option == "--threads") settings.threads = static_cast<unsigned>(number(word, 1, 64));
-    else if (option == "--ops") settings.operations = number(word, 0, 1'000'000);
+    else if (option == "--ops") settings.operations = number(word, 1, 1'000'000);
     else if (option == "--pattern") settings.pattern = pattern(word);
     else if (option == "--percent") settings.percent = static_cast<unsigned>(number(word, 0, 100));
     else if (option == "--seed") settings.seed = number(word, 0, 4'294'967'295);
+    else if (option == "--initial") settings.initial = number(word, 0, 100'000);
     else if (option == "--folder") settings.folder = word;
     else if (option == "--producers") settings.producers = static_cast<unsigned>(number(word, 0, 63));
     else if (option == "--keep") settings.keep = number(word, 0, 1) == 1;
@@ -173,6 +174,9 @@ void set(fifobench::Settings& settings, const std::string& option, const std::st
 constexpr char plan[] = "EEDDDEED";
 
 fifobench::History loop(const fifobench::Settings& settings, Good& queue) {
+    for (const std::uint64_t value : settings.initial_values()) {
+        queue.enqueue(value);
+    }
     return fifobench::record(settings, [&](fifobench::Thread& thread) {
         for (std::size_t n = 0; n < settings.operations; ++n) {
             if (plan[(n + thread.number()) % 8] == 'E') {
@@ -190,9 +194,11 @@ int run_once(const std::vector<std::string>& words) {
     set(settings, "--threads", words[1]);
     set(settings, "--ops", words[2]);
     settings.drain = false;
-    if (words.size() > 3) set(settings, "--pattern", words[3]);
+    const bool has_pattern = words.size() > 3 && words[3] != "loop";
+    if (has_pattern) set(settings, "--pattern", words[3]);
     if (words.size() > 4) set(settings, "--seed", words[4]);
-    const auto history = words.size() > 3 ? fifobench::run(settings, *queue) : loop(settings, *queue);
+    if (words.size() > 5) set(settings, "--initial", words[5]);
+    const auto history = has_pattern ? fifobench::run(settings, *queue) : loop(settings, *queue);
     for (const std::string& sentence : history.notes()) {
         std::cerr << "queue: " << sentence << '\n';
     }
@@ -205,7 +211,7 @@ int run(const std::vector<std::string>& words) {
         throw std::invalid_argument("a queue is missing: queue QUEUE, or queue QUEUE THREADS OPERATIONS");
     }
     make(words[0]);
-    if (words.size() >= 3 && words.size() <= 5 && words[1].rfind("--", 0) != 0) {
+    if (words.size() >= 3 && words.size() <= 6 && words[1].rfind("--", 0) != 0) {
         return run_once(words);
     }
     fifobench::Settings settings;

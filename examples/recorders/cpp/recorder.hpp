@@ -1,5 +1,5 @@
-// Records what threads do with a FIFO queue, and has `fifobench check` judge it. C++17, this one header; link with
-// -pthread.
+// Records what threads do with a FIFO queue, and has `fifobench check` judge it. C++17, this header and
+// recorder_judge.hpp; link with -pthread.
 //
 //     struct Mine {    // a queue of yours
 //         my::queue<std::uint64_t> queue;
@@ -45,6 +45,9 @@
 #include <type_traits>
 #include <utility>
 #include <vector>
+#ifdef __linux__
+#include <sched.h>
+#endif
 
 #if __has_include("schedule/for_recorder.hpp")
 #include "schedule/for_recorder.hpp"
@@ -80,7 +83,7 @@ inline const char* name_of(Pattern pattern) { return pattern_names[static_cast<u
 
 struct Settings {
     unsigned threads = 4;
-    std::size_t operations = 500;        // of each thread
+    std::size_t operations = 0;          // of each thread; 0: by the seed, 500, 100 or 2,500
     std::optional<Pattern> pattern;      // if none, that of the seed: 1 alternates, 2 mixes, and so on
     unsigned producers = 0;              // threads 0 to producers - 1 enqueue, the others dequeue; 0: by the pattern
     unsigned percent = 50;               // of enqueues in a mix
@@ -101,6 +104,22 @@ struct Settings {
 
     std::uint64_t value_of(unsigned thread, std::uint64_t n) const {
         return value ? value(thread, n) : (std::uint64_t{thread} << 32) + (thread < max_threads ? first : 0) + n;
+    }
+
+    // The values that the queue holds first. Before a loop of your own you put them in, in this order.
+    std::vector<std::uint64_t> initial_values() const {
+        std::vector<std::uint64_t> values;
+        for (std::size_t n = 0; n < initial; ++n) {
+            values.push_back(value_of(max_threads, n));
+        }
+        return values;
+    }
+
+    // Seeds 1 to 4 have 500, 5 to 8 have 100, 9 to 12 have 500, and 13 to 16 have 2,500, which let a ring of 1,024 places
+    // go round; and so on.
+    std::size_t operations_of_seed() const {
+        constexpr std::size_t sizes[] = {2'500, 500, 100, 500};
+        return operations != 0 ? operations : sizes[(seed + 3) / 4 % 4];
     }
     Pattern pattern_of_seed() const { return pattern.value_or(producers ? Pattern::Roles : Pattern((seed + 3) % 4)); }
 };
@@ -189,7 +208,7 @@ private:
 class alignas(64) Thread {
 public:
     Thread(std::atomic<std::uint64_t>& tickets, unsigned number, const Settings& settings)
-        : tickets_(&tickets), settings_(&settings), number_(number), log_(2 * settings.operations) {}
+        : tickets_(&tickets), settings_(&settings), number_(number), log_(2 * settings.operations_of_seed()) {}
 
     unsigned number() const { return number_; }    // from 0
 
@@ -244,10 +263,10 @@ class History {
 public:
     // While threads still run: the events up to the first that isn't published.
     explicit History(const std::deque<Thread>& threads, std::vector<std::uint64_t> initial = {},
-                     std::vector<std::string> failures = {}, bool has_surplus = false)
+                     std::vector<std::string> failures = {}, const char* drained = nullptr)
         : initial_(std::move(initial)), notes_(std::move(failures)), has_failed_(!notes_.empty()) {
-        if (has_surplus) {
-            notes_.push_back("the queue gave more values than went in, and hasn't said that it is empty");
+        if (drained != nullptr) {
+            notes_.push_back(drained);
         }
         for (const Thread& thread : threads) {
             for (std::size_t place = 0, count = thread.log().count(); place < count; ++place) {
@@ -338,9 +357,35 @@ private:
 
 namespace detail {
 
-// The start of a run. A system may let the threads of a young process take turns on one core; so threads go on
-// looking until two have been seen to run at once, and then all begin. On one core that can't be, and all begin after
-// a tenth of a second.
+// While it lives, its thread stays on one core, on Linux: thread 0 on the first core that it may run on, and so on.
+class Core {
+#ifdef __linux__
+public:
+    explicit Core(unsigned number) {
+        const int cores = sched_getaffinity(0, sizeof before_, &before_) == 0 ? CPU_COUNT(&before_) : 1;
+        cpu_set_t one;
+        CPU_ZERO(&one);
+        for (int core = 0, left = static_cast<int>(number) % cores; left >= 0 && core < CPU_SETSIZE; ++core) {
+            if (CPU_ISSET(core, &before_) && left-- == 0) CPU_SET(core, &one);
+        }
+        is_pinned_ = cores > 1 && sched_setaffinity(0, sizeof one, &one) == 0;
+    }
+    ~Core() { if (is_pinned_) sched_setaffinity(0, sizeof before_, &before_); }
+    Core(const Core&) = delete;
+    Core& operator=(const Core&) = delete;
+
+private:
+    cpu_set_t before_;
+    bool is_pinned_;
+#else
+public:
+    explicit Core(unsigned) {}
+#endif
+};
+
+// The start of a run. A system may let the threads of a young process take turns on one core. So each waits on a core
+// of its own, and all go on looking until two have been seen to run at once. Then all begin, on any core. On one core
+// that can't be, and all begin after a tenth of a second.
 class Start {
 public:
     explicit Start(unsigned threads) : threads_(threads) {}
@@ -348,6 +393,7 @@ public:
     bool is_open() const { return open_.load(); }
 
     void wait(unsigned number) {
+        const std::optional<Core> core(open_.load() ? std::nullopt : std::make_optional<Core>(number));
         arrived_.fetch_add(1);
         while (arrived_.load() < threads_ && !open_.load()) {
             std::this_thread::yield();
@@ -374,111 +420,10 @@ private:
     std::atomic<bool> open_{false};
     alignas(64) std::atomic<unsigned> last_{0};
 };
-
-// The program, and the files of a run that it judges.
-class Judge {
-public:
-    explicit Judge(const Settings& of) : settings_(of), program_(of.program) {
-        const char* const named = std::getenv("FIFOBENCH");
-        program_ = !program_.empty() ? program_ : named != nullptr && *named != '\0' ? named : "fifobench";
-    }
-
-    const std::string& program() const { return program_; }
-    bool is_there() const { return ask("--version", "/dev/null", "/dev/null").first == 0; }
-    std::string path(const char* kind) const { return settings_.folder + "/" + std::to_string(settings_.seed) + kind; }
-
-    // Writes the text of a run. Replaces an older file, since a journal may still be written to it.
-    std::string keep(const History& history, const char* kind) const {
-        std::error_code ignored;
-        std::filesystem::create_directories(settings_.folder, ignored);
-        std::filesystem::remove(path(kind), ignored);
-        std::ofstream file(path(kind), std::ios::binary);
-        history.write(file);
-        if (!file) {
-            throw std::runtime_error("can't write " + path(kind));
-        }
-        return path(kind);
-    }
-
-    // Keeps a run of a search, and has it judged. Returns 0, 1 or 2.
-    int answer(const History& history, bool judges) const {
-        if (history.has_failed()) {
-            const char* const fault = "If the queue promises not to throw, the exception itself is the fault.";
-            return end_early(history, history.notes().front(), fault);
-        }
-        for (const std::string& sentence : history.notes()) {
-            std::cerr << "fifobench: seed " << settings_.seed << ": " << sentence << std::endl;
-        }
-        keep(history, ".history");
-        return judges ? check(false) : 0;
-    }
-
-    // Judges the history that is kept, which may be a completion of pending calls. Returns 0, 1 or 2.
-    int check(bool is_completed) const {
-        const std::string history = path(".history"), report = path(".report");
-        const auto [status, verdict] = ask("check", history, report);
-        if (status == 0 && verdict == "YES") {
-            if (!settings_.keep || is_completed) std::filesystem::remove(history);
-            std::filesystem::remove(report);
-            return 0;
-        }
-        if (status != 1 || verdict.rfind("NO ", 0) != 0) {
-            std::cerr << "fifobench: " << program_ << " says '" << verdict << "' of " << history << std::endl;
-            return 2;
-        }
-        ask("shrink", history, report);
-        const std::string seed = std::to_string(settings_.seed), pattern = name_of(settings_.pattern_of_seed());
-        std::cout << verdict << ": seed " << seed << ", " << pattern
-                  << (is_completed ? ": the queue is wrong, whatever the pending calls do" : "")
-                  << "\n  history: " << history << "\n  report:  " << report << "\n  see it:  " << program_
-                  << " draw --text < " << report << "\n  again:   seed " << seed << ", pattern " << pattern
-                  << ": the same plan, though threads may meet in another way" << std::endl;
-        return 1;
-    }
-
-    // Keeps what there is of a run that ends early, says how it ended, and judges it: 1 or 2. The fault follows YES.
-    int end_early(const History& history, const std::string& how, const std::string& fault) const {
-        std::cerr << "fifobench: seed " << settings_.seed << ": " << how << "; " << history.told_open() << std::endl;
-        const std::string pending = keep(history, ".pending");
-        std::cerr << "  pending: " << pending << std::endl;
-        const auto [status, first] = ask("complete", pending, path(".history"));
-        if (status == 0) {
-            const int answer = check(true);
-            if (answer == 0) {
-                const std::string drawn = program_ + " draw --text < " + pending;
-                std::cerr << "YES: a right queue can have behaved so until then. " << fault << "\n  see it:  "
-                          << (history.is_drawn() ? drawn : "tail -n 40 < " + pending) << std::endl;
-            }
-            return answer == 1 ? 1 : 2;
-        }
-        std::filesystem::remove(path(".history"));
-        const bool is_refused = first.rfind("REFUSED ", 0) == 0;
-        if (is_refused || is_there()) {
-            std::cerr << "fifobench: " << program_
-                      << (is_refused ? " says '" + first + "' of " + pending
-                                     : std::string(" has no command complete, which a later version has")) << '\n';
-        }
-        std::cerr << "  judge:   " << program_ << " complete < " << pending << " | " << program_ << " check"
-                  << std::endl;
-        return 2;
-    }
-
-private:
-    // Runs a command of the program. Returns its status, or -1, and the first line of its output.
-    std::pair<int, std::string> ask(const std::string& command, const std::string& from, const std::string& to) const {
-        const std::string files = " <'" + from + "' >'" + to + "' 2>/dev/null", line = "'" + program_ + "' " + command;
-        const int status = std::system((line + files).c_str());
-        std::string first;
-        std::getline(std::ifstream(to), first);
-        return {status % 256 == 0 ? status / 256 : -1, first};    // as POSIX has it
-    }
-
-    const Settings settings_;
-    std::string program_;
-};
-
 }    // namespace detail
 }    // namespace fifobench
+
+#include "recorder_judge.hpp"
 
 #if __has_include("recorder_crash.hpp")
 #include "recorder_crash.hpp"
@@ -510,18 +455,18 @@ public:
         : settings_(settings), hooks_(std::move(hooks)), start_(settings.threads) {
         const auto require = [](bool is_met, const char* why) { if (!is_met) throw std::invalid_argument(why); };
         require(settings_.threads >= 1 && settings_.threads <= max_threads, "1 to 64 threads");
-        require(settings_.operations <= max_events / 2 / settings_.threads, "at most 1000000 operations together");
+        settings_.operations = settings_.operations_of_seed();
+        require(settings_.operations <= max_events / 2 / settings_.threads,
+                "at most 1000000 operations of all threads");
         const bool has_roles = settings_.producers == 0 || settings_.pattern_of_seed() == Pattern::Roles;
         require(settings_.producers < settings_.threads && has_roles,
                 "fewer producers than threads, with the pattern roles");
-        require(settings_.percent <= 100 && settings_.initial <= max_initial,
-                "at most 100 percent are enqueues, and at most 100000 values initial");
+        require(settings_.percent <= 100, "at most 100 percent are enqueues");
+        require(settings_.initial <= max_initial, "at most 100000 initial values");
         require(!settings_.journal || !std::is_empty_v<Crash>, "the setting journal needs recorder_crash.hpp");
         require((settings_.folder + settings_.program).find('\'') == std::string::npos,
                 "no quote in the names of the folder and the program");
-        for (std::size_t j = 0; j < settings_.initial; ++j) {
-            initial_.push_back(settings_.value_of(max_threads, j));
-        }
+        initial_ = settings_.initial_values();
         for (unsigned number = 0; number < settings_.threads; ++number) {
             recorded_.emplace_back(tickets_, number, settings_);
         }
@@ -551,7 +496,7 @@ public:
         if (is_refused_.load()) {
             throw std::runtime_error("before the start: " + failures_.front());
         }
-        return History(recorded_, initial_, failures_, has_surplus_);
+        return History(recorded_, initial_, failures_, drained_);
     }
 
 private:
@@ -586,7 +531,8 @@ private:
         }
     }
 
-    // In the seat of thread 0 once all others have ended. No sound queue gives more values than went in.
+    // In the seat of thread 0 once all others have ended. No sound queue gives more values than went in. A dequeue has
+    // two events.
     void drain(Thread& thread) {
         FIFOBENCH_IF_CHOSEN(alone());
         while (!is_chosen_ && worked_.load() < settings_.threads) {
@@ -600,10 +546,14 @@ private:
             stay += other.stay();
         }
         std::int64_t bound = std::max<std::int64_t>(stay, 0) + 1;
-        while (bound > 0 && thread.dequeue(hooks_.drain)) {
+        bool found = true;
+        while (found && bound > 0 && tickets_.load() + 2 <= max_events) {
+            found = thread.dequeue(hooks_.drain).has_value();
             --bound;
         }
-        has_surplus_ = bound == 0;
+        drained_ = !found ? nullptr
+                   : bound == 0 ? "the queue gave more values than went in"
+                                : "a history has at most 2000000 events, and the drain stopped there";
     }
 
     // Whether no exception leaves the work. One is noted.
@@ -655,8 +605,9 @@ private:
         std::_Exit(status);
     }
 
-    const Settings settings_;
-    bool is_chosen_ = false, has_surplus_ = false;    // the schedule; the queue gave more values than went in
+    Settings settings_;
+    bool is_chosen_ = false;           // the schedule
+    const char* drained_ = nullptr;    // what went wrong in the drain
     std::optional<Crash> crash_;
     const Hooks hooks_;
     std::vector<std::uint64_t> initial_;
@@ -693,43 +644,79 @@ Hooks hooks_of(Queue& queue, const Settings& settings) {
     return hooks;
 }
 
-// Makes the runs of a search, one seed after another, and has each judged.
+// A search of free runs, one seed after another.
 template <class RunOne>
-int search_free(const Settings& settings, RunOne& run_one) {
-    const Judge program(settings);
-    const bool judges = program.is_there();
-    const unsigned runs = settings.runs != 0 ? settings.runs : 100;
-    std::size_t operations = 0, met = 0, events = 0;
-    unsigned made = 0;
-    int answer = 0;
-    if (!judges) {
-        std::cerr << "fifobench: no program '" << program.program()
-                  << "': nothing is judged; the histories are kept in " << settings.folder << std::endl;
+class FreeSearch {
+public:
+    FreeSearch(const Settings& settings, RunOne& run_one)
+        : settings_(settings), run_one_(run_one), runs_(settings.runs != 0 ? settings.runs : 100),
+          judges_(Judge(settings).is_there()) {}
+
+    int answer() {
+        if (!judges_) {
+            std::cerr << "fifobench: no program '" << Judge(settings_).program()
+                      << "': nothing is judged; the histories are kept in " << settings_.folder << std::endl;
+        }
+        const Watch watch(settings_, runs_);
+        Progress progress;
+        int answer = 0;
+        for (; made_ < runs_ && answer == 0; ++made_) {
+            progress.show(made_, runs_ - made_);
+            answer = answer_of(made_);
+        }
+        Progress::erase();
+        if (answer == 0) {
+            tell_none();
+        }
+        if (settings_.keep && judges_ && answer != 2) {
+            std::cout << "  kept:    " << made_ << " judged runs with " << events_ << " events in " << settings_.folder
+                      << std::endl;
+        }
+        return answer == 0 && !judges_ ? 2 : answer;
     }
-    const Watch watch(settings, runs);
-    for (; made < runs && answer == 0; ++made) {
-        Settings one = settings;
-        one.seed += made;
+
+private:
+    // The answer to the run of a seed. Threads that haven't met have shown little, so a run without overlap is made
+    // again: three times, and in a search no more often than it has runs.
+    int answer_of(unsigned number) {
+        Settings one = settings_;
+        one.seed += number;
         one.pattern = one.pattern_of_seed();
-        const History history = run_one(static_cast<const Settings&>(one));
-        operations += history.operations();
-        met += history.overlapping();
-        events += history.events().size();
-        answer = Judge(one).answer(history, judges);
+        one.operations = one.operations_of_seed();
+        for (unsigned left = one.threads > 1 ? 3 : 0;; --left) {
+            const History history = run_one_(static_cast<const Settings&>(one));
+            const int answer = Judge(one).answer(history, judges_);
+            if (answer != 0 || history.overlapping() > 0 || left == 0 || again_ == runs_) {
+                add(history);
+                return answer;
+            }
+            ++again_;
+        }
     }
-    if (answer == 0) {
+
+    void add(const History& history) {
+        operations_ += history.operations();
+        overlapping_ += history.overlapping();
+        events_ += history.events().size();
+        without_overlap_ += history.overlapping() == 0 ? 1 : 0;
+    }
+
+    void tell_none() const {
         std::error_code ignored;
-        std::filesystem::remove(settings.folder, ignored);    // if it is empty
-        std::cout << (judges ? "no violation" : "nothing judged") << " in " << runs << " runs (seeds " << settings.seed
-                  << " to " << settings.seed + runs - 1 << "); "
-                  << 100 * met / (operations + !operations) << " of 100 operations overlap another" << std::endl;
+        std::filesystem::remove(settings_.folder, ignored);    // if it is empty
+        std::cout << (judges_ ? "no violation" : "nothing judged") << " in " << runs_ << " runs (seeds "
+                  << settings_.seed << " to " << settings_.seed + runs_ - 1 << "); "
+                  << 100 * overlapping_ / (operations_ + !operations_)
+                  << " of 100 operations overlap another; runs without overlap: " << without_overlap_ << std::endl;
     }
-    if (settings.keep && judges && answer != 2) {
-        std::cout << "  kept:    " << made << " judged runs with " << events << " events in " << settings.folder
-                  << std::endl;
-    }
-    return answer == 0 && !judges ? 2 : answer;
-}
+
+    const Settings& settings_;
+    RunOne& run_one_;
+    const unsigned runs_;
+    const bool judges_;
+    unsigned made_ = 0, again_ = 0, without_overlap_ = 0;    // runs
+    std::size_t operations_ = 0, overlapping_ = 0, events_ = 0;
+};
 
 }    // namespace fifobench::detail
 
@@ -776,7 +763,7 @@ int search_runs(const Settings& settings, RunOne run_one) {
         detail::Run(settings, {});    // throws if a setting is out of its range
         std::optional<int> answer;
         FIFOBENCH_POINTS(search(settings, run_one, answer));
-        return answer ? *answer : detail::search_free(settings, run_one);
+        return answer ? *answer : detail::FreeSearch<RunOne>(settings, run_one).answer();
     } catch (const std::exception& exception) {
         std::cerr << "fifobench: " << exception.what() << std::endl;
         return 2;

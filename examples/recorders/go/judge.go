@@ -12,10 +12,108 @@ import (
 	"os/exec"
 	"path/filepath"
 	"strings"
+	"sync/atomic"
 	"time"
 )
 
 const maxDrawn = 400 // operations or initial values in a picture
+
+// How far a search is, on a terminal: from two seconds on, until something else is printed.
+type progress struct {
+	next time.Time
+}
+
+var progressIsShown atomic.Bool
+
+func newProgress() *progress {
+	return &progress{next: time.Now().Add(2 * time.Second)}
+}
+
+func (progress *progress) show(done, left uint64) {
+	info, err := os.Stderr.Stat()
+	isTerminal := err == nil && info.Mode()&os.ModeCharDevice != 0
+	if isTerminal && time.Now().After(progress.next) {
+		progress.next = time.Now().Add(200 * time.Millisecond)
+		progressIsShown.Store(true)
+		fmt.Fprintf(os.Stderr, "\rfifobench: %d runs done, %d left, 0 found\033[K", done, left)
+	}
+}
+
+func eraseProgress() {
+	if progressIsShown.Swap(false) {
+		fmt.Fprint(os.Stderr, "\r\033[K")
+	}
+}
+
+// What the runs of a search have shown: of each seed the last one that was made.
+type found struct {
+	isJudged              bool
+	events, overlapping   int
+	withoutOverlap, again uint64
+}
+
+// Gives the answer to the run of a seed. Threads that haven't met have shown little, so a run without overlap is made
+// again: three times, and in a search no more often than it has runs.
+func (found *found) answer(options *Options, makeQueue func() Queue) (Answer, error) {
+	for left := 3; ; left-- {
+		history, err := Run(*options, makeQueue())
+		if err != nil {
+			return Wrong, err
+		}
+		answer, err := options.answer(history, found.isJudged)
+		overlapping, isLast := history.overlapping(), options.Threads == 1 || left == 0 || found.again == options.Runs
+		if err != nil || answer != NoViolation || overlapping > 0 || isLast {
+			found.events += len(history.events)
+			found.overlapping += overlapping
+			if overlapping == 0 {
+				found.withoutOverlap++
+			}
+			return answer, err
+		}
+		found.again++
+	}
+}
+
+func (found *found) told() string {
+	share := 0
+	if found.events > 0 {
+		share = 200 * found.overlapping / found.events // an operation has two events
+	}
+	return fmt.Sprintf("; %d of 100 operations overlap another; runs without overlap: %d", share, found.withoutOverlap)
+}
+
+// Says that no run is a violation, and what else there is to say.
+func (options *Options) tellNone(isJudged bool, more string) Answer {
+	eraseProgress()
+	told, answer := "no violation in", NoViolation
+	if !isJudged {
+		told, answer = "nothing judged in", Wrong
+	}
+	last := options.Seed + options.Runs - 1
+	fmt.Printf("%s %d runs (seeds %d to %d)%s\n", told, options.Runs, options.Seed, last, more)
+	return answer
+}
+
+func (options *Options) tellKept(answer Answer, isJudged bool, made uint64, events int) {
+	if options.Keep && isJudged && answer != Wrong {
+		fmt.Printf("  kept:    %d judged runs with %d events in %s\n", made, events, options.Folder)
+	}
+}
+
+func (options *Options) answer(history *History, isJudged bool) (Answer, error) {
+	if history.IsGivenUp() {
+		return history.answer, nil
+	}
+	if len(history.failures) > 0 {
+		return history.endEarly(options), nil
+	}
+	if !isJudged || options.Keep {
+		if _, err := options.keep("history", history.text()); err != nil || !isJudged {
+			return NoViolation, err
+		}
+	}
+	return options.judge(history.text(), "")
+}
 
 func (options *Options) program() string {
 	if options.Program != "" {
@@ -40,7 +138,7 @@ func (options *Options) isFound() bool {
 
 // Returns what the program writes about this text, and its status.
 func (options *Options) ask(command string, text []byte) ([]byte, int, error) {
-	judge := exec.Command(options.program(), command)
+	judge := exec.Command(options.program(), strings.Fields(command)...)
 	judge.Stdin = bytes.NewReader(text)
 	told, err := judge.Output()
 	var ended *exec.ExitError
@@ -77,15 +175,27 @@ func (options *Options) judge(text []byte, why string) (Answer, error) {
 		return Wrong, err
 	}
 	seed, pattern := options.Seed, options.PatternOf(options.Seed)
+	eraseProgress()
 	fmt.Printf("%s: seed %d, %s%s\n", firstLine(verdict), seed, pattern, why)
 	fmt.Printf("  history: %s\n  report:  %s\n", kept, report)
-	fmt.Printf("  see it:  %s draw --text < %s\n", options.program(), report)
+	fmt.Printf("  see it:  %s draw --text < %s\n%s", options.program(), report, options.drawnIn(text, kept))
 	if options.tellAgain != nil {
 		options.tellAgain(firstLine(verdict))
 		return Violation, nil
 	}
 	fmt.Printf("  again:   seed %d, pattern %s: the same plan, though threads may meet in another way\n", seed, pattern)
 	return Violation, nil
+}
+
+// Returns the second command of `see it:`, which draws the violation with what runs beside it: the report leaves that
+// out. `draw` refuses more than 400 operations; then there is none.
+func (options *Options) drawnIn(text []byte, kept string) string {
+	for _, command := range []string{"draw --text --around 20", "draw --text"} {
+		if _, status, err := options.ask(command, text); err == nil && status == 0 {
+			return fmt.Sprintf("           %s %s < %s\n", options.program(), command, kept)
+		}
+	}
+	return ""
 }
 
 // Writes a text into the folder, and gives its path.

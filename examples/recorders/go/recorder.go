@@ -76,7 +76,7 @@ var patterns = [4]Pattern{Alternate, Mix, Bursts, Roles}
 // Options are the settings of a run and of a search. Begin with Defaults.
 type Options struct {
 	Threads    int // 1 to 64
-	Operations int // of each thread
+	Operations int // of each thread; 0: by the seed, 500, 100 or 2,500
 	Pattern    Pattern
 	Producers  int                               // threads 0 to Producers-1 enqueue, the others dequeue; 0: by Pattern
 	Percent    uint64                            // enqueues of a hundred operations, for Mix
@@ -104,14 +104,13 @@ var chosenSearch = func(*Options, func() Queue) (answer Answer, isChosen bool, e
 // Defaults gives the settings that a search has as a rule.
 func Defaults() Options {
 	return Options{
-		Threads:    4,
-		Operations: 500,
-		Percent:    50,
-		Seed:       1,
-		Timeout:    30 * time.Second,
-		Value:      func(thread int, n uint64) uint64 { return uint64(thread)<<32 + n },
-		Drain:      true,
-		Folder:     "fifobench-runs",
+		Threads: 4,
+		Percent: 50,
+		Seed:    1,
+		Timeout: 30 * time.Second,
+		Value:   func(thread int, n uint64) uint64 { return uint64(thread)<<32 + n },
+		Drain:   true,
+		Folder:  "fifobench-runs",
 	}
 }
 
@@ -126,20 +125,47 @@ func (options *Options) PatternOf(seed uint64) Pattern {
 	return patterns[(seed+3)%4]
 }
 
+// OperationsOf gives the number of operations of each thread for a seed: unless it is set, 500 for seeds 1 to 4, 100 for 5
+// to 8, 500 for 9 to 12 and 2,500 for 13 to 16, which let a ring of 1,024 places go round; and so on.
+func (options *Options) OperationsOf(seed uint64) int {
+	if options.Operations != 0 {
+		return options.Operations
+	}
+	return [...]int{2_500, 500, 100, 500}[(seed+3)/4%4]
+}
+
+// InitialValues gives the values that the queue holds first. Before a loop of your own you put them in, in this order.
+func (options *Options) InitialValues() []uint64 {
+	var values []uint64
+	for place := 0; place < options.Initial; place++ {
+		values = append(values, options.Value(MaxThreads, uint64(place)))
+	}
+	return values
+}
+
+// Gives the settings of the run of a seed.
+func (options Options) ofRun(seed uint64) Options {
+	options.Seed, options.Operations = seed, options.OperationsOf(seed)
+	return options
+}
+
 // Check says which setting is out of its range.
 func (options *Options) Check() error {
 	if options.Threads < 1 || options.Threads > MaxThreads {
 		return fmt.Errorf("1 to %d threads", MaxThreads)
 	}
-	if options.Operations < 0 || options.Operations > MaxOperations/options.Threads {
-		return fmt.Errorf("0 to %d operations of all threads", MaxOperations)
+	if options.Operations < 0 || options.OperationsOf(options.Seed) > MaxOperations/options.Threads {
+		return fmt.Errorf("at most %d operations of all threads", MaxOperations)
 	}
 	hasRoles := options.Producers == 0 || options.PatternOf(0) == Roles
 	if options.Producers < 0 || options.Producers >= options.Threads || !hasRoles {
 		return errors.New("fewer producers than threads, with the pattern roles")
 	}
+	if options.Percent > 100 {
+		return errors.New("at most 100 percent are enqueues")
+	}
 	if options.Initial < 0 || options.Initial > MaxInitial {
-		return fmt.Errorf("0 to %d initial values", MaxInitial)
+		return fmt.Errorf("at most %d initial values", MaxInitial)
 	}
 	for _, pattern := range patterns {
 		if options.PatternOf(0) == pattern {
@@ -251,7 +277,12 @@ func (thread *Thread) makeRoom(places int) {
 	thread.read.Store(&events)
 }
 
-// The common start: goroutines wait, for a bounded time, until all are there and two are seen to run at once.
+// Keeps the calling goroutine on a core of its own until it calls what is returned. Set by core_linux.go, if that is
+// beside this file.
+var stayOnCore = func(number int) (letGo func()) { return func() {} }
+
+// The common start: goroutines wait, for a bounded time, until all are there and two are seen to run at once. Where
+// they can, each waits on a core of its own; then all begin, on any core.
 type start struct {
 	threads int64
 	arrived atomic.Int64
@@ -267,6 +298,8 @@ const (
 )
 
 func (start *start) meet(number int64) {
+	letGo := stayOnCore(int(number))
+	defer letGo()
 	start.arrived.Add(1)
 	if start.turns(arrivalTime, 1, func() bool { return start.arrived.Load() >= start.threads }) && start.threads > 1 {
 		start.turns(runningTime, passes, func() bool { return start.lastBy.Swap(number) != number })
@@ -563,12 +596,17 @@ func (run *run) drain(queue Queue) {
 			return
 		}
 	}
-	if room > left && !run.options.isQuiet {
-		say("seed %d: the queue gave more values than went in", run.options.Seed)
+	told := "the queue gave more values than went in"
+	if room <= left {
+		told = fmt.Sprintf("a history has at most %d events, and the drain stopped there", MaxEvents)
+	}
+	if !run.options.isQuiet {
+		say("seed %d: %s", run.options.Seed, told)
 	}
 }
 
 func say(format string, words ...any) {
+	eraseProgress()
 	fmt.Fprintf(os.Stderr, "fifobench: "+format+"\n", words...)
 }
 
@@ -599,12 +637,13 @@ func Record(threads, operations int, work func(thread *Thread)) (*History, error
 	return RecordWith(options, work)
 }
 
-// RecordWith is Record with more settings; there is no drain, no initial value and no pattern.
+// RecordWith is Record with more settings; there is no drain and no pattern. With initial values the history says that the
+// queue holds Options.InitialValues first: put them in before.
 func RecordWith(options Options, work func(thread *Thread)) (*History, error) {
 	if err := options.Check(); err != nil {
 		return nil, err
 	}
-	return newRun(options, nil).execute(work, nil), nil
+	return newRun(options.ofRun(options.Seed), options.InitialValues()).execute(work, nil), nil
 }
 
 // Run makes one run over this queue, by the pattern of the seed. An error is that a setting is out of its range, or
@@ -617,11 +656,11 @@ func Run(options Options, queue Queue) (*History, error) {
 	if preloader, ok := queue.(Preloader); ok {
 		preload = preloader.Preload
 	}
-	var initial []uint64
-	for place := 0; place < options.Initial; place++ {
-		initial = append(initial, options.Value(MaxThreads, uint64(place)))
-		if !preload(initial[place]) {
-			return nil, fmt.Errorf("the queue has no room for the initial value %d", initial[place])
+	options = options.ofRun(options.Seed)
+	initial := options.InitialValues()
+	for _, value := range initial {
+		if !preload(value) {
+			return nil, fmt.Errorf("the queue has no room for the initial value %d", value)
 		}
 	}
 	work := func(thread *Thread) {
@@ -698,59 +737,19 @@ func search(options Options, makeQueue func() Queue) (Answer, error) {
 		options.Runs = 100
 	}
 	options.nameKilled()
-	made, events, overlapping := uint64(0), 0, 0
-	answer, isJudged := NoViolation, options.isFound()
+	found := found{isJudged: options.isFound()}
+	made, answer, progress := uint64(0), NoViolation, newProgress()
 	for ; made < options.Runs && answer == NoViolation; made++ {
-		ofRun := options
-		ofRun.Seed += made
-		history, err := Run(ofRun, makeQueue())
-		if err == nil {
-			answer, err = ofRun.answer(history, isJudged)
-		}
-		if err != nil {
+		progress.show(made, options.Runs-made)
+		ofRun := options.ofRun(options.Seed + made)
+		var err error
+		if answer, err = found.answer(&ofRun, makeQueue); err != nil {
 			return Wrong, err
 		}
-		events += len(history.events)
-		overlapping += history.overlapping()
 	}
 	if answer == NoViolation {
-		if events > 0 {
-			overlapping = 200 * overlapping / events // an operation has two events
-		}
-		answer = options.tellNone(isJudged, fmt.Sprintf("; %d of 100 operations overlap another", overlapping))
+		answer = options.tellNone(found.isJudged, found.told())
 	}
-	options.tellKept(answer, isJudged, made, events)
+	options.tellKept(answer, found.isJudged, made, found.events)
 	return answer, nil
-}
-
-// Says that no run is a violation, and what else there is to say.
-func (options *Options) tellNone(isJudged bool, more string) Answer {
-	told, answer := "no violation in", NoViolation
-	if !isJudged {
-		told, answer = "nothing judged in", Wrong
-	}
-	last := options.Seed + options.Runs - 1
-	fmt.Printf("%s %d runs (seeds %d to %d)%s\n", told, options.Runs, options.Seed, last, more)
-	return answer
-}
-
-func (options *Options) tellKept(answer Answer, isJudged bool, made uint64, events int) {
-	if options.Keep && isJudged && answer != Wrong {
-		fmt.Printf("  kept:    %d judged runs with %d events in %s\n", made, events, options.Folder)
-	}
-}
-
-func (options *Options) answer(history *History, isJudged bool) (Answer, error) {
-	if history.IsGivenUp() {
-		return history.answer, nil
-	}
-	if len(history.failures) > 0 {
-		return history.endEarly(options), nil
-	}
-	if !isJudged || options.Keep {
-		if _, err := options.keep("history", history.text()); err != nil || !isJudged {
-			return NoViolation, err
-		}
-	}
-	return options.judge(history.text(), "")
 }

@@ -175,7 +175,7 @@ func (settings *Schedule) draw(seed uint64, operations int) drawn {
 	words := words(^seed * MaxThreads) // no goroutine's plan begins there
 	strategy := [...]string{"naps", "naps", "naps", "naps", "walk", "walk", "pct", "pct"}[words.next()%8]
 	found := drawn{strategy, rates[words.next()%7], 2 + int(words.next()%9), operations}
-	if operations > mostOperations {
+	if operations == 0 || operations > mostOperations {
 		found.operations = mostOperations
 	}
 	// 1/8, 1/4, 1/2 or all of the most.

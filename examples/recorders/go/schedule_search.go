@@ -43,7 +43,7 @@ func RunScheduled(options Options, makeQueue func() Queue) (*History, error) {
 	if err != nil {
 		return nil, err
 	}
-	settings.Operations = options.Operations
+	settings.Operations = options.OperationsOf(options.Seed)
 	made, err := (&searching{options, settings, makeQueue}).make(options.Seed, variant{})
 	if err != nil {
 		return nil, err
@@ -173,8 +173,9 @@ func (search *searching) answer() (Answer, error) {
 		options.Runs = mostRuns
 	}
 	number, events := uint64(0), 0
-	answer, isJudged := NoViolation, options.isFound()
+	answer, isJudged, progress := NoViolation, options.isFound(), newProgress()
 	for ; number < options.Runs && answer == NoViolation; number++ {
+		progress.show(number, options.Runs-number)
 		made, err := search.make(options.Seed+number, variant{})
 		if err == nil {
 			answer, err = search.judge(made, isJudged)

@@ -12,9 +12,11 @@ import java.util.concurrent.atomic.AtomicInteger;
  * <pre>
  * Queue QUEUE                                        searches for a violation, status 0, 1 or 2
  * Queue QUEUE [--runs R] [--threads T] [--producers N] [--ops N] [--pattern P] [--percent K] [--seed S]
- *     [--folder F] [--keep 0|1] [--timeout SECONDS]  the same with settings
- * Queue QUEUE THREADS OPERATIONS [PATTERN [SEED]]    one run, written to standard output
+ *     [--initial N] [--folder F] [--keep 0|1] [--timeout SECONDS]    the same with settings
+ * Queue QUEUE THREADS OPERATIONS [PATTERN [SEED [INITIAL]]]          one run, written to standard output
  * </pre>
+ *
+ * Without a pattern, or with {@code loop}, the one run is a loop of one's own.
  *
  * QUEUE is {@code good}, {@code wrong} (every 4th value that is found stays), {@code stack} (last in, first out),
  * {@code early} (says empty too early), {@code hang} (a dequeue never returns) or {@code throw} (a dequeue throws).
@@ -130,10 +132,11 @@ final class Queue {
         switch (name) {
             case "--runs" -> recorder.runs(number(name, word, 1, 1_000_000));
             case "--threads" -> recorder.threads((int) number(name, word, 1, 64));
-            case "--ops" -> recorder.operations((int) number(name, word, 0, 1_000_000));
+            case "--ops" -> recorder.operations((int) number(name, word, 1, 1_000_000));
             case "--pattern" -> recorder.pattern(pattern(word));
             case "--percent" -> recorder.percent((int) number(name, word, 0, 100));
             case "--seed" -> recorder.seed(number(name, word, 0, 4_294_967_295L));
+            case "--initial" -> recorder.initial((int) number(name, word, 0, Recorder.MAX_INITIAL));
             case "--folder" -> recorder.folder(Path.of(word));
             case "--producers" -> recorder.producers((int) number(name, word, 0, 63));
             case "--keep" -> recorder.keep(number(name, word, 0, 1) == 1);
@@ -156,6 +159,7 @@ final class Queue {
 
     // A loop of one's own, recorded.
     private static Recorder.History recordSteps(Recorder recorder, int operations, Tested queue) {
+        recorder.initialValues().forEach(queue::enqueue);
         return recorder.record(worker -> {
             for (int n = 0; n < operations; n++) {
                 if (STEPS.charAt((n + worker.number()) % STEPS.length()) == 'E') {
@@ -168,16 +172,19 @@ final class Queue {
     }
 
     private static int oneRun(Recorder recorder, String[] words, Tested queue) throws Exception {
-        String[] names = {"--threads", "--ops", "--pattern", "--seed"};
+        String[] names = {"--threads", "--ops", "--pattern", "--seed", "--initial"};
         if (words.length < 2 || words.length > names.length) {
-            throw new Refused("one run is QUEUE THREADS OPERATIONS [PATTERN [SEED]]");
+            throw new Refused("one run is QUEUE THREADS OPERATIONS [PATTERN [SEED [INITIAL]]]");
         }
+        boolean hasPattern = words.length > 2 && !words[2].equals("loop");
         for (int place = 0; place < words.length; place++) {
-            set(recorder, names[place], words[place]);
+            if (place != 2 || hasPattern) {
+                set(recorder, names[place], words[place]);
+            }
         }
         recorder.drains(false);
         Recorder.History history =
-                words.length > 2 ? recorder.run(queue) : recordSteps(recorder, Integer.parseInt(words[1]), queue);
+                hasPattern ? recorder.run(queue) : recordSteps(recorder, Integer.parseInt(words[1]), queue);
         if (history.isGivenUp()) {
             return Recorder.Answer.WRONG.ordinal();
         }

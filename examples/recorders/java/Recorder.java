@@ -19,6 +19,7 @@ import java.util.concurrent.atomic.AtomicInteger;
 import java.util.concurrent.atomic.AtomicLong;
 import java.util.function.BooleanSupplier;
 import java.util.function.Supplier;
+import java.util.stream.LongStream;
 
 /**
  * Records what threads do with a FIFO queue, and searches for a run that no FIFO queue can have made. Java 17 with its
@@ -107,7 +108,7 @@ public final class Recorder implements AutoCloseable {
     }
 
     int threads = 4;
-    int operations = 500;
+    int operations;
     private Pattern pattern;
     private int producers;
     private int percent = 50;
@@ -133,7 +134,7 @@ public final class Recorder implements AutoCloseable {
         return this;
     }
 
-    /** Operations of each thread; 500 unless set. */
+    /** Operations of each thread; unless set, or if 0, 500, 100 or 2,500 by the seed. */
     public Recorder operations(int operations) {
         this.operations = operations;
         return this;
@@ -269,7 +270,7 @@ public final class Recorder implements AutoCloseable {
         private final AtomicInteger count = new AtomicInteger();
         private volatile Throwable failure;
 
-        private Worker(AtomicLong tickets, int number) {
+        private Worker(AtomicLong tickets, int number, int operations) {
             this.tickets = tickets;
             this.number = number;
             this.noted = new long[Math.max(128, 4 * operations)];
@@ -439,7 +440,7 @@ public final class Recorder implements AutoCloseable {
         }
 
         // How many operations overlap another.
-        private long overlapping() {
+        long overlapping() {
             long open = 0, met = 0, overlapping = 0;
             for (Event event : events) {
                 long thread = 1L << event.thread;
@@ -457,8 +458,9 @@ public final class Recorder implements AutoCloseable {
     }
 
     /**
-     * Runs {@code work} in each thread, all of which begin together, and gives what they recorded; there is no drain,
-     * no initial value and no pattern. Memory is taken ahead for the operations of each thread; more are recorded too.
+     * Runs {@code work} in each thread, all of which begin together, and gives what they recorded; there is no drain
+     * and no pattern. Memory is taken ahead for the operations of each thread; more are recorded too. With initial
+     * values the history says that the queue holds {@link #initialValues} first: put them in before.
      *
      * <p>If a call throws, its thread ends and the others go on; if the run hangs, what there is is kept in the
      * folder. In both cases the history has failures.
@@ -466,7 +468,7 @@ public final class Recorder implements AutoCloseable {
      * @throws IllegalArgumentException if a setting is out of its range
      */
     public History record(Work work) {
-        Run run = new Run(seed, 0);
+        Run run = new Run(seed);
         run.go(work, queue(value -> false, () -> null), false);
         return run.history();
     }
@@ -483,7 +485,7 @@ public final class Recorder implements AutoCloseable {
     }
 
     private History run(long seed, Queue queue) throws Exception {
-        Run run = new Run(seed, initial);
+        Run run = new Run(seed);
         for (long value : run.initials) {
             if (!queue.preload(value)) {
                 throw new IllegalStateException("no room for the initial value " + Long.toUnsignedString(value));
@@ -497,15 +499,18 @@ public final class Recorder implements AutoCloseable {
         if (threads < 1 || threads > MAX_THREADS) {
             throw new IllegalArgumentException("1 to " + MAX_THREADS + " threads");
         }
-        if (operations < 0 || (long) threads * operations > MAX_OPERATIONS) {
-            throw new IllegalArgumentException("0 to " + MAX_OPERATIONS + " operations of all threads");
+        if (operations < 0 || (long) threads * operationsOf(seed) > MAX_OPERATIONS) {
+            throw new IllegalArgumentException("at most " + MAX_OPERATIONS + " operations of all threads");
         }
         boolean hasRoles = producers == 0 || patternOf(0) == Pattern.ROLES;
         if (producers < 0 || producers >= threads || !hasRoles) {
             throw new IllegalArgumentException("fewer producers than threads, with the pattern roles");
         }
+        if (percent < 0 || percent > 100) {
+            throw new IllegalArgumentException("at most 100 percent are enqueues");
+        }
         if (initial < 0 || initial > MAX_INITIAL) {
-            throw new IllegalArgumentException("0 to " + MAX_INITIAL + " initial values");
+            throw new IllegalArgumentException("at most " + MAX_INITIAL + " initial values");
         }
     }
 
@@ -514,22 +519,20 @@ public final class Recorder implements AutoCloseable {
         final long seed;
         final AtomicLong tickets = new AtomicLong();
         final Worker[] workers;
-        final List<Long> initials = new ArrayList<>();
+        final List<Long> initials;
         final List<String> failures = new ArrayList<>();
         private final AtomicInteger ended = new AtomicInteger();
         private volatile boolean hasFailed;
         String ending;
         private Answer answer;
 
-        Run(long seed, int initial) {
+        Run(long seed) {
             checkSettings();
             this.seed = seed;
-            for (int place = 0; place < initial; place++) {
-                initials.add(values.value(MAX_THREADS, place));
-            }
+            initials = initialValues();
             workers = new Worker[threads];
             for (int number = 0; number < threads; number++) {
-                workers[number] = new Worker(tickets, number);
+                workers[number] = new Worker(tickets, number, operationsOf(seed));
             }
         }
 
@@ -647,8 +650,10 @@ public final class Recorder implements AutoCloseable {
                     return;
                 }
             }
-            if (room > left && !isQuiet) {
-                RecorderJudge.say("seed " + seed + ": the queue gave more values than went in");
+            if (!isQuiet) {
+                String limit = "a history has at most " + MAX_EVENTS + " events, and the drain stopped there";
+                String told = room > left ? "the queue gave more values than went in" : limit;
+                RecorderJudge.say("seed " + seed + ": " + told);
             }
         }
     }
@@ -681,14 +686,27 @@ public final class Recorder implements AutoCloseable {
         return pattern != null ? pattern : producers > 0 ? Pattern.ROLES : inTurn;
     }
 
+    /**
+     * The number of operations of each thread for a seed: unless set, 500 for seeds 1 to 4, 100 for 5 to 8, 500 for 9
+     * to 12 and 2,500 for 13 to 16, which let a ring of 1,024 places go round; and so on.
+     */
+    public int operationsOf(long seed) {
+        return operations != 0 ? operations : new int[] {2_500, 500, 100, 500}[(int) ((seed + 3 >>> 2) % 4)];
+    }
+
+    /** The values that the queue holds first. Before a loop of your own you put them in, in this order. */
+    public List<Long> initialValues() {
+        return LongStream.range(0, initial).mapToObj(place -> values.value(MAX_THREADS, place)).toList();
+    }
+
     // What one thread does: true is an enqueue.
     boolean[] plan(long seed, int thread) {
         Words words = new Words(seed * MAX_THREADS + thread);
-        boolean[] plan = new boolean[operations];
+        boolean[] plan = new boolean[operationsOf(seed)];
         Pattern pattern = patternOf(seed);
         int length = 0;
         int burst = 0;
-        for (int n = 0; n < operations; n++) {
+        for (int n = 0; n < plan.length; n++) {
             if (burst == 0) {
                 length = pattern == Pattern.BURSTS ? 1 + words.below(32) : 1;
                 burst = 2 * length;
@@ -738,21 +756,20 @@ public final class Recorder implements AutoCloseable {
         if (chooser != null) {
             return chooser.search(this, makeQueue);
         }
-        long events = 0, overlapping = 0, ofRun = seed, end = seed + (runs == 0 ? 100 : runs);
-        boolean isJudged = judge.isFound();
+        long ofRun = seed, end = seed + (runs == 0 ? 100 : runs);
+        RecorderJudge.Found found = judge.new Found(end - seed);
         Answer answer = Answer.NO_VIOLATION;
         judge.nameKilled(end);
+        RecorderJudge.Progress progress = new RecorderJudge.Progress();
         for (; ofRun < end && answer == Answer.NO_VIOLATION; ofRun++) {
-            History history = run(ofRun, makeQueue.get());
-            answer = judge.answer(history, isJudged);
-            events += history.events.size();
-            overlapping += history.overlapping();
+            long of = ofRun;
+            progress.show(of - seed, end - of);
+            answer = found.answer(() -> run(of, makeQueue.get()));
         }
         if (answer == Answer.NO_VIOLATION) {
-            long share = events == 0 ? 0 : 200 * overlapping / events;    // an operation has two events
-            answer = judge.tellNone(isJudged, seed, end, "; " + share + " of 100 operations overlap another");
+            answer = judge.tellNone(found.isJudged, seed, end, found.told());
         }
-        judge.tellKept(answer, isJudged, ofRun - seed, events);
+        judge.tellKept(answer, found.isJudged, ofRun - seed, found.events);
         return answer;
     }
 

@@ -12,6 +12,8 @@ import java.util.ArrayDeque;
 import java.util.ArrayList;
 import java.util.Deque;
 import java.util.List;
+import java.util.concurrent.Callable;
+import java.util.concurrent.atomic.AtomicBoolean;
 import java.util.function.Consumer;
 
 /**
@@ -27,7 +29,40 @@ final class RecorderJudge {
         this.recorder = recorder;
     }
 
+    /** How far a search is, on a terminal: from two seconds on, until something else is printed. */
+    static final class Progress {
+        private static final AtomicBoolean IS_SHOWN = new AtomicBoolean();
+        private final boolean isTerminal = isTerminal();
+        private long next = System.nanoTime() + 2_000_000_000L;
+
+        // Standard error is one. Elsewhere than on Linux what can be asked is whether input and output are.
+        private static boolean isTerminal() {
+            try {
+                return Files.readSymbolicLink(Path.of("/proc/self/fd/2")).toString().matches("/dev/(pts/|tty).*");
+            } catch (IOException noLinux) {
+                return System.console() != null;
+            }
+        }
+
+        void show(long done, long left) {
+            if (isTerminal && System.nanoTime() - next >= 0) {
+                next = System.nanoTime() + 200_000_000;
+                IS_SHOWN.set(true);
+                System.err.print("\rfifobench: " + done + " runs done, " + left + " left, 0 found\033[K");
+                System.err.flush();
+            }
+        }
+
+        static void erase() {
+            if (IS_SHOWN.getAndSet(false)) {
+                System.err.print("\r\033[K");
+                System.err.flush();
+            }
+        }
+    }
+
     static void say(String line) {
+        Progress.erase();
         System.err.println("fifobench: " + line);
     }
 
@@ -60,7 +95,9 @@ final class RecorderJudge {
 
     // Returns what the program writes about this text, and its status.
     Told ask(String command, byte[] text) throws IOException {
-        Process judge = new ProcessBuilder(program(), command).redirectError(Redirect.DISCARD).start();
+        List<String> words = new ArrayList<>(List.of(program()));
+        words.addAll(List.of(command.split(" ")));
+        Process judge = new ProcessBuilder(words).redirectError(Redirect.DISCARD).start();
         try (OutputStream input = judge.getOutputStream()) {
             input.write(text);
         } catch (IOException refused) {
@@ -98,8 +135,44 @@ final class RecorderJudge {
         return isJudged ? judge(history.seed, history.text(), "") : Recorder.Answer.NO_VIOLATION;
     }
 
+    /** What the runs of a search have shown: of each seed the last one that was made. */
+    final class Found {
+        final boolean isJudged = isFound();
+        private final long runs;
+        long events;
+        private long overlapping, withoutOverlap, again;
+
+        Found(long runs) {
+            this.runs = runs;
+        }
+
+        /**
+         * Returns the answer to the run of a seed. Threads that haven't met have shown little, so a run without overlap
+         * is made again: three times, and in a search no more often than it has runs.
+         */
+        Recorder.Answer answer(Callable<Recorder.History> run) throws Exception {
+            for (int left = recorder.threads == 1 ? 0 : 3;; left--, again++) {
+                Recorder.History history = run.call();
+                Recorder.Answer answer = RecorderJudge.this.answer(history, isJudged);
+                long met = history.overlapping();
+                if (answer != Recorder.Answer.NO_VIOLATION || met > 0 || left == 0 || again == runs) {
+                    events += history.events.size();
+                    overlapping += met;
+                    withoutOverlap += met == 0 ? 1 : 0;
+                    return answer;
+                }
+            }
+        }
+
+        String told() {
+            long share = events == 0 ? 0 : 200 * overlapping / events;    // an operation has two events
+            return "; " + share + " of 100 operations overlap another; runs without overlap: " + withoutOverlap;
+        }
+    }
+
     // Says that no run is a violation, and what else there is to say.
     Recorder.Answer tellNone(boolean isJudged, long seed, long end, String more) {
+        Progress.erase();
         System.out.printf("%s %d runs (seeds %d to %d)%s%n", isJudged ? "no violation in" : "nothing judged in",
                 end - seed, seed, end - 1, more);
         return isJudged ? Recorder.Answer.NO_VIOLATION : Recorder.Answer.WRONG;
@@ -123,8 +196,9 @@ final class RecorderJudge {
         }
         Path report = keep(seed, "report", ask("shrink", text).text);
         Recorder.Pattern pattern = recorder.patternOf(seed);
-        System.out.printf("%s: seed %d, %s%s%n  history: %s%n  report:  %s%n  see it:  %s draw --text < %s%n",
-                verdict.firstLine(), seed, pattern, why, kept, report, program(), report);
+        Progress.erase();
+        System.out.printf("%s: seed %d, %s%s%n  history: %s%n  report:  %s%n  see it:  %s draw --text < %s%n%s",
+                verdict.firstLine(), seed, pattern, why, kept, report, program(), report, drawnIn(text, kept));
         if (tellAgain != null) {
             tellAgain.accept(verdict.firstLine());
         } else {
@@ -132,6 +206,17 @@ final class RecorderJudge {
                     + ": the same plan, though threads may meet in another way");
         }
         return Recorder.Answer.VIOLATION;
+    }
+
+    // The second command of `see it:`, which draws the violation with what runs beside it: the report leaves that out.
+    // `draw` refuses more than 400 operations; then there is none.
+    private String drawnIn(byte[] text, Path kept) throws IOException {
+        for (String command : List.of("draw --text --around 20", "draw --text")) {
+            if (ask(command, text).status == 0) {
+                return "           " + program() + " " + command + " < " + kept + System.lineSeparator();
+            }
+        }
+        return "";
     }
 
     // Keeps what there is of a run that ended early, says how it ended, and judges it.

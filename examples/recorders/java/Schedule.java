@@ -174,7 +174,7 @@ public final class Schedule implements Recorder.Chooser {
         String of = STRATEGIES.get(words.below(STRATEGIES.size()));
         int rate = RATES[words.below(RATES.length)];
         int deep = 2 + words.below(9);
-        int most = Math.min(operations, MOST_OPERATIONS);
+        int most = operations == 0 ? MOST_OPERATIONS : Math.min(operations, MOST_OPERATIONS);
         // 1/8, 1/4, 1/2 or all of the most.
         int share = Math.max(Math.min(most, 4), most >> words.below(4));
         return new Drawn(strategy != null ? strategy : of, oneIn != 0 ? oneIn : rate, depth != 0 ? depth : deep,

@@ -57,10 +57,12 @@ final class ScheduledSearch {
         long runs = Long.parseLong(environment.getOrDefault("FIFOBENCH_RUNS", "" + MOST_RUNS));
         long end = first + (recorder.runs == 0 ? runs : recorder.runs);
         boolean isJudged = recorder.judge.isFound();
+        RecorderJudge.Progress progress = new RecorderJudge.Progress();
         long seed = first, events = 0;
         Recorder.Answer answer = Recorder.Answer.NO_VIOLATION;
         try {
             for (; seed < end && answer == Recorder.Answer.NO_VIOLATION; seed++) {
+                progress.show(seed - first, end - seed);
                 Made made = make(seed, Variant.NONE);
                 answer = judge(made, isJudged);
                 events += made.history.events.size();
@@ -81,7 +83,7 @@ final class ScheduledSearch {
         Schedule.Drawn drawn = schedule.draw(seed, operations);
         recorder.operations = drawn.operations();
         Recorder.Queue queue = makeQueue.get();
-        Recorder.Run run = recorder.new Run(seed, recorder.initial);
+        Recorder.Run run = recorder.new Run(seed);
         for (long value : run.initials) {
             if (!queue.preload(value)) {
                 throw new IllegalStateException("no room for the initial value " + Long.toUnsignedString(value));

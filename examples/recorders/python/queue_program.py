@@ -2,8 +2,10 @@
 
     queue_program.py QUEUE                                        searches for a violation, status 0, 1 or 2
     queue_program.py QUEUE [--runs R] [--threads T] [--producers N] [--ops N] [--pattern P] [--percent K] [--seed S]
-        [--folder F] [--keep 0|1] [--timeout SECONDS]             the same with settings
-    queue_program.py QUEUE THREADS OPERATIONS [PATTERN [SEED]]    one run, written to standard output
+        [--initial N] [--folder F] [--keep 0|1] [--timeout SECONDS]         the same with settings
+    queue_program.py QUEUE THREADS OPERATIONS [PATTERN [SEED [INITIAL]]]    one run, written to standard output
+
+Without a pattern, or with `loop`, the one run is a loop of one's own.
 
 QUEUE is `good`, `wrong` (every 4th value that is found stays), `stack` (last in, first out), `early` (says empty too
 early), `hang` (a dequeue never returns) or `throw` (a dequeue raises an exception).
@@ -89,12 +91,13 @@ def number(name, word, least, most):
 NUMBERS = {
     "--runs": ("runs", 1, 1_000_000),
     "--threads": ("threads", 1, 64),
-    "--ops": ("operations", 0, 1_000_000),
+    "--ops": ("operations", 1, 1_000_000),
     "--percent": ("percent", 0, 100),
     "--seed": ("seed", 0, 4_294_967_295),
     "--timeout": ("timeout", 1, 86_400),
     "--producers": ("producers", 0, 63),
     "--keep": ("keep", 0, 1),
+    "--initial": ("initial", 0, recorder.MAX_INITIAL),
 }
 
 
@@ -114,12 +117,12 @@ def settings(words):
     """The settings, and whether they are those of one run."""
     options = recorder.Options()
     is_one_run = bool(words) and not words[0].startswith("--")
-    names = ("--threads", "--ops", "--pattern", "--seed")
+    names = ("--threads", "--ops", "--pattern", "--seed", "--initial")
     if is_one_run and not 2 <= len(words) <= len(names):
-        raise Refused("one run is QUEUE THREADS OPERATIONS [PATTERN [SEED]]")
+        raise Refused("one run is QUEUE THREADS OPERATIONS [PATTERN [SEED [INITIAL]]]")
     if is_one_run:
         options.drain = False
-        pairs = zip(names, words)
+        pairs = [(name, word) for name, word in zip(names, words) if word != "loop"]
     elif len(words) % 2 == 1:
         raise Refused(f"{words[-1]} has no value")
     else:
@@ -144,7 +147,9 @@ def record_steps(options, queue):
             else:
                 thread.dequeue(queue.dequeue)
 
-    return recorder.record(options.threads, options.operations, work)
+    for value in options.initial_values():
+        queue.enqueue(value)
+    return recorder.record(options.threads, options.operations, work, initial=options.initial)
 
 
 def one_run(options, queue):

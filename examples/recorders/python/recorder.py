@@ -1,6 +1,6 @@
 """Records what threads do with a FIFO queue, and searches for a run that no FIFO queue can have made.
 
-Python 3.8 or later with its standard library, this one file. In a test:
+Python 3.8 or later with its standard library, this file and recorder_judge.py beside it. In a test:
 
     import recorder
 
@@ -31,11 +31,9 @@ A queue may also have `preload(value)`, which puts an initial value in (else `en
 
 import contextlib
 import dataclasses
-import enum
 import importlib.util
 import itertools
 import os
-import subprocess
 import sys
 import threading
 import time
@@ -44,16 +42,20 @@ MAX_THREADS = 64
 MAX_OPERATIONS = 1_000_000
 MAX_EVENTS = 2_000_000
 MAX_INITIAL = 100_000
-MAX_DRAWN = 400    # operations or initial values in a picture
 PATTERNS = ("alternate", "mix", "bursts", "roles")
 
 
-class Answer(enum.IntEnum):
-    """What a search found; its number is the status that a program ends with."""
+def _beside(name):
+    """The module of this name that lies beside this file."""
+    path = os.path.join(os.path.dirname(os.path.abspath(__file__)), f"{name}.py")
+    spec = importlib.util.spec_from_file_location(f"fifobench_{name}", path)
+    module = sys.modules[spec.name] = importlib.util.module_from_spec(spec)
+    spec.loader.exec_module(module)
+    return module
 
-    NO_VIOLATION = 0
-    VIOLATION = 1
-    WRONG = 2    # no program, a refused history, a hang, an exception: what is wrong is said on standard error
+
+_judge = _beside("recorder_judge")
+Answer = _judge.Answer
 
 
 @dataclasses.dataclass
@@ -61,7 +63,7 @@ class Options:
     """The settings of a run and of a search."""
 
     threads: int = 4    # 1 to 64
-    operations: int = 500    # of each thread
+    operations: int = 0    # of each thread; 0: by the seed, 500, 100 or 2,500
     # alternate: enqueue, dequeue, ..; mix: by chance; bursts: 1 to 32 enqueues and then as many dequeues; roles: those
     # of even number enqueue and the others dequeue. None: the four take turns by seed.
     pattern: str = None
@@ -87,6 +89,22 @@ class Options:
         """The pattern of a seed."""
         return self.pattern or ("roles" if self.producers else PATTERNS[(seed + 3) % 4])
 
+    def operations_of(self, seed):
+        """The number of operations of each thread for a seed.
+
+        Unless it is set, seeds 1 to 4 have 500, 5 to 8 have 100, 9 to 12 have 500, and 13 to 16 have 2,500, which let a
+        ring of 1,024 places go round; and so on.
+        """
+        return self.operations or (2_500, 500, 100, 500)[(seed + 3) // 4 % 4]
+
+    def of_run(self, seed):
+        """The settings of the run of a seed."""
+        return dataclasses.replace(self, seed=seed, operations=self.operations_of(seed))
+
+    def initial_values(self):
+        """The values that the queue holds first. Before a loop of your own you put them in, in this order."""
+        return [self.value_of(MAX_THREADS, place) for place in range(self.initial)]
+
     def value_of(self, thread, n):
         """The value of operation n of a thread, and initial value n with the thread 64."""
         return self.value(thread, n) if self.value else (thread << 32) + n
@@ -95,12 +113,14 @@ class Options:
         """Raises ValueError if a setting is out of its range."""
         if not 1 <= self.threads <= MAX_THREADS:
             raise ValueError(f"1 to {MAX_THREADS} threads")
-        if not 0 <= self.threads * self.operations <= MAX_OPERATIONS:
-            raise ValueError(f"0 to {MAX_OPERATIONS} operations of all threads")
+        if self.operations < 0 or self.threads * self.operations_of(self.seed) > MAX_OPERATIONS:
+            raise ValueError(f"at most {MAX_OPERATIONS} operations of all threads")
         if not 0 <= self.producers < self.threads or self.producers and self.pattern_of(0) != "roles":
             raise ValueError("fewer producers than threads, with the pattern roles")
+        if not 0 <= self.percent <= 100:
+            raise ValueError("at most 100 percent are enqueues")
         if not 0 <= self.initial <= MAX_INITIAL:
-            raise ValueError(f"0 to {MAX_INITIAL} initial values")
+            raise ValueError(f"at most {MAX_INITIAL} initial values")
         if self.pattern is not None and self.pattern not in PATTERNS:
             raise ValueError(f'no pattern "{self.pattern}": alternate, mix, bursts or roles')
 
@@ -171,10 +191,23 @@ class Thread:
         return is_skipped
 
 
+@contextlib.contextmanager
+def _on_a_core(number):
+    """Keeps the calling thread on one core, on Linux: thread 0 on the first that it may run on, and so on."""
+    before = os.sched_getaffinity(0) if hasattr(os, "sched_setaffinity") else ()
+    if len(before) > 1:
+        os.sched_setaffinity(0, {sorted(before)[number % len(before)]})
+    try:
+        yield
+    finally:
+        if len(before) > 1:
+            os.sched_setaffinity(0, before)
+
+
 class _Start:
     """The common start: threads wait, for a bounded time, until all are there and two are seen to run at once.
 
-    Under the interpreter's lock these are two that take turns within a few looks.
+    Each waits on a core of its own; then all begin, on any core. Under the interpreter's lock these are two that take turns within a few looks.
     """
 
     LOOKS = 200
@@ -287,21 +320,6 @@ class History:
                 open_now.discard(thread)
         return len(self._events) // 2, overlapping
 
-    def end_early(self, options, tell_again=None):
-        """Keeps what there is of a run that ended early, says how it ended, and judges it."""
-        told = list(self.failures)
-        if self.ending in ("hang", "exception"):    # else said by thread, with the places
-            told.append(_told_calls(self._open_calls()))
-        _say(f"seed {options.seed}: {'; '.join(told)}")
-        try:
-            pending = _keep(options, "pending", self.text())
-            print(f"  pending: {pending}", file=sys.stderr, flush=True)
-            return _judge_pending(options, self, pending, tell_again)
-        except OSError as error:
-            _say(str(error))
-            return Answer.WRONG
-
-
 class _Journal:
     """The events of a run in a file, a few milliseconds after they are noted."""
 
@@ -309,7 +327,7 @@ class _Journal:
         self.threads = run_of.threads
         self.places = [0] * len(self.threads)    # the next event of each thread
         self.ticket = 0    # of the next event
-        self.path = _keep(run_of.options, "pending", _head("fifo-pending", run_of.initial))
+        self.path = _judge.keep(run_of.options, "pending", _head("fifo-pending", run_of.initial))
         self.file = open(self.path, "a", encoding="ascii", newline="\n")
 
     def _next(self):
@@ -329,16 +347,6 @@ class _Journal:
     def remove(self):
         self.file.close()
         os.remove(self.path)
-
-
-def _say(line):
-    print(f"fifobench: {line}", file=sys.stderr, flush=True)
-
-
-def _told_calls(calls):
-    told = [f"thread {thread} is inside " + (f"enqueue of {value}" if what == "call-enq" else "dequeue")
-            for _, thread, what, value in calls]
-    return ", ".join(told) or "no thread is inside a call"
 
 
 def _nothing(number):
@@ -369,7 +377,8 @@ class _Run:
                 self.scheduler.enter(thread)
             getattr(queue, "enter", _nothing)(thread.number)
             if self.scheduler is None:
-                self.start.meet(thread.number)
+                with _on_a_core(thread.number):
+                    self.start.meet(thread.number)
             work(thread)
             self.ended.add(thread.number)
             if queue and thread.number == 0 and self.options.drain and self._have_all_ended():
@@ -413,7 +422,7 @@ class _Run:
                 self.failures.append(self.scheduler.told_block())
         history = self.history()
         if self.ending == "hang":
-            history.answer = history.end_early(self.options)
+            history.answer = _judge.end_early(self.options, history)
         return history
 
     @contextlib.contextmanager
@@ -459,18 +468,23 @@ class _Run:
         for _ in range(min(left + 1, room)):
             if self.threads[0].dequeue(queue.dequeue) is None:
                 return
-        if room > left and (self.scheduler is None or not self.scheduler.is_again):
-            _say(f"seed {self.options.seed}: the queue gave more values than went in")
+        told = "the queue gave more values than went in"
+        if room <= left:
+            told = f"a history has at most {MAX_EVENTS} events, and the drain stopped there"
+        if self.scheduler is None or not self.scheduler.is_again:
+            _judge.say(f"seed {self.options.seed}: {told}")
 
 
 def record(threads, operations, work, **settings):
     """Runs `work(thread)` in each of the threads, which begin together, and gives what they recorded.
 
-    There is no drain, no initial value, no pattern and no chosen schedule. `settings` are those of Options. If a call
-    raises an exception, its thread ends and the others go on; if the run hangs, what there is is kept in the folder,
-    and the threads that hang are left. In both cases the history has failures.
+    There is no drain, no pattern and no chosen schedule. `settings` are those of Options; with initial values the
+    history says that the queue holds `Options.initial_values` first: put them in before. If a call raises an exception,
+    its thread ends and the others go on; if the run hangs, what there is is kept in the folder, and the threads that
+    hang are left. In both cases the history has failures.
     """
-    return _Run(Options(threads=threads, operations=operations, **settings), []).go(work, None)
+    options = Options(threads=threads, operations=operations, **settings)
+    return _Run(options, options.initial_values()).go(work, None)
 
 
 def run(options, queue):
@@ -485,7 +499,8 @@ def run(options, queue):
 
 
 def _run_with(options, queue, scheduler):
-    run_of = _Run(options, [options.value_of(MAX_THREADS, place) for place in range(options.initial)], scheduler)
+    options = options.of_run(options.seed)
+    run_of = _Run(options, options.initial_values(), scheduler)
     for value in run_of.initial:
         if getattr(queue, "preload", queue.enqueue)(value) is False:
             raise ValueError(f"the queue has no room for the initial value {value}")
@@ -542,11 +557,9 @@ def _chosen(options):
     if is_asked is False:
         return None
     for name in () if _modules else ("schedule_locks", "schedule", "schedule_search"):
-        path = os.path.join(os.path.dirname(os.path.abspath(__file__)), f"{name}.py")
-        spec = importlib.util.spec_from_file_location(f"fifobench_{name}", path)
-        _modules[name] = sys.modules[spec.name] = importlib.util.module_from_spec(spec)
-        spec.loader.exec_module(_modules[name])
-    _modules["schedule"].leave_out(*(module.__file__ for module in _modules.values()), _chosen.__code__.co_filename)
+        _modules[name] = _beside(name)
+    files = (module.__file__ for module in (_judge, *_modules.values()))
+    _modules["schedule"].leave_out(*files, _chosen.__code__.co_filename)
     return _modules["schedule_search"]
 
 
@@ -560,155 +573,15 @@ def search(options, make_queue):
     if chosen is not None:
         return chosen.Search(sys.modules[__name__], options, make_queue).answer()
     options.check()
-    operations = overlapping = 0
-    is_judged = _is_found(options)
-    runs = options.runs or 100
-    _name_killed(options, runs)
-    for seed in range(options.seed, options.seed + runs):
-        of_run = dataclasses.replace(options, seed=seed)
-        history = run(of_run, make_queue())
-        try:
-            answer = _answer(of_run, history, is_judged)
-        except OSError as error:
-            _say(f"seed {seed}: {error}")
-            answer = Answer.WRONG
-        made, met = history.overlapping()
-        operations, overlapping = operations + made, overlapping + met
+    found = _judge.Found(options.runs or 100, _judge.is_found(options))
+    _judge.name_killed(options, found.runs)
+    progress = _judge.Progress()
+    for seed in range(options.seed, options.seed + found.runs):
+        progress.show(seed - options.seed, options.seed + found.runs - seed)
+        answer = found.answer(options.of_run(seed), lambda of_run: run(of_run, make_queue()))
         if answer != Answer.NO_VIOLATION:
             break
     else:
-        share = 100 * overlapping // max(1, operations)
-        answer = _tell_none(is_judged, options.seed, runs, f"; {share} of 100 operations overlap another")
-    _tell_kept(options, answer, is_judged, seed + 1 - options.seed, 2 * operations)
+        answer = _judge.tell_none(found.is_judged, options.seed, found.runs, found.told())
+    _judge.tell_kept(options, answer, found.is_judged, seed + 1 - options.seed, 2 * found.operations)
     return answer
-
-
-def _tell_none(is_judged, first, runs, more):
-    """Says that no run is a violation, and what else there is to say."""
-    told = "no violation" if is_judged else "nothing judged"
-    print(f"{told} in {runs} runs (seeds {first} to {first + runs - 1}){more}", flush=True)
-    return Answer.NO_VIOLATION if is_judged else Answer.WRONG
-
-
-def _tell_kept(options, answer, is_judged, made, events):
-    if options.keep and is_judged and answer != Answer.WRONG:
-        print(f"  kept:    {made} judged runs with {events} events in {options.folder}", flush=True)
-
-
-def _answer(options, history, is_judged):
-    if history.answer is not None:
-        return history.answer
-    if history.failures:
-        return history.end_early(options)
-    if not is_judged or options.keep:
-        _keep(options, "history", history.text())
-    return _judge(options, history.text()) if is_judged else Answer.NO_VIOLATION
-
-
-def _keep(options, kind, text):
-    """Writes a text into the folder, and gives the path."""
-    os.makedirs(options.folder, exist_ok=True)
-    path = os.path.join(options.folder, f"{options.seed}.{kind}")
-    with open(path, "w", encoding="ascii", newline="\n") as to:
-        to.write(text)
-    return path
-
-
-def _name_killed(options, runs):
-    """Names the texts that killed runs of an earlier search have left: they lack the last line."""
-    for seed in range(options.seed, options.seed + runs):
-        path, killed = (os.path.join(options.folder, f"{seed}.{kind}") for kind in ("pending", "killed"))
-        try:
-            with open(path, "rb") as file:
-                last = file.read().splitlines(keepends=True)[-1:]
-            if not last or not (last[0].startswith(b"end ") and last[0].endswith(b"\n")):
-                os.replace(path, killed)
-                _say(f"seed {seed} was killed in an earlier search")
-                _tell_judge(options, "complete --cut", killed)
-        except FileNotFoundError:
-            pass
-
-
-def _program(options):
-    return options.program or os.environ.get("FIFOBENCH") or "fifobench"
-
-
-def _is_found(options):
-    """Whether the program can be started; if it can't, a line says so."""
-    try:
-        subprocess.run([_program(options), "help"], stdout=subprocess.DEVNULL, stderr=subprocess.DEVNULL, check=False)
-        return True
-    except OSError:
-        _say(f"no program {_program(options)}: nothing is judged, and each history is kept in {options.folder}")
-        return False
-
-
-def _ask(options, command, text):
-    """Returns what the program writes about this text, and its status."""
-    told = subprocess.run([_program(options), command], input=text.encode("ascii"), stdout=subprocess.PIPE,
-                          stderr=subprocess.DEVNULL, check=False)
-    return told.stdout.decode("ascii", "replace"), told.returncode
-
-
-def _tell_plan(options):
-    seed, pattern = options.seed, options.pattern_of(options.seed)
-    print(f"  again:   seed {seed}, pattern {pattern}: the same plan, though threads may meet in another way")
-
-
-def _tell_judge(options, command, path):
-    program = _program(options)
-    print(f"  judge:   {program} {command} < {path} | {program} check", file=sys.stderr, flush=True)
-
-
-def _judge(options, text, tell_again=None, why=""):
-    """Judges a history, and says of a violation where it is kept. `why` follows the verdict."""
-    verdict, status = _ask(options, "check", text)
-    if status == 0:
-        return Answer.NO_VIOLATION
-    kept = _keep(options, "history", text)
-    first_line = (verdict.splitlines() or [""])[0]
-    if status != 1:
-        _say(f"{_program(options)} says '{first_line}' of {kept}")
-        return Answer.WRONG
-    report = _keep(options, "report", _ask(options, "shrink", text)[0])
-    print(f"{first_line}: seed {options.seed}, {options.pattern_of(options.seed)}{why}")
-    print(f"  history: {kept}")
-    print(f"  report:  {report}")
-    print(f"  see it:  {_program(options)} draw --text < {report}")
-    if tell_again is None:
-        _tell_plan(options)
-    else:
-        tell_again(first_line)
-    sys.stdout.flush()
-    return Answer.VIOLATION
-
-
-_FAULTS = {"exception": "If the queue promises not to raise, the exception itself is the fault.",
-           **{ending: f"If the queue promises to return, the {ending} itself is the fault."
-              for ending in ("hang", "deadlock", "livelock")}}
-
-
-def _judge_pending(options, history, pending, tell_again):
-    """Judges the completion of a pending text, or prints the command that does."""
-    try:
-        completed, status = _ask(options, "complete", history.text())
-    except OSError:
-        _tell_judge(options, "complete", pending)
-        return Answer.WRONG
-    if status == 0:
-        answer = _judge(options, completed, tell_again, ": the queue is wrong, whatever the pending calls do")
-        if answer == Answer.NO_VIOLATION:
-            is_drawn = max(len(history.operations()), len(history._initial)) <= MAX_DRAWN
-            program = _program(options)
-            see = f"{program} draw --text < {pending}" if is_drawn else f"tail -n 40 < {pending}"
-            print(f"YES: a right queue can have behaved so until then. {_FAULTS[history.ending]}\n"
-                  f"  see it:  {see}", file=sys.stderr, flush=True)
-            if tell_again is not None:
-                tell_again(history.ending)
-        return Answer.VIOLATION if answer == Answer.VIOLATION else Answer.WRONG
-    if completed.startswith("REFUSED "):
-        _say(f"{_program(options)} says '{completed.splitlines()[0]}' of {pending}")
-    else:
-        _say(f"{_program(options)} has no command complete, which a later version has")
-    _tell_judge(options, "complete", pending)
-    return Answer.WRONG

@@ -96,7 +96,7 @@ def draw(settings, seed, operations):
     strategy = ("naps", "naps", "naps", "naps", "walk", "walk", "pct", "pct")[chance.below(8)]
     one_in = RATES[chance.below(len(RATES))]
     depth = 2 + chance.below(9)
-    most = min(operations, MOST_OPERATIONS)
+    most = min(operations or MOST_OPERATIONS, MOST_OPERATIONS)
     share = max(min(most, 4), most >> chance.below(4))
     return Drawn(settings.strategy or strategy, settings.one_in or one_in, settings.depth or depth,
                  settings.operations or share)

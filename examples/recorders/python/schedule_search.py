@@ -56,22 +56,24 @@ class Search:
         options.check()
         runs = options.runs or int(os.environ.get("FIFOBENCH_RUNS") or MOST_RUNS)
         first = int(os.environ.get("FIFOBENCH_SEED") or options.seed)
-        is_judged = recorder._is_found(options)
+        is_judged = recorder._judge.is_found(options)
         events = 0
+        progress = recorder._judge.Progress()
         with locks.Patches():
             for seed in range(first, first + runs):
+                progress.show(seed - first, first + runs - seed)
                 made = self.make(seed)
                 events += 2 * len(made.history.operations())
                 try:
                     answer = self._judge(made, is_judged)
                 except OSError as error:
-                    recorder._say(f"seed {seed}: {error}")
+                    recorder._judge.say(f"seed {seed}: {error}")
                     answer = recorder.Answer.WRONG
                 if answer != recorder.Answer.NO_VIOLATION:
                     break
             else:
-                answer = recorder._tell_none(is_judged, first, runs, ", with chosen schedules")
-        recorder._tell_kept(options, answer, is_judged, seed + 1 - first, events)
+                answer = recorder._judge.tell_none(is_judged, first, runs, ", with chosen schedules")
+        recorder._judge.tell_kept(options, answer, is_judged, seed + 1 - first, events)
         return answer
 
     def make(self, seed, switches=None, skipped=(), few=None, is_again=False):
@@ -95,12 +97,13 @@ class Search:
             return history.answer
         if history.failures:
             ending = self.kind(made)
-            return history.end_early(made.options, (lambda _: self._tell_again(made, ending)) if is_judged else None)
+            tell_again = (lambda _: self._tell_again(made, ending)) if is_judged else None
+            return recorder._judge.end_early(made.options, history, tell_again)
         if not is_judged or self.options.keep:
-            recorder._keep(made.options, "history", history.text())
+            recorder._judge.keep(made.options, "history", history.text())
         if not is_judged:
             return recorder.Answer.NO_VIOLATION
-        return recorder._judge(made.options, history.text(), lambda kind: self._tell_again(made, kind))
+        return recorder._judge.judge_text(made.options, history.text(), lambda kind: self._tell_again(made, kind))
 
     def kind(self, made):
         """What is wrong with a run, in few words; YES if nothing is."""
@@ -108,7 +111,7 @@ class Search:
             return made.outcome
         if made.history.failures:
             return "an exception" if made.history.has_ended else "a hang"
-        verdict, _ = self.recorder._ask(made.options, "check", made.text())
+        verdict, _ = self.recorder._judge.ask(made.options, "check", made.text())
         return verdict.partition("\n")[0]
 
     def signature(self, made):
@@ -231,7 +234,7 @@ class Trace:
         made = self.made
         if not made.history.is_complete:
             return [(ticket, thread, what, value) for ticket, thread, what, value in made.history._open_calls()]
-        report, _ = self.search.recorder._ask(made.options, "shrink", made.text())
+        report, _ = self.search.recorder._judge.ask(made.options, "shrink", made.text())
         events = []
         for line in report.splitlines():
             words = line.split()

@@ -2,8 +2,10 @@
 //!
 //!     queue QUEUE                                        searches for a violation, status 0, 1 or 2
 //!     queue QUEUE [--runs R] [--threads T] [--producers N] [--ops N] [--pattern P] [--percent K] [--seed S]
-//!         [--folder F] [--keep 0|1] [--timeout SECONDS]  the same with settings
-//!     queue QUEUE THREADS OPERATIONS [PATTERN [SEED]]    one run, written to standard output
+//!         [--initial N] [--folder F] [--keep 0|1] [--timeout SECONDS]    the same with settings
+//!     queue QUEUE THREADS OPERATIONS [PATTERN [SEED [INITIAL]]]          one run, written to standard output
+//!
+//! Without a pattern, or with `loop`, the one run is a loop of one's own.
 //!
 //! QUEUE is `good`, `wrong` (every 4th value that is found stays), `stack` (last in, first out), `early` (says empty
 //! too early), `hang` (a dequeue never returns) or `throw` (a dequeue panics).
@@ -127,6 +129,9 @@ const STEPS: &[u8; 8] = b"EEDDDEED";
 
 /// A loop of one's own, recorded.
 fn record_steps(options: &Options, queue: &impl recorder::Queue) -> History {
+    for value in options.initial_values() {
+        queue.enqueue(value);
+    }
     recorder::record_with(options, |thread| {
         for n in 0..options.operations {
             if STEPS[(n + thread.number()) % 8] == b'E' {
@@ -151,10 +156,11 @@ fn set(options: &mut Options, name: &str, word: &str) -> Result<(), String> {
     match name {
         "--runs" => options.runs = number(name, word, 1, 1_000_000)?,
         "--threads" => options.threads = number(name, word, 1, 64)? as usize,
-        "--ops" => options.operations = number(name, word, 0, 1_000_000)? as usize,
+        "--ops" => options.operations = number(name, word, 1, 1_000_000)? as usize,
         "--pattern" => options.pattern = Some(word.parse()?),
         "--percent" => options.percent = number(name, word, 0, 100)?,
         "--seed" => options.seed = number(name, word, 0, u32::MAX.into())?,
+        "--initial" => options.initial = number(name, word, 0, recorder::MAX_INITIAL as u64)? as usize,
         "--folder" => options.folder = PathBuf::from(word),
         "--producers" => options.producers = number(name, word, 0, 63)? as usize,
         "--keep" => options.keep = number(name, word, 0, 1)? == 1,
@@ -169,11 +175,12 @@ fn settings(words: &[String]) -> Result<(Options, bool), String> {
     let mut options = Options::default();
     let is_one_run = words.first().is_some_and(|word| !word.starts_with("--"));
     if is_one_run {
-        let names = ["--threads", "--ops", "--pattern", "--seed"];
+        let names = ["--threads", "--ops", "--pattern", "--seed", "--initial"];
         if words.len() < 2 || words.len() > names.len() {
-            return Err("one run is QUEUE THREADS OPERATIONS [PATTERN [SEED]]".to_string());
+            return Err("one run is QUEUE THREADS OPERATIONS [PATTERN [SEED [INITIAL]]]".to_string());
         }
-        names.iter().zip(words).try_for_each(|(name, word)| set(&mut options, name, word))?;
+        let mut pairs = names.iter().zip(words).filter(|(_, word)| *word != "loop");
+        pairs.try_for_each(|(name, word)| set(&mut options, name, word))?;
         options.drain = false;
     } else {
         for pair in words.chunks(2) {

@@ -1,5 +1,5 @@
 //! Records what threads do with a FIFO queue, and searches for a run that no FIFO queue can have made. Rust with its
-//! standard library, this one file. In a test:
+//! standard library, this file and `recorder_judge.rs` beside it. In a test:
 //!
 //! ```ignore
 //! mod recorder;
@@ -26,6 +26,9 @@
 
 #![allow(dead_code, unexpected_cfgs)] // A test uses a part of it.
 
+#[path = "recorder_judge.rs"]
+mod judge;
+
 #[cfg(fifobench_schedule)]
 #[path = "schedule_runs.rs"]
 mod schedule;
@@ -34,14 +37,13 @@ mod schedule;
 #[path = "recorder_crash.rs"]
 mod crash;
 
+use judge::{say, told_wrong};
 use std::any::Any;
-use std::env;
 use std::fmt::{self, Display};
-use std::fs;
 use std::io::{self, BufWriter, Write};
 use std::panic::{self, AssertUnwindSafe};
-use std::path::{Path, PathBuf};
-use std::process::{self, Command, Stdio};
+use std::path::PathBuf;
+use std::process;
 use std::str::FromStr;
 use std::sync::atomic::{AtomicBool, AtomicU64, AtomicUsize, Ordering};
 use std::sync::mpsc::{self, Receiver, RecvTimeoutError};
@@ -118,7 +120,7 @@ impl FromStr for Pattern {
 pub struct Options {
     /// 1 to 64.
     pub threads: usize,
-    /// Operations of each thread.
+    /// Operations of each thread; 0: by the seed, 500, 100 or 2,500.
     pub operations: usize,
     /// If there is none, the four take turns by seed.
     pub pattern: Option<Pattern>,
@@ -154,7 +156,7 @@ impl Default for Options {
     fn default() -> Options {
         Options {
             threads: 4,
-            operations: 500,
+            operations: 0,
             pattern: None,
             producers: 0,
             percent: 50,
@@ -180,12 +182,32 @@ impl Options {
         self.pattern.unwrap_or(if self.producers > 0 { Pattern::Roles } else { in_turn })
     }
 
+    /// The number of operations of each thread for this seed.
+    ///
+    /// Seeds 1 to 4 have 500, 5 to 8 have 100, 9 to 12 have 500, and 13 to 16 have 2,500, which let a ring of 1,024
+    /// places go round; and so on.
+    pub fn operations_of(&self, seed: u64) -> usize {
+        let of_seed = [2_500, 500, 100, 500][(seed.wrapping_add(3) / 4 % 4) as usize];
+        if self.operations == 0 { of_seed } else { self.operations }
+    }
+
+    /// The values that the queue holds first. Before a loop of your own you put them in, in this order.
+    pub fn initial_values(&self) -> Vec<u64> {
+        (0..self.initial as u64).map(|place| (self.value)(MAX_THREADS, place)).collect()
+    }
+
+    // The settings of the run of a seed.
+    fn of_run(&self, seed: u64) -> Options {
+        Options { seed, operations: self.operations_of(seed), ..self.clone() }
+    }
+
     fn check(&self) {
         assert!((1..=MAX_THREADS).contains(&self.threads), "1 to {MAX_THREADS} threads");
-        let is_met = self.threads.saturating_mul(self.operations) <= MAX_OPERATIONS;
+        let is_met = self.threads.saturating_mul(self.operations_of(self.seed)) <= MAX_OPERATIONS;
         assert!(is_met, "at most {MAX_OPERATIONS} operations of all threads");
         let has_roles = self.producers == 0 || self.pattern_of(0) == Pattern::Roles;
         assert!(self.producers < self.threads && has_roles, "fewer producers than threads, with the pattern roles");
+        assert!(self.percent <= 100, "at most 100 percent are enqueues");
         assert!(self.initial <= MAX_INITIAL, "at most {MAX_INITIAL} initial values");
         assert!(!self.journal || cfg!(fifobench_crash), "a journal needs --cfg fifobench_crash");
     }
@@ -364,7 +386,67 @@ impl Thread<'_> {
     }
 }
 
-// The common start: threads wait, for a bounded time, until all are there and two are seen to run at once.
+// The core of a thread, by a system call of Linux that the standard library doesn't have.
+#[cfg(all(target_os = "linux", target_arch = "x86_64"))]
+mod core {
+    use std::arch::asm;
+
+    // Cores as bits.
+    type Cores = [u8; 128];
+    const SET_AFFINITY: isize = 203;
+    const GET_AFFINITY: isize = 204;
+
+    // Sets or gets the cores on which the calling thread may run.
+    fn call(number: isize, cores: &mut Cores) -> isize {
+        let mut outcome = number;
+        // SAFETY: of memory the call touches the bytes of `cores` alone.
+        unsafe {
+            asm!("syscall", inlateout("rax") outcome, in("rdi") 0, in("rsi") cores.len(), in("rdx") cores.as_mut_ptr(),
+                 lateout("rcx") _, lateout("r11") _, options(nostack));
+        }
+        outcome
+    }
+
+    /// While it lives, its thread stays on one core: thread 0 on the first core that it may run on, and so on.
+    pub(super) struct Core(Option<Cores>);
+
+    impl Core {
+        pub(super) fn new(number: usize) -> Core {
+            let mut before = [0; 128];
+            let is_known = call(GET_AFFINITY, &mut before) > 0;
+            let cores: Vec<usize> = (0..1024).filter(|core| before[core / 8] >> (core % 8) & 1 == 1).collect();
+            if !is_known || cores.len() < 2 {
+                return Core(None);
+            }
+            let core = cores[number % cores.len()];
+            let mut one = [0; 128];
+            one[core / 8] = 1 << (core % 8);
+            Core((call(SET_AFFINITY, &mut one) == 0).then_some(before))
+        }
+    }
+
+    impl Drop for Core {
+        fn drop(&mut self) {
+            if let Some(before) = &mut self.0 {
+                call(SET_AFFINITY, before);
+            }
+        }
+    }
+}
+
+#[cfg(not(all(target_os = "linux", target_arch = "x86_64")))]
+mod core {
+    pub(super) struct Core;
+
+    impl Core {
+        pub(super) fn new(_number: usize) -> Core {
+            Core
+        }
+    }
+}
+
+// The common start: threads wait, each on a core of its own, for a bounded time, until all are there and two are seen
+// to run at once. Then all begin, on any core.
 struct Start {
     threads: usize,
     arrived: AtomicUsize,
@@ -379,6 +461,7 @@ impl Start {
     }
 
     fn meet(&self, number: usize) {
+        let _core = (!self.is_open.load(Ordering::SeqCst)).then(|| core::Core::new(number));
         self.arrived.fetch_add(1, Ordering::SeqCst);
         self.wait(Duration::from_secs(1), || self.arrived.load(Ordering::SeqCst) >= self.threads);
         self.wait(Duration::from_millis(100), || self.has_met(number));
@@ -472,53 +555,6 @@ impl History {
         self.write(&mut text).expect("a vector takes each write");
         text
     }
-
-    // The answer of a search to this run.
-    fn answer(&self, options: &Options, is_judged: bool) -> Result<Answer, String> {
-        if !self.failures.is_empty() {
-            let fault = "If the queue promises not to panic, the panic itself is the fault.";
-            return Ok(self.end_early(options, &self.failures.join("; "), fault));
-        }
-        if !is_judged || options.keep {
-            keep(options, "history", &self.text())?;
-        }
-        if is_judged { judge(options, &self.text(), "") } else { Ok(Answer::NoViolation) }
-    }
-
-    // Keeps what there is of a run that ends early, says how it ended, and judges it.
-    fn end_early(&self, options: &Options, how: &str, fault: &str) -> Answer {
-        let inside: Vec<String> = self.open_calls().iter().map(told_call).collect();
-        let inside = if inside.is_empty() { "no thread is inside a call".to_string() } else { inside.join(", ") };
-        say(&format!("fifobench: seed {}: {how}; {inside}", options.seed));
-        let answer = keep(options, "pending", &self.text()).and_then(|pending| {
-            say(&format!("  pending: {}", pending.display()));
-            judge_pending(options, self, &pending, fault)
-        });
-        answer.unwrap_or_else(told_wrong)
-    }
-}
-
-// Writes a text into the folder. Replaces an older file, since a journal may still be written to it.
-fn keep(options: &Options, kind: &str, text: &[u8]) -> Result<PathBuf, String> {
-    let path = options.folder.join(format!("{}.{kind}", options.seed));
-    let _ = fs::create_dir_all(&options.folder).and_then(|()| fs::remove_file(&path));
-    fs::write(&path, text).map_err(|error| format!("can't write {}: {error}", path.display()))?;
-    Ok(path)
-}
-
-// One line on standard error itself, which a test doesn't catch.
-fn say(line: &str) {
-    let _ = writeln!(io::stderr(), "{line}");
-}
-
-fn told_wrong(error: String) -> Answer {
-    say(&format!("fifobench: {error}"));
-    Answer::Wrong
-}
-
-fn told_call(call: &Event) -> String {
-    let value = if call.what == CALL_ENQ { format!("enqueue of {}", call.value) } else { "dequeue".to_string() };
-    format!("thread {} is inside {value}", call.thread)
 }
 
 fn told_panic(panic: &(dyn Any + Send)) -> &str {
@@ -536,23 +572,25 @@ pub fn record(threads: usize, operations: usize, work: impl Fn(&mut Thread) + Sy
     record_with(&Options { threads, operations, ..Options::default() }, work)
 }
 
-/// As [`record`], with more settings; there is no drain, no initial value and no pattern.
+/// As [`record`], with more settings; there is no drain and no pattern. With initial values the history says that the
+/// queue holds [`Options::initial_values`] first: put them in before.
 pub fn record_with(options: &Options, work: impl Fn(&mut Thread) + Sync) -> History {
     options.check();
-    let run = Run::new(options);
-    let failures = run_threads(&run, &[], &Steps { enter: &|_| (), work: &work, drain: &|_| (), leave: &|_| () });
-    History { events: run.events(), initial: Vec::new(), failures }
+    let (options, initial) = (options.of_run(options.seed), options.initial_values());
+    let run = Run::new(&options);
+    let failures = run_threads(&run, &initial, &Steps { enter: &|_| (), work: &work, drain: &|_| (), leave: &|_| () });
+    History { events: run.events(), initial, failures }
 }
 
 /// One run over this queue, by the pattern of the seed. Panics if a setting is out of its range, or if the queue has no
 /// room for an initial value.
 pub fn run(options: &Options, queue: &impl Queue) -> History {
     options.check();
-    let initial: Vec<u64> = (0..options.initial as u64).map(|place| (options.value)(MAX_THREADS, place)).collect();
+    let (options, initial) = (options.of_run(options.seed), options.initial_values());
     for (place, value) in initial.iter().enumerate() {
         assert!(queue.preload(*value), "the queue has no room for the initial value at place {place}");
     }
-    let run = Run::new(options);
+    let run = Run::new(&options);
     let steps = Steps {
         enter: &|number| queue.enter(number),
         work: &|thread| make_operations(thread, queue),
@@ -677,9 +715,14 @@ fn drain(thread: &mut Thread, queue: &impl Queue, initial: usize) {
             return;
         }
     }
+    let told = if room > left {
+        "the queue gave more values than went in"
+    } else {
+        "a history has at most 2000000 events, and the drain stopped there"
+    };
     // A chosen schedule is made again and again, and the verdict says it.
-    if room > left && !cfg!(fifobench_schedule) {
-        say(&format!("fifobench: seed {}: the queue gave more values than went in", thread.run.options.seed));
+    if !cfg!(fifobench_schedule) {
+        say(&format!("fifobench: seed {}: {told}", thread.run.options.seed));
     }
 }
 
@@ -700,100 +743,5 @@ fn search_runs<Q: Queue>(options: &Options, make_queue: impl Fn() -> Q) -> Resul
     }
     #[cfg(fifobench_crash)]
     let _watched = crash::Search::new(options);
-    let (mut made, mut events, mut overlapping) = (0, 0, 0);
-    let (is_judged, mut answer) = (is_found(options), Answer::NoViolation);
-    while made < options.runs && answer == Answer::NoViolation {
-        let options = Options { seed: options.seed.wrapping_add(made), ..options.clone() };
-        let history = run(&options, &make_queue());
-        answer = history.answer(&options, is_judged)?;
-        (made, events, overlapping) = (made + 1, events + history.events.len(), overlapping + history.overlapping());
-    }
-    if answer == Answer::NoViolation {
-        let share = (200 * overlapping).checked_div(events).unwrap_or(0); // an operation has two events
-        let outcome = if is_judged { "no violation in" } else { "nothing judged in" };
-        let (first, last) = (options.seed, options.seed.wrapping_add(made).wrapping_sub(1));
-        println!("{outcome} {made} runs (seeds {first} to {last}); {share} of 100 operations overlap another");
-    }
-    if options.keep && is_judged && answer != Answer::Wrong {
-        println!("  kept:    {made} judged runs with {events} events in {}", options.folder.display());
-    }
-    Ok(if is_judged || answer != Answer::NoViolation { answer } else { Answer::Wrong })
-}
-
-fn program(options: &Options) -> PathBuf {
-    let set = options.program.clone().or_else(|| env::var_os("FIFOBENCH").map(PathBuf::from));
-    set.unwrap_or_else(|| PathBuf::from("fifobench"))
-}
-
-// Whether the program can be started; if it can't, a line says so.
-fn is_found(options: &Options) -> bool {
-    let program = program(options);
-    let is_found = Command::new(&program).arg("help").stdout(Stdio::null()).stderr(Stdio::null()).status().is_ok();
-    if !is_found {
-        let (program, folder) = (program.display(), options.folder.display());
-        say(&format!("fifobench: no program '{program}': nothing is judged; the histories are kept in {folder}"));
-    }
-    is_found
-}
-
-// Returns what the program writes about this text, and its status.
-fn ask(options: &Options, command: &str, text: &[u8]) -> io::Result<(String, Option<i32>)> {
-    let mut judge = Command::new(program(options));
-    judge.arg(command).stdin(Stdio::piped()).stdout(Stdio::piped()).stderr(Stdio::null());
-    let mut judge = judge.spawn()?;
-    // The program reads all before it writes. If it refuses a text it reads no further, and then this write may fail.
-    if let Some(mut input) = judge.stdin.take() {
-        let _ = input.write_all(text);
-    }
-    let output = judge.wait_with_output()?;
-    Ok((String::from_utf8_lossy(&output.stdout).into_owned(), output.status.code()))
-}
-
-// Judges a history. `why` follows the verdict.
-fn judge(options: &Options, text: &[u8], why: &str) -> Result<Answer, String> {
-    let program = program(options).display().to_string();
-    let unasked = |error: io::Error| format!("{program}: {error}");
-    let (verdict, status) = ask(options, "check", text).map_err(unasked)?;
-    if status == Some(0) {
-        return Ok(Answer::NoViolation);
-    }
-    let (seed, pattern) = (options.seed, options.pattern_of(options.seed));
-    let history = keep(options, "history", text)?.display().to_string();
-    let verdict = verdict.lines().next().unwrap_or_default();
-    if status != Some(1) {
-        return Err(format!("{program} says '{verdict}' of {history}"));
-    }
-    let (report, _) = ask(options, "shrink", text).map_err(unasked)?;
-    let report = keep(options, "report", report.as_bytes())?.display().to_string();
-    // On standard output itself: the process may end before a test shows what it has caught.
-    let told = format!("{verdict}: seed {seed}, {pattern}{why}\n  history: {history}\n  report:  {report}\n");
-    let seen = format!("  see it:  {program} draw --text < {report}\n  again:   seed {seed}, pattern {pattern}");
-    let _ = writeln!(io::stdout(), "{told}{seen}: the same plan, though threads may meet in another way");
-    Ok(Answer::Violation)
-}
-
-// Judges the completion of a pending text, or prints the command that does. The fault follows `YES`.
-fn judge_pending(options: &Options, of: &History, pending: &Path, fault: &str) -> Result<Answer, String> {
-    let (program, pending) = (program(options).display().to_string(), pending.display());
-    let asked = ask(options, "complete", &of.text());
-    if let Ok((history, Some(0))) = &asked {
-        let answer = judge(options, history.as_bytes(), ": the queue is wrong, whatever the pending calls do")?;
-        if answer == Answer::NoViolation {
-            // `draw` refuses more than 400 operations or initial values.
-            let twice = (of.events.len() + of.open_calls().len()).max(2 * of.initial.len());
-            let drawn = (twice <= 800).then(|| format!("{program} draw --text < {pending}"));
-            let see = drawn.unwrap_or(format!("tail -n 40 < {pending}"));
-            say(&format!("YES: a right queue can have behaved so until then. {fault}\n  see it:  {see}"));
-        }
-        return Ok(if answer == Answer::Violation { answer } else { Answer::Wrong });
-    }
-    match asked {
-        Ok((told, _)) if told.starts_with("REFUSED ") => {
-            say(&format!("fifobench: {program} says '{}' of {pending}", told.trim_end()));
-        }
-        Ok(_) => say(&format!("fifobench: {program} has no command complete, which a later version has")),
-        Err(_) => {}
-    }
-    say(&format!("  judge:   {program} complete < {pending} | {program} check"));
-    Ok(Answer::Wrong)
+    judge::search(options, &|options: &Options| run(options, &make_queue()))
 }

@@ -13,7 +13,8 @@
 //!
 //! and the next search says so, after it has renamed the file to SEED.killed.
 
-use super::{head, keep, program, say, Chunk, Event, History, Options, Run};
+use super::judge::{keep, program, say};
+use super::{head, Chunk, Event, History, Options, Run};
 use std::cell::Cell;
 use std::ffi::{c_char, c_int, c_uint, c_void, CStr};
 use std::fs::{self, File, OpenOptions};

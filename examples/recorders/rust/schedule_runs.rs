@@ -22,6 +22,7 @@
 //! `FIFOBENCH_SEED=17 cargo test ..` begins with that seed, whose run it makes again. A link without schedule.o fails,
 //! and names functions of the form `fifobench_schedule_..` or `__tsan_..`: they are those of schedule.c.
 
+use super::judge::program;
 use super::{make_steps, told_panic, Answer, Options, Queue, Run, Start, Steps};
 use std::ffi::{c_char, c_int, c_uint, c_void, CStr, CString};
 use std::panic::{self, AssertUnwindSafe};
@@ -149,15 +150,14 @@ pub(super) fn search<Q: Queue>(options: &Options, make_queue: impl Fn() -> Q) ->
         (!history.failures.is_empty()).then(|| history.failures.join("; "))
     };
     let context = Context { run: &run, options };
-    let [program, folder] = [&super::program(options), &options.folder].map(|path| text(&path.to_string_lossy()));
-    let is_set = options.operations != Options::default().operations;
+    let [program, folder] = [&program(options), &options.folder].map(|path| text(&path.to_string_lossy()));
     let raw = RawSearch {
         program: program.as_ptr(),
         folder: folder.as_ptr(),
         seed: options.seed,
         runs: options.runs as c_uint,
         threads: options.threads as c_uint,
-        operations: if is_set { options.operations } else { 0 },
+        operations: options.operations,
         seconds: options.timeout.as_secs() as c_uint,
         keep: c_int::from(options.keep),
         run: make_run,

@@ -120,7 +120,7 @@ static inline bool recorder_points_search(const struct recorder_settings *settin
         .program = settings->program, .folder = settings->folder, .seed = settings->seed, .runs = settings->runs,
         .threads = settings->threads, .seconds = settings->timeout, .keep = settings->keep, .run = recorder_points_run,
         .pattern = recorder_points_pattern, .context = &context,
-        .operations = settings->operations == recorder_defaults().operations ? 0 : settings->operations};
+        .operations = settings->operations};
     *answer = fifobench_search_runs(&chosen);
     return true;
 }

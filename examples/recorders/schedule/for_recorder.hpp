@@ -102,7 +102,7 @@ void search(const Settings& settings, RunOne& run_one, std::optional<int>& answe
     chosen.seed = settings.seed;
     chosen.runs = settings.runs;
     chosen.threads = settings.threads;
-    chosen.operations = settings.operations == Settings().operations ? 0 : settings.operations;
+    chosen.operations = settings.operations;
     chosen.seconds = static_cast<unsigned>((settings.timeout.count() + 999) / 1000);
     chosen.keep = settings.keep ? 1 : 0;
     chosen.context = &context;

@@ -18,7 +18,7 @@ struct searching {
     uint64_t operations, overlapping, events;
 };
 
-enum { DEFAULT_RUNS = 300, DEFAULT_SECONDS = 30, MAX_PATH_BYTES = 4096, MAX_LINE_BYTES = 1024 };
+enum { DEFAULT_RUNS = 300, DEFAULT_SECONDS = 30, MAX_PATH_BYTES = 4096, MAX_LINE_BYTES = 1024, MAX_WORDS = 10 };
 
 static void cut_at(char *line, const char *ends)
 {
@@ -44,17 +44,23 @@ static void make_folder(const char *folder)
     mkdir(path, 0777);
 }
 
-// Runs a command of the program from and to a file. Returns its status, or -1.
+// Runs a command of the program, with its options, from and to a file. Returns its status, or -1.
 static int ask(const char *program, const char *command, const char *from, const char *to)
 {
-    int status = 0;
+    int status = 0, count = 1;
+    char copy[MAX_LINE_BYTES];
+    char *words[MAX_WORDS + 1] = {(char *)program};
+    snprintf(copy, sizeof copy, "%s", command);
+    for (char *word = strtok(copy, " "); word != NULL && count < MAX_WORDS; word = strtok(NULL, " ")) {
+        words[count++] = word;
+    }
     fflush(NULL);
     pid_t child = fork();
     if (child == 0) {
         int in = open(from, O_RDONLY), none = open("/dev/null", O_WRONLY);
         int out = open(to, O_WRONLY | O_CREAT | O_TRUNC, 0666);
         if (in >= 0 && out >= 0 && none >= 0 && dup2(in, 0) == 0 && dup2(out, 1) == 1 && dup2(none, 2) == 2) {
-            execlp(program, program, command, (char *)NULL);
+            execvp(program, words);
         }
         _exit(127);
     }

@@ -17,6 +17,36 @@ static void count_overlap(struct searching *of)
     }
 }
 
+// How far a search is, on a terminal: from two seconds on, until something else is printed. `next` is the time in
+// seconds at which it is shown again.
+static bool progress_is_shown;
+
+static void erase_progress(void)
+{
+    if (progress_is_shown) {
+        progress_is_shown = false;
+        fprintf(stderr, "\r\033[K");
+        fflush(stderr);
+    }
+}
+
+static double seconds_now(void)
+{
+    struct timespec now;
+    clock_gettime(CLOCK_MONOTONIC, &now);
+    return (double)now.tv_sec + (double)now.tv_nsec / 1e9;
+}
+
+static void show_progress(unsigned done, unsigned left, double *next)
+{
+    if (isatty(2) && seconds_now() >= *next) {
+        *next = seconds_now() + 0.2;
+        progress_is_shown = true;
+        fprintf(stderr, "\rfifobench: %u runs done, %u left, 0 found\033[K", done, left);
+        fflush(stderr);
+    }
+}
+
 // Says of each thread where it is.
 static void tell_places(FILE *to)
 {
@@ -80,6 +110,7 @@ static struct early name_early(const struct outcome *outcome)
 static bool tell_early(const char *folder, uint64_t seed, const struct outcome *outcome, char path[MAX_PATH_BYTES])
 {
     const char *kind = name_early(outcome).kind;
+    erase_progress();
     fprintf(stderr, "fifobench: seed %" PRIu64 ": ", seed);
     if (outcome->has_failed) {
         fprintf(stderr, "%s\n", tape->failure);
@@ -253,18 +284,34 @@ static void tell_again(const struct searching *of, uint64_t seed, const struct o
             is_equal ? "replays this very run" : "makes the same plan, though the run may be another");
 }
 
+// Prints the second command of `see it:`, which draws the violation with what runs beside it: the report leaves that
+// out. `draw` refuses more than 400 operations; then there is none.
+static void tell_drawn_in(const char *program, const char *history)
+{
+    static const char *const commands[] = {"draw --text --around 20", "draw --text"};
+    int place = 0;
+    while (place < 2 && ask(program, commands[place], history, "/dev/null") != 0) {
+        place++;
+    }
+    if (place < 2) {
+        printf("           %s %s < %s\n", program, commands[place], history);
+    }
+}
+
 // `why` stands after the verdict.
 static int tell_violation(const struct searching *of, uint64_t seed, const struct outcome *outcome, const char *verdict,
                           const char *why, const char *history, const char *report)
 {
     const struct fifobench_search *settings = of->settings;
     int status = ask(of->program, "shrink", history, report);
+    erase_progress();
     printf("%s: seed %" PRIu64 ", ", verdict, seed);
     if (settings->pattern != NULL) {
         printf("%s, ", settings->pattern(settings->context, seed));
     }
     printf("with chosen schedules%s\n  history: %s\n  report:  %s\n", why, history, report);
     printf("  see it:  %s draw --text < %s\n", of->program, report);
+    tell_drawn_in(of->program, history);
     tell_again(of, seed, outcome, stdout);
     if (status != 1) {
         fprintf(stderr, "fifobench: '%s' can't shrink %s\n", of->program, history);
@@ -281,6 +328,7 @@ static void count_run(struct searching *of)
     count_overlap(of);
     if (tape->has_own_threads && !of->said_own_threads) {
         of->said_own_threads = true;
+        erase_progress();
         fprintf(stderr, "fifobench: the queue has threads of its own, which run free: a run may not be the same "
                         "twice\n");
     }
@@ -316,6 +364,7 @@ static int search_one(struct searching *of, uint64_t seed)
     name_file(report, folder, seed, "report");
     struct outcome outcome = make_run(of->settings, seed, NULL, 0);
     if (!outcome.is_wrong && outcome.ending == NOT_BEGUN && outcome.signal == 0 && !outcome.has_failed) {
+        erase_progress();
         fprintf(stderr, "fifobench: seed %" PRIu64 ": there is no run\n", seed);
         return 2;
     }
@@ -325,6 +374,7 @@ static int search_one(struct searching *of, uint64_t seed)
     count_run(of);
     judge(of, history, report, &outcome);
     if (outcome.is_wrong) {
+        erase_progress();
         fprintf(stderr, "fifobench: %s says '%s' of %s\n", of->program, outcome.verdict, history);
         return 2;
     }
@@ -390,9 +440,12 @@ int fifobench_search_runs(const struct fifobench_search *settings)
     }
     int answer = 0;
     unsigned made = 0;
+    double next = seconds_now() + 2;
     for (; made < runs && answer == 0; made++) {
+        show_progress(made, runs - made, &next);
         answer = search_one(&of, seed + made);
     }
+    erase_progress();
     rmdir(settings->folder); // if it is empty
     answer = answer == 0 ? tell_none(&of, seed, runs) : answer;
     if (settings->keep && of.judges && answer != 2) {

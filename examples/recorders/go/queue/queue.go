@@ -2,8 +2,10 @@
 //
 //	queue QUEUE                                        searches for a violation, status 0, 1 or 2
 //	queue QUEUE [--runs R] [--threads T] [--producers N] [--ops N] [--pattern P] [--percent K] [--seed S]
-//	    [--folder F] [--keep 0|1] [--timeout SECONDS]  the same with settings
-//	queue QUEUE THREADS OPERATIONS [PATTERN [SEED]]    one run, written to standard output
+//	    [--initial N] [--folder F] [--keep 0|1] [--timeout SECONDS]    the same with settings
+//	queue QUEUE THREADS OPERATIONS [PATTERN [SEED [INITIAL]]]          one run, written to standard output
+//
+// Without a pattern, or with loop, the one run is a loop of one's own.
 //
 // QUEUE is good (the channel), wrong (every 4th value that is found stays), stack (last in, first out), early (says
 // empty too early), hang (a dequeue never returns) or throw (a dequeue panics).
@@ -146,7 +148,7 @@ func set(options *fifobench.Options, name, word string) error {
 		found, err = number(name, word, 1, fifobench.MaxThreads)
 		options.Threads = int(found)
 	case "--ops":
-		found, err = number(name, word, 0, fifobench.MaxOperations)
+		found, err = number(name, word, 1, fifobench.MaxOperations)
 		options.Operations = int(found)
 	case "--pattern":
 		options.Pattern = fifobench.Pattern(word)
@@ -157,6 +159,9 @@ func set(options *fifobench.Options, name, word string) error {
 		options.Percent, err = number(name, word, 0, 100)
 	case "--seed":
 		options.Seed, err = number(name, word, 0, 4_294_967_295)
+	case "--initial":
+		found, err = number(name, word, 0, fifobench.MaxInitial)
+		options.Initial = int(found)
 	case "--folder":
 		options.Folder = word
 	case "--producers":
@@ -180,13 +185,16 @@ func isOneRun(words []string) bool {
 
 func settings(words []string) (fifobench.Options, error) {
 	options := fifobench.Defaults()
-	names := []string{"--threads", "--ops", "--pattern", "--seed"}
+	names := []string{"--threads", "--ops", "--pattern", "--seed", "--initial"}
 	if isOneRun(words) {
 		if len(words) < 2 || len(words) > len(names) {
-			return options, fmt.Errorf("one run is QUEUE THREADS OPERATIONS [PATTERN [SEED]]")
+			return options, fmt.Errorf("one run is QUEUE THREADS OPERATIONS [PATTERN [SEED [INITIAL]]]")
 		}
 		options.Drain = false
 		for place, word := range words {
+			if word == "loop" {
+				continue
+			}
 			if err := set(&options, names[place], word); err != nil {
 				return options, err
 			}
@@ -209,6 +217,9 @@ const steps = "EEDDDEED"
 
 // A loop of one's own, recorded.
 func recordSteps(options fifobench.Options, queue fifobench.Queue) (*fifobench.History, error) {
+	for _, value := range options.InitialValues() {
+		queue.Enqueue(value)
+	}
 	return fifobench.RecordWith(options, func(thread *fifobench.Thread) {
 		for n := 0; n < options.Operations; n++ {
 			if steps[(n+thread.Number())%len(steps)] == 'E' {

@@ -1,0 +1,169 @@
+// What a search asks of the program, and the files of its runs: histories, reports, and the texts of runs that end
+// early. recorder.hpp includes it; it lies beside that.
+#ifndef FIFOBENCH_RECORDER_JUDGE_HPP
+#define FIFOBENCH_RECORDER_JUDGE_HPP
+
+#include "recorder.hpp"
+
+#if __has_include(<unistd.h>)
+#include <unistd.h>
+#endif
+
+namespace fifobench::detail {
+
+// How far a search is, on a terminal: from two seconds on, until something else is printed.
+class Progress {
+public:
+    ~Progress() { erase(); }
+
+    void show(unsigned done, unsigned left) {
+        const auto now = std::chrono::steady_clock::now();
+        if (is_terminal() && now >= next_) {
+            next_ = now + std::chrono::milliseconds(200);
+            is_shown() = true;
+            std::cerr << "\rfifobench: " << done << " runs done, " << left << " left, 0 found\033[K" << std::flush;
+        }
+    }
+
+    static void erase() {
+        if (is_shown().exchange(false)) {
+            std::cerr << "\r\033[K" << std::flush;
+        }
+    }
+
+private:
+    static std::atomic<bool>& is_shown() {
+        static std::atomic<bool> is_shown{false};
+        return is_shown;
+    }
+
+    static bool is_terminal() {
+#if __has_include(<unistd.h>)
+        return isatty(2) != 0;
+#else
+        return false;
+#endif
+    }
+
+    std::chrono::steady_clock::time_point next_ = std::chrono::steady_clock::now() + std::chrono::seconds(2);
+};
+
+// The program, and the files of a run that it judges.
+class Judge {
+public:
+    explicit Judge(const Settings& of) : settings_(of), program_(of.program) {
+        const char* const named = std::getenv("FIFOBENCH");
+        program_ = !program_.empty() ? program_ : named != nullptr && *named != '\0' ? named : "fifobench";
+    }
+
+    const std::string& program() const { return program_; }
+    bool is_there() const { return ask("--version", "/dev/null", "/dev/null").first == 0; }
+    std::string path(const char* kind) const { return settings_.folder + "/" + std::to_string(settings_.seed) + kind; }
+
+    // Writes the text of a run. Replaces an older file, since a journal may still be written to it.
+    std::string keep(const History& history, const char* kind) const {
+        std::error_code ignored;
+        std::filesystem::create_directories(settings_.folder, ignored);
+        std::filesystem::remove(path(kind), ignored);
+        std::ofstream file(path(kind), std::ios::binary);
+        history.write(file);
+        if (!file) {
+            throw std::runtime_error("can't write " + path(kind));
+        }
+        return path(kind);
+    }
+
+    // Keeps a run of a search, and has it judged. Returns 0, 1 or 2.
+    int answer(const History& history, bool judges) const {
+        if (history.has_failed()) {
+            const char* const fault = "If the queue promises not to throw, the exception itself is the fault.";
+            return end_early(history, history.notes().front(), fault);
+        }
+        for (const std::string& sentence : history.notes()) {
+            Progress::erase();
+            std::cerr << "fifobench: seed " << settings_.seed << ": " << sentence << std::endl;
+        }
+        keep(history, ".history");
+        return judges ? check(false) : 0;
+    }
+
+    // Judges the history that is kept, which may be a completion of pending calls. Returns 0, 1 or 2.
+    int check(bool is_completed) const {
+        const std::string history = path(".history"), report = path(".report");
+        const auto [status, verdict] = ask("check", history, report);
+        if (status == 0 && verdict == "YES") {
+            if (!settings_.keep || is_completed) std::filesystem::remove(history);
+            std::filesystem::remove(report);
+            return 0;
+        }
+        Progress::erase();
+        if (status != 1 || verdict.rfind("NO ", 0) != 0) {
+            std::cerr << "fifobench: " << program_ << " says '" << verdict << "' of " << history << std::endl;
+            return 2;
+        }
+        ask("shrink", history, report);
+        const std::string seed = std::to_string(settings_.seed), pattern = name_of(settings_.pattern_of_seed());
+        std::cout << verdict << ": seed " << seed << ", " << pattern
+                  << (is_completed ? ": the queue is wrong, whatever the pending calls do" : "")
+                  << "\n  history: " << history << "\n  report:  " << report << "\n  see it:  " << program_
+                  << " draw --text < " << report << drawn_in(history) << "\n  again:   seed " << seed << ", pattern "
+                  << pattern << ": the same plan, though threads may meet in another way" << std::endl;
+        return 1;
+    }
+
+    // The second command of `see it:`, which draws the violation with what runs beside it: the report leaves that out.
+    // `draw` refuses more than 400 operations; then there is none.
+    std::string drawn_in(const std::string& history) const {
+        for (const std::string command : {"draw --text --around 20", "draw --text"}) {
+            if (ask(command, history, "/dev/null").first == 0) {
+                return "\n           " + program_ + ' ' + command + " < " + history;
+            }
+        }
+        return "";
+    }
+
+    // Keeps what there is of a run that ends early, says how it ended, and judges it: 1 or 2. The fault follows YES.
+    int end_early(const History& history, const std::string& how, const std::string& fault) const {
+        Progress::erase();
+        std::cerr << "fifobench: seed " << settings_.seed << ": " << how << "; " << history.told_open() << std::endl;
+        const std::string pending = keep(history, ".pending");
+        std::cerr << "  pending: " << pending << std::endl;
+        const auto [status, first] = ask("complete", pending, path(".history"));
+        if (status == 0) {
+            const int answer = check(true);
+            if (answer == 0) {
+                const std::string drawn = program_ + " draw --text < " + pending;
+                std::cerr << "YES: a right queue can have behaved so until then. " << fault << "\n  see it:  "
+                          << (history.is_drawn() ? drawn : "tail -n 40 < " + pending) << std::endl;
+            }
+            return answer == 1 ? 1 : 2;
+        }
+        std::filesystem::remove(path(".history"));
+        const bool is_refused = first.rfind("REFUSED ", 0) == 0;
+        if (is_refused || is_there()) {
+            std::cerr << "fifobench: " << program_
+                      << (is_refused ? " says '" + first + "' of " + pending
+                                     : std::string(" has no command complete, which a later version has")) << '\n';
+        }
+        std::cerr << "  judge:   " << program_ << " complete < " << pending << " | " << program_ << " check"
+                  << std::endl;
+        return 2;
+    }
+
+private:
+    // Runs a command of the program. Returns its status, or -1, and the first line of its output.
+    std::pair<int, std::string> ask(const std::string& command, const std::string& from, const std::string& to) const {
+        const std::string files = " <'" + from + "' >'" + to + "' 2>/dev/null", line = "'" + program_ + "' " + command;
+        const int status = std::system((line + files).c_str());
+        std::string first;
+        std::getline(std::ifstream(to), first);
+        return {status % 256 == 0 ? status / 256 : -1, first};    // as POSIX has it
+    }
+
+    const Settings settings_;
+    std::string program_;
+};
+
+}    // namespace fifobench::detail
+
+#endif
