@@ -1,6 +1,7 @@
 #!/usr/bin/env bash
 # How fast `check` is, beside a plain checker in Rust: ratios of time and
-# memory, growth, and the stages. Nothing here is a test.
+# memory, growth, the stages, and the cost of a weaker condition. Nothing here
+# is a test.
 #
 #   bench/check.sh [PROGRAM]      PROGRAM is the built fifobench; by default
 #                                 that of this repository

@@ -124,6 +124,33 @@ def stages():
         os.unlink(source)
 
 
+CONDITIONS = {"--local": ["--local"], "--weak-empty": ["--weak-empty"], "both": ["--local", "--weak-empty"]}
+
+
+def conditions():
+    """Each condition beside `check` without one, in turns, with as many threads as in the first table."""
+    size = SIZES[-1]
+    for name, flags in CONDITIONS.items():
+        PROGRAMS[name] = [PROGRAM, "check", *flags]
+    print("\nunder a condition, beside check, at %d events" % size)
+    print("%-15s %-13s  %-10s %10s %7s  %10s %7s" % ("kind", "condition", "answer", "time", "ratio", "memory", "ratio"))
+    for kind in KINDS:
+        source = generated(kind, size)
+        runs = {who: [] for who in ["fifobench", *CONDITIONS]}
+        for _ in range(ROUNDS):
+            for who in runs:
+                runs[who].append(Run(who, source, at("answer-" + who)))
+        strict = runs["fifobench"]
+        for name in CONDITIONS:
+            own = runs[name]
+            time, peak = median(run.time for run in own), median(run.peak for run in own)
+            print("%-15s %-13s  %-10s %7.1f ms %7.2f  %6.1f MiB %7.2f" % (
+                kind, name, first_line(at("answer-" + name)), time, median(a.time / b.time for a, b in zip(own, strict)),
+                peak, peak / median(run.peak for run in strict)))
+        sys.stdout.flush()
+        os.unlink(source)
+
+
 def cpu_times():
     with open("/proc/stat", encoding="ascii") as stat:
         return [int(word) for word in stat.readline().split()[1:9]]
@@ -140,6 +167,7 @@ def main():
     times = ratios()
     growth(times)
     stages()
+    conditions()
     spent = [b - a for a, b in zip(before, cpu_times())]
     busy = sum(spent) - spent[3] - spent[4]
     print("\nload %s at last; of the machine's time %.0f%% was busy (one core of %d is this benchmark) and %.0f%% stolen by its"

@@ -30,17 +30,23 @@ _fifobench() {
                 _fifobench_words 'check shrink verify draw convert complete stats sim stress help' "$word"
             fi
             ;;
-        check | shrink | sim)
+        check | shrink)
+            _fifobench_words '--local --weak-empty -q --quiet -h --help' "$word"
+            ;;
+        sim)
             _fifobench_words '-q --quiet -h --help' "$word"
             ;;
-        verify | convert | stats)
+        verify)
+            _fifobench_words '--local --weak-empty -h --help' "$word"
+            ;;
+        convert | stats)
             _fifobench_words '-h --help' "$word"
             ;;
         complete)
             _fifobench_words '--cut -h --help' "$word"
             ;;
         draw)
-            [ "$before" = --around ] || _fifobench_words '--text --html --around --all -h --help' "$word"
+            [ "$before" = --around ] || _fifobench_words '--text --html --around --all --local --weak-empty -h --help' "$word"
             ;;
         stress)
             case $before in
@@ -50,7 +56,7 @@ _fifobench() {
                     if [[ $word == --queue=* ]]; then
                         _fifobench_words "--queue=${queues// / --queue=}" "$word"
                     elif [ -z "$value" ]; then
-                        _fifobench_words '--queue --threads --ops --seed --percent --ring --initial -q --quiet -h --help' "$word"
+                        _fifobench_words '--queue --threads --ops --seed --percent --ring --initial --local --weak-empty -q --quiet -h --help' "$word"
                     fi
                     ;;
             esac

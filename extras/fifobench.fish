@@ -15,6 +15,8 @@ complete -c fifobench -n __fish_use_subcommand -a stress -d 'Run threads on a bu
 complete -c fifobench -n __fish_use_subcommand -a help -d 'Print a help'
 complete -c fifobench -n '__fish_seen_subcommand_from help' -a 'check shrink verify draw convert complete stats sim stress help'
 complete -c fifobench -n '__fish_seen_subcommand_from check shrink sim stress' -s q -l quiet -d 'Print the first line of the verdict alone'
+complete -c fifobench -n '__fish_seen_subcommand_from check shrink verify draw stress' -l local -d 'Judge the values of each producer alone'
+complete -c fifobench -n '__fish_seen_subcommand_from check shrink verify draw stress' -l weak-empty -d 'Judge without empty dequeues'
 complete -c fifobench -n '__fish_seen_subcommand_from complete' -l cut -d 'Take a text that ends early, as far as its lines go'
 complete -c fifobench -n '__fish_seen_subcommand_from draw' -l text -d 'Draw in lines of characters, and not as SVG'
 complete -c fifobench -n '__fish_seen_subcommand_from draw' -l html -d 'Draw as an HTML page, to be looked at in a browser'

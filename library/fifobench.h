@@ -55,6 +55,21 @@ uint8_t fifobench_shrink(const uint8_t *text, size_t length, uint8_t *answer, si
  * the history, else INVALID. */
 uint8_t fifobench_verify(const uint8_t *text, size_t length, uint8_t *answer, size_t capacity, size_t *needed);
 
+/* Weaker conditions than linearizability, to be added: FIFOBENCH_LOCAL + FIFOBENCH_WEAK_EMPTY asks for both. */
+enum fifobench_condition {
+    FIFOBENCH_LINEARIZABLE = 0, /* linearizability, as without a condition */
+    FIFOBENCH_LOCAL = 1,        /* `--local`: the values of each producer are judged alone */
+    FIFOBENCH_WEAK_EMPTY = 2    /* `--weak-empty`: an empty dequeue promises nothing */
+};
+
+/* The same three under a condition, a sum of fifobench_condition; its other bits aren't looked at. */
+uint8_t fifobench_check_under(const uint8_t *text, size_t length, uint32_t condition, uint8_t *answer, size_t capacity,
+                              size_t *needed);
+uint8_t fifobench_shrink_under(const uint8_t *text, size_t length, uint32_t condition, uint8_t *answer, size_t capacity,
+                               size_t *needed);
+uint8_t fifobench_verify_under(const uint8_t *text, size_t length, uint32_t condition, uint8_t *answer, size_t capacity,
+                               size_t *needed);
+
 /* `fifobench draw`: the text of a history, and that of a verdict, if one follows. Returns the picture as an SVG document,
  * or INVALID if the verdict isn't evidence. More than 400 operations, initial values or lines of the verdict are refused
  * (REFUSED Size). */

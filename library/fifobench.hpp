@@ -69,6 +69,15 @@ inline Answer judge(TextJudge* function, std::string_view text) {
     });
 }
 
+using ConditionJudge = std::uint8_t(const std::uint8_t*, std::size_t, std::uint32_t, std::uint8_t*, std::size_t, std::size_t*);
+
+inline Answer judge_under(ConditionJudge* function, std::string_view text, std::uint32_t condition) {
+    const auto* const bytes = reinterpret_cast<const std::uint8_t*>(text.data());
+    return answer(text.size() + 64, [&](std::uint8_t* buffer, std::size_t capacity, std::size_t* needed) {
+        return function(bytes, text.size(), condition, buffer, capacity, needed);
+    });
+}
+
 }    // namespace detail
 
 // The verdict on the text of a history.
@@ -79,6 +88,16 @@ inline Answer shrink(std::string_view text) { return detail::judge(fifobench_shr
 
 // Whether the verdict after the history is evidence: VALID or INVALID.
 inline Answer verify(std::string_view text) { return detail::judge(fifobench_verify, text); }
+
+// A condition weaker than linearizability, or that itself: a sum of fifobench_condition, as fifobench::local + fifobench::weak_empty.
+constexpr std::uint32_t linearizable = FIFOBENCH_LINEARIZABLE;
+constexpr std::uint32_t local = FIFOBENCH_LOCAL;
+constexpr std::uint32_t weak_empty = FIFOBENCH_WEAK_EMPTY;
+
+// The same three under a condition.
+inline Answer check(std::string_view text, std::uint32_t condition) { return detail::judge_under(fifobench_check_under, text, condition); }
+inline Answer shrink(std::string_view text, std::uint32_t condition) { return detail::judge_under(fifobench_shrink_under, text, condition); }
+inline Answer verify(std::string_view text, std::uint32_t condition) { return detail::judge_under(fifobench_verify_under, text, condition); }
 
 // The picture of a history, and of a verdict if one follows, as an SVG document or in lines of characters.
 inline Answer draw(std::string_view text) { return detail::judge(fifobench_draw, text); }

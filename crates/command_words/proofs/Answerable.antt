@@ -108,10 +108,13 @@ all_use_well = (
           number_uses stress_rules (codes "percent") 0 100 (codes "50") (λ v e. e),
           (
             number_uses stress_rules (codes "ring") MIN_RING MAX_RING (codes "1024") (λ v e. e),
-            (number_uses stress_rules (codes "initial") 0 MAX_STRESS_INITIAL (codes "0") (λ v e. e), (
-              quiet_uses,
-              (flag_uses stress_rules (codes "local") (λ v. refl), (flag_uses stress_rules (codes "weak-empty") (λ v. refl), (help_uses stress_rules, tt))),
-            )),
+            (
+              number_uses stress_rules (codes "initial") 0 MAX_STRESS_INITIAL (codes "0") (λ v e. e),
+              (
+                quiet_uses,
+                (flag_uses stress_rules (codes "local") (λ v. refl), (flag_uses stress_rules (codes "weak-empty") (λ v. refl), (help_uses stress_rules, tt))),
+              ),
+            ),
           ),
         ),
       ),

@@ -7,7 +7,8 @@ ghost use Rattle.command_words.specs.Inner.Commands.{IsAnswerable};
 
 use crate::commands::the_command;
 use crate::options::{
-    Condition, DrawOptions, StressOptions, draw_options, is_quiet, judged_condition, stress_options, takes_cut,
+    Condition, DrawOptions, StressOptions, draw_options, is_quiet, judged_condition,
+    stress_options, takes_cut,
 };
 use clap::{ArgMatches, Error};
 use std::alloc::Global;

@@ -193,9 +193,9 @@ pub(crate) fn say_at_end<'b, 'a, S, E: TextSink>(
     }
 }
 
-/// Whether a word is an operand and no option.
+/// Whether a word is an operand and no option. A `-` alone stands for standard input elsewhere.
 fn is_operand(word: &str) -> bool {
-    !word.is_empty() && !word.starts_with('-')
+    word == "-" || (!word.is_empty() && !word.starts_with('-'))
 }
 
 /// What a message says where a command was given the name of a file: how it is read.

@@ -7,8 +7,8 @@ ghost use Rattle.commands.specs.Judging.{AnswersFor, AnswersOrNoMemory, Converts
 ghost use Rattle.commands.specs.Judging.{Judges, Verifies};
 ghost use Rattle.commands.specs.Outcomes.{answer_of, NamesPlaces};
 
-use crate::judging::{decide_under_par, verify_under};
 use crate::input::{claimed_of, given_history, history_of};
+use crate::judging::{decide_under_par, verify_under};
 use crate::outcome::{Outcome, Report};
 use command_words::Condition;
 use history_merge::History;

@@ -14,8 +14,8 @@ ghost use Rattle.history_text.specs.Versions.{said_in};
 ghost use Rattle.history_text.specs.declared.version.Version.TheVariants.{One};
 ghost use Rattle.value_match.specs.Outcome.{IsChosenViolation};
 
-use crate::judging::emptiness_of;
 use crate::input::given_history;
+use crate::judging::emptiness_of;
 use crate::outcome::{Outcome, Report};
 use command_words::Condition;
 use conditions::{

@@ -9,10 +9,10 @@ ghost use Rattle.commands.specs.Outcomes.{answer_of, NamesPlaces};
 ghost use Rattle.commands.specs.Running.{AnswersOf};
 
 use crate::complete::complete;
-use crate::judging::decide_under;
 use crate::draw::draw;
 use crate::histories::{stats, verify};
 use crate::input::given_history;
+use crate::judging::decide_under;
 use crate::outcome::{Outcome, Report};
 use crate::print::write_outcome;
 use crate::shrink::shrink;

@@ -1,19 +1,18 @@
 -- Verdicts and claims under weaker conditions.
-use Rattle.std.proofs.Common.{◌≡◌, ℕ, zero, suc, ◌+◌, ◌<◌, ◌≤◌, ◌++◌, inl, inr, Bool, true, false, cond, List, []}
-use Rattle.std.proofs.Common.{◌∷◌, length, map, Some, refl, ap, ap₂, sym, subst, ◌∙◌, arith}
-use Rattle.std.specs.Prelude.{All, Contains, filter, filter_map, flat_map, slice_get}
+use Rattle.std.proofs.Common.{◌≡◌, ℕ, zero, suc, ◌<◌, ◌≤◌, ◌++◌, inl, inr, Bool, true, false, List, []}
+use Rattle.std.proofs.Common.{◌∷◌, length, map, refl, ap, ap₂, sym, subst, ◌∙◌, arith}
+use Rattle.std.specs.Prelude.{All, Contains, flat_map, slice_get}
 use Rattle.std.proofs.lemmas.Bool.{cases_Bool, cases_lt}
 use Rattle.std.proofs.lemmas.List.Elements.{All-head, All-tail, Contains-get_or, filter_map-append}
 use Rattle.event_records.specs.declared.limits.TheConstants.{MAX_INITIAL, MAX_THREADS}
 use Rattle.history_merge.specs.declared.operation.Operation.{Operation}
 use Rattle.history_merge.specs.Initial.{Contents, HistoryView, IsCompleteFrom}
-use Rattle.history_merge.specs.Legal.{ArePlacesOf, IsLegalOrder, IsLinearizable}
+use Rattle.history_merge.specs.Legal.{IsLegalOrder}
 use Rattle.history_merge.specs.Operations.{operations_of}
 use Rattle.value_match.specs.declared.violation.Violation.{Violation}
 use Rattle.history_merge.proofs.Distinct.{contains_cons, not_in_none}
 use Rattle.value_match.proofs.Lists.{mapped_to, passes_filter}
 use Rattle.verdicts.specs.Claiming.{operations_at}
-use Rattle.verdicts.specs.Claims.{IsTrueClaim}
 use Rattle.verdicts.specs.Decided.{IsDecided}
 use Rattle.verdicts.specs.Selection.{AreLinearizable, contents_of, select, selects}
 use Rattle.verdicts.specs.declared.verdict.Verdict.{Verdict}
@@ -24,14 +23,13 @@ use Rattle.verdicts.proofs.OneVerdict.{verdict_is_one}
 use Rattle.verdicts.proofs.Selections.{kept_is_complete_from, no_longer}
 use Rattle.verdicts.proofs.TrueClaims.{operations_there, true_claim_decides}
 use Rattle.conditions.specs.declared.local.LocalOrder.{LocalOrder}
-use Rattle.conditions.specs.declared.local.LocalVerdict.{LocalVerdict}
 use Rattle.conditions.specs.declared.local.LocalVerdict.TheVariants as local
 use Rattle.conditions.specs.declared.producer.Emptiness.{Emptiness}
 use Rattle.conditions.specs.declared.producer.Producer.{Producer}
 use Rattle.conditions.specs.declared.producer.Producer.TheVariants.{Initial, Thread}
 use Rattle.conditions.specs.ClaimLaws.{claim_on, FirstRefutedIsOne, LocalEvidenceIsTrueClaim, LocalVerdictIsOne, RefutedIsRefutedInTheWhole}
 use Rattle.conditions.specs.ClaimLaws.{SaysOf, TrueLocalClaimDecides, TrueWeakClaimDecides, WeakEvidenceIsTrueClaim, WeakVerdictIsOne}
-use Rattle.conditions.specs.Claims.{AreOrdersInTurn, IsTrueLocalClaim, IsTrueOf, selections_of, verdict_of}
+use Rattle.conditions.specs.Claims.{AreOrdersInTurn, IsTrueLocalClaim, IsTrueOf, selections_of}
 use Rattle.conditions.specs.Conditions.{all_producers, ComesBefore, counts_for, has_values, IsLocallyLinearizable, judges_empties, producers_of}
 use Rattle.conditions.specs.Conditions.{selection_of, without_empties}
 use Rattle.conditions.specs.Decided.{IsDecidedOf, IsFirstRefuted}

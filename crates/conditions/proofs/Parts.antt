@@ -1,34 +1,23 @@
 -- The events of a selection.
-use Rattle.std.proofs.Common.{◌≡◌, ℕ, ◌+◌, ◌<◌, ◌≤◌, ◌++◌, Bool, true, false, cond, List, [], ◌∷◌, length, get_or}
-use Rattle.std.proofs.Common.{take, map, Some, None, refl, ap, ap₂, sym, subst, ◌∙◌, arith}
-use Rattle.std.specs.Prelude.{Contains, filter, flat_map, IsPermutation, nat_lt, slice_get}
-use Rattle.std.specs.List.Sorted.{IsNonDecreasingBy}
-use Rattle.std.proofs.lemmas.Bool.Decides.{nat_tests}
-use Rattle.std.proofs.lemmas.List.{append_assoc, append-nil, flat_map_more, map-append, take_all}
-use Rattle.std.proofs.lemmas.List.Elements.{All-contains, filter-append}
-use Rattle.std.proofs.lemmas.List.Sorted.{IsPermutation-cons, IsPermutation-middle, IsPermutation-refl}
-use Rattle.std.proofs.lemmas.List.Sorted.{IsPermutation-sym, IsPermutation-trans}
+use Rattle.std.proofs.Common.{◌≡◌, ℕ, ◌+◌, ◌≤◌, ◌++◌, Bool, true, false, cond, List, [], ◌∷◌, length}
+use Rattle.std.proofs.Common.{take, map, Some, refl, ap, ap₂, sym, subst, ◌∙◌, arith}
+use Rattle.std.specs.Prelude.{filter, slice_get}
+use Rattle.std.proofs.lemmas.List.{append-nil, map-append, take_all}
+use Rattle.std.proofs.lemmas.List.Elements.{filter-append}
 use Rattle.std.proofs.lemmas.Option.{get_or_from_slice_get, slice_get_within}
 use Rattle.event_records.specs.declared.event.Event.{Event}
 use Rattle.event_records.specs.declared.limits.TheConstants.{MAX_EVENTS}
 use Rattle.history_merge.specs.declared.operation.Operation.{Operation}
 use Rattle.history_merge.specs.declared.operation.OpKind.TheVariants.{Empty}
-use Rattle.history_merge.specs.Complete.{IsTimed}
-use Rattle.history_merge.specs.Events.{call_event, events_of, maybe_return, put_by_ticket, put_maybe, return_event}
 use Rattle.history_merge.specs.Initial.{HistoryView, IsCompleteFrom}
 use Rattle.history_merge.specs.Legal.{ArePlacesOf}
 use Rattle.history_merge.specs.Operations.{operations_of}
-use Rattle.history_merge.proofs.Distinct.{operations_are_complete}
-use Rattle.value_match.proofs.Lists.{one_deeper, one_more, passed_filter}
-use Rattle.verdicts.specs.Claiming.{operations_at}
+use Rattle.value_match.proofs.Lists.{one_more}
 use Rattle.verdicts.specs.Inner.Selecting.{holds_ticket}
 use Rattle.verdicts.specs.Selection.{contents_of, select, selects}
-use Rattle.verdicts.proofs.Collected.{found_none, found_one}
-use Rattle.verdicts.proofs.NamedPlaces.{events_told}
-use Rattle.verdicts.proofs.OneVerdict.{sorted_tells}
 use Rattle.verdicts.proofs.Selections.{events_kept, kept_is_complete_from, no_longer, operations_kept}
-use Rattle.verdicts.proofs.TrueClaims.{operations_there}
-use Rattle.conditions.specs.Inner.Parts.{AreSelected, both_events, IsPart}
+use Rattle.conditions.specs.Inner.Parts.{AreSelected, IsPart}
+use Rattle.history_merge.specs.Parts.{IsPartAt}
 use Rattle.conditions.specs.declared.part.Part.{Part}
 
 -- ---- walks over places

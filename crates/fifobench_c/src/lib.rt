@@ -51,7 +51,12 @@ pub extern "C" fn fifobench_check(
 ) -> u8
     ensures { TellsOneOf (AnswersOrNoMemory (AnswersOf (check linearizability)) (input_of text.now)) answer.old answer.new needed.new result }
 {
-    tell(alloc, &check_text(alloc, text, Condition::linearizable()), answer, needed)
+    tell(
+        alloc,
+        &check_text(alloc, text, Condition::linearizable()),
+        answer,
+        needed,
+    )
 }
 
 /// What `shrink` answers of the text.
@@ -64,7 +69,12 @@ pub extern "C" fn fifobench_shrink(
 ) -> u8
     ensures { TellsOneOf (AnswersOrNoMemory (AnswersOf (shrink linearizability)) (input_of text.now)) answer.old answer.new needed.new result }
 {
-    tell(alloc, &shrink_text(alloc, text, Condition::linearizable()), answer, needed)
+    tell(
+        alloc,
+        &shrink_text(alloc, text, Condition::linearizable()),
+        answer,
+        needed,
+    )
 }
 
 /// What `verify` answers of the text.
@@ -77,7 +87,12 @@ pub extern "C" fn fifobench_verify(
 ) -> u8
     ensures { TellsOneOf (AnswersOrNoMemory (AnswersOf (verify linearizability)) (input_of text.now)) answer.old answer.new needed.new result }
 {
-    tell(alloc, &verify_text(alloc, text, Condition::linearizable()), answer, needed)
+    tell(
+        alloc,
+        &verify_text(alloc, text, Condition::linearizable()),
+        answer,
+        needed,
+    )
 }
 
 /// What `check` answers of the text under a condition: linearizability, or the weaker ones of its bits.
@@ -93,7 +108,12 @@ pub extern "C" fn fifobench_check_under(
 ) -> u8
     ensures { TellsOneOf (AnswersOrNoMemory (AnswersOf (check (condition_of condition))) (input_of text.now)) answer.old answer.new needed.new result }
 {
-    tell(alloc, &check_text(alloc, text, condition_of(condition)), answer, needed)
+    tell(
+        alloc,
+        &check_text(alloc, text, condition_of(condition)),
+        answer,
+        needed,
+    )
 }
 
 /// What `shrink` answers of the text under a condition, by its bits.
@@ -107,7 +127,12 @@ pub extern "C" fn fifobench_shrink_under(
 ) -> u8
     ensures { TellsOneOf (AnswersOrNoMemory (AnswersOf (shrink (condition_of condition))) (input_of text.now)) answer.old answer.new needed.new result }
 {
-    tell(alloc, &shrink_text(alloc, text, condition_of(condition)), answer, needed)
+    tell(
+        alloc,
+        &shrink_text(alloc, text, condition_of(condition)),
+        answer,
+        needed,
+    )
 }
 
 /// What `verify` answers of the text under a condition, by its bits.
@@ -121,7 +146,12 @@ pub extern "C" fn fifobench_verify_under(
 ) -> u8
     ensures { TellsOneOf (AnswersOrNoMemory (AnswersOf (verify (condition_of condition))) (input_of text.now)) answer.old answer.new needed.new result }
 {
-    tell(alloc, &verify_text(alloc, text, condition_of(condition)), answer, needed)
+    tell(
+        alloc,
+        &verify_text(alloc, text, condition_of(condition)),
+        answer,
+        needed,
+    )
 }
 
 /// The condition of these bits.
@@ -210,7 +240,12 @@ pub extern "C" fn fifobench_check_events(
         return tell(alloc, &Err(Fault::Limit), answer, needed);
     }
     match gathered(alloc, events) {
-        Ok(builder) => tell(alloc, &judge_gathered(alloc, builder, Condition::linearizable()), answer, needed),
+        Ok(builder) => tell(
+            alloc,
+            &judge_gathered(alloc, builder, Condition::linearizable()),
+            answer,
+            needed,
+        ),
         Err(place) => tell_bad_what(alloc, place, answer, needed),
     }
 }

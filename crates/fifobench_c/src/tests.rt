@@ -1,7 +1,8 @@
 use crate::{
     CALL_DEQ, CALL_ENQ, RET_DEQ, RET_EMPTY, RET_ENQ, RET_NOT, RecordedEvent, fifobench_check,
-    fifobench_check_events, fifobench_complete, fifobench_draw, fifobench_draw_text,
-    fifobench_shrink, fifobench_stats, fifobench_verify,
+    fifobench_check_events, fifobench_check_under, fifobench_complete, fifobench_draw,
+    fifobench_draw_text, fifobench_shrink, fifobench_shrink_under, fifobench_stats,
+    fifobench_verify, fifobench_verify_under,
 };
 use event_records::MAX_EVENTS;
 use std::alloc::{AllocError, Global};
@@ -33,6 +34,9 @@ enum Command {
     DrawText,
     Stats,
     Complete,
+    CheckUnder(u32),
+    ShrinkUnder(u32),
+    VerifyUnder(u32),
 }
 
 fn call(alloc: Global, command: Command, text: &str, answer: &mut [u8], needed: &mut usize) -> u8 {
@@ -44,6 +48,15 @@ fn call(alloc: Global, command: Command, text: &str, answer: &mut [u8], needed: 
         Command::DrawText => fifobench_draw_text(alloc, text.as_bytes(), answer, needed),
         Command::Stats => fifobench_stats(alloc, text.as_bytes(), answer, needed),
         Command::Complete => fifobench_complete(alloc, text.as_bytes(), answer, needed),
+        Command::CheckUnder(bits) => {
+            fifobench_check_under(alloc, text.as_bytes(), bits, answer, needed)
+        }
+        Command::ShrinkUnder(bits) => {
+            fifobench_shrink_under(alloc, text.as_bytes(), bits, answer, needed)
+        }
+        Command::VerifyUnder(bits) => {
+            fifobench_verify_under(alloc, text.as_bytes(), bits, answer, needed)
+        }
     }
 }
 
@@ -72,8 +85,28 @@ const EMPTY: &str = "fifo-history 1\nend 0\n";
 
 const UNSHOWN: &str = "fifo-history 1\n0 0 call-deq\n1 0 ret-empty\nend 2\nYES\n";
 
+/// Two producers' values overtake each other, and a dequeue finds the queue empty while one is in it.
+const PROMISES_LESS: &str =
+    "fifo-history 1\n0 0 call-enq 7\n1 0 ret-enq\n2 1 call-enq 9\n3 1 ret-enq\n4 2 call-deq\n\
+    5 2 ret-deq 9\n6 2 call-deq\n7 2 ret-empty\nend 8\n";
+
+const EACH_ORDER: &str = "YES\n0 1 0 enq 7\n2 3 1 enq 9\n4 5 2 deq 9\n";
+
+const WITNESS: &str = "NO VWit\n6 7 2 empty\n0 1 0 enq 7\n";
+
+const ITS_WITNESS: &str =
+    "fifo-history 1\n0 0 call-enq 7\n1 0 ret-enq\n6 2 call-deq\n7 2 ret-empty\nend 4\nNO VWit\n6 7 2 empty\n0 1 0 enq 7\n";
+
+const OVERTAKES: &str = "NO VOrd\n0 1 0 enq 7\n2 3 1 enq 9\n4 5 2 deq 9\n";
+
 /// What is called, the text, the answer and the status.
-static ANSWERED: [(Command, &str, &str, u8); 16] = [
+static ANSWERED: [(Command, &str, &str, u8); 22] = [
+    (Command::CheckUnder(0), PROMISES_LESS, OVERTAKES, 1),
+    (Command::CheckUnder(1), PROMISES_LESS, WITNESS, 1),
+    (Command::CheckUnder(2), PROMISES_LESS, OVERTAKES, 1),
+    (Command::CheckUnder(3), PROMISES_LESS, EACH_ORDER, 0),
+    (Command::ShrinkUnder(1), PROMISES_LESS, ITS_WITNESS, 1),
+    (Command::VerifyUnder(1), ITS_WITNESS, "VALID\n", 0),
     (Command::Check, EMPTY, "YES\n", 0),
     (Command::Check, OVERTAKEN, ITS_VERDICT, 1),
     (Command::Check, "", "REFUSED Cut\n", 2),

@@ -1,6 +1,6 @@
 //! Messages about events that are no complete history.
 use crate::complaints::Given;
-use crate::input::{line_of, lines_before};
+use crate::input::{field_of, line_of, lines_before};
 use crate::message::Blank::{Number, Shown, Words};
 use crate::message::{Blank, Message};
 use event_records::What;
@@ -10,6 +10,22 @@ use std::alloc::{AllocError, Global};
 /// How tickets come to rise.
 const BY_TICKET: &str =
     "events stand by rising ticket: draw each ticket from one counter that all threads share";
+
+/// How tickets come to rise that are readings of clocks.
+const BY_CLOCK: &str =
+    "readings of a clock become tickets by examples/from-clocks; or draw tickets from one counter";
+
+/// Above this, a ticket is rather the reading of a clock than a count of a recorder.
+const RATHER_A_CLOCK: u64 = 100_000_000;
+
+/// Returns how tickets come to rise like these.
+fn order_hint(before: u64, later: u64) -> &'static str {
+    if before == later || before > RATHER_A_CLOCK {
+        BY_CLOCK
+    } else {
+        BY_TICKET
+    }
+}
 
 /// How values come to be distinct.
 const DISTINCT: &str =
@@ -67,7 +83,8 @@ fn order_message(
         line_blank(given, before),
     ];
     let sentence = "line {}: ticket {} isn't above ticket {} of line {}";
-    Message::of(alloc, sentence, &blanks, BY_TICKET)
+    let hint = order_hint(before.event.ticket, later.event.ticket);
+    Message::of(alloc, sentence, &blanks, hint)
 }
 
 /// A thread calls while its last call is pending.
@@ -201,6 +218,44 @@ fn clash_message(alloc: Global, clash: &Clash, given: &Given<'_>) -> Result<Mess
     }
 }
 
+/// Whether a line is a call of the thread in this field.
+fn is_call_of(line: &[u8], thread: &[u8]) -> bool {
+    field_of(line, 1) == Some(thread)
+        && field_of(line, 2).is_some_and(|what| what.starts_with(b"call-"))
+}
+
+/// Returns the number of the last line before this one that is a call of the same thread, where it is kept.
+fn call_before(given: &Given<'_>, number: u64) -> Option<u64> {
+    let thread = field_of(line_of(given, number)?, 1)?;
+    let mut found = None;
+    for (place, line) in given.front.split(|byte| *byte == b'\n').enumerate() {
+        let here = (place as u64).saturating_add(1);
+        if here < number && is_call_of(line, thread) {
+            found = Some(here);
+        }
+    }
+    found
+}
+
+/// A thread returns from another kind of call than it made.
+fn return_message(alloc: Global, given: &Given<'_>, place: usize) -> Result<Message, AllocError> {
+    let number = event_line(given, place);
+    let line = line_of(given, number).unwrap_or(b"");
+    match call_before(given, number) {
+        Some(call) => {
+            let called = line_of(given, call).unwrap_or(b"");
+            let blanks = [Number(number), Shown(line), Number(call), Shown(called)];
+            let sentence =
+                "line {}: '{}' returns from another kind of call than its thread made in line {}: '{}'";
+            Message::of(alloc, sentence, &blanks, "")
+        }
+        None => {
+            let what = "a thread returns from another kind of call than it made";
+            event_message(alloc, given, place, what)
+        }
+    }
+}
+
 /// What is wrong with an event on its own.
 fn fault_message(
     alloc: Global,
@@ -212,10 +267,7 @@ fn fault_message(
         HistoryFault::ReturnWithoutCall(place) => {
             (place, "a thread returns, and has no call that waits for it")
         }
-        HistoryFault::WrongReturn(place) => (
-            place,
-            "a thread returns from another kind of call than it made",
-        ),
+        HistoryFault::WrongReturn(place) => return return_message(alloc, given, place),
         HistoryFault::Memory => return Message::of(alloc, "memory ran out", &[], ""),
         _ => {
             return Message::of(

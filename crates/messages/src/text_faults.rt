@@ -78,10 +78,71 @@ fn hint_at_end(line: &[u8]) -> &'static str {
     }
 }
 
+/// Formats of files by their first bytes, and what makes a text of them.
+const FORMATS: [(&[u8], &str); 9] = [
+    (
+        b"\x1f\x8b",
+        "the input is compressed by gzip: zcat FILE | fifobench ..",
+    ),
+    (
+        b"\x28\xb5\x2f\xfd",
+        "the input is compressed by zstd: zstdcat FILE | fifobench ..",
+    ),
+    (
+        b"\xfd7zXZ",
+        "the input is compressed by xz: xzcat FILE | fifobench ..",
+    ),
+    (
+        b"BZh",
+        "the input is compressed by bzip2: bzcat FILE | fifobench ..",
+    ),
+    (
+        b"PK\x03\x04",
+        "the input is a zip archive: unzip -p FILE | fifobench ..",
+    ),
+    (
+        b"\xef\xbb\xbf",
+        "the input begins with a byte order mark: tail -c +4 FILE | fifobench ..",
+    ),
+    (
+        b"\xff\xfe",
+        "the input is UTF-16: iconv -f UTF-16 -t ASCII FILE | fifobench ..",
+    ),
+    (
+        b"\xfe\xff",
+        "the input is UTF-16: iconv -f UTF-16 -t ASCII FILE | fifobench ..",
+    ),
+    (b"\x7fELF", "the input is a program"),
+];
+
+/// Returns what to do about input of another format, told by its first bytes.
+fn format_hint(front: &[u8]) -> Option<&'static str> {
+    for (first_bytes, hint) in FORMATS {
+        if front.starts_with(first_bytes) {
+            return Some(hint);
+        }
+    }
+    None
+}
+
+/// Returns what to do about a verdict in place of a history.
+fn verdict_hint(reads: Reads) -> &'static str {
+    match reads {
+        Reads::Drawable => {
+            "a verdict comes after its history; of a YES shrink prints no history: fifobench draw < FILE draws it"
+        }
+        _ => "a verdict comes after the text of its history",
+    }
+}
+
 /// What is to be done about a first line.
 fn header_hint(reads: Reads, line: &[u8]) -> &'static str {
-    if line.ends_with(b"\r") {
+    if let Some(hint) = format_hint(line) {
+        hint
+    } else if line.ends_with(b"\r") {
         CARRIAGE_RETURNS
+    } else if line == b"YES".as_slice() || line.starts_with(b"NO V") {
+        verdict_hint(reads)
     } else if line.starts_with(b"fifo-pending") {
         "a history with pending calls: fifobench complete < FILE | fifobench check judges it"
     } else if line.starts_with(b"fifo-schedule") {
@@ -139,15 +200,15 @@ fn long_message(alloc: Global, number: u64, line: &[u8]) -> Result<Message, Allo
 
 /// The line has other words or another number of fields.
 fn line_message(alloc: Global, number: u64, given: &Given<'_>) -> Result<Message, AllocError> {
+    let part = part_of(given, number);
+    let form = form_of(part, given.reads);
     let Some(line) = line_of(given, number) else {
-        let sentence = "line {}: its words or the number of its fields aren't as they should be";
-        return Message::of(alloc, sentence, &[Number(number)], "");
+        let blanks = [Number(number), Words(form)];
+        return Message::of(alloc, "line {}: expected {}", &blanks, words_of(part));
     };
     if line.len() > LONGEST_LINE {
         return long_message(alloc, number, line);
     }
-    let part = part_of(given, number);
-    let form = form_of(part, given.reads);
     form_message(alloc, number, form, line, hint_of(part, line))
 }
 

@@ -41,6 +41,7 @@ struct RawEvent {
 }
 
 type Judge = unsafe extern "C" fn(*const u8, usize, *mut u8, usize, *mut usize) -> u8;
+type ConditionJudge = unsafe extern "C" fn(*const u8, usize, u32, *mut u8, usize, *mut usize) -> u8;
 
 #[link(name = "fifobench", kind = "static")]
 extern "C" {
@@ -48,6 +49,9 @@ extern "C" {
     fn fifobench_check(text: *const u8, length: usize, answer: *mut u8, capacity: usize, needed: *mut usize) -> u8;
     fn fifobench_shrink(text: *const u8, length: usize, answer: *mut u8, capacity: usize, needed: *mut usize) -> u8;
     fn fifobench_verify(text: *const u8, length: usize, answer: *mut u8, capacity: usize, needed: *mut usize) -> u8;
+    fn fifobench_check_under(text: *const u8, length: usize, condition: u32, answer: *mut u8, capacity: usize, needed: *mut usize) -> u8;
+    fn fifobench_shrink_under(text: *const u8, length: usize, condition: u32, answer: *mut u8, capacity: usize, needed: *mut usize) -> u8;
+    fn fifobench_verify_under(text: *const u8, length: usize, condition: u32, answer: *mut u8, capacity: usize, needed: *mut usize) -> u8;
     fn fifobench_draw(text: *const u8, length: usize, answer: *mut u8, capacity: usize, needed: *mut usize) -> u8;
     fn fifobench_draw_text(text: *const u8, length: usize, answer: *mut u8, capacity: usize, needed: *mut usize) -> u8;
     fn fifobench_complete(text: *const u8, length: usize, answer: *mut u8, capacity: usize, needed: *mut usize) -> u8;
@@ -271,6 +275,36 @@ pub fn verify(text: &str) -> Result<Verdict, Error> {
     judge(fifobench_verify, text)
 }
 
+/// The condition that is judged: linearizability, or a weaker one.
+#[derive(Clone, Copy, Debug, Default, PartialEq, Eq)]
+pub struct Condition {
+    /// The values of each producer are judged alone (local linearizability).
+    pub local: bool,
+    /// An empty dequeue promises nothing.
+    pub weak_empty: bool,
+}
+
+impl From<Condition> for u32 {
+    fn from(condition: Condition) -> u32 {
+        u32::from(condition.local) + 2 * u32::from(condition.weak_empty)
+    }
+}
+
+/// The verdict on the text of a history under a condition.
+pub fn check_under(text: &str, condition: Condition) -> Result<Verdict, Error> {
+    judge_under(fifobench_check_under, text, condition)
+}
+
+/// A smaller history that doesn't meet the condition either, and its verdict; the verdict only if the history meets it.
+pub fn shrink_under(text: &str, condition: Condition) -> Result<Verdict, Error> {
+    judge_under(fifobench_shrink_under, text, condition)
+}
+
+/// Whether the verdict after the history is evidence under the condition.
+pub fn verify_under(text: &str, condition: Condition) -> Result<Verdict, Error> {
+    judge_under(fifobench_verify_under, text, condition)
+}
+
 /// The picture of a history, and of a verdict if one follows, as an SVG document; `INVALID`, and no yes, where the verdict is no
 /// evidence.
 pub fn draw(text: &str) -> Result<Verdict, Error> {
@@ -311,6 +345,13 @@ fn judge(function: Judge, text: &str) -> Result<Verdict, Error> {
     answer(text.len() + 64, |buffer, needed| {
         // SAFETY: the text, the buffer and the word are as long as they are said to, and apart.
         unsafe { function(text.as_ptr(), text.len(), buffer.as_mut_ptr(), buffer.len(), needed) }
+    })
+}
+
+fn judge_under(function: ConditionJudge, text: &str, condition: Condition) -> Result<Verdict, Error> {
+    answer(text.len() + 64, |buffer, needed| {
+        // SAFETY: the text, the buffer and the word are as long as they are said to, and apart.
+        unsafe { function(text.as_ptr(), text.len(), condition.into(), buffer.as_mut_ptr(), buffer.len(), needed) }
     })
 }
 

@@ -124,7 +124,10 @@ fn a_local_verdict_is_evidence(rt: HostRuntime) -> Result<(), Fail> {
     ] {
         let history = history_behind(alloc, initial, rows)?;
         let claimed = decided_claim(alloc, initial, rows)?;
-        assert!(rt; verify_local(alloc, &history, Emptiness::Strict, &claimed)?, "{claimed:?}");
+        assert!(rt;
+            verify_local(alloc, &history, Emptiness::Strict, &claimed)?,
+            "{claimed:?}"
+        );
     }
     Ok(())
 }

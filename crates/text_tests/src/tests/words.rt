@@ -59,7 +59,11 @@ fn words_name_tasks(rt: HostRuntime) -> Result<(), Fail> {
         ("fifobench verify", Task::Verify(STRICT), false),
         ("fifobench check --local", Task::Check(LOCAL), false),
         ("fifobench check --weak-empty -q", Task::Check(WEAK), true),
-        ("fifobench shrink --weak-empty --local", Task::Shrink(BOTH), false),
+        (
+            "fifobench shrink --weak-empty --local",
+            Task::Shrink(BOTH),
+            false,
+        ),
         ("fifobench verify --local", Task::Verify(LOCAL), false),
         ("fifobench convert", Task::Convert, false),
         (

@@ -13,8 +13,13 @@ returns-in_ok-verdict-in-Yes-clause-found c = λ is_weak same.
     let whole = contents_of c.args.history in
     let decided = rw c.in-Yes.is at c.in_ok-orders.ensures in
     let under = subst (λ e. IsLocallyDecided e whole (local.Yes c.in-Yes.orders)) same decided in
-    inl (inr (c.requires.complete, inl (under.linearizable,
-    record { verdict = c.in_ok-verdict-in-Yes.verdict; decided = (local.Yes c.in-Yes.orders, under, c.in_ok-verdict-in-Yes.ensures); is = refl })))
+    inl (inr (
+      c.requires.complete,
+      inl (
+        under.linearizable,
+        record { verdict = c.in_ok-verdict-in-Yes.verdict; decided = (local.Yes c.in-Yes.orders, under, c.in_ok-verdict-in-Yes.ensures); is = refl },
+      ),
+    ))
 
 pub returns-in_ok-verdict-in-Yes-clause-places : goal.returns-in_ok-verdict-in-Yes-clause-places
 returns-in_ok-verdict-in-Yes-clause-places c =
@@ -30,7 +35,12 @@ returns-in_ok-part-in-No-clause-found c = λ is_weak same.
     let under = subst (λ e. IsFirstRefuted e whole c.in-No.producer c.in-No._violation) same decided in
     let part = c.in_ok-part-in-No.ensures in
     let selected = subst (λ e. contents_of c.in_ok-part-in-No.part ≡ selection_of e c.in-No.producer whole) same part.selected in
-    ⊎_map (λ shrunk. inr (c.requires.complete, inr ((λ all. under.decided.exact (all c.in-No.producer)),
-    local_part (said_in c.args.version c.args.history) c.in_ok-part-in-No.part _ c.requires.few part.complete part.events shrunk is_weak c.in-No.producer c.in-No._violation
-    under selected)))
+    ⊎_map (λ shrunk. inr (
+      c.requires.complete,
+      inr (
+        (λ all. under.decided.exact (all c.in-No.producer)),
+        local_part (said_in c.args.version c.args.history) c.in_ok-part-in-No.part _ c.requires.few part.complete part.events shrunk is_weak c.in-No.producer c.in-No._violation
+            under selected,
+      ),
+    ))
     (λ memory. memory) c.shrink_part.ensures.found

@@ -1,5 +1,4 @@
-use Rattle.std.proofs.Common.{◌≡◌, ◌∙◌, ◌↔◌, ◌+◌, ◌∷◌, ap, arith, length, List, refl, sym, subst, take, true, false}
-use Rattle.history_merge.specs.declared.operation.Operation.{Operation}
+use Rattle.std.proofs.Common.{◌≡◌, ◌∙◌, ◌+◌, ◌∷◌, ap, arith, length, refl, sym, subst, take, true, false}
 use Rattle.history_merge.specs.Legal.{ArePlacesOf, IsLegalOrder}
 use Rattle.history_merge.specs.Operations.{operations_of}
 use Rattle.verdicts.specs.Selection.{contents_of}
@@ -39,8 +38,8 @@ returns-then-not-branch c = λ emptiness shared.
     let has = sym (used_is whole c.args.selections.now.used rank shared.marked c.loop-rank-test.true) ∙ c.if-selections-rank.true in
     let not_valid : ¬ (IsLegalOrder part.initial part.operations (take (length c.as_slice-places.result.now) rest)) =
     λ legal.
-        let valid = (c.in_ok-is_order_of.ensures emptiness at).1 (subst (IsLegalOrder part.initial part.operations) (sym c.split_at.ensures.front) legal) in
-        let clash : true ≡ false = sym valid ∙ c.if-not-branch.true in cc in (
+    let valid = (c.in_ok-is_order_of.ensures emptiness at).1 (subst (IsLegalOrder part.initial part.operations) (sym c.split_at.ensures.front) legal) in
+    let clash : true ≡ false = sym valid ∙ c.if-not-branch.true in cc in (
       λ yes. let clash : false ≡ true = yes in cc,
       λ all. absurd (left_refused emptiness whole rank rest c.args.lines.now c.loop-rank-test.true has
           (subst (λ p. ¬ (AreOrdersInTurn (selection_of emptiness p whole ∷ left_from emptiness whole (rank + 1)) rest)) c.ranked.ensures

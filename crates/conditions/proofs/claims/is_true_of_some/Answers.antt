@@ -1,4 +1,4 @@
-use Rattle.std.proofs.Common.{◌≡◌, ◌∙◌, ap, arith, inl, inr, refl, sym, subst, true, false, ℕ}
+use Rattle.std.proofs.Common.{◌≡◌, ◌∙◌, ap, arith, inl, inr, refl, sym, subst, true, false}
 use Rattle.std.proofs.lemmas.Bool.{cases_lt}
 use Rattle.verdicts.specs.Selection.{contents_of}
 use Rattle.verdicts.specs.declared.verifying.Claimed.TheVariants.{No}
@@ -35,8 +35,8 @@ loop-rank-preserved c = λ emptiness shared k below has.
                 w.as_slice-places.result.now shared c.loop-rank-test.true w.if-selections-rank.true w.ranked.ensures w.index.ensures w.as_slice-places.ensures in
                 let is_k : w.ranked.result ≡ ranked k = w.ranked.ensures ∙ ap ranked same in
                 λ shown.
-                    let valid = (w.in_ok-is_true_of.ensures emptiness at).1 (subst (λ p. IsTrueOf (selection_of emptiness p whole) c.args.claimed.now) (sym is_k) shown) in
-                    let clash : true ≡ false = sym valid ∙ w.if-branch.false in cc
+                let valid = (w.in_ok-is_true_of.ensures emptiness at).1 (subst (λ p. IsTrueOf (selection_of emptiness p whole) c.args.claimed.now) (sym is_k) shown) in
+                let clash : true ≡ false = sym valid ∙ w.if-branch.false in cc
             | else-selections-rank w ↦
                 let used = used_is whole c.args.selections.now.used rank shared.marked c.loop-rank-test.true in
                 let none : has_values whole (ranked k) ≡ false = ap (λ r. has_values whole (ranked r)) (sym same) ∙ sym used ∙ w.if-selections-rank.false in
