@@ -10,12 +10,12 @@ ghost use Rattle.commands.specs.Completing.{Completes, CountsPending, IsCompleta
 ghost use Rattle.commands.specs.Judging.{AnswersFor, AnswersOrNoMemory};
 ghost use Rattle.commands.specs.Outcomes.{answer_of, answer_of_fault, fault_of_completion, NamesPlaces};
 
-use crate::input::pending_of;
+use crate::input::{gathered, pending_of};
 use crate::outcome::{Fault, Outcome, Report};
 use completions::{Completion, CompletionFault};
-use event_records::Event;
-use history_merge::{History, history_from};
+use history_merge::History;
 use history_text::{EventList, PendingText, TextFault, TextSource, Values, Version};
+use packed_events::PackedEvent;
 use std::alloc::{AllocError, Global};
 
 /// What `complete` finds in what the reader gives; with `takes_cut` in a text that is cut off too.
@@ -41,7 +41,7 @@ fn completion_of(alloc: Global, text: PendingText) -> Outcome
 pub(crate) fn completed(
     alloc: Global,
     text: PendingText,
-) -> Result<(Version, Values, Vec<Event>), Fault>
+) -> Result<(Version, Values, Vec<PackedEvent>), Fault>
     requires lines { HaveValueLines text.version text.initial × HasHistoryText text.events }
     ensures same { IfOk result (λ made. (made.0 ≡ text.version) × (made.1 ≡ text.initial)) }
     ensures completed { IfOk result (λ made. made.2.items ≡ completed text.initial text.events) }
@@ -91,14 +91,14 @@ fn counts(open_calls: Option<usize>, pending: usize) -> bool
 pub(crate) fn history_of_completion(
     alloc: Global,
     initial: Vec<u64>,
-    events: &[Event],
+    events: &[PackedEvent],
 ) -> Result<History, AllocError>
     requires few_initial { length initial.items ≤ MAX_INITIAL }
     requires few_events { length events.now ≤ MAX_EVENTS }
     requires whole { IsCompleteFrom initial.items events.now }
     ensures { IfOk result (λ history. (history.initial ≡ initial.items) × (history.events ≡ events.now)) }
 {
-    match history_from(alloc, initial, events) {
+    match gathered(alloc, initial, events).finish() {
         Ok(history) => Ok(history),
         Err(_) => Err(AllocError),
     }

@@ -1,7 +1,9 @@
 //! What a command reads.
-ghost use Rattle.std.specs.Prelude.{◌≡◌, ℕ, List, IfOk, IfErr, IfSome};
+ghost use Rattle.std.specs.Prelude.{◌≡◌, ◌≤◌, ℕ, List, length, vec_len, IfOk, IfErr, IfSome};
 ghost use Rattle.event_records.specs.declared.event.Event.{Event};
+ghost use Rattle.event_records.specs.declared.limits.TheConstants.{MAX_EVENTS, MAX_INITIAL};
 ghost use Rattle.history_merge.specs.Clashes.{IsClash};
+ghost use Rattle.history_merge.specs.Gathering.{HasGathered};
 ghost use Rattle.history_merge.specs.Initial.{IsCompleteFrom};
 ghost use Rattle.history_text.specs.Histories.{HasHistoryText};
 ghost use Rattle.commands.specs.Completing.{IsFaultOfPendingInput, IsPendingOf};
@@ -19,6 +21,7 @@ use history_text::{
     PendingText, Schedule, TextFault, TextReader, TextSource, Version, at_end, is_at_end,
     read_history, read_pending, read_schedule, read_verdict,
 };
+use packed_events::PackedEvent;
 use std::alloc::{AllocError, Global};
 use verdicts::Claimed;
 
@@ -108,17 +111,29 @@ pub(crate) fn given_history<S: TextSource + Drop>(
     history_of(gathered)
 }
 
+/// The builder that these values and events were added to.
+pub(crate) fn gathered(alloc: Global, initial: Vec<u64>, events: &[PackedEvent]) -> HistoryBuilder
+    requires few_initial { vec_len initial ≤ MAX_INITIAL }
+    requires few_events { length events.now ≤ MAX_EVENTS }
+    ensures { HasGathered initial.items events.now result }
+{
+    let mut builder = HistoryBuilder::new(alloc, initial);
+    for event in events {
+        builder.add(event.unpack());
+    }
+    builder
+}
+
 /// The builder that the values and events of a text were added to, with its version.
 fn gathered_from(alloc: Global, text: &PendingText) -> Result<Gathered, AllocError>
     requires lines { HaveValueLines text.now.version text.now.initial × HasHistoryText text.now.events }
     ensures { IfOk result (λ read. IsReadAs (history_in text.now) read.0 read.1) }
 {
     let initial = Vec::from_slice(alloc, text.initial.as_slice())?;
-    let mut builder = HistoryBuilder::new(alloc, initial);
-    for event in text.events.as_slice() {
-        builder.add(*event);
-    }
-    Ok((text.version, builder))
+    Ok((
+        text.version,
+        gathered(alloc, initial, text.events.as_slice()),
+    ))
 }
 
 /// The history that a text says.

@@ -1,7 +1,7 @@
 -- Events without a fault but pending calls are a history.
-use Rattle.std.proofs.Common.{◌≡◌, ℕ, zero, suc, ◌+◌, ◌<◌, ◌≤◌, ◌++◌, inl, inr, Bool, true, false, not, List, [], ◌∷◌, length, get_or, take, Option}
+use Rattle.std.proofs.Common.{◌≡◌, ℕ, zero, suc, ◌+◌, ◌<◌, ◌≤◌, ◌++◌, inl, inr, true, false, not, List, [], ◌∷◌, length, get_or, take, Option}
 use Rattle.std.proofs.Common.{Some, None, refl, ap, sym, subst, ◌∙◌, arith, length-append}
-use Rattle.std.specs.Prelude.{Contains, filter, filter_map, IfOk, OnOk, MatchOption, ⊤, Result, Ok, Err}
+use Rattle.std.specs.Prelude.{Contains, filter, filter_map, IfOk, IsErrAnd, OnOk, MatchOption, ⊤, Result, Ok, Err}
 use Rattle.std.specs.List.{last_or}
 use Rattle.std.proofs.lemmas.List.{append-nil, take_all}
 use Rattle.std.proofs.Math.Seq.{take-suc}
@@ -29,7 +29,7 @@ use Rattle.completions.specs.Completed.{paired, pending_calls, returns_from}
 use Rattle.completions.specs.declared.answers.Answer.{Answer}
 use Rattle.completions.specs.Faults.{IsBeyondLimits, MayBePending}
 use Rattle.completions.specs.Pending.{IsHistoryFrom, TakesTurnsSoFar}
-use Rattle.completions.proofs.Whole.{filter_all, pending_by_test}
+use Rattle.completions.proofs.Whole.{filter_all, filter_none, pending_by_test}
 
 -- ---- turns so far
 
@@ -106,15 +106,10 @@ sound_before initial events (suc n) within distinct none =
     grind (arith, take-suc, sound_push, sound_before initial events n)
 
 -- what a history builder takes but for pending calls is a history
-pub pending_is_history : (initial : List ℕ) (events : List Event) (ticket : ℕ) → IsFirstFault initial events (Pending ticket) → IsHistoryFrom initial events
+pending_is_history : (initial : List ℕ) (events : List Event) (ticket : ℕ) → IsFirstFault initial events (Pending ticket) → IsHistoryFrom initial events
 pending_is_history initial events ticket (distinct, none, least) =
     sound_is_history initial events
     (subst (IsSound initial) (take_all (length events) events (omega arith)) (sound_before initial events (length events) (omega arith) distinct none))
-
-pub taken_is_history : (initial : List ℕ) (events : List Event) (made : HistoryView) → (made.initial ≡ initial) × (made.events ≡ events)
-    → IsCompleteFrom made.initial made.events → IsHistoryFrom initial events
-taken_is_history initial events made is whole =
-    complete_is_history initial events (subst (λ (es : List Event). IsCompleteFrom initial es) is.1 (subst (λ (vs : List ℕ). IsCompleteFrom vs made.events) is.0 whole))
 
 -- ---- a complete history stays as it is
 
@@ -126,10 +121,6 @@ none_pending initial events whole e among = elim (cases_Bool (is_pending events 
       let none = nothing_pending_in_complete events whole.complete e.thread in
       let clash : None ≡ Some e = sym none ∙ is in cc
 ]
-
-filter_none : (p : Event → Bool) (xs : List Event) → ((x : Event) → Contains xs x → p x ≡ false) → filter p xs ≡ []
-filter_none p [] each = refl
-filter_none p (x ∷ xs) each = rw (each x (zero, omega arith, refl)) (filter_none p xs (λ y among. each y (suc among.0, omega (arith, among.1), among.2)))
 
 pub complete_stays : (initial : List ℕ) (events : List Event) → IsCompleteFrom initial events → completed initial events ≡ events
 complete_stays initial events whole =
@@ -176,10 +167,6 @@ pub on_ok : {T E : Type 0} (r : Result T E) (P Q : Type 0) → (P → Q) → OnO
 on_ok (Ok x) P Q then is = then is
 on_ok (Err e) P Q then is = is
 
-pub if_pending_history : (initial : List ℕ) (events : List Event) (fault : HistoryFault) → IsFirstFault initial events fault
-    → ((ticket : ℕ) × (fault ≡ Pending ticket)) → IsHistoryFrom initial events
-if_pending_history initial events fault first (ticket, is) = pending_is_history initial events ticket (subst (IsFirstFault initial events) is first)
-
 -- so are events whose first fault, if there is one, is that a call is pending
 pub may_be_pending : (initial : List ℕ) (events : List Event) → MayBePending initial events → IsHistoryFrom initial events
 may_be_pending initial events (inl whole) = complete_is_history initial events whole
@@ -201,3 +188,8 @@ when_known (Err e) P is = is
 pub known_ok : {T E : Type 0} (r : Result T E) (P : Type 0) → P → OnOk r P
 known_ok (Ok x) P is = is
 known_ok (Err e) P is = tt
+
+-- a `?` that carries a fault on answers that fault
+pub carries : {T E : Type 0} (r : Result T E) (fault : E) → IsErrAnd r (λ y. y ≡ fault) → r ≡ Err fault
+carries (Ok x) fault is = absurd is
+carries (Err y) fault is = cc

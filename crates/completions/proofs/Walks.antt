@@ -1,13 +1,13 @@
 -- Walks over events: what is kept of each thread, and the lists that come of it.
 use Rattle.std.proofs.Common.{◌≡◌, ℕ, zero, suc, ◌+◌, ◌-◌, ◌<◌, ◌≤◌, ◌⊎◌, ◌++◌, inl, inr, Bool, true, false, List, [], ◌∷◌, length, get_or, set}
-use Rattle.std.proofs.Common.{take, Option, Some, None, Result, Ok, Err, refl, ap, sym, subst, ◌∙◌, arith}
+use Rattle.std.proofs.Common.{take, not, Option, Some, None, Result, Ok, Err, refl, ap, sym, subst, ◌∙◌, arith}
 use Rattle.std.proofs.Common.{ap₂, get_or-set_other, get_or-set_same, length-set}
 use Rattle.std.proofs.lemmas.List.{take_more}
-use Rattle.std.specs.Prelude.{Contains, filter, filter_map, is_ok, option_to_list, IsPermutation, MatchResult, nat_eq, slice_get}
+use Rattle.std.specs.Prelude.{All, Contains, filter, filter_map, is_ok, option_to_list, IsPermutation, MatchResult, nat_eq, slice_get}
 use Rattle.std.specs.List.{cons_option, last_or}
 use Rattle.std.specs.List.Sorted.{IsBinarySearchResult, IsNonDecreasingBy}
 use Rattle.std.specs.Ordering.{nat_cmp}
-use Rattle.std.proofs.lemmas.List.{append_assoc, append-nil, get_or_default, length-append, length-take-le}
+use Rattle.std.proofs.lemmas.List.{append_assoc, append-nil, get_or_default, get_or-take, length-append, length-take-le}
 use Rattle.std.proofs.lemmas.Bool.{cases_Bool, cases_eq, cases_lt, eq-eqb, eqb-true, ne_eqb}
 use Rattle.std.proofs.lemmas.List.Elements.{filter-append, filter_map-append}
 use Rattle.std.proofs.lemmas.List.Folds.{Any-from_list_any, list_any_at}
@@ -16,13 +16,15 @@ use Rattle.std.proofs.lemmas.Option.{slice_get_within}
 use Rattle.event_records.specs.declared.event.Event.{Event}
 use Rattle.event_records.specs.declared.event.What.{What}
 use Rattle.event_records.specs.declared.event.What.TheVariants.{CallEnq, CallDeq, RetEnq, RetNot, RetDeq, RetEmpty}
-use Rattle.event_records.specs.declared.limits.TheConstants.{MAX_THREADS}
+use Rattle.event_records.specs.declared.limits.TheConstants.{MAX_THREAD, MAX_THREADS}
 use Rattle.event_records.specs.Projection.{projection}
 use Rattle.history_merge.proofs.Turns.{last_or-push, projection-push_other, projection-push_own}
 use Rattle.completions.specs.declared.answers.Answer.{Answer}
-use Rattle.completions.proofs.Whole.{returns-append}
-use Rattle.completions.specs.Completed.{given_value, given_values, is_given, next_ticket, paired, returns_from, taken_value, taken_values}
-use Rattle.completions.specs.Inner.Walk.{AreGiven, AreLast}
+use Rattle.completions.proofs.Whole.{all_members, filter_all, filter_none, pending_by_test, returns-append}
+use Rattle.completions.specs.Completed.{given_value, given_values, is_given, is_left_out, is_pending, next_ticket, paired, returns_from, taken_value, taken_values}
+use Rattle.completions.specs.Inner.Walk.{AreGiven, AreLast, HasWalked}
+use Rattle.completions.specs.Pending.{IsHistoryFrom, IsPendingCall}
+use Rattle.completions.specs.declared.walk.Walk.{Walk}
 
 -- what stands past the end of a list of events
 abbrev pub past_end : Event
@@ -159,22 +161,84 @@ taken_push before (x ∷ xs) e =
     ∙ ap (λ (es : List Event). cons_option (taken_value before x) (taken_values (before ++ x ∷ []) xs) ++ option_to_list (taken_value es e))
     (append_assoc before (x ∷ []) xs)
 
--- the values that are left after one event more
-pub left_more : (given : ℕ → Bool) (values : List ℕ) (events : List Event) (i : ℕ) (v : Option ℕ) → i < length events
-    → v ≡ taken_value (take i events) (get_or events i past_end)
-    → filter given (values ++ taken_values [] (take (i + 1) events))
-    ≡ filter given (values ++ taken_values [] (take i events)) ++ filter given (option_to_list v)
-left_more given values events i v below is =
-    let more : taken_values [] (take (i + 1) events) ≡ taken_values [] (take i events) ++ option_to_list v =
-    ap (taken_values []) (take_more events i past_end below) ∙ taken_push [] (take i events) (get_or events i past_end)
-    ∙ ap (λ (o : Option ℕ). taken_values [] (take i events) ++ option_to_list o) (sym is) in
-    ap (λ (l : List ℕ). filter given (values ++ l)) more ∙ ap (filter given) (sym (append_assoc values (taken_values [] (take i events)) (option_to_list v)))
-    ∙ filter-append given (values ++ taken_values [] (take i events)) (option_to_list v)
+-- the values that are given by one event more
+given_push : (events : List Event) (e : Event) → given_values (events ++ e ∷ []) ≡ given_values events ++ option_to_list (given_value e.what)
+given_push events e =
+    filter_map-append (λ (x : Event). given_value x.what) events (e ∷ [])
+    ∙ ap (λ (l : List ℕ). given_values events ++ l) (option_cons (given_value e.what) [] ∙ append-nil (option_to_list (given_value e.what)))
+
+-- one event more is noted
+pub walked_on : (events : List Event) (e : Event) (old new : Walk) → HasWalked events old → AreLast (events ++ e ∷ []) new.last
+    → new.given.items ≡ old.given.items ++ option_to_list (given_value e.what)
+    → new.taken.items ≡ old.taken.items ++ option_to_list (taken_value events e) → HasWalked (events ++ e ∷ []) new
+walked_on events e old new walked last given taken = record {
+  last = last;
+  given = given ∙ ap (λ (l : List ℕ). l ++ option_to_list (given_value e.what)) walked.given ∙ sym (given_push events e);
+  taken = taken ∙ ap (λ (l : List ℕ). l ++ option_to_list (taken_value events e)) walked.taken ∙ sym (taken_push [] events e);
+}
+
+-- what isn't the return of an enqueue takes no value
+pub not_taken : (before : List Event) (e : Event) → (e.what ≡ RetEnq → ⊥) → taken_value before e ≡ None
+not_taken before e other = by_what e.what other
+  where
+    by_what : (what : What) → (what ≡ RetEnq → ⊥) → taken_value before (record e { what = what }) ≡ None
+    by_what RetEnq other = absurd (other refl)
+    by_what (CallEnq v) other = refl
+    by_what CallDeq other = refl
+    by_what RetNot other = refl
+    by_what (RetDeq v) other = refl
+    by_what RetEmpty other = refl
+
+-- before an event with a lesser ticket than each pending call none is pending
+pub none_before : (initial : List ℕ) (events : List Event) (n least : ℕ) → IsHistoryFrom initial events → 0 < n → n ≤ length events
+    → (get_or events (n - 1) past_end).ticket < least
+    → ((call : Event) → call.thread ≤ MAX_THREAD → IsPendingCall events call → least ≤ call.ticket)
+    → All (λ e. is_pending events e ≡ false) (take n events)
+none_before initial events n least history some few below each = all_members (λ e. is_pending events e ≡ false) (take n events)
+    (λ e among. elim (cases_Bool (is_pending events e)) [
+      | inr other ↦ other
+      | inl pending ↦
+          let long = length-take-le n events few in
+          let near : among.0 < n = omega (arith, among.1, long) in
+          let inside : among.0 < length events = omega (arith, near, few) in
+          let is : get_or events among.0 past_end ≡ e =
+          get_or_default events among.0 past_end e inside ∙ sym (get_or-take n events among.0 e near) ∙ among.2 in
+          let there : Contains events e = (among.0, inside, get_or_default events among.0 e past_end inside ∙ is) in
+          let call = pending_by_test initial events history e there pending in
+          let thread : e.thread ≤ MAX_THREAD = subst (λ (x : Event). x.thread ≤ MAX_THREAD) is (history.threads_in_range among.0 past_end inside) in
+          let least_is = each e thread call in
+          let ticket = ap (λ (x : Event). x.ticket) is in
+          absurd (elim (cases_lt among.0 (n - 1)) [
+            | inl earlier ↦
+                let rise = history.tickets_rise among.0 (n - 1) past_end earlier (omega (arith, some, few)) in
+                omega (arith, rise, ticket, below, least_is)
+            | inr last ↦
+                let same = ap (λ (k : ℕ). (get_or events k past_end).ticket) (let e : among.0 ≡ n - 1 = omega (arith, last, near) in e) in
+                omega (arith, same, ticket, below, least_is)
+          ])
+    ])
+
+-- a test that no element passes leaves none
+pub filter_no : (p : Event → Bool) (xs : List Event) → All (λ e. p e ≡ false) xs → filter p xs ≡ []
+filter_no p xs none = filter_none p xs (λ x among. subst (λ y. p y ≡ false) among.2 (none among.0 x among.1))
+
+-- of events none of which is pending none is left out
+pub all_stay : (events xs : List Event) (answers : List Answer) → All (λ e. is_pending events e ≡ false) xs
+    → filter (λ e. not (is_left_out events answers e)) xs ≡ xs
+all_stay events xs answers none = filter_all (λ e. not (is_left_out events answers e)) xs
+    (λ x among. rw (subst (λ y. is_pending events y ≡ false) among.2 (none among.0 x among.1)) refl)
 
 -- one element more of a list that is filtered
 pub filter_more : {X : Type 0} (p : X → Bool) (xs : List X) (i : ℕ) (d : X) → i < length xs
     → filter p (take (i + 1) xs) ≡ filter p (take i xs) ++ filter p (get_or xs i d ∷ [])
 filter_more p xs i d below = ap (filter p) (take_more xs i d below) ∙ filter-append p (take i xs) (get_or xs i d ∷ [])
+
+-- one element that passes, or doesn't
+pub filter_one : {X : Type 0} (p : X → Bool) (x : X) → p x ≡ true → filter p (x ∷ []) ≡ x ∷ []
+filter_one p x is = rw is refl
+
+pub filter_not : {X : Type 0} (p : X → Bool) (x : X) (xs : List X) → p x ≡ false → xs ++ filter p (x ∷ []) ≡ xs
+filter_not p x xs is = rw is (append-nil xs)
 
 -- one pair more
 paired_push : (calls : List Event) (values : List ℕ) (c : Event) (v : ℕ) → length calls ≡ length values

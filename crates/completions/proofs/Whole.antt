@@ -163,6 +163,10 @@ filter_filter p q (x ∷ xs) = by_tests (p x) refl (q x) refl (filter_filter p q
         let right : filter q (filter p (x ∷ xs)) ≡ filter q (filter p xs) = rw in_p refl in
         left ∙ rest ∙ sym right
 
+pub filter_none : (p : Event → Bool) (xs : List Event) → ((x : Event) → Contains xs x → p x ≡ false) → filter p xs ≡ []
+filter_none p [] each = refl
+filter_none p (x ∷ xs) each = rw (each x (zero, omega arith, refl)) (filter_none p xs (λ y among. each y (suc among.0, omega (arith, among.1), among.2)))
+
 pub filter_all : (p : Event → Bool) (xs : List Event) → ((x : Event) → Contains xs x → p x ≡ true) → filter p xs ≡ xs
 filter_all p [] each = refl
 filter_all p (x ∷ xs) each = rw (each x (head x xs)) (ap (λ (es : List Event). x ∷ es) (filter_all p xs (λ y among. each y (tail x xs y among))))

@@ -1,11 +1,10 @@
 //! The answers to pending calls.
-ghost use Rattle.std.specs.Prelude.{◌≡◌, ◌≤◌, ◌++◌, List, All, IfOk, OnOk, filter, filter_map, true};
+ghost use Rattle.std.specs.Prelude.{◌≡◌, ◌++◌, List, [], IfOk, OnOk, filter, filter_map, true};
 ghost use Rattle.event_records.specs.declared.event.Event.{Event};
-ghost use Rattle.event_records.specs.declared.limits.TheConstants.{MAX_THREAD};
-ghost use Rattle.completions.specs.Completed.{answers_to, calls_dequeue, enqueue_answer, is_answered, paired, pending_calls};
+ghost use Rattle.completions.specs.Completed.{answers_to, calls_dequeue, enqueue_answer, is_answered, paired, pending_calls, taken_values};
 ghost use Rattle.completions.specs.Inner.Walk.{AreGiven};
 
-use crate::given::{is_given, sorted_given};
+use crate::given::is_given;
 use crate::left::left_values;
 use event_records::{Event, What};
 use std::alloc::{AllocError, Global};
@@ -89,21 +88,21 @@ pub(crate) fn is_answered(answers: &[Answer], call: Event) -> bool
         .any(|answer| answer.call.ticket == call.ticket)
 }
 
-/// Returns the answers to the pending calls, which are these.
+/// Returns the answers to the pending calls, which are these, from the initial values, the values that dequeues gave,
+/// sorted, and those of successful enqueues.
 pub(crate) fn answers_to(
     alloc: Global,
     values: &[u64],
-    events: &[Event],
+    given: &[u64],
+    taken: &[u64],
     calls: &[Event],
 ) -> Result<Vec<Answer>, AllocError>
-    requires threads { All (λ e. e.thread ≤ MAX_THREAD) events.now }
-    requires calls { calls.now ≡ pending_calls events.now }
-    ensures { IfOk result (λ answers. answers.items ≡ answers_to values.now events.now) }
+    ensures { IfOk result (λ answers. (events : List Event) → AreGiven events given.now → taken.now ≡ taken_values [] events
+        → calls.now ≡ pending_calls events → answers.items ≡ answers_to values.now events) }
 {
-    let given = sorted_given(alloc, events)?;
-    let left = left_values(alloc, values, events, given.as_slice())?;
+    let left = left_values(alloc, values, taken, given)?;
     let dequeues = dequeue_calls(alloc, calls)?;
-    let mut answers = enqueue_answers(alloc, calls, given.as_slice())?;
+    let mut answers = enqueue_answers(alloc, calls, given)?;
     push_dequeue_answers(&mut answers, dequeues.as_slice(), left.as_slice())?;
     Ok(answers)
 }

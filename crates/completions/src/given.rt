@@ -1,32 +1,14 @@
 //! The values that dequeues gave.
-ghost use Rattle.std.specs.Prelude.{◌≡◌, List, IfOk};
+ghost use Rattle.std.specs.Prelude.{◌≡◌, List};
 ghost use Rattle.event_records.specs.declared.event.Event.{Event};
 ghost use Rattle.completions.specs.Completed.{given_values, is_given};
 ghost use Rattle.completions.specs.Inner.Walk.{AreGiven};
 
-use event_records::{Event, What};
-use std::alloc::{AllocError, Global};
-
-/// Returns the values that dequeues gave, in the order of their returns.
-fn values_given(alloc: Global, events: &[Event]) -> Result<Vec<u64>, AllocError>
-    ensures { IfOk result (λ given. given.items ≡ given_values events.now) }
+/// Sorts the values that dequeues gave. Time O(n log n).
+pub(crate) fn sort_given(given: &mut Vec<u64>)
+    ensures { (events : List Event) → given.old.items ≡ given_values events → AreGiven events given.new.items }
 {
-    let mut given = Vec::new(alloc);
-    for event in events {
-        if let What::RetDeq(value) = event.what {
-            given.push(value)?;
-        }
-    }
-    Ok(given)
-}
-
-/// Returns the values that dequeues gave, sorted. Time O(n log n).
-pub(crate) fn sorted_given(alloc: Global, events: &[Event]) -> Result<Vec<u64>, AllocError>
-    ensures { IfOk result (λ given. AreGiven events.now given.items) }
-{
-    let mut given = values_given(alloc, events)?;
     given.sort_unstable();
-    Ok(given)
 }
 
 /// Whether a dequeue gave this value. Time O(log n).

@@ -1,9 +1,10 @@
 //! The last event of each thread, on a walk over the events.
-ghost use Rattle.std.specs.Prelude.{◌≡◌, ◌≤◌, ◌<◌, ◌++◌, ◌∷◌, List, [], All, IfOk, length};
+ghost use Rattle.std.specs.Prelude.{◌≡◌, ◌≤◌, ◌<◌, ◌++◌, ◌∷◌, List, [], length};
 ghost use Rattle.event_records.specs.Turns.{is_call};
 ghost use Rattle.event_records.specs.declared.event.Event.{Event};
 ghost use Rattle.event_records.specs.declared.limits.TheConstants.{MAX_THREAD, MAX_THREADS};
 ghost use Rattle.history_merge.specs.Faults.{pending_call};
+ghost use Rattle.completions.specs.Completed.{taken_value};
 ghost use Rattle.completions.specs.Inner.Walk.{AreLast};
 
 use event_records::{Event, MAX_THREADS, What};
@@ -47,14 +48,18 @@ pub(crate) fn pending_of(last: &[Option<Event>], thread: u8) -> Option<Event>
     }
 }
 
-/// Returns the last event of each thread.
-pub(crate) fn last_events(events: &[Event]) -> [Option<Event>; MAX_THREADS]
-    requires { All (λ e. e.thread ≤ MAX_THREAD) events.now }
-    ensures { AreLast events.now result }
+/// Returns the value of a successful enqueue if the event is its return.
+#[inline(always)]
+pub(crate) fn taken_value(last: &[Option<Event>], event: Event) -> Option<u64>
+    requires thread { event.thread ≤ MAX_THREAD }
+    requires sized { length last.now ≡ MAX_THREADS }
+    ensures { (before : List Event) → AreLast before last.now → result ≡ taken_value before event }
 {
-    let mut last = no_events();
-    for event in events {
-        note(&mut last, *event);
+    if event.what != What::RetEnq {
+        return None;
     }
-    last
+    match pending_of(last, event.thread)?.what {
+        What::CallEnq(value) => Some(value),
+        _ => None,
+    }
 }

@@ -9,6 +9,7 @@ mod last;
 mod laws;
 mod left;
 mod pending;
+mod walk;
 
 pub use answers::Answer;
 pub use completion::{Completion, complete, next_ticket};

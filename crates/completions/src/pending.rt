@@ -1,12 +1,14 @@
 //! The pending calls of a history.
-ghost use Rattle.std.specs.Prelude.{◌≡◌, ◌≤◌, List, All, IfOk, length};
+ghost use Rattle.std.specs.Prelude.{◌≡◌, ◌≤◌, ℕ, List, All, IfOk, false, length, take};
 ghost use Rattle.event_records.specs.declared.event.Event.{Event};
 ghost use Rattle.event_records.specs.declared.limits.TheConstants.{MAX_THREAD, MAX_THREADS};
 ghost use Rattle.completions.specs.Completed.{is_pending, pending_calls};
 ghost use Rattle.completions.specs.Inner.Walk.{AreLast};
+ghost use Rattle.completions.specs.Pending.{IsHistoryFrom, IsPendingCall};
 
 use crate::last::is_call;
 use event_records::Event;
+use packed_events::PackedEvent;
 use std::alloc::{AllocError, Global};
 
 /// Whether the event is a pending call: the last event of its thread, and a call.
@@ -23,20 +25,54 @@ pub(crate) fn is_pending(last: &[Option<Event>], event: Event) -> bool
         }
 }
 
-/// Returns the pending calls, in their order.
+/// Returns the least ticket of a pending call, or the greatest number if no call is pending.
+fn least_pending(last: &[Option<Event>]) -> u64
+    ensures { (events : List Event) → AreLast events last.now → (call : Event) → call.thread ≤ MAX_THREAD → IsPendingCall events call
+        → result ≤ call.ticket }
+{
+    let mut least = u64::MAX;
+    for event in last {
+        if let Some(event) = event
+            && is_call(event.what)
+        {
+            least = least.min(event.ticket);
+        }
+    }
+    least
+}
+
+/// Returns a place before which no call is pending, by a look at the events from there on alone.
+pub(crate) fn first_pending(events: &[PackedEvent], last: &[Option<Event>]) -> usize
+    requires last { AreLast events.now last.now }
+    ensures before { (initial : List ℕ) → IsHistoryFrom initial events.now → All (λ e. is_pending events.now e ≡ false) (take result events.now) }
+    ensures within { result ≤ length events.now }
+{
+    let least = least_pending(last);
+    let mut from = events.len();
+    while from > 0 && events[from - 1].unpack().ticket >= least {
+        from -= 1;
+    }
+    from
+}
+
+/// Returns the pending calls, in their order, of which none stands before this place.
 pub(crate) fn pending_calls(
     alloc: Global,
-    events: &[Event],
+    events: &[PackedEvent],
     last: &[Option<Event>],
+    from: usize,
 ) -> Result<Vec<Event>, AllocError>
     requires threads { All (λ e. e.thread ≤ MAX_THREAD) events.now }
     requires last { AreLast events.now last.now }
+    requires before { All (λ e. is_pending events.now e ≡ false) (take from events.now) }
+    requires within { from ≤ length events.now }
     ensures { IfOk result (λ calls. calls.items ≡ pending_calls events.now) }
 {
     let mut calls = Vec::new(alloc);
-    for event in events {
-        if is_pending(last, *event) {
-            calls.push(*event)?;
+    for place in from..events.len() {
+        let event = events[place].unpack();
+        if is_pending(last, event) {
+            calls.push(event)?;
         }
     }
     Ok(calls)

@@ -12,8 +12,10 @@ use crate::lines::{WritesLine, put_each, put_one};
 use crate::version::Version;
 use event_records::{Event, What};
 use history_merge::{Events, History};
+use packed_events::PackedEvent;
 use text_lines::{TextSink, WriteBuffer, WriteFault, make_room, write_piece};
 
+#[inline(always)]
 fn push_what(kept: &mut WriteBuffer, what: What)
     requires { length kept.old + 29 ≤ 4096 }
     ensures words { kept.new ≡ kept.old ++ spaced (what_fields what) }
@@ -63,6 +65,17 @@ impl WritesLine<Event> for HistoryLines {
         kept.push_field(u64::from(event.thread));
         push_what(kept, event.what);
         kept.push(b"\n");
+    }
+}
+
+impl WritesLine<PackedEvent> for HistoryLines {
+    ghost line = { λ _. event_line };
+
+    ghost Fits = { λ _ event. HasValueInRange event.what };
+
+    #[inline(always)]
+    fn push(&self, event: &PackedEvent, kept: &mut WriteBuffer) {
+        WritesLine::<Event>::push(self, &event.unpack(), kept);
     }
 }
 
@@ -163,7 +176,7 @@ pub fn write_history<W: TextSink>(
 fn put_events_text<W: TextSink>(
     version: Version,
     initial: &[u64],
-    events: &[Event],
+    events: &[PackedEvent],
     kept: &mut WriteBuffer,
     writer: &mut W,
 ) -> Result<(), WriteFault>
@@ -181,7 +194,7 @@ fn put_events_text<W: TextSink>(
 pub fn write_events<W: TextSink>(
     version: Version,
     initial: &[u64],
-    events: &[Event],
+    events: &[PackedEvent],
     writer: &mut W,
 ) -> Result<(), WriteFault>
     // Version 1 has no initial values.

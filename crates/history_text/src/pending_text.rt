@@ -1,12 +1,13 @@
 //! What the text of a history says whose calls may be pending.
 use crate::version::Version;
-use event_records::{Event, OwnedSlice};
+use event_records::OwnedSlice;
+use packed_events::PackedEvent;
 
 /// Initial values in order, seen as a list.
 pub type Values = OwnedSlice<u64>;
 
-/// Events in order, seen as a list.
-pub type EventList = OwnedSlice<Event>;
+/// Events in order, 16 bytes for each, seen as a list.
+pub type EventList = OwnedSlice<PackedEvent>;
 
 /// What the text of a history says whose calls may be pending. It may have any values and events;
 /// [`crate::read_pending`] returns those of a text.

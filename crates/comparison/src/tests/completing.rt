@@ -3,8 +3,9 @@
 use crate::tests::pending_calls::{initial_values, seeded_events};
 use crate::tests::plain_completions::{is_linearizable, is_some_linearizable, pending_calls};
 use completions::complete;
-use event_records::{MAX_EVENTS, MAX_INITIAL};
-use std::alloc::Global;
+use event_records::{Event, MAX_EVENTS, MAX_INITIAL, MAX_TICKET};
+use packed_events::PackedEvent;
+use std::alloc::{AllocError, Global};
 use std::process::Abort;
 use std::test::Fail;
 
@@ -18,21 +19,38 @@ struct Tried {
     linearizable: u32,
 }
 
+/// These events, packed.
+fn packed(alloc: Global, events: &[Event]) -> Result<Vec<PackedEvent>, Fail> {
+    let mut packed = Vec::new(alloc);
+    for event in events {
+        if event.ticket > MAX_TICKET {
+            return Err(Fail::from("a ticket past the greatest"));
+        }
+        packed.push(PackedEvent::new(*event))?;
+    }
+    Ok(packed)
+}
+
+fn unpacked(alloc: Global, events: &[PackedEvent]) -> Result<Vec<Event>, AllocError> {
+    events.iter().map(|event| event.unpack()).collect(alloc)
+}
+
 /// Whether the history of a seed has a linearization by `complete`, by each completion, and the number of its pending
 /// calls.
 fn compared(alloc: Global, seed: u64) -> Result<(bool, bool, usize), Fail> {
     let initial = initial_values(alloc, seed)?;
     let events = seeded_events(alloc, seed, &initial)?;
-    if initial.len() > MAX_INITIAL || events.len() > MAX_EVENTS {
-        return Err(Fail::from("too many values or events"));
-    }
     let searched = is_some_linearizable(alloc, &initial, &events)?;
     let pending = pending_calls(alloc, &events)?.len();
-    let made = complete(alloc, &initial, events)?;
+    let packed = packed(alloc, &events)?;
+    if initial.len() > MAX_INITIAL || packed.len() > MAX_EVENTS {
+        return Err(Fail::from("too many values or events"));
+    }
+    let made = complete(alloc, &initial, packed)?;
     if made.pending != pending {
         return Err(Fail::from("another number of pending calls"));
     }
-    let decided = is_linearizable(alloc, &initial, &made.events)?;
+    let decided = is_linearizable(alloc, &initial, &unpacked(alloc, &made.events)?)?;
     Ok((decided, searched, pending))
 }
 

@@ -3,8 +3,9 @@
 use super::small_histories::at;
 use completions::{CompletionFault, complete};
 use event_records::What::{CallDeq, CallEnq, RetDeq, RetEmpty, RetEnq};
-use event_records::{Event, MAX_EVENTS, MAX_INITIAL, What};
+use event_records::{Event, MAX_EVENTS, MAX_INITIAL, MAX_TICKET, What};
 use history_merge::HistoryFault;
+use packed_events::PackedEvent;
 use std::alloc::{AllocError, Global};
 use std::test::Fail;
 
@@ -76,12 +77,19 @@ static REFUSED: [(&[u64], &[Mark], CompletionFault); 3] = [
 ];
 
 /// The events of these marks.
-fn events_of(alloc: Global, marks: &[Mark]) -> Result<Vec<Event>, AllocError> {
+fn events_of(alloc: Global, marks: &[Mark]) -> Result<Vec<PackedEvent>, Fail> {
     let mut events = Vec::new(alloc);
     for (ticket, thread, what) in marks {
-        events.push(at(*ticket, *thread, *what))?;
+        if *ticket > MAX_TICKET {
+            return Err("a ticket past the greatest")?;
+        }
+        events.push(PackedEvent::new(at(*ticket, *thread, *what)))?;
     }
     Ok(events)
+}
+
+fn unpacked(alloc: Global, events: &[PackedEvent]) -> Result<Vec<Event>, AllocError> {
+    events.iter().map(|event| event.unpack()).collect(alloc)
 }
 
 /// The completion of these marks, or why there is none.
@@ -95,7 +103,7 @@ fn completion_of(
         return Err("too many values or events")?;
     }
     match complete(alloc, initial, events) {
-        Ok(made) => Ok(Ok(made.events)),
+        Ok(made) => Ok(Ok(unpacked(alloc, &made.events)?)),
         Err(fault) => Ok(Err(fault)),
     }
 }

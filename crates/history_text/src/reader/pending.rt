@@ -16,6 +16,7 @@ use crate::pending_text::{EventList, PendingText, Values};
 use crate::reader::TextReader;
 use crate::version::Version;
 use event_records::Event;
+use packed_events::PackedEvent;
 use std::alloc::Global;
 use text_lines::{TextFault, TextSource};
 
@@ -74,7 +75,7 @@ impl<R: TextSource> TextReader<R> {
     fn collect_events(
         &mut self,
         is_pending: bool,
-        into: &mut Vec<Event>,
+        into: &mut Vec<PackedEvent>,
     ) -> Result<Option<usize>, TextFault>
         requires lines { self.old.lines < 2 ^ 63 + 2 ^ 33 }
         requires empty { into.old.items ≡ [] }
@@ -101,7 +102,7 @@ impl<R: TextSource> TextReader<R> {
                 },
             };
             tries = 0;
-            if into.push(event).is_err() {
+            if into.push(PackedEvent::new(event)).is_err() {
                 return Err(TextFault::Memory);
             }
             count += 1;
@@ -112,7 +113,7 @@ impl<R: TextSource> TextReader<R> {
     fn events_to_end(
         &mut self,
         is_pending: bool,
-        into: &mut Vec<Event>,
+        into: &mut Vec<PackedEvent>,
         open_calls: &mut Option<usize>,
     ) -> Result<(), TextFault>
         requires lines { self.old.lines < 2 ^ 63 + 2 ^ 33 }

@@ -1,12 +1,20 @@
-use Rattle.std.proofs.Common.{◌∙◌, ◌+◌, ◌++◌, ◌∷◌, ◌≡◌, ◌<◌, [], ap, arith, get_or, get_or-set_other, length, length-set, List, not, set, sym}
+use Rattle.std.proofs.Common.{◌∙◌, ◌+◌, ◌++◌, ◌∷◌, ◌≡◌, ◌<◌, [], ap, arith, get_or, get_or-set_other, length, length-set, List, not, refl, set, sym}
 use Rattle.std.proofs.Common.{Bool, take, Vec, Global, ℕ}
 use Rattle.std.specs.Prelude.{filter}
 use Rattle.std.proofs.lemmas.List.{get_or_read, set-get_or, take_more_set}
 use Rattle.event_records.specs.declared.event.Event.{Event}
 use Rattle.completions.specs.Completed.{is_left_out}
-use Rattle.completions.proofs.Walks.{filtered_more, filtered_same, past_end}
+use Rattle.completions.proofs.Walks.{all_stay, filtered_more, filtered_same, past_end}
 use Rattle.completions.proofs.completion.leave_out.Goals.{then-not-is_left_out, else-not-is_left_out, then-kept-place, else-kept-place}
 use Rattle.completions.proofs.completion.leave_out.Goals as goal
+
+pub loop-place-init : goal.loop-place-init
+loop-place-init c = record {
+  same = refl;
+  few = omega arith;
+  kept = sym (all_stay c.args.events.now.items (take c.args.from c.args.events.now.items) c.args.answers.now c.requires.before);
+  rest = λ k above. refl;
+}
 
 pub loop-place-preserved : goal.loop-place-preserved
 loop-place-preserved c =
@@ -21,7 +29,7 @@ loop-place-preserved c =
     let below : i < length old = omega (arith, inside, known.same) in
     let stands : event ≡ get_or items i past_end = get_or_read items i event inside c.index-event.ensures past_end in
     let was : get_or old i past_end ≡ event = sym (known.rest i (omega arith)) ∙ sym stands in
-    let is = ap stays was ∙ ap not (sym (c.is_left_out.ensures old c.requires.last)) in
+    let is = ap stays (was ∙ sym c.unpack.ensures) ∙ ap not (sym (c.is_left_out.ensures old c.requires.last)) in
     elim c.if-not-is_left_out.branch [
       | then-not-is_left_out w ↦
           let now : List Event = c.if-not-is_left_out.events.items in

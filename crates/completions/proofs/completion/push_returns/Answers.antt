@@ -11,7 +11,7 @@ loop-answer-preserved c =
     let r : Event = record { ticket = c.loop-answer.ticket; thread = a.call.thread; what = a.what } in
     let ticket = c.loop-answer.invariant.ticket in
     record {
-      added = c.in_ok-push.ensures.items ∙ ap (λ (l : List Event). l ++ r ∷ []) c.loop-answer.invariant.added
+      added = c.in_ok-push.ensures.items ∙ ap (λ (e : Event). c.loop-answer.full.items ++ e ∷ []) c.new.ensures ∙ ap (λ (l : List Event). l ++ r ∷ []) c.loop-answer.invariant.added
           ∙ append_assoc c.args.full.now.items (returns_from c.args.ticket (take i c.args.answers.now)) (r ∷ [])
           ∙ ap (λ (n : ℕ). c.args.full.now.items ++ (returns_from c.args.ticket (take i c.args.answers.now)
           ++ record { ticket = n; thread = a.call.thread; what = a.what } ∷ [])) ticket
