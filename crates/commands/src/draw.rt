@@ -1,5 +1,6 @@
 //! `draw`: the picture of a history and a verdict on it.
 ghost use Rattle.std.specs.Prelude.{◌≡◌, ◌≤◌, ℕ, IfOk, IfErr, IfSome, OnOk, None, Option, length};
+ghost use Rattle.event_records.specs.declared.limits.TheConstants.{MAX_INITIAL};
 ghost use Rattle.history_merge.specs.Operations.{operations_of};
 ghost use Rattle.verdicts.specs.Claims.{IsTrueClaim};
 ghost use Rattle.drawing.specs.Claim.{count_of_lines};
@@ -8,9 +9,7 @@ ghost use Rattle.drawing.specs.Scene.{scene_on, scene_of};
 ghost use Rattle.history_text.specs.declared.version.Version.{Version};
 ghost use Rattle.history_text.specs.Histories.{HasHistoryText};
 ghost use Rattle.history_text.specs.Versions.{HaveValueLines, said_in};
-ghost use Rattle.commands.specs.Answers.{refused_size};
-ghost use Rattle.commands.specs.Drawing.{Draws, DrawsAlone, DrawsClaim, DrawsDecided, DrawsPending, DrawsSound, HasFewValues};
-ghost use Rattle.commands.specs.Drawing.{IsDrawnDecided, picture_in};
+ghost use Rattle.commands.specs.Drawing.{Draws, DrawsAlone, DrawsClaim, DrawsDecided, DrawsPending, DrawsSound, picture_in};
 ghost use Rattle.commands.specs.Inputs.{IsDrawableOf, IsFaultOfDrawableInput, claim_on, history_in};
 ghost use Rattle.commands.specs.Judging.{AnswersFor, AnswersOrNoMemory, IsSound, IsVerdictClaim};
 ghost use Rattle.commands.specs.Outcomes.{answer_of, answer_of_fault, NamesPlaces};
@@ -51,7 +50,7 @@ fn draw_claimed(
     ensures places { NamesPlaces result }
 {
     let history = history_in(alloc, text)?;
-    check_few_values(&history)?;
+    recall_complete(&history);
     draw_claim(alloc, &history, claimed, options)
 }
 
@@ -82,30 +81,12 @@ fn draw_pending(alloc: Global, text: PendingText, options: DrawOptions) -> Outco
     draw_decided(alloc, &history, Some(added_from), options)
 }
 
-/// The picture of a history with its verdict.
-fn draw_decided(
-    alloc: Global,
-    history: &History,
-    added_from: Option<u64>,
-    options: DrawOptions,
-) -> Outcome
-    ensures found { (version : Version) → AnswersOrNoMemory (DrawsDecided options added_from) (said_in version history.now) (answer_of result) }
-    ensures places { NamesPlaces result }
-{
-    check_few_values(history)?;
-    draw_verdict(alloc, history, added_from, options)
-}
-
-/// Refuses a history that has more initial values than are drawn.
-fn check_few_values(history: &History) -> Result<(), Fault>
+/// Recalls what holds of every history: it is complete, and has few enough initial values.
+fn recall_complete(history: &History)
     ensures sound { IsSound history.now }
-    ensures few { OnOk result (HasFewValues history.now) }
-    ensures large { IfErr result (λ fault. (answer_of_fault fault ≡ refused_size) × (¬ (HasFewValues history.now))) }
+    ensures few { length history.now.initial ≤ MAX_INITIAL }
 {
-    if history.initial().len() > MOST_DRAWN {
-        return Err(Fault::Size);
-    }
-    Ok(())
+    let _ = history.initial();
 }
 
 /// The operations to be drawn, if these and the lines of the claim are few.
@@ -131,10 +112,9 @@ fn drawn_if_few(
     Ok(drawn)
 }
 
-/// The picture of a history of few values with the claim, if little is drawn and the claim is evidence.
+/// The picture of a history with the claim, if little is drawn and the claim is evidence.
 fn draw_claim(alloc: Global, history: &History, claimed: &Claimed, options: DrawOptions) -> Outcome
     requires complete { IsSound history.now }
-    requires few_values { HasFewValues history.now }
     ensures found { (version : Version)
         → AnswersOrNoMemory (DrawsSound options None) (claim_on (said_in version history.now) claimed.now) (answer_of result) }
     ensures places { NamesPlaces result }
@@ -146,19 +126,18 @@ fn draw_claim(alloc: Global, history: &History, claimed: &Claimed, options: Draw
     draw_evidence(alloc, history, claimed, drawn, None, options)
 }
 
-/// The picture of a history of few values with its verdict, if little is drawn.
-fn draw_verdict(
+/// The picture of a history with its verdict, if little is drawn.
+fn draw_decided(
     alloc: Global,
     history: &History,
     added_from: Option<u64>,
     options: DrawOptions,
 ) -> Outcome
-    requires complete { IsSound history.now }
-    requires few_values { HasFewValues history.now }
     ensures found { (version : Version)
-        → AnswersOrNoMemory (IsDrawnDecided options added_from) (said_in version history.now) (answer_of result) }
+        → AnswersOrNoMemory (DrawsDecided options added_from) (said_in version history.now) (answer_of result) }
     ensures places { NamesPlaces result }
 {
+    recall_complete(history);
     let claimed = decided_claim(alloc, history)?;
     let drawn = drawn_if_few(alloc, history, &claimed, options)?;
     draw_evidence(alloc, history, &claimed, drawn, added_from, options)
@@ -182,7 +161,6 @@ fn draw_evidence(
     options: DrawOptions,
 ) -> Outcome
     requires complete { IsSound history.now }
-    requires few_values { HasFewValues history.now }
     requires few_lines { count_of_lines claimed.now ≤ MOST_DRAWN }
     requires drawn { drawn.items ≡ drawn_operations history.now claimed.now options.around }
     requires few { length drawn.items ≤ MOST_DRAWN }
@@ -192,18 +170,23 @@ fn draw_evidence(
     ensures places { NamesPlaces result }
 {
     let scene = scene_of(alloc, history, claimed, drawn, added_from)?;
-    let picture = picture_in(alloc, &scene, options.form)?;
+    let picture = picture_in(alloc, history, &scene, options.form)?;
     Ok(Report::Drawn(picture))
 }
 
-/// The picture of a scene in this form.
-fn picture_in(alloc: Global, scene: &Scene<'_>, form: PictureForm) -> Result<Vec<u8>, AllocError>
+/// The picture of a history's scene in this form.
+fn picture_in(
+    alloc: Global,
+    history: &History,
+    scene: &Scene<'_>,
+    form: PictureForm,
+) -> Result<Vec<u8>, AllocError>
     requires { count_of_lines scene.now.claimed.now ≤ MOST_DRAWN }
-    ensures { IfOk result (λ picture. picture.items ≡ picture_in form (scene_on scene.now)) }
+    ensures { IfOk result (λ picture. picture.items ≡ picture_in form history.now (scene_on scene.now)) }
 {
     match form {
         PictureForm::Svg => svg_picture(alloc, scene),
-        PictureForm::Html => html_picture(alloc, scene),
+        PictureForm::Html => html_picture(alloc, history, scene),
         PictureForm::Terminal => terminal_picture(alloc, scene),
     }
 }
