@@ -71,7 +71,7 @@ uint8_t fifobench_verify_under(const uint8_t *text, size_t length, uint32_t cond
                                size_t *needed);
 
 /* `fifobench draw`: the text of a history, and that of a verdict, if one follows. Returns the picture as an SVG document,
- * or INVALID if the verdict isn't evidence. More than 400 operations, initial values or lines of the verdict are refused
+ * or INVALID if the verdict isn't evidence. More than 400 operations to be drawn, or lines of the verdict, are refused
  * (REFUSED Size). */
 uint8_t fifobench_draw(const uint8_t *text, size_t length, uint8_t *answer, size_t capacity, size_t *needed);
 

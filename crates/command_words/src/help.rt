@@ -146,35 +146,37 @@ with that verdict. Or a pending text, as for `complete`: it is drawn as its
 completion, with the verdict on that.
 
 Output: a picture, as an SVG document, with `--html` as a page for a browser
-that shows what precedes an operation, or with `--text` in lines of ASCII for a
-terminal. Time runs down: each event has a row, each thread a lane, and each
-operation a bar from its call to its return. With `YES` the linearization stands
-beside the tickets, and each number where its operation takes effect. With `NO`
-the operations that show it are numbered in the order of the verdict's lines,
-and bands say when a value was definitely in the queue, was not, and the time
-that contradicts it. In characters `[` is a call, `]` its return and `|` stands
-between, and bands are `###`, `xxx` and `:::`; a call that never returned has no
-`]`. If the verdict is no evidence in the history, `INVALID`, and nothing is
-drawn. Values that the queue holds first (texts of `fifo-history 2`) have rows
-of their own above all events, front first, numbered as operations are, if a
-`NO` lists them or a drawn operation has them; a row `... 298 values ...` stands
-for the others. `6:11` is value 11 of thread 6 as recorders name it,
-6 * 2^32 + 11, and `init:3` is 2^38 + 3.
+that shows what precedes an operation and unfolds what is left out, or with
+`--text` in lines of ASCII for a terminal. Time runs down: each event has a row,
+each thread a lane, and each operation a bar from its call to its return. With
+`YES` the linearization stands beside the tickets, and each number where its
+operation takes effect. With `NO` the operations that show it are numbered in
+the order of the verdict's lines, and bands say when a value was definitely in
+the queue, was not, and the time that contradicts it. In characters `[` is a
+call, `]` its return and `|` stands between, and bands are `###`, `xxx` and
+`:::`; a call that never returned has no `]`. If the verdict is no evidence in
+the history, `INVALID`, and nothing is drawn. Values that the queue holds first
+(texts of `fifo-history 2`) have rows of their own above all events, front
+first, numbered as operations are, if a `NO` lists them or a drawn operation has
+them; a row `... 298 values ...` stands for the others. `6:11` is value 11 of
+thread 6 as recorders name it, 6 * 2^32 + 11, and `init:3` is 2^38 + 3.
 
 With `NO` only the operations that show it and those that overlap one of them
 are drawn; a row `... 250 events ...` stands for what is left out between. With
 `--around 20` so are the 20 events before and after each operation that shows
 it, and all that is pending meanwhile; in characters what overlaps no numbered
-operation has `(`, `)` and `:`. With `--all` everything is drawn.
+operation has `(`, `)` and `:`. With `--all` every operation is.
 
 With `--local` and `--weak-empty` the verdict is one under that condition, as of
 `check`. With `--weak-empty` empty dequeues aren't drawn. A `YES` with `--local`
 is `REFUSED Orders`: it has a linearization for each producer, and no picture of
 one. A pending text's completion is judged, which decides linearizability alone.
 
-More than 400 operations to be drawn, values that the queue holds first, or
-lines of the verdict are `REFUSED Size`: shrink the history first. Lines count
-from 1 through both texts.
+A page unfolds up to 20,000 operations of a history; of a longer one it shows
+what the picture has.
+
+More than 400 operations to be drawn, or lines of the verdict, are `REFUSED
+Size`: shrink the history first. Lines count from 1 through both texts.
 
 Status:
   0  drawn

@@ -12,7 +12,7 @@ use Rattle.command_words.specs.Options.{linearizability}
 use Rattle.command_words.specs.declared.options.DrawOptions.{DrawOptions}
 use Rattle.commands.specs.Completing.{completion_in, IsCompletable}
 use Rattle.command_words.specs.declared.options.PictureForm.{PictureForm}
-use Rattle.commands.specs.Drawing.{Draws, DrawsAlone, DrawsClaim, DrawsDecided, DrawsHistory, DrawsPart, DrawsSound, IsDrawnDecided}
+use Rattle.commands.specs.Drawing.{Draws, DrawsAlone, DrawsClaim, DrawsDecided, DrawsHistory, DrawsPart, DrawsSound}
 use Rattle.commands.specs.Drawing.{IsDrawnWithout, strict}
 use Rattle.commands.specs.Inputs.{history_in}
 use Rattle.commands.specs.Judging.{IsVerdictClaim}
@@ -35,7 +35,7 @@ one_drawn options added claim a b = one_by_whether (one_by_whether (one_by_wheth
 
 -- what is answered of a complete history with the claim of its verdict is answered of it with this claim of it
 with_verdict : (options : DrawOptions) (added : Option ℕ) (text : HistoryText) (claimed : Claimed) (a : Reply) → length text.initial ≤ MAX_INITIAL
-    → IsSound (said_by text) → IsVerdictClaim (strict options.condition) (said_by text) claimed → IsDrawnDecided options added text a
+    → IsSound (said_by text) → IsVerdictClaim (strict options.condition) (said_by text) claimed → DrawsDecided options added text a
     → DrawsSound options added (claim_on text claimed) a
 with_verdict options added text claimed a few complete right x = subst (λ c. DrawsSound options added (claim_on text c) a)
     (one_of_verdict (strict options.condition) (said_by text) (λ c. c) x.claimed claimed few complete x.right right) x.answered
@@ -63,8 +63,8 @@ one_part true text OfText a b few complete one = one_without text OfText a b few
 -- a complete history with its verdict is drawn in one way
 one_decided : (options : DrawOptions) (added : Option ℕ) (text : HistoryText) (a b : Reply) → length text.initial ≤ MAX_INITIAL
     → IsSound (said_by text) → DrawsDecided options added text a → DrawsDecided options added text b → a ≡ b
-one_decided options added text a b few complete = one_by_whether
-    (λ x y. one_drawn options added (claim_on text y.claimed) a b (with_verdict options added text y.claimed a few complete y.right x) y.answered) same
+one_decided options added text a b few complete x y =
+    one_drawn options added (claim_on text y.claimed) a b (with_verdict options added text y.claimed a few complete y.right x) y.answered
 
 -- a completion is a complete history
 sound_completion : (text : PendingText) → length text.initial ≤ MAX_INITIAL → IsCompletable text → IsSound (said_by (completion_in text))
@@ -119,9 +119,8 @@ drawn_plainly form around plain bytes claimed a b checked =
     as_claimed : (t : HistoryText) (claimed : Claimed) → IsWritten t claimed → DrawsHistory (plainly form around) t a
         → DrawsClaim (plainly form around) (claim_on t claimed) a
     as_claimed t claimed is (inl faulty) = inl faulty
-    as_claimed t claimed is (inr (complete, inl (few, x))) =
+    as_claimed t claimed is (inr (complete, x)) =
         inr (complete, with_verdict (plainly form around) None t claimed a (few_values t is.history) complete is.right x)
-    as_claimed t claimed is (inr (complete, inr (many, large))) = inr (complete, inr ((λ small. many small.few_values), large))
 
 pub drawn_as_checked : (options : DrawOptions) → DrawnAsChecked options
 drawn_as_checked options plain =

@@ -26,28 +26,23 @@ use Rattle.commands.specs.Judging.{FaultOr, IsEvident, IsSound, IsVerdictClaim, 
 
 -- ---- what is small enough
 
--- the history has few enough initial values to be drawn
-abbrev pub HasFewValues : HistoryView → Type 0
-HasFewValues history = length history.initial ≤ MOST_DRAWN
-
--- so has it, and the claim has few enough lines, of which few enough operations are drawn
+-- the claim has few enough lines to be drawn, and few enough operations are drawn with it
 pub record IsSmall (options : DrawOptions) (claim : ClaimOnText) : Type 0 where
-  pub few_values : HasFewValues (said_by claim.text)
   pub few_lines : count_of_lines claim.claimed ≤ MOST_DRAWN
   pub few_operations : length (drawn_operations (said_by claim.text) claim.claimed options.around) ≤ MOST_DRAWN
 
 -- ---- pictures. Of a completion, `added` is the ticket of the first return that it added
 
--- the picture of a scene, in a form
-abbrev pub picture_in : PictureForm → SceneView → List ℕ
-picture_in Svg scene = svg_picture scene
-picture_in Html scene = html_picture scene
-picture_in Terminal scene = terminal_picture scene
+-- the picture of a history's scene, in a form
+abbrev pub picture_in : PictureForm → HistoryView → SceneView → List ℕ
+picture_in Svg history scene = svg_picture scene
+picture_in Html history scene = html_picture history scene
+picture_in Terminal history scene = terminal_picture scene
 
 -- the picture of a history and a claim: of what is drawn of them, in the form that is asked for
 abbrev pub picture_of : DrawOptions → Option ℕ → HistoryView → Claimed → List ℕ
 picture_of options added history claimed =
-    picture_in options.form (scene_of history claimed (drawn_operations history claimed options.around) added)
+    picture_in options.form history (scene_of history claimed (drawn_operations history claimed options.around) added)
 
 -- ---- under a condition
 
@@ -84,17 +79,12 @@ DrawsSound options added claim answer = Whether (IsSmall options claim)
     (answer ≡ verified false))
     (answer ≡ refused_size)
 
--- this is answered of a history with the claim of its verdict, which is evidence
-pub record IsDrawnDecided (options : DrawOptions) (added : Option ℕ) (text : HistoryText) (answer : Reply) : Type 0 where
+-- of a complete history: the picture with the claim of its verdict, if they are small; that claim is evidence
+pub record DrawsDecided (options : DrawOptions) (added : Option ℕ) (text : HistoryText) (answer : Reply) : Type 0 where
   pub claimed : Claimed
   pub right : IsVerdictClaim (strict options.condition) (said_by text) claimed
   pub evident : IsEvident (strict options.condition) (claim_on text claimed)
   pub answered : DrawsSound options added (claim_on text claimed) answer
-
--- the picture with the claim of its verdict, if they are small
-abbrev pub DrawsDecided : DrawOptions → Option ℕ → HistoryText → Reply → Type 0
-DrawsDecided options added text answer =
-    Whether (HasFewValues (said_by text)) (IsDrawnDecided options added text answer) (answer ≡ refused_size)
 
 -- ---- `draw`
 

@@ -1,5 +1,6 @@
 //! `draw`: the picture of a history and a verdict on it.
 ghost use Rattle.std.specs.Prelude.{◌≡◌, ◌≤◌, ℕ, IfOk, IfErr, IfSome, OnOk, None, Option, false, length, true};
+ghost use Rattle.event_records.specs.declared.limits.TheConstants.{MAX_INITIAL};
 ghost use Rattle.drawing.specs.Claim.{count_of_lines};
 ghost use Rattle.drawing.specs.Drawn.{drawn_operations};
 ghost use Rattle.drawing.specs.Scene.{scene_on, scene_of};
@@ -8,8 +9,8 @@ ghost use Rattle.history_text.specs.Histories.{HasHistoryText};
 ghost use Rattle.history_text.specs.Versions.{HaveValueLines, said_in};
 ghost use Rattle.commands.specs.Answers.{refused_orders, refused_size};
 ghost use Rattle.commands.specs.Conditions.{IsTrueUnder};
-ghost use Rattle.commands.specs.Drawing.{Draws, DrawsAlone, DrawsClaim, DrawsDecided, DrawsPart, DrawsPending, DrawsSound, HasFewValues};
-ghost use Rattle.commands.specs.Drawing.{IsDrawnDecided, IsOneOrder, picture_in, strict};
+ghost use Rattle.commands.specs.Drawing.{Draws, DrawsAlone, DrawsClaim, DrawsDecided, DrawsPart, DrawsPending, DrawsSound};
+ghost use Rattle.commands.specs.Drawing.{IsOneOrder, picture_in, strict};
 ghost use Rattle.conditions.specs.Conditions.{without_empties};
 ghost use Rattle.verdicts.specs.Selection.{ArePartOf, contents_of};
 ghost use Rattle.commands.specs.Inputs.{IsDrawableOf, IsFaultOfDrawableInput, claim_on, history_in};
@@ -55,7 +56,7 @@ fn draw_claimed(
 {
     let whole = history_in(alloc, text)?;
     let history = drawn_part(alloc, whole, options.condition.is_weakly_empty)?;
-    check_few_values(&history)?;
+    recall_complete(&history);
     draw_claim(alloc, &history, claimed, options)
 }
 
@@ -137,30 +138,12 @@ fn check_one_order(claimed: &Claimed, is_local: bool) -> Result<(), Fault>
     }
 }
 
-/// The picture of a history with its verdict.
-fn draw_decided(
-    alloc: Global,
-    history: &History,
-    added_from: Option<u64>,
-    options: DrawOptions,
-) -> Outcome
-    ensures found { (version : Version) → AnswersOrNoMemory (DrawsDecided options added_from) (said_in version history.now) (answer_of result) }
-    ensures places { NamesPlaces result }
-{
-    check_few_values(history)?;
-    draw_verdict(alloc, history, added_from, options)
-}
-
-/// Refuses a history that has more initial values than are drawn.
-fn check_few_values(history: &History) -> Result<(), Fault>
+/// Recalls what holds of every history: it is complete, and has few enough initial values.
+fn recall_complete(history: &History)
     ensures sound { IsSound history.now }
-    ensures few { OnOk result (HasFewValues history.now) }
-    ensures large { IfErr result (λ fault. (answer_of_fault fault ≡ refused_size) × (¬ (HasFewValues history.now))) }
+    ensures few { length history.now.initial ≤ MAX_INITIAL }
 {
-    if history.initial().len() > MOST_DRAWN {
-        return Err(Fault::Size);
-    }
-    Ok(())
+    let _ = history.initial();
 }
 
 /// The operations to be drawn, if these and the lines of the claim are few.
@@ -186,10 +169,9 @@ fn drawn_if_few(
     Ok(drawn)
 }
 
-/// The picture of a history of few values with the claim, if little is drawn and the claim is evidence.
+/// The picture of a history with the claim, if little is drawn and the claim is evidence.
 fn draw_claim(alloc: Global, history: &History, claimed: &Claimed, options: DrawOptions) -> Outcome
     requires complete { IsSound history.now }
-    requires few_values { HasFewValues history.now }
     ensures found { (version : Version)
         → AnswersOrNoMemory (DrawsSound options None) (claim_on (said_in version history.now) claimed.now) (answer_of result) }
     ensures places { NamesPlaces result }
@@ -201,19 +183,18 @@ fn draw_claim(alloc: Global, history: &History, claimed: &Claimed, options: Draw
     draw_evidence(alloc, history, claimed, drawn, None, options)
 }
 
-/// The picture of a history of few values with its verdict, if little is drawn.
-fn draw_verdict(
+/// The picture of a history with its verdict, if little is drawn.
+fn draw_decided(
     alloc: Global,
     history: &History,
     added_from: Option<u64>,
     options: DrawOptions,
 ) -> Outcome
-    requires complete { IsSound history.now }
-    requires few_values { HasFewValues history.now }
     ensures found { (version : Version)
-        → AnswersOrNoMemory (IsDrawnDecided options added_from) (said_in version history.now) (answer_of result) }
+        → AnswersOrNoMemory (DrawsDecided options added_from) (said_in version history.now) (answer_of result) }
     ensures places { NamesPlaces result }
 {
+    recall_complete(history);
     let claimed = decided_claim(alloc, history, strict(options.condition))?;
     let drawn = drawn_if_few(alloc, history, &claimed, options)?;
     draw_evidence(alloc, history, &claimed, drawn, added_from, options)
@@ -241,7 +222,6 @@ fn draw_evidence(
     options: DrawOptions,
 ) -> Outcome
     requires complete { IsSound history.now }
-    requires few_values { HasFewValues history.now }
     requires few_lines { count_of_lines claimed.now ≤ MOST_DRAWN }
     requires drawn { drawn.items ≡ drawn_operations history.now claimed.now options.around }
     requires few { length drawn.items ≤ MOST_DRAWN }
@@ -252,18 +232,23 @@ fn draw_evidence(
 {
     check_one_order(claimed, options.condition.is_local)?;
     let scene = scene_of(alloc, history, claimed, drawn, added_from)?;
-    let picture = picture_in(alloc, &scene, options.form)?;
+    let picture = picture_in(alloc, history, &scene, options.form)?;
     Ok(Report::Drawn(picture))
 }
 
-/// The picture of a scene in this form.
-fn picture_in(alloc: Global, scene: &Scene<'_>, form: PictureForm) -> Result<Vec<u8>, AllocError>
+/// The picture of a history's scene in this form.
+fn picture_in(
+    alloc: Global,
+    history: &History,
+    scene: &Scene<'_>,
+    form: PictureForm,
+) -> Result<Vec<u8>, AllocError>
     requires { count_of_lines scene.now.claimed.now ≤ MOST_DRAWN }
-    ensures { IfOk result (λ picture. picture.items ≡ picture_in form (scene_on scene.now)) }
+    ensures { IfOk result (λ picture. picture.items ≡ picture_in form history.now (scene_on scene.now)) }
 {
     match form {
         PictureForm::Svg => svg_picture(alloc, scene),
-        PictureForm::Html => html_picture(alloc, scene),
+        PictureForm::Html => html_picture(alloc, history, scene),
         PictureForm::Terminal => terminal_picture(alloc, scene),
     }
 }

@@ -15,7 +15,7 @@ use itoa::Buffer;
 use std::alloc::{AllocError, Global};
 use verdicts::Claimed;
 
-/// The most initial values, the most operations of a history and the most lines of a claim that are drawn.
+/// The most operations of a history and the most lines of a claim that are drawn.
 pub const MOST_DRAWN: usize = 400;
 
 /// How many events stand under heads, before these are repeated.

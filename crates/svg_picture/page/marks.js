@@ -1,45 +1,55 @@
 // Choosing an operation marks what precedes it, overlaps it and follows it, and what has its value.
 const NOTHING = by('say').textContent;
-const OF_DRAWN = ticketTexts.some(piece => piece.textContent.startsWith('...')) ? ', of what is drawn' : '';
+const OF_DRAWN = run.length ? '' : ', of what is drawn';
+let chosen = null;
 
-const howTo = (chosen, bar) => {
-  if (bar === chosen) return 'one';
-  if (bar.ret < chosen.call) return 'before';
-  return chosen.ret < bar.call ? 'after' : 'beside';
+const howTo = (one, bar) => {
+  if (bar === one) return 'one';
+  if (bar.ret < one.call) return 'before';
+  return one.ret < bar.call ? 'after' : 'beside';
 };
 
-const choose = chosen => {
+const choose = one => {
+  chosen = one;
   const count = {one: 0, before: 0, beside: 0, after: 0};
-  const same = bars.filter(bar => bar !== chosen && bar.value && bar.value === chosen.value);
-  for (const bar of bars) {
-    bar.g.dataset.how = howTo(chosen, bar);
+  const same = all.filter(bar => bar !== one && bar.value && bar.value === one.value);
+  for (const bar of all) {
+    const how = howTo(one, bar);
+    count[how]++;
+    if (!bar.g) continue;
+    bar.g.dataset.how = how;
     bar.g.toggleAttribute('data-same', same.includes(bar));
-    count[bar.g.dataset.how]++;
   }
   const counts = count.before + ' precede it, ' + count.beside + ' overlap it, ' + count.after + ' follow it';
-  const value = same.length ? ' Of the same value: ' + same.map(bar => bar.told).join('; ') + '.' : '';
-  by('say').textContent = chosen.told + ': ' + counts + OF_DRAWN + '.' + value;
+  const others = same.map(bar => bar.told + (bars.includes(bar) ? '' : ' (left out)'));
+  const value = others.length ? ' Of the same value: ' + others.join('; ') + '.' : '';
+  by('say').textContent = one.told + ': ' + counts + OF_DRAWN + '.' + value;
 };
 
 const chooseNone = () => {
-  for (const bar of bars) {
-    delete bar.g.dataset.how;
-    bar.g.removeAttribute('data-same');
+  chosen = null;
+  for (const {g} of all) {
+    if (!g) continue;
+    delete g.dataset.how;
+    g.removeAttribute('data-same');
   }
   by('say').textContent = NOTHING;
 };
 
-// A bar is a button, for the mouse and for keys.
-const makeButton = bar => {
-  bar.g.setAttribute('tabindex', '0');
-  bar.g.setAttribute('role', 'button');
-  bar.g.setAttribute('aria-label', bar.told);
-  bar.g.addEventListener('click', () => choose(bar));
-  bar.g.addEventListener('keydown', event => {
+// Makes something a button, for the mouse and for keys.
+const asButton = (it, press) => {
+  it.setAttribute('tabindex', '0');
+  it.setAttribute('role', 'button');
+  it.addEventListener('click', press);
+  it.addEventListener('keydown', event => {
     if (event.key !== 'Enter' && event.key !== ' ') return;
     event.preventDefault();
-    choose(bar);
+    press();
   });
+};
+const makeButton = bar => {
+  bar.g.setAttribute('aria-label', bar.told);
+  asButton(bar.g, () => choose(bar));
 };
 bars.forEach(makeButton);
 document.addEventListener('keydown', event => event.key === 'Escape' && chooseNone());

@@ -26,7 +26,7 @@ const read = title => {
   return {number, call: +call, ret: ret ? +ret : Infinity, thread, kind, value};
 };
 
-// Returns the sentence for a bar, with its value as `write` writes it.
+// Returns the sentence for an operation, with its value as `write` writes it.
 const sentence = (bar, write) => {
   const number = bar.number ? ', number ' + bar.number : '';
   const value = bar.value && write(bar.value);
@@ -45,6 +45,20 @@ const bars = [...svg.querySelectorAll('g')].map(g => {
   title.textContent = sentence(bar, withNumber);
   return {...bar, told: sentence(bar, nameOf)};
 });
+
+// The operations of the history that the picture leaves out, each a line of `run`: its tickets, its thread,
+// what it did, its value, and `pending` if a completion gave its return. A history that is too long has none.
+const lines = by('run').textContent.trim().split(LINE_FEED).filter(line => line);
+const run = lines.map(line => {
+  const [call, end, thread, kind, ...rest] = line.split(' ');
+  const pending = rest[rest.length - 1] === 'pending';
+  const value = kind === 'empty' ? '' : rest[0];
+  return {call: +call, end: +end, ret: pending ? Infinity : +end, thread, kind, value, number: 0};
+});
+const calls = new Set(bars.map(bar => bar.call));
+const leftOut = run.filter(operation => !calls.has(operation.call));
+for (const operation of leftOut) operation.told = sentence(operation, nameOf);
+const all = [...bars, ...leftOut];
 
 // Those of the verdict, in its order.
 const numbered = bars.filter(bar => bar.number).sort((a, b) => a.number - b.number);

@@ -2,34 +2,39 @@
 const LEAST = 0.1, MOST = 4;
 let zoom = 1, fits = false;
 
+const setZoom = (next, isFit) => {
+  zoom = next;
+  fits = isFit;
+  stage.style.width = size.wide * zoom + 'px';
+  by('actual').textContent = Math.round(100 * zoom) + '%';
+  by('fit').setAttribute('aria-pressed', fits);
+};
+
 // Zooms about the middle of what is in sight.
 const zoomTo = (wanted, isFit = false) => {
   const next = Math.min(Math.max(wanted, LEAST), MOST), ratio = next / zoom;
   const middle = {x: main.clientWidth / 2, y: main.clientHeight / 2 - stage.offsetTop};
   const x = (main.scrollLeft + middle.x) * ratio - middle.x;
   const y = (main.scrollTop + middle.y) * ratio - middle.y;
-  zoom = next;
-  fits = isFit;
-  stage.style.width = width * zoom + 'px';
-  by('actual').textContent = Math.round(100 * zoom) + '%';
-  by('fit').setAttribute('aria-pressed', fits);
+  setZoom(next, isFit);
   main.scrollTo(x, y);
   keepLabels();
 };
-
 const ZOOMS = {
   smaller: () => zoomTo(zoom / 1.25),
   actual: () => zoomTo(1),
   larger: () => zoomTo(zoom * 1.25),
-  fit: () => zoomTo(main.clientWidth / width, true),
+  fit: () => zoomTo(main.clientWidth / size.wide, true),
 };
 const KEYS = {'-': 'smaller', '0': 'actual', '+': 'larger', '=': 'larger', f: 'fit'};
 for (const id of Object.keys(ZOOMS)) by(id).addEventListener('click', ZOOMS[id]);
 document.addEventListener('keydown', event => {
-  if (KEYS[event.key] && !event.ctrlKey && !event.metaKey && !event.altKey) ZOOMS[KEYS[event.key]]();
+  const isOther = event.ctrlKey || event.metaKey || event.altKey || event.target === by('text');
+  if (KEYS[event.key] && !isOther) ZOOMS[KEYS[event.key]]();
 });
 addEventListener('resize', () => fits ? ZOOMS.fit() : keepLabels());
-zoomTo(1);
+setZoom(1, false);
+keepLabels();
 
 // The picture follows a mouse that drags it. A drag is no click.
 let drag = null, dragged = false;

@@ -36,7 +36,8 @@ textarea { width: 100%; box-sizing: border-box; font: 12px monospace }\n\
 #stage > #heads, #stage > #corner { position: sticky; top: 0; align-self: start; z-index: 2 }\n\
 #stage > #tickets, #stage > #corner { position: sticky; left: 0; justify-self: start; z-index: 1 }\n\
 #stage > #corner { z-index: 3 } main.dragged { cursor: grabbing; user-select: none }\n\
-main .off text, main .away text, main .dim { fill: var(--dim) } main g[tabindex] { cursor: pointer }\n\
+main .off text, main .away text, main .dim { fill: var(--dim) } main [tabindex] { cursor: pointer }\n\
+main .fold { text-decoration: underline } main g[tabindex] rect:not(.pill) { pointer-events: all }\n\
 main g[data-how] text:not(.pick) { fill: var(--ink) } main g[data-how=one] rect:not(.pill) { stroke-width: 5 }\n\
 main g[data-how=before] rect:not(.pill) { fill: var(--before); stroke: var(--before-edge) }\n\
 main g[data-how=beside] rect:not(.pill) { fill: var(--beside); stroke: var(--beside-edge) }\n\
@@ -63,6 +64,11 @@ main g[data-same] rect:not(.pill) { stroke: var(--same-edge); stroke-width: 4; s
 <p id='say' aria-live='polite'>Choose an operation to see what precedes it.</p>\n\
 <p id='marks'><span class='before'>precedes it</span> <span class='beside'>overlaps it</span>\n\
 <span class='after'>follows it</span> <span class='same'>has its value</span></p>\n\
+<div id='folds' hidden>\n\
+<p id='open'>A row like ... 250 events ... unfolds by a click, 100 at each of its ends.\n\
+<button id='unfold' title='of each row 1,000 at each end'>unfold</button> <button id='fold'>fold</button></p>\n\
+<p id='closed'>The history is too long for its page to unfold what is left out.</p>\n\
+</div>\n\
 <p>The numbered operations:</p>\n\
 <ol id='lines'></ol>\n\
 <p id='names' hidden></p>\n\
@@ -80,9 +86,14 @@ main g[data-same] rect:not(.pill) { stroke: var(--same-edge); stroke-width: 4; s
 <main tabindex='0' aria-label='the picture'>\n\
 ";
 
-/// The page after the picture.
-pub(crate) const PAGE_FOOT: &[u8] = b"</main>\n\
+/// The page between the picture and the lines of the history's operations.
+pub(crate) const PAGE_MIDDLE: &[u8] = b"</main>\n\
 </div>\n\
+<script type='text/plain' id='run'>\n\
+";
+
+/// The page after these lines.
+pub(crate) const PAGE_FOOT: &[u8] = b"</script>\n\
 <script>\n\
 (() => {\n\
 const by = id => document.getElementById(id); const main = document.querySelector('main');\n\
@@ -105,66 +116,80 @@ return what + ', tickets ' + bar.call + ' to ' + bar.ret + number; };\n\
 const bars = [...svg.querySelectorAll('g')].map(g => { const title = g.querySelector('title');\n\
 const bar = {g, ...read(title.textContent)}; title.textContent = sentence(bar, withNumber);\n\
 return {...bar, told: sentence(bar, nameOf)}; });\n\
+const lines = by('run').textContent.trim().split(LINE_FEED).filter(line => line);\n\
+const run = lines.map(line => { const [call, end, thread, kind, ...rest] = line.split(' ');\n\
+const pending = rest[rest.length - 1] === 'pending'; const value = kind === 'empty' ? '' : rest[0];\n\
+return {call: +call, end: +end, ret: pending ? Infinity : +end, thread, kind, value, number: 0}; });\n\
+const calls = new Set(bars.map(bar => bar.call));\n\
+const leftOut = run.filter(operation => !calls.has(operation.call));\n\
+for (const operation of leftOut) operation.told = sentence(operation, nameOf);\n\
+const all = [...bars, ...leftOut];\n\
 const numbered = bars.filter(bar => bar.number).sort((a, b) => a.number - b.number);\n\
 const headline = svg.querySelector('title').textContent; const isYes = headline.startsWith('YES');\n\
 const ROW = 20; const at = (element, name) => +element.getAttribute(name); const pieces = [...svg.children];\n\
-const rowsBox = svg.querySelector('rect.rows');\n\
+const page = svg.querySelector('rect.page'), rowsBox = svg.querySelector('rect.rows');\n\
 const ticketWord = pieces.find(piece => piece.textContent === 'ticket');\n\
-const width = at(svg, 'width'), height = at(svg, 'height'), rowsTop = at(rowsBox, 'y');\n\
-const namesY = at(ticketWord, 'y'), ticketsWide = at(ticketWord, 'x') + 48;\n\
+const size = {wide: at(svg, 'width'), high: at(svg, 'height')};\n\
+const rowsTop = at(rowsBox, 'y'), namesY = at(ticketWord, 'y'), ticketsWide = at(ticketWord, 'x') + 48;\n\
 const crop = (picture, x, y, wide, high) => picture.setAttribute('viewBox', [x, y, wide, high].join(' '));\n\
-for (const size of ['width', 'height']) svg.removeAttribute(size); svg.setAttribute('role', 'group');\n\
-const part = (id, [x, y, wide, high], moved) => { const it = svg.cloneNode(false); it.id = id;\n\
-it.append(...moved); crop(it, x, y, wide, high); return it; };\n\
+for (const name of ['width', 'height']) svg.removeAttribute(name); svg.setAttribute('role', 'group');\n\
+const part = (id, moved) => { const it = svg.cloneNode(false); it.id = id; it.append(...moved); return it; };\n\
 const [head, ...words] = pieces.slice(pieces.indexOf(rowsBox) + 1, pieces.indexOf(ticketWord));\n\
 const caption = words.filter(piece => piece.matches('.say'));\n\
 const signs = words.filter(piece => !piece.matches('.say')); const signsTop = at(signs[0], 'y') - 6;\n\
-by('headline').textContent = head.textContent;\n\
+document.title = by('headline').textContent = head.textContent;\n\
 by('caption').textContent = caption.map(piece => piece.textContent).join(LINE_FEED);\n\
-for (const piece of [head, ...caption]) piece.remove();\n\
-const isText = piece => piece.matches('text') && piece !== ticketWord;\n\
+for (const piece of [head, ...caption]) piece.remove(); const element = (name, attributes, words = '') => {\n\
+const it = document.createElementNS(svg.namespaceURI, name);\n\
+for (const key of Object.keys(attributes)) it.setAttribute(key, attributes[key]); it.textContent = words;\n\
+return it; }; const isText = piece => piece.matches('text') && piece !== ticketWord;\n\
 const bandHeads = pieces.filter(piece => piece.matches('text.name') && at(piece, 'y') < namesY);\n\
+for (const head of bandHeads) {\n\
+const next = pieces.slice(pieces.indexOf(head) + 1).find(piece => piece.matches('text, g, rect'));\n\
+if (next.matches('rect')) next.append(element('title', {}, head.textContent)); }\n\
 const headsTop = namesY - 12 - ROW * bandHeads.length;\n\
-const stuckTop = bandHeads.length > 3 ? namesY - 12 : headsTop;\n\
+const stuckTop = bandHeads.length > 3 ? namesY - 12 : headsTop, stuckHigh = rowsTop - 4 - stuckTop;\n\
 const stuck = pieces.filter(piece => isText(piece) && stuckTop <= at(piece, 'y') && at(piece, 'y') <= namesY);\n\
 const leads = pieces.filter(piece => piece.matches('.lead')).map(piece => piece.cloneNode(false));\n\
 const ticketTexts = pieces.filter(piece => piece.matches('text.dim') && at(piece, 'y') > rowsTop\n\
 && at(piece, 'x') < ticketsWide - 6); const stage = document.createElement('div');\n\
-const high = height - headsTop, stuckHigh = rowsTop - 4 - stuckTop;\n\
-const legend = part('legend', [0, signsTop, 600, headsTop - signsTop], signs);\n\
-const heads = part('heads', [0, stuckTop, width, stuckHigh], [...leads, ...stuck]);\n\
-const corner = part('corner', [0, stuckTop, ticketsWide, stuckHigh], [ticketWord]);\n\
-const tickets = part('tickets', [0, headsTop, ticketsWide, high], [rowsBox.cloneNode(false), ...ticketTexts]);\n\
-crop(svg, 0, headsTop, width, high); stage.id = 'stage'; stage.append(svg, tickets, heads, corner);\n\
-main.append(legend, stage);\n\
-for (const narrow of [tickets, corner]) narrow.style.width = 100 * ticketsWide / width + '%';\n\
-for (const low of [heads, corner]) low.style.marginTop = 100 * (stuckTop - headsTop) / width + '%';\n\
-document.querySelector('header').hidden = document.querySelector('aside').hidden = false;\n\
-const labels = bars.filter(bar => bar.kind !== 'init').map(({g}) => {\n\
-const frame = g.querySelector('rect'), open = g.querySelector('svg');\n\
-const moved = [...g.children].filter(piece => piece.matches('text, .pill'));\n\
-const end = open ? at(open, 'height') : at(frame, 'y') + at(frame, 'height');\n\
-return {moved, base: at(moved[0], 'y'), end}; }); const keepLabels = () => {\n\
-const box = svg.getBoundingClientRect();\n\
-const seen = headsTop + (heads.getBoundingClientRect().bottom - box.top) * width / box.width;\n\
-for (const {moved, base, end} of labels) { const down = Math.max(0, Math.min(seen + 16, end - 6) - base);\n\
+const ticketRows = rowsBox.cloneNode(false); const legend = part('legend', signs);\n\
+const heads = part('heads', [...leads, ...stuck]); const corner = part('corner', [ticketWord]);\n\
+const tickets = part('tickets', [ticketRows, ...ticketTexts]);\n\
+crop(legend, 0, signsTop, 600, headsTop - signsTop); crop(corner, 0, stuckTop, ticketsWide, stuckHigh);\n\
+stage.id = 'stage'; stage.append(svg, tickets, heads, corner); main.append(legend, stage);\n\
+document.querySelector('header').hidden = document.querySelector('aside').hidden = false; const resize = () => {\n\
+const high = size.high - headsTop; crop(svg, 0, headsTop, size.wide, high);\n\
+crop(tickets, 0, headsTop, ticketsWide, high); crop(heads, 0, stuckTop, size.wide, stuckHigh);\n\
+for (const narrow of [tickets, corner]) narrow.style.width = 100 * ticketsWide / size.wide + '%';\n\
+for (const low of [heads, corner]) low.style.marginTop = 100 * (stuckTop - headsTop) / size.wide + '%'; };\n\
+resize(); const measure = bar => { const frame = bar.g.querySelector('rect'), open = bar.g.querySelector('svg');\n\
+bar.end = open ? at(open, 'height') : at(frame, 'y') + at(frame, 'height');\n\
+bar.moved = [...bar.g.children].filter(piece => piece.matches('text, .pill')); bar.base = at(bar.moved[0], 'y');\n\
+}; const keepLabels = () => { const box = svg.getBoundingClientRect();\n\
+const seen = headsTop + (heads.getBoundingClientRect().bottom - box.top) * size.wide / box.width;\n\
+for (const {kind, moved, base, end} of bars) { if (kind === 'init') continue;\n\
+const down = Math.max(0, Math.min(seen + 16, end - 6) - base);\n\
 for (const piece of moved) piece.style.transform = down ? 'translateY(' + down + 'px)' : ''; } };\n\
-main.addEventListener('scroll', () => requestAnimationFrame(keepLabels)); const showBar = bar => {\n\
-bar.g.scrollIntoView({block: 'center', inline: 'center'}); bar.g.focus({preventScroll: true}); };\n\
-const LEAST = 0.1, MOST = 4; let zoom = 1, fits = false; const zoomTo = (wanted, isFit = false) => {\n\
+bars.forEach(measure); main.addEventListener('scroll', () => requestAnimationFrame(keepLabels));\n\
+const showBar = bar => { bar.g.scrollIntoView({block: 'center', inline: 'center'});\n\
+bar.g.focus({preventScroll: true}); };\n\
+const LEAST = 0.1, MOST = 4; let zoom = 1, fits = false; const setZoom = (next, isFit) => { zoom = next;\n\
+fits = isFit; stage.style.width = size.wide * zoom + 'px';\n\
+by('actual').textContent = Math.round(100 * zoom) + '%'; by('fit').setAttribute('aria-pressed', fits); };\n\
+const zoomTo = (wanted, isFit = false) => {\n\
 const next = Math.min(Math.max(wanted, LEAST), MOST), ratio = next / zoom;\n\
 const middle = {x: main.clientWidth / 2, y: main.clientHeight / 2 - stage.offsetTop};\n\
 const x = (main.scrollLeft + middle.x) * ratio - middle.x;\n\
-const y = (main.scrollTop + middle.y) * ratio - middle.y; zoom = next; fits = isFit;\n\
-stage.style.width = width * zoom + 'px'; by('actual').textContent = Math.round(100 * zoom) + '%';\n\
-by('fit').setAttribute('aria-pressed', fits); main.scrollTo(x, y); keepLabels(); }; const ZOOMS = {\n\
-smaller: () => zoomTo(zoom / 1.25), actual: () => zoomTo(1), larger: () => zoomTo(zoom * 1.25),\n\
-fit: () => zoomTo(main.clientWidth / width, true), };\n\
+const y = (main.scrollTop + middle.y) * ratio - middle.y; setZoom(next, isFit); main.scrollTo(x, y);\n\
+keepLabels(); }; const ZOOMS = { smaller: () => zoomTo(zoom / 1.25), actual: () => zoomTo(1),\n\
+larger: () => zoomTo(zoom * 1.25), fit: () => zoomTo(main.clientWidth / size.wide, true), };\n\
 const KEYS = {'-': 'smaller', '0': 'actual', '+': 'larger', '=': 'larger', f: 'fit'};\n\
 for (const id of Object.keys(ZOOMS)) by(id).addEventListener('click', ZOOMS[id]);\n\
 document.addEventListener('keydown', event => {\n\
-if (KEYS[event.key] && !event.ctrlKey && !event.metaKey && !event.altKey) ZOOMS[KEYS[event.key]](); });\n\
-addEventListener('resize', () => fits ? ZOOMS.fit() : keepLabels()); zoomTo(1);\n\
+const isOther = event.ctrlKey || event.metaKey || event.altKey || event.target === by('text');\n\
+if (KEYS[event.key] && !isOther) ZOOMS[KEYS[event.key]](); });\n\
+addEventListener('resize', () => fits ? ZOOMS.fit() : keepLabels()); setZoom(1, false); keepLabels();\n\
 let drag = null, dragged = false; main.addEventListener('pointerdown', event => { dragged = false;\n\
 if (event.pointerType !== 'mouse' || event.button !== 0 || event.target === main) return;\n\
 drag = {x: event.clientX, y: event.clientY, left: main.scrollLeft, top: main.scrollTop}; });\n\
@@ -173,23 +198,24 @@ const x = event.clientX - drag.x, y = event.clientY - drag.y; dragged ||= Math.h
 main.classList.toggle('dragged', dragged); if (dragged) main.scrollTo(drag.left - x, drag.top - y); });\n\
 addEventListener('pointerup', () => { main.classList.remove('dragged'); drag = null; });\n\
 main.addEventListener('click', event => dragged && event.stopPropagation(), true);\n\
-const NOTHING = by('say').textContent;\n\
-const OF_DRAWN = ticketTexts.some(piece => piece.textContent.startsWith('...')) ? ', of what is drawn' : '';\n\
-const howTo = (chosen, bar) => { if (bar === chosen) return 'one'; if (bar.ret < chosen.call) return 'before';\n\
-return chosen.ret < bar.call ? 'after' : 'beside'; }; const choose = chosen => {\n\
-const count = {one: 0, before: 0, beside: 0, after: 0};\n\
-const same = bars.filter(bar => bar !== chosen && bar.value && bar.value === chosen.value);\n\
-for (const bar of bars) { bar.g.dataset.how = howTo(chosen, bar);\n\
-bar.g.toggleAttribute('data-same', same.includes(bar)); count[bar.g.dataset.how]++; }\n\
+const NOTHING = by('say').textContent; const OF_DRAWN = run.length ? '' : ', of what is drawn';\n\
+let chosen = null; const howTo = (one, bar) => { if (bar === one) return 'one';\n\
+if (bar.ret < one.call) return 'before'; return one.ret < bar.call ? 'after' : 'beside'; };\n\
+const choose = one => { chosen = one; const count = {one: 0, before: 0, beside: 0, after: 0};\n\
+const same = all.filter(bar => bar !== one && bar.value && bar.value === one.value); for (const bar of all) {\n\
+const how = howTo(one, bar); count[how]++; if (!bar.g) continue; bar.g.dataset.how = how;\n\
+bar.g.toggleAttribute('data-same', same.includes(bar)); }\n\
 const counts = count.before + ' precede it, ' + count.beside + ' overlap it, ' + count.after + ' follow it';\n\
-const value = same.length ? ' Of the same value: ' + same.map(bar => bar.told).join('; ') + '.' : '';\n\
-by('say').textContent = chosen.told + ': ' + counts + OF_DRAWN + '.' + value; }; const chooseNone = () => {\n\
-for (const bar of bars) { delete bar.g.dataset.how; bar.g.removeAttribute('data-same'); }\n\
-by('say').textContent = NOTHING; }; const makeButton = bar => { bar.g.setAttribute('tabindex', '0');\n\
-bar.g.setAttribute('role', 'button'); bar.g.setAttribute('aria-label', bar.told);\n\
-bar.g.addEventListener('click', () => choose(bar)); bar.g.addEventListener('keydown', event => {\n\
-if (event.key !== 'Enter' && event.key !== ' ') return; event.preventDefault(); choose(bar); }); };\n\
-bars.forEach(makeButton); document.addEventListener('keydown', event => event.key === 'Escape' && chooseNone());\n\
+const others = same.map(bar => bar.told + (bars.includes(bar) ? '' : ' (left out)'));\n\
+const value = others.length ? ' Of the same value: ' + others.join('; ') + '.' : '';\n\
+by('say').textContent = one.told + ': ' + counts + OF_DRAWN + '.' + value; }; const chooseNone = () => {\n\
+chosen = null; for (const {g} of all) { if (!g) continue; delete g.dataset.how; g.removeAttribute('data-same');\n\
+} by('say').textContent = NOTHING; }; const asButton = (it, press) => { it.setAttribute('tabindex', '0');\n\
+it.setAttribute('role', 'button'); it.addEventListener('click', press);\n\
+it.addEventListener('keydown', event => { if (event.key !== 'Enter' && event.key !== ' ') return;\n\
+event.preventDefault(); press(); }); }; const makeButton = bar => { bar.g.setAttribute('aria-label', bar.told);\n\
+asButton(bar.g, () => choose(bar)); }; bars.forEach(makeButton);\n\
+document.addEventListener('keydown', event => event.key === 'Escape' && chooseNone());\n\
 for (const bar of numbered) {\n\
 const line = document.createElement('li'), button = document.createElement('button');\n\
 button.textContent = sentence({...bar, number: 0}, nameOf); button.title = sentence(bar, withNumber);\n\
@@ -201,6 +227,88 @@ const what = thread === 'init' ? 'initial value ' + number : 'value ' + number +
 const sum = (thread === 'init' ? 64 : thread) + ' * 2^32 + ' + number + ' = ' + named.value;\n\
 by('names').textContent = thread + ':' + number + ' is ' + what + ' (' + sum + '). Tooltips have both.';\n\
 by('names').hidden = false; }\n\
+const STEP = 100, MANY = 1000; const endText = ticketTexts.find(text => text.textContent === 'end');\n\
+const rowCount = (at(endText, 'y') + 6 - rowsTop) / ROW - 1, rowsEnd = rowsTop + ROW * (rowCount + 1);\n\
+const columns = (ticketsWide - 12) / 7; const drawn = [...bars], shape = {...size};\n\
+const barWide = at(svg.querySelector('g rect'), 'width'), laneWide = barWide + 6;\n\
+const events = run.flatMap(of => [{ticket: of.call, of, end: 'call'}, {ticket: of.end, of, end: 'return'}]);\n\
+events.sort((a, b) => a.ticket - b.ticket); const rows = Array.from({length: rowCount}, () => ({}));\n\
+for (const text of ticketTexts) {\n\
+if (text !== endText) rows[Math.floor((at(text, 'y') - rowsTop) / ROW)].text = text; } let nextEvent = 0;\n\
+for (const row of rows) { const words = row.text ? row.text.textContent : '';\n\
+const [, count] = /^[.]{3} ([0-9]+) events? [.]{3}$/.exec(words) || [];\n\
+if (count) Object.assign(row, {count: +count, shown: 0, events: events.slice(nextEvent, nextEvent + +count)});\n\
+nextEvent += /^([0-9]+|pending)$/.test(words) ? 1 : +(count || 0); }\n\
+const folds = rows.filter(row => row.events); const placeRows = () => { let place = 0;\n\
+for (const operation of leftOut) operation.places = {}; for (const row of rows) { row.first = place;\n\
+row.hidden = 0; if (!row.events) place++; for (const [i, event] of (row.events || []).entries()) {\n\
+event.isShown = i < row.shown || row.count - row.shown <= i; if (event.isShown || !row.hidden++) place++;\n\
+event.place = place - 1; if (!event.isShown) row.folded = event.place; event.of.places[event.end] = event; } }\n\
+return place; }; const topOf = place => rowsTop + ROW * place; const heights = piece => {\n\
+const from = ['y', 'y1', 'y2'].filter(name => piece.hasAttribute(name)).map(name => [name, at(piece, name)]);\n\
+const isBox = piece.matches('rect, svg');\n\
+return {piece, from, end: isBox ? at(piece, 'y') + at(piece, 'height') : null, top: at(piece, 'y')}; };\n\
+const inPicture = pieces.filter(piece => svg.contains(piece) && piece.matches('text, line, rect'));\n\
+const inBars = svg.querySelectorAll('g text, g rect, g svg');\n\
+const movable = [...inPicture, ...inBars, ticketRows, ...ticketTexts].map(heights);\n\
+const movePieces = places => { const moved = y => {\n\
+const i = Math.min(Math.floor((y - rowsTop) / ROW), rowCount);\n\
+return i < 0 ? y : y + ROW * ((i < rowCount ? rows[i].first : places) - i); };\n\
+for (const {piece, from, end, top} of movable) {\n\
+for (const [name, y] of from) piece.setAttribute(name, moved(y));\n\
+if (end !== null) piece.setAttribute('height', moved(end) - moved(top)); } size.high = moved(shape.high);\n\
+return moved(rowsEnd); };\n\
+const names = [...svg.children, ...heads.children].filter(it => /^thread [0-9]+$/.test(it.textContent));\n\
+const threadOf = name => name.textContent.slice(7);\n\
+const laneOf = new Map(names.map(name => [threadOf(name), at(name, 'x') - 3]));\n\
+const left = Math.min(...laneOf.values()); const placeLanes = opened => {\n\
+const threads = [...new Set([...laneOf.keys(), ...opened.map(operation => operation.thread)])];\n\
+threads.sort((a, b) => a - b); const laneX = thread => left + laneWide * threads.indexOf(thread);\n\
+for (const name of names) name.setAttribute('x', laneX(threadOf(name)) + 3); for (const {g, thread} of drawn) {\n\
+if (thread) g.setAttribute('transform', 'translate(' + (laneX(thread) - laneOf.get(thread)) + ' 0)'); }\n\
+for (const thread of threads.filter(it => !laneOf.has(it))) {\n\
+for (const name of names.filter(it => threadOf(it) === threadOf(names[0]))) {\n\
+const words = 'thread ' + thread, y = at(name, 'y');\n\
+const made = {x: laneX(thread) + 3, y, textLength: 7 * words.length, class: 'name made'};\n\
+name.parentNode.append(element('text', made, words)); } }\n\
+size.wide = Math.max(shape.wide, left + laneWide * threads.length + 18); return laneX; };\n\
+const makeBar = operation => { const {kind, value} = operation, words = kind + (value && ' ' + nameOf(value));\n\
+const round = kind === 'deq' || kind === 'empty' ? 9 : 0;\n\
+const length = {textLength: Math.min(7 * words.length, barWide - 12), lengthAdjust: 'spacingAndGlyphs'};\n\
+operation.g = element('g', {class: 'away'});\n\
+operation.g.append(element('title', {}, sentence(operation, withNumber)));\n\
+operation.g.append(element('rect', {class: kind, rx: round, width: barWide}));\n\
+operation.g.append(element('text', {class: 'label', ...length}, words)); makeButton(operation); };\n\
+const placeBar = (operation, x, end) => { const {call, return: ret} = operation.places;\n\
+const y = topOf(call.place) + (call.isShown ? 3 : 12);\n\
+const low = operation.ret === Infinity ? end : topOf(ret.place) + (ret.isShown ? 17 : 8);\n\
+const [, box, label] = operation.g.children;\n\
+for (const [name, value] of [['x', x + 3], ['y', y], ['height', low - y]]) box.setAttribute(name, value);\n\
+for (const [name, value] of [['x', x + 9], ['y', y + 21]]) label.setAttribute(name, value); };\n\
+const inTickets = (text, place, words) => {\n\
+const made = {x: 6 + 7 * (columns - words.length), y: topOf(place) + 14, textLength: 7 * words.length};\n\
+for (const key of Object.keys(made)) text.setAttribute(key, made[key]); text.textContent = words; };\n\
+const placeTickets = () => { for (const {text, hidden, folded, events: its} of folds) {\n\
+text.style.display = hidden ? '' : 'none';\n\
+if (hidden) inTickets(text, folded, '... ' + hidden + (hidden === 1 ? ' event ...' : ' events ...'));\n\
+for (const {isShown, of, end, ticket, place} of its) { if (!isShown) continue;\n\
+const made = element('text', {class: 'dim made'});\n\
+inTickets(made, place, end === 'return' && of.ret === Infinity ? 'pending' : String(ticket));\n\
+tickets.append(made); } } }; const arrange = () => { const end = movePieces(placeRows());\n\
+const opened = leftOut.filter(({places}) => Object.values(places).some(event => event.isShown));\n\
+for (const made of document.querySelectorAll('.made')) made.remove();\n\
+for (const {g} of bars.splice(drawn.length)) g.remove(); const laneX = placeLanes(opened);\n\
+for (const operation of opened) { if (!operation.g) makeBar(operation);\n\
+placeBar(operation, laneX(operation.thread), end); bars.push(operation); }\n\
+svg.append(...opened.map(operation => operation.g)); placeTickets();\n\
+for (const box of [page, rowsBox, ticketRows]) box.setAttribute('width', size.wide); bars.forEach(measure);\n\
+resize(); setZoom(fits ? main.clientWidth / size.wide : zoom, fits); keepLabels(); if (chosen) choose(chosen);\n\
+}; const show = count => { for (const row of folds) row.shown = count(row); arrange(); };\n\
+by('folds').hidden = !folds.length; by('open').hidden = !run.length; by('closed').hidden = run.length > 0;\n\
+for (const row of run.length ? folds : []) { row.text.classList.add('fold');\n\
+asButton(row.text, () => show(it => it === row ? row.shown + STEP : it.shown)); }\n\
+by('unfold').addEventListener('click', () => show(row => row.shown + MANY));\n\
+by('fold').addEventListener('click', () => show(() => 0));\n\
 const KINDS = {'not there': 'VFresh', 'twice': 'VRepeat', 'of their enqueues': 'VOrd', 'never empty': 'VWit'};\n\
 const lineOf = bar => bar.kind === 'init' ? 'init ' + bar.value\n\
 : [bar.call, bar.ret, bar.thread, bar.kind, bar.value].join(' ').trim(); const verdict = () => {\n\

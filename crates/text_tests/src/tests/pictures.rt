@@ -190,7 +190,8 @@ fn documents_of(
     let (history, claimed) = read(alloc, text)?;
     let drawn = drawn_operations(alloc, &history, &claimed, Some(0))?;
     let scene = scene_of(alloc, &history, &claimed, drawn, added_from)?;
-    Ok((svg_picture(alloc, &scene)?, html_picture(alloc, &scene)?))
+    let picture = svg_picture(alloc, &scene)?;
+    Ok((picture, html_picture(alloc, &history, &scene)?))
 }
 
 #[test]
@@ -223,5 +224,16 @@ fn leaves_out_the_lower_edge_of_a_bar_that_never_returned(rt: HostRuntime) -> Re
         let text = String::from_utf8(text)?;
         assert!(rt; text.contains(bars.as_str()));
     }
+    Ok(())
+}
+
+/// The dequeue that never returned has a word after its line.
+const OPEN_LINES: &str = "\n0 2 0 enq 7\n1 3 1 deq 7 pending\n</script>\n";
+
+#[test]
+fn lists_the_operations_in_a_page(rt: HostRuntime) -> Result<(), Fail> {
+    let (_picture, page) = documents_of(rt.alloc(), OPEN_DEQUEUE, Some(3))?;
+    let page = String::from_utf8(page)?;
+    assert!(rt; page.contains(OPEN_LINES));
     Ok(())
 }

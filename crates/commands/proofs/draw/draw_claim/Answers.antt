@@ -8,7 +8,6 @@ returns-in_err-drawn-clause-found c = λ version.
 pub returns-then-not-branch-clause-found : goal.returns-then-not-branch-clause-found
 returns-then-not-branch-clause-found c = λ version.
     let small : IsSmall c.args.options (claim_on (said_in version c.args.history.now) c.args.claimed.now) = record {
-      few_values = c.requires.few_values;
       few_lines = c.in_ok-drawn.ensures.few_lines;
       few_operations = omega (arith, ap length c.in_ok-drawn.ensures.drawn, c.in_ok-drawn.ensures.few);
     } in

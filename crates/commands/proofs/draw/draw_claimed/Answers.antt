@@ -8,16 +8,8 @@ pub returns-in_err-history-clause-found : goal.returns-in_err-history-clause-fou
 returns-in_err-history-clause-found c = rw (carries c.from_residual.result _ c.from_residual.ensures.1)
     (faulty_or (said_by (history_in c.args.text.now)) _ c.in_err-history.ensures.fault)
 
-pub returns-in_err-check_few_values-clause-found : goal.returns-in_err-check_few_values-clause-found
-returns-in_err-check_few_values-clause-found c =
-    let large = c.in_err-check_few_values.ensures.large in
-    subst (λ t. AnswersOrNoMemory (DrawsClaim c.args.options) (claim_on t c.args.claimed.now) (answer_of c.from_residual-in_err-check_few_values.result))
-    c.in_ok-history.ensures.history
-    (rw (carries c.from_residual-in_err-check_few_values.result _ c.from_residual-in_err-check_few_values.ensures.1)
-    (inl (inr (c.in_err-check_few_values.ensures.sound, inr ((λ small. large.1 small.few_values), large.0)))))
-
 pub returns-clause-found : goal.returns-clause-found
 returns-clause-found c =
     subst (λ t. AnswersOrNoMemory (DrawsClaim c.args.options) (claim_on t c.args.claimed.now) (answer_of c.draw_claim.result))
     c.in_ok-history.ensures.history
-    (⊎_map (λ sound. inr (c.in_ok-check_few_values.ensures.sound, sound)) (λ memory. memory) (c.draw_claim.ensures.found c.args.text.now.version))
+    (⊎_map (λ sound. inr (c.recall_complete.ensures.sound, sound)) (λ memory. memory) (c.draw_claim.ensures.found c.args.text.now.version))
