@@ -20,9 +20,9 @@
 //! }
 //! ```
 //!
-//! `FIFOBENCH=/path/to/fifobench cargo test` then makes 100 short runs, each over a fresh queue, and judges each. A
-//! loop of your own is recorded by `record`. docs/RECORDING.md has the rules that this module keeps. With
-//! `recorder_crash.rs` beside this file and `--cfg fifobench_crash` a run that crashes or is killed leaves a text too.
+//! `FIFOBENCH=/path/to/fifobench cargo test -- --nocapture` then makes 100 short runs, each over a fresh queue, judges
+//! each, and prints how many operations overlap. A loop of your own is recorded by `record`. docs/RECORDING.md has the
+//! rules that this module keeps. With `recorder_crash.rs` beside this file and `--cfg fifobench_crash` a run that crashes or is killed leaves a text too.
 
 #![allow(dead_code, unexpected_cfgs)] // A test uses a part of it.
 
