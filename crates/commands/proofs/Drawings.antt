@@ -23,10 +23,11 @@ use Rattle.history_text.proofs.OnePending.{has_same, same_text}
 use Rattle.history_text.specs.Pending.{as_pending, HasPendingText}
 use Rattle.history_text.specs.declared.pending_text.PendingText.{PendingText}
 use Rattle.history_text.specs.Versions.{said_in}
-use Rattle.std.proofs.Common.{ap, Bool, false, true}
-use Rattle.history_merge.specs.Initial.{Contents}
+use Rattle.std.proofs.Common.{ap, Bool, false, refl, true}
+use Rattle.conditions.specs.Conditions.{without_empties}
+use Rattle.history_merge.specs.Initial.{Contents, HistoryView}
 use Rattle.verdicts.proofs.NamedPlaces.{part_is_one}
-use Rattle.verdicts.specs.Selection.{ArePartOf}
+use Rattle.verdicts.specs.Selection.{ArePartOf, contents_of}
 
 -- a claim on a complete history is drawn in one way
 one_drawn : (options : DrawOptions) (added : Option ℕ) (claim : ClaimOnText) (a b : Reply) → DrawsSound options added claim a
@@ -91,7 +92,7 @@ one_picture : (options : DrawOptions) (input : Ahead) (read : Drawable) (a b : R
     → Draws options read b → a ≡ b
 one_picture options input (alone text) a b is = one_alone options text text.open_calls a b is.0
 one_picture options input (with_claim claim) a b is = one_of_history (said_by claim.text) a b (λ complete.
-    one_part options.condition.is_weakly_empty claim.text (λ text x. DrawsSound options None (claim_on text claim.claimed) x) a b (few_values claim.text is.0) complete
+    one_part options.condition.is_weakly_empty claim.text (λ text x. DrawsSound options None (claim_on text claim.claimed) x) a b (few_values claim.text is.history) complete
     (λ t few sound. one_drawn options None (claim_on t claim.claimed) a b))
 
 pub draw_has_one : (options : DrawOptions) → HasOneAnswer (draw options)
@@ -126,3 +127,14 @@ pub drawn_as_checked : (options : DrawOptions) → DrawnAsChecked options
 drawn_as_checked options plain =
     let same : plainly options.form options.around ≡ options = λ i. record { form = options.form; around = options.around; condition = sym plain i } in
     subst DrawnAsChecked same (drawn_plainly options.form options.around) plain
+
+-- ---- what is drawn under a condition
+
+-- what is answered of the part that is drawn is answered of the whole
+pub drawn_part : (is_weak : Bool) (text : HistoryText) (part : HistoryView) (OfText : HistoryText → Reply → Type 0) (answer : Reply)
+    → (is_weak ≡ false → part ≡ said_by text) → (is_weak ≡ true → contents_of part ≡ without_empties (contents_of (said_by text)))
+    → (is_weak ≡ true → ArePartOf text.events part.events) → IsSound part → OfText (said_in text.version part) answer → DrawsPart is_weak text OfText answer
+drawn_part false text part OfText answer whole selected events complete answered =
+    subst (λ h. OfText (said_in text.version h) answer) (whole refl) answered
+drawn_part true text part OfText answer whole selected events complete answered =
+    record { part = part; selected = selected refl; events = events refl; complete = complete; answered = answered }

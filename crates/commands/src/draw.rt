@@ -55,8 +55,8 @@ fn draw_claimed(
     ensures places { NamesPlaces result }
 {
     let whole = history_in(alloc, text)?;
+    recall_complete(&whole);
     let history = drawn_part(alloc, whole, options.condition.is_weakly_empty)?;
-    recall_complete(&history);
     draw_claim(alloc, &history, claimed, options)
 }
 
@@ -70,6 +70,7 @@ fn draw_alone(alloc: Global, text: PendingText, options: DrawOptions) -> Outcome
         Some(_) => draw_pending(alloc, text, options),
         None => {
             let whole = history_in(alloc, &text)?;
+            recall_complete(&whole);
             draw_whole(alloc, whole, None, options)
         }
     }
@@ -89,9 +90,9 @@ fn draw_pending(alloc: Global, text: PendingText, options: DrawOptions) -> Outco
 
 /// The history, or without its empty dequeues if these promise nothing.
 fn drawn_part(alloc: Global, whole: History, is_weakly_empty: bool) -> Result<History, AllocError>
-    ensures whole { is_weakly_empty ≡ false → IfOk result (λ part. part ≡ whole.entry) }
-    ensures selected { is_weakly_empty ≡ true → IfOk result (λ part. contents_of part ≡ without_empties (contents_of whole.entry)) }
-    ensures events { is_weakly_empty ≡ true → IfOk result (λ part. ArePartOf whole.entry.events part.events) }
+    ensures whole { is_weakly_empty ≡ false → IfOk result (λ part. part ≡ whole) }
+    ensures selected { is_weakly_empty ≡ true → IfOk result (λ part. contents_of part ≡ without_empties (contents_of whole)) }
+    ensures events { is_weakly_empty ≡ true → IfOk result (λ part. ArePartOf whole.events part.events) }
     ensures complete { IfOk result (λ part. IsSound part) }
 {
     if is_weakly_empty {
@@ -110,7 +111,7 @@ fn draw_whole(
     options: DrawOptions,
 ) -> Outcome
     ensures found { (version : Version) → AnswersOrNoMemory (λ text. DrawsPart options.condition.is_weakly_empty text (DrawsDecided options added_from))
-        (said_in version whole.entry) (answer_of result) }
+        (said_in version whole) (answer_of result) }
     ensures places { NamesPlaces result }
 {
     let history = drawn_part(alloc, whole, options.condition.is_weakly_empty)?;

@@ -1,4 +1,5 @@
-use Rattle.commands.proofs.Common.{ap, arith, carries, claim_on, inl, inr, IsSmall, length, None, refl, said_in}
+use Rattle.commands.proofs.Common.{ap, arith, carries, claim_on, inl, inr, IsSmall, length, None, refl, said_in, subst, sym}
+use Rattle.commands.specs.Judging.{IsEvident}
 use Rattle.commands.proofs.draw.draw_claim.Goals as goal
 
 pub returns-in_err-drawn-clause-found : goal.returns-in_err-drawn-clause-found
@@ -11,4 +12,6 @@ returns-then-not-branch-clause-found c = λ version.
       few_lines = c.in_ok-drawn.ensures.few_lines;
       few_operations = omega (arith, ap length c.in_ok-drawn.ensures.drawn, c.in_ok-drawn.ensures.few);
     } in
-    inl (inl (small, inr (λ evident. let yes = c.in_ok-verify.ensures.exact.1 evident in cc, refl)))
+    let text = said_in version c.args.history.now in
+    inl (inl (small, inr (λ evident.
+    let yes = c.in_ok-verify_under.ensures.exact.1 (subst (λ k. IsEvident k (claim_on text c.args.claimed.now)) (sym c.strict.ensures) evident) in cc, refl)))
