@@ -7,7 +7,7 @@ use conditions::{Emptiness, decide_local, verify_local, verify_weakly_empty};
 use history_merge::Operation;
 use std::alloc::Global;
 use std::test::Fail;
-use verdicts::{ClaimLine, ClaimLines, Claimed, Lines, ViolationKind, claim, verify};
+use verdicts::{ClaimLine, ClaimLines, Claimed, Lines, Verdict, ViolationKind, verify};
 
 /// Returns the operations at these places of the rows.
 fn operations_at(alloc: Global, rows: &[Row], places: &[usize]) -> Result<Vec<Operation>, Fail> {
@@ -106,28 +106,33 @@ fn verifies_under_weaker_conditions(rt: HostRuntime) -> Result<(), Fail> {
     Ok(())
 }
 
-/// Returns the claim of the local verdict on a history.
-fn decided_claim(alloc: Global, initial: &[u64], rows: &[Row]) -> Result<Claimed, Fail> {
+/// Returns the places of a local verdict's linearizations, one after another: none for a `NO`.
+fn joined(alloc: Global, initial: &[u64], rows: &[Row]) -> Result<Vec<usize>, Fail> {
     let history = history_behind(alloc, initial, rows)?;
     let verdict = decide_local(alloc, &history, Emptiness::Strict)?.into_verdict(alloc)?;
-    Ok(claim(alloc, &history, &verdict)?)
+    let mut places = Vec::new(alloc);
+    if let Verdict::Yes(order) = verdict {
+        for id in order.as_slice() {
+            places.push(id.place())?;
+        }
+    }
+    Ok(places)
 }
 
+/// A history, and the places of the linearizations of its local verdict: none for a `NO`.
+static JOINED: [(&[u64], &[Row], &[usize]); 4] = [
+    (&[], OVERTAKING, &[0, 3, 1, 2]),
+    (&[3], INITIAL_LAST, &[2, 3, 0, 1, 3]),
+    (&[], EACH_OVERTAKES, &[]),
+    (&[], NOT_EMPTY, &[]),
+];
+
 #[test]
-fn a_local_verdict_is_evidence(rt: HostRuntime) -> Result<(), Fail> {
+fn joins_the_linearizations_of_a_local_verdict(rt: HostRuntime) -> Result<(), Fail> {
     let alloc = rt.alloc();
-    for (initial, rows) in [
-        (&[] as &[u64], OVERTAKING),
-        (&[], EACH_OVERTAKES),
-        (&[], NOT_EMPTY),
-        (&[3], INITIAL_LAST),
-    ] {
-        let history = history_behind(alloc, initial, rows)?;
-        let claimed = decided_claim(alloc, initial, rows)?;
-        assert!(rt;
-            verify_local(alloc, &history, Emptiness::Strict, &claimed)?,
-            "{claimed:?}"
-        );
+    for (initial, rows, places) in &JOINED {
+        let found = joined(alloc, initial, rows)?;
+        assert!(rt; found.as_slice() == *places, "{rows:?} {found:?}");
     }
     Ok(())
 }

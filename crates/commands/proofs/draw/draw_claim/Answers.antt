@@ -13,5 +13,11 @@ returns-then-not-branch-clause-found c = λ version.
       few_operations = omega (arith, ap length c.in_ok-drawn.ensures.drawn, c.in_ok-drawn.ensures.few);
     } in
     let text = said_in version c.args.history.now in
-    inl (inl (small, inr (λ evident.
-    let yes = c.in_ok-verify_under.ensures.exact.1 (subst (λ k. IsEvident k (claim_on text c.args.claimed.now)) (sym c.strict.ensures) evident) in cc, refl)))
+    inl (inl (
+      small,
+      inr (
+        λ evident.
+            let yes = c.in_ok-verify_under.ensures.exact.1 (subst (λ k. IsEvident k (claim_on text c.args.claimed.now)) (sym c.strict.ensures) evident) in cc,
+        refl,
+      ),
+    ))

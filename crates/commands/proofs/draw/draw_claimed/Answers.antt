@@ -17,7 +17,9 @@ returns-clause-found c =
     let version = c.args.text.now.version in
     subst (λ t. AnswersOrNoMemory (DrawsClaim options) (claim_on t c.args.claimed.now) (answer_of c.draw_claim.result))
     c.in_ok-whole.ensures.history
-    (⊎_map (λ sound. inr (c.recall_complete.ensures.sound,
-    drawn_part options.condition.is_weakly_empty (said_in version c.in_ok-whole.whole) c.in_ok-history.history
-    (λ t a. DrawsSound options None (claim_on t c.args.claimed.now) a) _ part.whole part.selected part.events part.complete sound))
+    (⊎_map (λ sound. inr (
+      c.recall_complete.ensures.sound,
+      drawn_part options.condition.is_weakly_empty (said_in version c.in_ok-whole.whole) c.in_ok-history.history
+          (λ t a. DrawsSound options None (claim_on t c.args.claimed.now) a) _ part.whole part.selected part.events part.complete sound,
+    ))
     (λ memory. memory) (c.draw_claim.ensures.found version))
