@@ -94,30 +94,32 @@ const placeLanes = opened => {
   return laneX;
 };
 
-// A bar that the picture leaves out. If its call or its return isn't shown, it begins or ends in that fold.
+// A bar that the picture leaves out. If its call or its return isn't shown, it begins or ends in that fold. If
+// it is pending, a window cuts off its lower edge, as in the picture.
 const makeBar = operation => {
-  const {kind, value} = operation, words = kind + (value && ' ' + nameOf(value));
+  const {kind, value, ret} = operation, words = kind + (value && ' ' + nameOf(value));
   const round = kind === 'deq' || kind === 'empty' ? 9 : 0;
   const length = {textLength: Math.min(7 * words.length, barWide - 12), lengthAdjust: 'spacingAndGlyphs'};
+  const box = element('rect', {class: kind, rx: round, width: barWide});
+  const edges = ret === Infinity ? element('svg', {}) : box;
+  if (edges !== box) edges.append(box);
   operation.g = element('g', {class: 'away'});
-  operation.g.append(element('title', {}, sentence(operation, withNumber)));
-  operation.g.append(element('rect', {class: kind, rx: round, width: barWide}));
+  operation.g.append(element('title', {}, sentence(operation, withNumber)), edges);
   operation.g.append(element('text', {class: 'label', ...length}, words));
   makeButton(operation);
 };
-const placeBar = (operation, x, end) => {
-  const {call, return: ret} = operation.places;
+const placeBar = ({g, ret, places}, x, end) => {
+  const {call, return: back} = places, open = g.querySelector('svg');
   const y = topOf(call.place) + (call.isShown ? 3 : 12);
-  const low = operation.ret === Infinity ? end : topOf(ret.place) + (ret.isShown ? 17 : 8);
-  const [, box, label] = operation.g.children;
-  for (const [name, value] of [['x', x + 3], ['y', y], ['height', low - y]]) box.setAttribute(name, value);
-  for (const [name, value] of [['x', x + 9], ['y', y + 21]]) label.setAttribute(name, value);
+  const low = ret === Infinity ? end : topOf(back.place) + (back.isShown ? 17 : 8);
+  if (open) put(open, {width: x + laneWide + 3, height: low});
+  put(g.querySelector('rect'), {x: x + 3, y, height: low - y + (open ? 20 : 0)});
+  put(g.querySelector('text'), {x: x + 9, y: y + 21});
 };
 
 // The words of a row in the column of tickets.
 const inTickets = (text, place, words) => {
-  const made = {x: 6 + 7 * (columns - words.length), y: topOf(place) + 14, textLength: 7 * words.length};
-  for (const key of Object.keys(made)) text.setAttribute(key, made[key]);
+  put(text, {x: 6 + 7 * (columns - words.length), y: topOf(place) + 14, textLength: 7 * words.length});
   text.textContent = words;
 };
 const placeTickets = () => {

@@ -30,10 +30,11 @@ document.title = by('headline').textContent = head.textContent;
 by('caption').textContent = caption.map(piece => piece.textContent).join(LINE_FEED);
 for (const piece of [head, ...caption]) piece.remove();
 
-// Returns an element of a picture.
+// Sets attributes of an element; returns an element of a picture.
+const put = (it, attributes) => Object.keys(attributes).forEach(key => it.setAttribute(key, attributes[key]));
 const element = (name, attributes, words = '') => {
   const it = document.createElementNS(svg.namespaceURI, name);
-  for (const key of Object.keys(attributes)) it.setAttribute(key, attributes[key]);
+  put(it, attributes);
   it.textContent = words;
   return it;
 };
@@ -42,9 +43,9 @@ const element = (name, attributes, words = '') => {
 // band has its head as its tooltip.
 const isText = piece => piece.matches('text') && piece !== ticketWord;
 const bandHeads = pieces.filter(piece => piece.matches('text.name') && at(piece, 'y') < namesY);
-for (const head of bandHeads) {
-  const next = pieces.slice(pieces.indexOf(head) + 1).find(piece => piece.matches('text, g, rect'));
-  if (next.matches('rect')) next.append(element('title', {}, head.textContent));
+for (const name of bandHeads) {
+  const next = pieces.slice(pieces.indexOf(name) + 1).find(piece => piece.matches('text, g, rect'));
+  if (next.matches('rect')) next.append(element('title', {}, name.textContent));
 }
 const headsTop = namesY - 12 - ROW * bandHeads.length;
 const stuckTop = bandHeads.length > 3 ? namesY - 12 : headsTop, stuckHigh = rowsTop - 4 - stuckTop;

@@ -139,14 +139,15 @@ const caption = words.filter(piece => piece.matches('.say'));\n\
 const signs = words.filter(piece => !piece.matches('.say')); const signsTop = at(signs[0], 'y') - 6;\n\
 document.title = by('headline').textContent = head.textContent;\n\
 by('caption').textContent = caption.map(piece => piece.textContent).join(LINE_FEED);\n\
-for (const piece of [head, ...caption]) piece.remove(); const element = (name, attributes, words = '') => {\n\
-const it = document.createElementNS(svg.namespaceURI, name);\n\
-for (const key of Object.keys(attributes)) it.setAttribute(key, attributes[key]); it.textContent = words;\n\
-return it; }; const isText = piece => piece.matches('text') && piece !== ticketWord;\n\
+for (const piece of [head, ...caption]) piece.remove();\n\
+const put = (it, attributes) => Object.keys(attributes).forEach(key => it.setAttribute(key, attributes[key]));\n\
+const element = (name, attributes, words = '') => { const it = document.createElementNS(svg.namespaceURI, name);\n\
+put(it, attributes); it.textContent = words; return it; };\n\
+const isText = piece => piece.matches('text') && piece !== ticketWord;\n\
 const bandHeads = pieces.filter(piece => piece.matches('text.name') && at(piece, 'y') < namesY);\n\
-for (const head of bandHeads) {\n\
-const next = pieces.slice(pieces.indexOf(head) + 1).find(piece => piece.matches('text, g, rect'));\n\
-if (next.matches('rect')) next.append(element('title', {}, head.textContent)); }\n\
+for (const name of bandHeads) {\n\
+const next = pieces.slice(pieces.indexOf(name) + 1).find(piece => piece.matches('text, g, rect'));\n\
+if (next.matches('rect')) next.append(element('title', {}, name.textContent)); }\n\
 const headsTop = namesY - 12 - ROW * bandHeads.length;\n\
 const stuckTop = bandHeads.length > 3 ? namesY - 12 : headsTop, stuckHigh = rowsTop - 4 - stuckTop;\n\
 const stuck = pieces.filter(piece => isText(piece) && stuckTop <= at(piece, 'y') && at(piece, 'y') <= namesY);\n\
@@ -272,24 +273,25 @@ const words = 'thread ' + thread, y = at(name, 'y');\n\
 const made = {x: laneX(thread) + 3, y, textLength: 7 * words.length, class: 'name made'};\n\
 name.parentNode.append(element('text', made, words)); } }\n\
 size.wide = Math.max(shape.wide, left + laneWide * threads.length + 18); return laneX; };\n\
-const makeBar = operation => { const {kind, value} = operation, words = kind + (value && ' ' + nameOf(value));\n\
+const makeBar = operation => {\n\
+const {kind, value, ret} = operation, words = kind + (value && ' ' + nameOf(value));\n\
 const round = kind === 'deq' || kind === 'empty' ? 9 : 0;\n\
 const length = {textLength: Math.min(7 * words.length, barWide - 12), lengthAdjust: 'spacingAndGlyphs'};\n\
+const box = element('rect', {class: kind, rx: round, width: barWide});\n\
+const edges = ret === Infinity ? element('svg', {}) : box; if (edges !== box) edges.append(box);\n\
 operation.g = element('g', {class: 'away'});\n\
-operation.g.append(element('title', {}, sentence(operation, withNumber)));\n\
-operation.g.append(element('rect', {class: kind, rx: round, width: barWide}));\n\
+operation.g.append(element('title', {}, sentence(operation, withNumber)), edges);\n\
 operation.g.append(element('text', {class: 'label', ...length}, words)); makeButton(operation); };\n\
-const placeBar = (operation, x, end) => { const {call, return: ret} = operation.places;\n\
+const placeBar = ({g, ret, places}, x, end) => {\n\
+const {call, return: back} = places, open = g.querySelector('svg');\n\
 const y = topOf(call.place) + (call.isShown ? 3 : 12);\n\
-const low = operation.ret === Infinity ? end : topOf(ret.place) + (ret.isShown ? 17 : 8);\n\
-const [, box, label] = operation.g.children;\n\
-for (const [name, value] of [['x', x + 3], ['y', y], ['height', low - y]]) box.setAttribute(name, value);\n\
-for (const [name, value] of [['x', x + 9], ['y', y + 21]]) label.setAttribute(name, value); };\n\
-const inTickets = (text, place, words) => {\n\
-const made = {x: 6 + 7 * (columns - words.length), y: topOf(place) + 14, textLength: 7 * words.length};\n\
-for (const key of Object.keys(made)) text.setAttribute(key, made[key]); text.textContent = words; };\n\
-const placeTickets = () => { for (const {text, hidden, folded, events: its} of folds) {\n\
-text.style.display = hidden ? '' : 'none';\n\
+const low = ret === Infinity ? end : topOf(back.place) + (back.isShown ? 17 : 8);\n\
+if (open) put(open, {width: x + laneWide + 3, height: low});\n\
+put(g.querySelector('rect'), {x: x + 3, y, height: low - y + (open ? 20 : 0)});\n\
+put(g.querySelector('text'), {x: x + 9, y: y + 21}); }; const inTickets = (text, place, words) => {\n\
+put(text, {x: 6 + 7 * (columns - words.length), y: topOf(place) + 14, textLength: 7 * words.length});\n\
+text.textContent = words; }; const placeTickets = () => {\n\
+for (const {text, hidden, folded, events: its} of folds) { text.style.display = hidden ? '' : 'none';\n\
 if (hidden) inTickets(text, folded, '... ' + hidden + (hidden === 1 ? ' event ...' : ' events ...'));\n\
 for (const {isShown, of, end, ticket, place} of its) { if (!isShown) continue;\n\
 const made = element('text', {class: 'dim made'});\n\
