@@ -48,7 +48,7 @@ abbrev pub CheckedIsValid : Type 0
 CheckedIsValid = (bytes : List ℕ) (claimed : Claimed) (answer : Reply) → AnswersOf (check linearizability) (input_of bytes) (judged claimed)
     → AnswersOf (verify linearizability) (input_of (bytes ++ answer_text (judged claimed))) answer → IsValidOrNoMemory answer
 
--- so it is under each condition, if `verify` can read a text of so many lines
+-- so it is under each condition, if `verify` can read a text of as many lines
 abbrev pub CheckedIsValidUnder : Condition → Type 0
 CheckedIsValidUnder condition = (bytes : List ℕ) (claimed : Claimed) (answer : Reply) → HasVerdictText claimed
     → AnswersOf (check condition) (input_of bytes) (judged claimed)

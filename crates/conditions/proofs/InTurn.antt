@@ -26,7 +26,7 @@ use Rattle.conditions.proofs.Showing.{violations_are_of_the_whole}
 
 -- ---- lists
 
--- a list is cut in one way into a front of this length and the rest
+-- a list is cut in one way into a prefix of this length and the rest
 cut_front : {X : Type 0} (n : ℕ) (xs front back : List X) → xs ≡ front ++ back → length front ≡ n → front ≡ take n xs
 cut_front n xs front back is long =
     sym (ap (take n) is ∙ take-append-le n front back (omega (arith, long)) ∙ take_all n front (omega (arith, long)))
