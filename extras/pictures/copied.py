@@ -3,7 +3,7 @@
     copied.py PROGRAM CHROMIUM
 
 What is copied is a history with the verdict of `check` on the whole, and `verify` finds it VALID. Each kind of verdict has
-40 pages or more. The status is 0 if all is as it should be.
+40 pages, and a history without operations has one. The status is 0 if all is as it should be.
 """
 
 import html
@@ -18,6 +18,7 @@ import look
 
 KINDS = ["YES", "NO VFresh", "NO VRepeat", "NO VOrd", "NO VWit"]
 OF_EACH = 40
+EMPTY = "fifo-history 1\nend 0\n"
 # Puts what each page offers into the document, once all pages are there.
 READS = """<script>addEventListener('load', () => {
 const said = [...document.querySelectorAll('iframe')].map(f => f.contentDocument.getElementById('text').value);
@@ -25,8 +26,8 @@ document.body.textContent = JSON.stringify(said); });</script>"""
 
 
 def pages(program):
-    """Pages of seeded histories, each with its verdict's first line."""
-    made, counts, seed = [], dict.fromkeys(KINDS, 0), 0
+    """Pages of seeded histories, each with its verdict's first line, and that of a history without operations."""
+    made, counts, seed = [("YES", look.run(program, ["draw", "--html"], EMPTY)[0])], dict.fromkeys(KINDS, 0), 0
     while min(counts.values()) < OF_EACH:
         rng = random.Random(seed)
         seed += 1

@@ -6,7 +6,8 @@ const endText = ticketTexts.find(text => text.textContent === 'end');
 const rowCount = (at(endText, 'y') + 6 - rowsTop) / ROW - 1, rowsEnd = rowsTop + ROW * (rowCount + 1);
 const columns = (ticketsWide - 12) / 7;
 const drawn = [...bars], shape = {...size};
-const barWide = at(svg.querySelector('g rect'), 'width'), laneWide = barWide + 6;
+const frame = svg.querySelector('g rect');
+const barWide = frame ? at(frame, 'width') : 0, laneWide = barWide + 6;
 
 // The rows of the picture. That of a fold has the events that it stands for, and shows this number of them at
 // each of its ends.

@@ -2,6 +2,7 @@
 const LEAST = 0.1, MOST = 4;
 let zoom = 1, fits = false;
 
+// Draws the picture at this size.
 const setZoom = (next, isFit) => {
   zoom = next;
   fits = isFit;

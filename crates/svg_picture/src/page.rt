@@ -231,7 +231,8 @@ by('names').hidden = false; }\n\
 const STEP = 100, MANY = 1000; const endText = ticketTexts.find(text => text.textContent === 'end');\n\
 const rowCount = (at(endText, 'y') + 6 - rowsTop) / ROW - 1, rowsEnd = rowsTop + ROW * (rowCount + 1);\n\
 const columns = (ticketsWide - 12) / 7; const drawn = [...bars], shape = {...size};\n\
-const barWide = at(svg.querySelector('g rect'), 'width'), laneWide = barWide + 6;\n\
+const frame = svg.querySelector('g rect');\n\
+const barWide = frame ? at(frame, 'width') : 0, laneWide = barWide + 6;\n\
 const events = run.flatMap(of => [{ticket: of.call, of, end: 'call'}, {ticket: of.end, of, end: 'return'}]);\n\
 events.sort((a, b) => a.ticket - b.ticket); const rows = Array.from({length: rowCount}, () => ({}));\n\
 for (const text of ticketTexts) {\n\
