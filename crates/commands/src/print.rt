@@ -13,9 +13,9 @@ use crate::outcome::{Fault, Outcome, Report};
 use crate::show::{write_rejections, write_shown};
 use history_stats::write_statistics;
 use history_text::{
-    TextSink, Version, WriteFault, write_events, write_history, write_piece, write_verdict,
+    TextSink, Version, WriteFault, violation_line, write_events, write_history, write_piece,
+    write_verdict,
 };
-use value_match::Violation;
 use verdicts::Verdict;
 
 /// Writes what a command found, or why it found nothing.
@@ -101,10 +101,7 @@ fn head_of(verdict: &Verdict) -> &'static [u8]
 {
     match verdict {
         Verdict::Yes(_) => return b"YES\n",
-        Verdict::No(Violation::Fresh { .. }) => return b"NO VFresh\n",
-        Verdict::No(Violation::Repeat { .. }) => return b"NO VRepeat\n",
-        Verdict::No(Violation::Order { .. }) => return b"NO VOrd\n",
-        Verdict::No(Violation::Witness { .. }) => return b"NO VWit\n",
+        Verdict::No(violation) => return violation_line(violation),
     }
 }
 

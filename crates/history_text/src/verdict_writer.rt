@@ -140,7 +140,7 @@ fn put_cover<W: TextSink>(
 }
 
 /// Returns the first line of a `NO`.
-fn violation_line(violation: &Violation) -> &'static [u8]
+pub fn violation_line(violation: &Violation) -> &'static [u8]
     ensures line { result.now ≡ line (codes "NO " ++ kind_name (violation_kind violation.now)) }
     ensures short { length result.now ≤ 11 }
 {

@@ -57,7 +57,7 @@ no_kind CallDeq answer e = cc
 no_kind _ answer e = refl
 
 -- a return begins no operation
-no_operation : (ret : Event) (next : Option Event) → is_call ret.what ≡ false → operation_of ret next ≡ None
+pub no_operation : (ret : Event) (next : Option Event) → is_call ret.what ≡ false → operation_of ret next ≡ None
 no_operation ret None e = refl
 no_operation ret (Some r) e = rw (no_kind ret.what r.what e, operation_of) refl
 

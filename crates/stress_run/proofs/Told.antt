@@ -1,6 +1,6 @@
 -- A run whose notes are a legal log of its operations is linearizable.
-use Rattle.std.proofs.Common.{◌≡◌, ℕ, zero, suc, ◌+◌, ◌<◌, ◌≤◌, true, false, List, [], ◌∷◌, ◌++◌}
-use Rattle.std.proofs.Common.{length, map, get_or, set, Option, Some, None, refl, sym, ap, ◌∙◌, subst, arith}
+use Rattle.std.proofs.Common.{◌≡◌, ℕ, zero, suc, ◌+◌, ◌<◌, ◌≤◌, true, List, [], ◌∷◌, ◌++◌}
+use Rattle.std.proofs.Common.{length, map, get_or, set, Option, Some, refl, sym, ap, ◌∙◌, subst, arith}
 use Rattle.std.specs.Prelude.{All, AllPairs, Contains, IsPermutation, find, flat_map, nat_eq}
 use Rattle.std.specs.List.{cons_option, range_with_len, swap}
 use Rattle.std.proofs.Math.ListN.{get_or-map}
@@ -13,10 +13,8 @@ use Rattle.std.proofs.lemmas.Option.{slice_get-get_or, slice_get_within}
 use Rattle.tickets.specs.declared.note.Note.{Note}
 use Rattle.tickets.specs.Log.{LooksRise}
 use Rattle.event_records.specs.declared.event.Event.{Event}
-use Rattle.event_records.specs.declared.event.What.{What}
-use Rattle.event_records.specs.declared.event.What.TheVariants.{CallEnq, CallDeq}
 use Rattle.event_records.specs.Projection.{projection}
-use Rattle.event_records.specs.Turns.{TakesTurns, is_call}
+use Rattle.event_records.specs.Turns.{TakesTurns}
 use Rattle.history_merge.specs.declared.operation.Operation.{Operation}
 use Rattle.history_merge.specs.declared.operation.OpKind.{OpKind}
 use Rattle.history_merge.specs.Legal.{IsLinearizable}
@@ -27,7 +25,7 @@ use Rattle.history_merge.proofs.Turns.{answer_is_return}
 use Rattle.recorder_core.proofs.Blocks.{blocks, blocks_same, joined_blocks, same_permutation}
 use Rattle.recorder_core.proofs.Fitting.{AreFit, owned, projection_is}
 use Rattle.recorder_core.proofs.Members.{pairs_cons}
-use Rattle.recorder_core.proofs.Operating.{operations_by_thread}
+use Rattle.recorder_core.proofs.Operating.{no_operation, operations_by_thread}
 use Rattle.stress_run.specs.Noted.{kind_noted, AreNotesOf, AreNotesOfAll}
 
 -- a note, and the operation that it is of
@@ -70,16 +68,6 @@ each_told (call ∷ []) ns h = absurd h
 each_told (call ∷ ret ∷ rest) [] h = absurd h
 each_told (call ∷ ret ∷ rest) (n ∷ ns) h =
     All-cons IsTold (pair_of call ret n) (pairs rest ns) (record { called = h.0.called; did = refl; returned = h.0.returned }) (each_told rest ns h.1)
-
-no_kind : (call answer : What) → is_call call ≡ false → kind_of call answer ≡ None
-no_kind (CallEnq v) answer e = cc
-no_kind CallDeq answer e = cc
-no_kind _ answer e = refl
-
--- a return begins no operation
-no_operation : (ret : Event) (next : Option Event) → is_call ret.what ≡ false → operation_of ret next ≡ None
-no_operation ret None e = refl
-no_operation ret (Some r) e = rw (no_kind ret.what r.what e, operation_of) refl
 
 -- a call and its return are the operation of their kind
 one_operation : (call ret : Event) (kind : OpKind) → kind_of call.what ret.what ≡ Some kind

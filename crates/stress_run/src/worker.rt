@@ -1,20 +1,21 @@
 // One worker: it draws tickets, asks the queue, and pushes what it did into its ring.
-ghost use Rattle.std.specs.Prelude.{◌≡◌, ◌∷◌, ◌++◌, [], ◌≤◌, ◌<◌, IfOk, OnOk, OnErr, length, true, false};
-ghost use Rattle.event_records.specs.declared.kind.Kind.TheVariants.{Enq, Deq};
+ghost use Rattle.std.specs.Prelude.{◌≡◌, ◌+◌, ◌∷◌, ◌++◌, [], ◌≤◌, ◌<◌, Contains, IfOk, OnOk, OnErr, length, true, false};
+ghost use Rattle.event_records.specs.Question.{call_event, next_question};
 ghost use Rattle.event_records.specs.declared.limits.TheConstants.{NAMES_OF_A_THREAD};
 ghost use Rattle.stress_run.specs.Crew.{token_of};
 ghost use Rattle.stress_run.specs.Faults.{AreTries};
 ghost use Rattle.stress_run.specs.Noted.{KeepsNotes};
+ghost use Rattle.stress_run.specs.Inner.Workers.{IsStamped, question_in};
 ghost use Rattle.stress_run.specs.Workers.{Works, Stalls};
 
 use crate::asked::Asked;
-use event_records::{Kind, Namer, Noted};
+use event_records::{AskDeq, AskEnq, Kind, Namer, Noted};
 use event_rings::{CloseLost, CloseToken, PushEnd};
 use queue_interface::TestQueue;
 use std::marker::Model;
 use std::thread;
 use thiserror::Error;
-use tickets::{Pass, Tickets};
+use tickets::{Drawn, Pass, Tickets};
 
 /// What one thread records with: its pass, its namer, and the push end of its ring.
 ///
@@ -48,6 +49,13 @@ impl Model for Worker {
     } };
 
     ghost invariant = { λ w. (w.namer.thread ≡ w.ring.thread) × AreTries w.tries × (w.stopped ≡ true → w.ring.capacity ≤ length w.ring.sent) };
+}
+
+// A question to enqueue or to dequeue.
+#[derive(Drop)]
+pub(crate) enum AnyAsk {
+    Enq(AskEnq),
+    Deq(AskDeq),
 }
 
 /// Why a worker made no operation.
@@ -169,40 +177,65 @@ impl Worker {
         pushed
     }
 
-    // Makes one enqueue, from the call's ticket to the event of its return.
-    fn enqueue_once<Q: Asked>(&mut self, queue: &Q, tickets: &Tickets) -> Result<(), WorkerFault>
+    // Makes one operation of this kind, from the call's ticket to the event of its return.
+    fn operate_once<Q: Asked>(
+        &mut self,
+        queue: &Q,
+        tickets: &Tickets,
+        kind: Kind,
+    ) -> Result<(), WorkerFault>
         requires key { self.old.pass.key ≡ tickets.now.key }
         requires left { 2 ≤ self.old.pass.left }
         requires room { self.old.asked < NAMES_OF_A_THREAD }
         requires running { self.old.stopped ≡ false }
         requires word { Q.of_word queue.now tickets.now.key }
-        ensures works { OnOk result (Works (Q.may queue.now) (Enq ∷ []) self.old self.new) }
+        ensures works { OnOk result (Works (Q.may queue.now) (kind ∷ []) self.old self.new) }
         ensures told { OnOk result (KeepsNotes (Q.notes queue.now) self.old self.new) }
-        ensures stalls { OnErr result (Stalls Enq self.old self.new) }
+        ensures stalls { OnErr result (Stalls kind self.old self.new) }
     {
-        let (ask, noted) = self.namer.ask_enq(self.pass.draw(tickets));
+        let (ask, noted) = ask_next(&mut self.namer, kind, self.pass.draw(tickets));
         self.record(noted)?;
-        let taken = queue.enqueue(ask, &mut self.pass, tickets);
-        let returned = taken.stamp(&mut self.pass, tickets);
+        let returned = stamped_answer(queue, ask, &mut self.pass, tickets);
         self.record(returned)
     }
+}
 
-    // Makes one dequeue, from the call's ticket to the event of its return.
-    fn dequeue_once<Q: Asked>(&mut self, queue: &Q, tickets: &Tickets) -> Result<(), WorkerFault>
-        requires key { self.old.pass.key ≡ tickets.now.key }
-        requires left { 2 ≤ self.old.pass.left }
-        requires room { self.old.asked < NAMES_OF_A_THREAD }
-        requires running { self.old.stopped ≡ false }
-        requires word { Q.of_word queue.now tickets.now.key }
-        ensures works { OnOk result (Works (Q.may queue.now) (Deq ∷ []) self.old self.new) }
-        ensures told { OnOk result (KeepsNotes (Q.notes queue.now) self.old self.new) }
-        ensures stalls { OnErr result (Stalls Deq self.old self.new) }
-    {
-        let (ask, noted) = self.namer.ask_deq(self.pass.draw(tickets));
-        self.record(noted)?;
-        let got = queue.dequeue(ask, &mut self.pass, tickets);
-        let returned = got.stamp(&mut self.pass, tickets);
-        self.record(returned)
+// Makes the question of the next operation of this kind, and its call event.
+fn ask_next(namer: &mut Namer, kind: Kind, drawn: Drawn) -> (AnyAsk, Noted)
+    requires { namer.old.asked < NAMES_OF_A_THREAD }
+    ensures question { question_in result.0 ≡ next_question namer.old kind drawn }
+    ensures noted { result.1 ≡ call_event (question_in result.0) }
+    ensures counted { namer.new ≡ record namer.old { asked = namer.old.asked + 1 } }
+{
+    match kind {
+        Kind::Enq => {
+            let (ask, noted) = namer.ask_enq(drawn);
+            (AnyAsk::Enq(ask), noted)
+        }
+        Kind::Deq => {
+            let (ask, noted) = namer.ask_deq(drawn);
+            (AnyAsk::Deq(ask), noted)
+        }
+    }
+}
+
+// Has the queue answer the question, and returns the event of its return.
+fn stamped_answer<Q: Asked>(queue: &Q, ask: AnyAsk, pass: &mut Pass, tickets: &Tickets) -> Noted
+    requires key { (pass.old.key ≡ tickets.now.key) × ((question_in ask).key ≡ tickets.now.key) }
+    requires drew { Contains pass.old.drawn (question_in ask).call }
+    requires some_left { 0 < pass.old.left }
+    requires word { Q.of_word queue.now tickets.now.key }
+    ensures { IsStamped (Q.may queue.now) (Q.notes queue.now) (question_in ask) pass.old pass.new result }
+{
+    match ask {
+        AnyAsk::Enq(ask) => {
+            let taken = queue.enqueue(ask, pass, tickets);
+            taken.stamp(pass, tickets)
+        }
+        AnyAsk::Deq(ask) => {
+            let got = queue.dequeue(ask, pass, tickets);
+            got.stamp(pass, tickets)
+        }
     }
 }
 
@@ -249,8 +282,5 @@ pub(crate) fn call_on<Q: Asked>(
     if worker.stopped {
         return Err(WorkerFault::Stalled);
     }
-    match kind {
-        Kind::Enq => worker.enqueue_once(queue, tickets),
-        Kind::Deq => worker.dequeue_once(queue, tickets),
-    }
+    worker.operate_once(queue, tickets, kind)
 }

@@ -80,10 +80,11 @@ static REFUSED: [(&[u64], &[Mark], CompletionFault); 3] = [
 fn events_of(alloc: Global, marks: &[Mark]) -> Result<Vec<PackedEvent>, Fail> {
     let mut events = Vec::new(alloc);
     for (ticket, thread, what) in marks {
-        if *ticket > MAX_TICKET {
+        let event = at(*ticket, *thread, *what);
+        if event.ticket > MAX_TICKET {
             return Err("a ticket past the greatest")?;
         }
-        events.push(PackedEvent::new(at(*ticket, *thread, *what)))?;
+        events.push(PackedEvent::new(event))?;
     }
     Ok(events)
 }

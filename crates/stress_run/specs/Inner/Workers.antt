@@ -1,9 +1,18 @@
--- A worker that is about to begin.
-use Rattle.std.specs.Prelude.{◌≡◌, ◌+◌, ◌*◌, ◌≤◌, ◌<◌, List, length}
+-- A worker that is about to begin, and one operation of it.
+use Rattle.std.specs.Prelude.{◌≡◌, ◌+◌, ◌*◌, ◌≤◌, ◌<◌, Bool, true, IsTrue, List, length}
 use Rattle.atomic_table.specs.Seated.{TableId}
+use Rattle.event_records.specs.Question.{Answered, Question, call_event, return_event}
+use Rattle.event_records.specs.Turns.{answers}
+use Rattle.event_records.specs.declared.event.Event.{Event}
+use Rattle.event_records.specs.declared.kind.Answer.{Answer}
 use Rattle.event_records.specs.declared.kind.Kind.{Kind}
 use Rattle.event_records.specs.declared.limits.TheConstants.{NAMES_OF_A_THREAD}
+use Rattle.stress_run.specs.Noted.{NotesOne}
 use Rattle.stress_run.specs.Workers.{WorkerView, row_of}
+use Rattle.stress_run.specs.declared.worker.AnyAsk.{AnyAsk}
+use Rattle.stress_run.specs.declared.worker.AnyAsk.TheVariants as any
+use Rattle.tickets.specs.Views.{DrawsOne, PassView}
+use Rattle.tickets.specs.declared.note.Note.{Note}
 
 -- the worker draws from this word, and may make operations of these kinds
 pub record IsReady (key : TableId) (kinds : List Kind) (w : WorkerView) : Type 0 where
@@ -15,3 +24,19 @@ pub record IsReady (key : TableId) (kinds : List Kind) (w : WorkerView) : Type 0
 pub record IsReadyIn (key : TableId) (rows : List (List Kind)) (w : WorkerView) : Type 0 where
   pub has_row : w.thread < length rows
   pub ready : IsReady key (row_of rows w) w
+
+-- the question
+abbrev pub question_in : AnyAsk → Question
+question_in (any.Enq ask) = ask
+question_in (any.Deq ask) = ask
+
+-- the queue answered the question, noted the answer if it notes them, and this is the event of the return
+pub record IsStamped (may : Question → Answer → Type 0) (notes : Bool) (q : Question) (old new : PassView) (returned : Event) : Type 0 where
+  pub answered : Answered
+  pub noted : List Note
+  pub of_question : answered.question ≡ q
+  pub allowed : may q answered.answer
+  pub notes_it : notes ≡ true → NotesOne q answered.answer old.noted noted
+  pub returns : returned ≡ return_event answered returned.ticket
+  pub answers_call : IsTrue (answers (call_event answered.question).what returned.what)
+  pub draws : DrawsOne (record old { noted = noted }) returned.ticket new
