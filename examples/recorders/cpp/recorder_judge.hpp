@@ -48,6 +48,14 @@ private:
     std::chrono::steady_clock::time_point next_ = std::chrono::steady_clock::now() + std::chrono::seconds(2);
 };
 
+// The condition of a search and its bound, as its answer has them, if they aren't the default.
+inline std::string told_condition(const Settings& settings) {
+    const bool is_default = settings.condition == Condition::Linearizable;
+    const std::string name = condition_names[static_cast<unsigned>(settings.condition)];
+    return (is_default ? "" : ", condition " + name) +
+           (settings.overtaken_at_most ? ", overtaken-at-most " + std::to_string(*settings.overtaken_at_most) : "");
+}
+
 // The program, and the files of a run that it judges.
 class Judge {
 public:
@@ -90,25 +98,44 @@ public:
     // Judges the history that is kept, which may be a completion of pending calls. Returns 0, 1 or 2.
     int check(bool is_completed) const {
         const std::string history = path(".history"), report = path(".report");
-        const auto [status, verdict] = ask("check", history, report);
-        if (status == 0 && verdict == "YES") {
+        const auto [answer, verdict] = is_completed ? checked(history, report) : bounded(history, report);
+        const bool is_undecided = answer == 1 && is_completed && !told_condition(settings_).empty();
+        if (answer == 0 || is_undecided) {
             if (!settings_.keep || is_completed) std::filesystem::remove(history);
             std::filesystem::remove(report);
+        }
+        if (answer == 0) {
             return 0;
         }
         Progress::erase();
-        if (status != 1 || verdict.rfind("NO ", 0) != 0) {
-            std::cerr << "fifobench: " << program_ << " says '" << verdict << "' of " << history << std::endl;
-            return 2;
+        if (is_undecided) {
+            std::cerr << "fifobench: " << verdict << " of one completion" << told_condition(settings_)
+                      << ": another one may be a YES" << std::endl;
+        } else if (answer == 2) {
+            std::cerr << "fifobench: " << program_ << verdict << std::endl;
+        } else {
+            tell_violation(verdict, history, report, is_completed);
         }
-        ask("shrink", history, report);
+        return is_undecided ? 2 : answer;
+    }
+
+    // Keeps the report of a violation, and says where it is and how it can be seen.
+    void tell_violation(const std::string& verdict, const std::string& history, const std::string& report,
+                        bool is_completed) const {
         const std::string seed = std::to_string(settings_.seed), pattern = name_of(settings_.pattern_of_seed());
         std::cout << verdict << ": seed " << seed << ", " << pattern
                   << (is_completed ? ": the queue is wrong, whatever the pending calls do" : "")
-                  << "\n  history: " << history << "\n  report:  " << report << "\n  see it:  " << program_
-                  << " draw --text < " << report << drawn_in(history) << "\n  again:   seed " << seed << ", pattern "
-                  << pattern << ": the same plan, though threads may meet in another way" << std::endl;
-        return 1;
+                  << "\n  history: " << history;
+        if (verdict.rfind("NO overtaken-at-most ", 0) == 0) {
+            std::cout << "\n  dequeue: " << overtaking(history, report) << "\n  see it:  " << program_
+                      << " stats --overtakes < " << history;
+        } else {
+            ask("shrink", history, report);
+            std::cout << "\n  report:  " << report << "\n  see it:  " << program_ << ' '
+                      << with_flags("draw --text") << " < " << report << drawn_in(history);
+        }
+        std::cout << "\n  again:   seed " << seed << ", pattern " << pattern
+                  << ": the same plan, though threads may meet in another way" << std::endl;
     }
 
     // The second command of `see it:`, which draws the violation with what runs beside it: the report leaves that out.
@@ -116,7 +143,7 @@ public:
     std::string drawn_in(const std::string& history) const {
         for (const std::string command : {"draw --text --around 20", "draw --text"}) {
             if (ask(command, history, "/dev/null").first == 0) {
-                return "\n           " + program_ + ' ' + command + " < " + history;
+                return "\n           " + program_ + ' ' + with_flags(command) + " < " + history;
             }
         }
         return "";
@@ -145,16 +172,74 @@ public:
                       << (is_refused ? " says '" + first + "' of " + pending
                                      : std::string(" has no command complete, which a later version has")) << '\n';
         }
-        std::cerr << "  judge:   " << program_ << " complete < " << pending << " | " << program_ << " check"
-                  << std::endl;
+        std::cerr << "  judge:   " << program_ << " complete < " << pending << " | " << program_ << ' '
+                  << with_flags("check") << std::endl;
         return 2;
     }
 
 private:
+    // 0: `YES`; 1: `NO`, with its line; 2: neither, with what the program does in place of that.
+    using Verdict = std::pair<int, std::string>;
+
+    // What `check` says of a history, by the condition of the settings.
+    Verdict checked(const std::string& history, const std::string& to) const {
+        const auto [status, line] = ask("check", history, to);
+        if ((status == 0 && line == "YES") || (status == 1 && line.rfind("NO ", 0) == 0)) {
+            return {status, line};
+        }
+        return {2, " says '" + line + "' of " + history};
+    }
+
+    // The same, and by the bound of the settings on overtaking. A bound judges the order of values in place of `check`,
+    // but for that of each producer's own.
+    Verdict bounded(const std::string& history, const std::string& to) const {
+        const Verdict verdict = checked(history, to);
+        const bool is_local = settings_.condition == Condition::Local || settings_.condition == Condition::Both;
+        if (!settings_.overtaken_at_most || verdict.first == 2 ||
+            (verdict.first == 1 && (is_local || verdict.second != "NO VOrd"))) {
+            return verdict;
+        }
+        ask("stats", history, to);
+        std::ifstream stats(to);
+        std::string name;
+        for (std::uint64_t most; stats >> name;) {
+            if (name == "overtaken-at-most" && stats >> most) {
+                const std::string bound = std::to_string(*settings_.overtaken_at_most);
+                const bool is_met = most <= *settings_.overtaken_at_most;
+                return is_met ? Verdict{0, "YES"} : Verdict{1, "NO overtaken-at-most " + bound};
+            }
+        }
+        return {2, " has no overtaken-at-most in stats, which a later version has"};
+    }
+
+    // The dequeue that overtakes most.
+    std::string overtaking(const std::string& history, const std::string& to) const {
+        ask("stats --overtakes", history, to);
+        std::ifstream stats(to);
+        std::string line, count, ticket, value, more;
+        while (std::getline(stats, line)) {
+            std::istringstream words(line);
+            const bool is_row = line.find_first_not_of("0123456789 ") == std::string::npos;
+            if (is_row && words >> count >> ticket >> value && !(words >> more)) {
+                std::filesystem::remove(to);
+                return "that of " + value + ", which returns at ticket " + ticket + ", overtakes " + count + " values";
+            }
+        }
+        return "not named by " + program_;
+    }
+
+    // A command, with the flags that are the condition of the settings.
+    std::string with_flags(const std::string& command) const {
+        static const char* const flags[] = {"", " --local", " --weak-empty", " --local --weak-empty"};
+        const bool has_flags = command.rfind("check", 0) == 0 || command.rfind("shrink", 0) == 0 ||
+                               command.rfind("draw", 0) == 0;
+        return has_flags ? command + flags[static_cast<unsigned>(settings_.condition)] : command;
+    }
+
     // Runs a command of the program. Returns its status, or -1, and the first line of its output.
     std::pair<int, std::string> ask(const std::string& command, const std::string& from, const std::string& to) const {
-        const std::string files = " <'" + from + "' >'" + to + "' 2>/dev/null", line = "'" + program_ + "' " + command;
-        const int status = std::system((line + files).c_str());
+        const std::string files = " <'" + from + "' >'" + to + "' 2>/dev/null";
+        const int status = std::system(("'" + program_ + "' " + with_flags(command) + files).c_str());
         std::string first;
         std::getline(std::ifstream(to), first);
         return {status % 256 == 0 ? status / 256 : -1, first};    // as POSIX has it
