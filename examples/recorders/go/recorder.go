@@ -109,10 +109,8 @@ type Options struct {
 	Journal    bool                              // events reach Folder/SEED.pending while the run goes on
 	Keep       bool                              // a search keeps the histories without a violation too
 	Condition  Condition                         // what a history has to meet
-	// More values that one dequeue overtakes are a violation; below 0 by the condition alone.
-	OvertakenAtMost int64
-	isQuiet         bool              // what was said once isn't said again
-	tellAgain       func(kind string) // the last lines of a verdict, with chosen schedules
+	isQuiet    bool                              // what was said once isn't said again
+	tellAgain  func(kind string)                 // the last lines of a verdict, with chosen schedules
 }
 
 // Makes a search, if chosen schedules are asked for. Set by schedule.go, if that is beside this file.
@@ -131,8 +129,7 @@ func Defaults() Options {
 		Drain:   true,
 		Folder:  "fifobench-runs",
 
-		Condition:       Linearizable,
-		OvertakenAtMost: -1,
+		Condition: Linearizable,
 	}
 }
 
