@@ -1,20 +1,20 @@
 // A good queue and some that are wrong on purpose, recorded and judged.
 //
 //     queue QUEUE [--runs R] [--threads T] [--producers N] [--ops N] [--pattern P] [--percent K] [--seed S]
-//                 [--initial N] [--folder F] [--keep 0|1] [--timeout SECONDS]
+//                 [--initial N] [--condition C] [--folder F] [--keep 0|1] [--timeout SECONDS]
 //     queue QUEUE THREADS OPERATIONS [PATTERN [SEED [INITIAL]]] > history
 //
 // The first makes runs until one shows a violation: status 0 none does, 1 one does, 2 something is wrong. The second
-// makes one run, and writes its history; without a pattern, or with `loop`, it is a loop of one's own. A queue is good: a ring under a lock; wrong: every 4th value that is found
-// is left in place; stack: the last value comes out first; early: it says empty too early; hang: a dequeue never
-// returns.
+// makes one run, and writes its history; without a pattern, or with `loop`, it is a loop of one's own. A queue is good:
+// a ring under a lock; wrong: every 4th value that is found is left in place; stack: the last value comes out first;
+// shards: values of two producers overtake each other; early: it says empty too early; hang: a dequeue never returns.
 #include "recorder.h"
 
 enum { CAPACITY = 1024 };
 
-enum kind { GOOD, WRONG, STACK, EARLY, HANG, KINDS };
+enum kind { GOOD, WRONG, STACK, SHARDS, EARLY, HANG, KINDS };
 
-static const char *const kind_names[] = {"good", "wrong", "stack", "early", "hang"};
+static const char *const kind_names[] = {"good", "wrong", "stack", "shards", "early", "hang"};
 
 struct queue {
     enum kind kind;
@@ -61,6 +61,21 @@ static bool enqueue(void *argument, uint64_t value)
     return taken;
 }
 
+// Of SHARDS: brings the first value of the last one's producer to the front. So each producer's order is kept.
+static void bring(struct queue *queue)
+{
+    uint64_t *values = queue->values, producer = values[(queue->first + queue->count - 1) % CAPACITY] >> 32;
+    size_t place = queue->first;
+    while (values[place % CAPACITY] >> 32 != producer) {
+        place++;
+    }
+    for (; place > queue->first; place--) {
+        uint64_t value = values[place % CAPACITY];
+        values[place % CAPACITY] = values[(place - 1) % CAPACITY];
+        values[(place - 1) % CAPACITY] = value;
+    }
+}
+
 static bool dequeue(void *argument, uint64_t *value)
 {
     struct queue *queue = argument;
@@ -74,6 +89,9 @@ static bool dequeue(void *argument, uint64_t *value)
     }
     pthread_mutex_lock(&queue->lock);
     bool found = queue->count > 0;
+    if (found && queue->kind == SHARDS) {
+        bring(queue);
+    }
     if (found) {
         size_t place = queue->kind == STACK ? queue->count - 1 : 0;
         *value = queue->values[(queue->first + place) % CAPACITY];
@@ -135,6 +153,17 @@ static bool pattern(const char *word, enum recorder_pattern *to)
     return false;
 }
 
+static bool condition(const char *word, enum recorder_condition *to)
+{
+    for (*to = RECORDER_LINEARIZABLE; word != NULL && *to <= RECORDER_BOTH; ++*to) {
+        if (strcmp(word, recorder_condition_names[*to]) == 0) {
+            return true;
+        }
+    }
+    fprintf(stderr, "queue: no condition '%s': linearizable, local, weak-empty or both\n", word != NULL ? word : "");
+    return false;
+}
+
 // The place of a word among some, or their number.
 static size_t place_of(const char *word, const char *const *words, size_t count)
 {
@@ -155,6 +184,9 @@ static bool set(struct recorder_settings *settings, const char *option, const ch
     uint64_t value = 0;
     if (strcmp(option, "--pattern") == 0) {
         return pattern(word, &settings->pattern);
+    }
+    if (strcmp(option, "--condition") == 0) {
+        return condition(word, &settings->condition);
     }
     if (strcmp(option, "--folder") == 0 && word != NULL) {
         settings->folder = word;
@@ -213,7 +245,7 @@ int main(int count, char **words)
     bool has_pattern = is_one && count > 4 && strcmp(words[4], "loop") != 0;
     enum kind kind = (enum kind)place;
     if (place == KINDS) {
-        fprintf(stderr, "queue: no queue '%s': good, wrong, stack, early or hang\n", count > 1 ? words[1] : "");
+        fprintf(stderr, "queue: no queue '%s': good, wrong, stack, shards, early or hang\n", count > 1 ? words[1] : "");
         return 2;
     }
     for (int at = 2; at < count; at += is_one ? 1 : 2) {

@@ -59,6 +59,12 @@ enum recorder_pattern { RECORDER_ALTERNATE, RECORDER_MIX, RECORDER_BURSTS, RECOR
 
 static const char *const recorder_pattern_names[] = {"alternate", "mix", "bursts", "roles"};
 
+// What a history has to meet. Local: the values of each producer alone are in order. Weak empty: an empty dequeue
+// promises nothing. docs/RECORDING.md says which queues promise no more.
+enum recorder_condition { RECORDER_LINEARIZABLE, RECORDER_LOCAL, RECORDER_WEAK_EMPTY, RECORDER_BOTH };
+
+static const char *const recorder_condition_names[] = {"linearizable", "local", "weak-empty", "both"};
+
 struct recorder_settings {
     unsigned threads;
     size_t operations; // of each thread; 0: by the seed, 500, 100 or 2,500
@@ -74,6 +80,7 @@ struct recorder_settings {
     bool choose;          // schedules, if schedule.c is linked; else its points disturb the threads
     bool journal;         // with recorder_crash.h: events reach a file while the run goes on
     bool keep;            // a search keeps the histories without a violation too
+    enum recorder_condition condition;
     const char *program, *folder; // that judges, or NULL; of the files
     // The value of the n-th operation of a thread, and that of initial value n with the thread 64. All have to
     // differ. If it is NULL, values are thread * 2^32 + first + n, and the initial ones 2^38 + n.
@@ -310,45 +317,6 @@ static inline struct recorder_sums recorder_sum_up(const struct recorder *record
         }
     }
     return sums;
-}
-
-// Writes what stands before the events.
-static inline void recorder_write_head(const struct recorder *recorder, bool is_pending, FILE *to)
-{
-    size_t initial = recorder->settings.initial;
-    fprintf(to, "fifo-%s %d\n", is_pending ? "pending" : "history", initial == 0 ? 1 : 2);
-    if (initial > 0) {
-        fprintf(to, "initial %zu\n", initial);
-    }
-    for (size_t j = 0; j < initial; j++) {
-        fprintf(to, "%" PRIu64 "\n", recorder_initial_value(&recorder->settings, j));
-    }
-}
-
-static inline void recorder_write_event(const struct recorder_event *event, FILE *to)
-{
-    static const char *const words[] = {"call-enq", "ret-enq", "ret-not", "call-deq", "ret-deq", "ret-empty"};
-    fprintf(to, "%" PRIu64 " %u %s", event->ticket, event->thread, words[event->what]);
-    if (event->what == RECORDER_CALL_ENQ || event->what == RECORDER_RET_DEQ) {
-        fprintf(to, " %" PRIu64, event->value);
-    }
-    fputc('\n', to);
-}
-
-// Writes a history, or a pending text (docs/RECORDING.md) if some call has no return. False if a write is refused.
-static inline bool recorder_write(const struct recorder *recorder, FILE *to)
-{
-    struct recorder_sums sums = recorder_sum_up(recorder);
-    struct recorder_merge merge = {.recorder = recorder};
-    recorder_write_head(recorder, sums.pending > 0, to);
-    while (merge.ticket < sums.events) {
-        recorder_write_event(recorder_next(&merge), to);
-    }
-    if (sums.pending > 0) {
-        fprintf(to, "open %zu\n", sums.pending);
-    }
-    fprintf(to, "end %zu\n", sums.events);
-    return fflush(to) == 0 && !ferror(to);
 }
 
 static inline double recorder_seconds(void)
@@ -782,8 +750,10 @@ static inline int recorder_search(const struct recorder_settings *settings, cons
     recorder_erase_progress();
     if (answer == 0) {
         remove(one.folder); // if it is empty
-        printf("%s in %u runs (seeds %" PRIu64 " to %" PRIu64 "); %zu of 100 operations overlap another; runs without "
-               "overlap: %u\n", judges ? "no violation" : "nothing judged", one.runs, settings->seed, one.seed - 1,
+        recorder_told_condition(&one, first);
+        printf("%s in %u runs (seeds %" PRIu64 " to %" PRIu64 ")%s; ", judges ? "no violation" : "nothing judged",
+               one.runs, settings->seed, one.seed - 1, first);
+        printf("%zu of 100 operations overlap another; runs without overlap: %u\n",
                100 * of.all.overlapping / (of.all.calls + !of.all.calls), of.without_overlap);
     }
     if (one.keep && judges && answer != 2) {

@@ -1,10 +1,49 @@
-// What a search asks of the program, and the files of its runs: histories, reports, and the texts of runs that end
-// early. recorder.h includes it; it lies beside that.
+// The texts of runs, what a search asks of the program, and its files: histories, reports, and the texts of runs that
+// end early. recorder.h includes it; it lies beside that.
 #ifndef FIFOBENCH_RECORDER_JUDGE_H
 #define FIFOBENCH_RECORDER_JUDGE_H
 
 #include "recorder.h"
 #include <unistd.h>
+
+// Writes what stands before the events.
+static inline void recorder_write_head(const struct recorder *recorder, bool is_pending, FILE *to)
+{
+    size_t initial = recorder->settings.initial;
+    fprintf(to, "fifo-%s %d\n", is_pending ? "pending" : "history", initial == 0 ? 1 : 2);
+    if (initial > 0) {
+        fprintf(to, "initial %zu\n", initial);
+    }
+    for (size_t j = 0; j < initial; j++) {
+        fprintf(to, "%" PRIu64 "\n", recorder_initial_value(&recorder->settings, j));
+    }
+}
+
+static inline void recorder_write_event(const struct recorder_event *event, FILE *to)
+{
+    static const char *const words[] = {"call-enq", "ret-enq", "ret-not", "call-deq", "ret-deq", "ret-empty"};
+    fprintf(to, "%" PRIu64 " %u %s", event->ticket, event->thread, words[event->what]);
+    if (event->what == RECORDER_CALL_ENQ || event->what == RECORDER_RET_DEQ) {
+        fprintf(to, " %" PRIu64, event->value);
+    }
+    fputc('\n', to);
+}
+
+// Writes a history, or a pending text (docs/RECORDING.md) if some call has no return. False if a write is refused.
+static inline bool recorder_write(const struct recorder *recorder, FILE *to)
+{
+    struct recorder_sums sums = recorder_sum_up(recorder);
+    struct recorder_merge merge = {.recorder = recorder};
+    recorder_write_head(recorder, sums.pending > 0, to);
+    while (merge.ticket < sums.events) {
+        recorder_write_event(recorder_next(&merge), to);
+    }
+    if (sums.pending > 0) {
+        fprintf(to, "open %zu\n", sums.pending);
+    }
+    fprintf(to, "end %zu\n", sums.events);
+    return fflush(to) == 0 && !ferror(to);
+}
 
 // How far a search is, on a terminal: from two seconds on, until something else is printed.
 static atomic_bool recorder_progress_is_shown;
@@ -66,13 +105,30 @@ static inline const char *recorder_program(const struct recorder_settings *setti
     return settings->program != NULL ? settings->program : named != NULL && *named != '\0' ? named : "fifobench";
 }
 
+// The condition of a search, as its answer has it; empty if it is the default.
+static inline void recorder_told_condition(const struct recorder_settings *settings, char told[RECORDER_LINE_BYTES])
+{
+    bool is_default = settings->condition == RECORDER_LINEARIZABLE;
+    snprintf(told, RECORDER_LINE_BYTES, "%s%s", is_default ? "" : ", condition ",
+             is_default ? "" : recorder_condition_names[settings->condition]);
+}
+
+// The flags of a command that are the condition of the settings.
+static inline const char *recorder_flags(const struct recorder_settings *settings, const char *command)
+{
+    static const char *const flags[] = {"", " --local", " --weak-empty", " --local --weak-empty"};
+    bool has_flags = strncmp(command, "check", 5) == 0 || strncmp(command, "shrink", 6) == 0 ||
+                     strncmp(command, "draw", 4) == 0;
+    return flags[has_flags ? settings->condition : RECORDER_LINEARIZABLE];
+}
+
 // Runs `PROGRAM COMMAND` from and to a file. Returns its status, or -1, and the first line of its output.
 static inline int recorder_ask(const struct recorder_settings *settings, const char *command, const char *from,
                                const char *to, char first[RECORDER_LINE_BYTES])
 {
     char line[4 * RECORDER_PATH_BYTES]; // more than three of the longest paths
-    int length = snprintf(line, sizeof line, "'%s' %s <'%s' >'%s' 2>/dev/null", recorder_program(settings), command,
-                          from, to);
+    int length = snprintf(line, sizeof line, "'%s' %s%s <'%s' >'%s' 2>/dev/null", recorder_program(settings), command,
+                          recorder_flags(settings, command), from, to);
     int status = length > 0 && (size_t)length < sizeof line ? system(line) : -1;
     FILE *answer = fopen(to, "r");
     bool has_line = answer != NULL && fgets(first, RECORDER_LINE_BYTES, answer) != NULL;
@@ -94,33 +150,53 @@ static inline void recorder_tell_drawn_in(const struct recorder_settings *one, c
         place++;
     }
     if (place < 2) {
-        printf("           %s %s < %s\n", recorder_program(one), commands[place], history);
+        printf("           %s %s%s < %s\n", recorder_program(one), commands[place],
+               recorder_flags(one, commands[place]), history);
     }
+}
+
+// What `check` says of a history, by the condition of the settings. Returns 0 for `YES`; 1 for `NO`, with its line; 2
+// for neither, which is said.
+static inline int recorder_verdict(const struct recorder_settings *one, const char *history, const char *report,
+                                   char verdict[RECORDER_LINE_BYTES])
+{
+    int status = recorder_ask(one, "check", history, report, verdict);
+    bool is_yes = status == 0 && strcmp(verdict, "YES") == 0, is_no = status == 1 && strncmp(verdict, "NO ", 3) == 0;
+    if (!is_yes && !is_no) {
+        recorder_erase_progress();
+        fprintf(stderr, "fifobench: %s says '%s' of %s\n", recorder_program(one), verdict, history);
+        return 2;
+    }
+    return status;
 }
 
 // Judges the history in a file, which may be a completion of pending calls. Returns 0, 1 or 2.
 static inline int recorder_judge_file(const struct recorder_settings *one, const char *history, bool is_completed)
 {
-    char report[RECORDER_PATH_BYTES], verdict[RECORDER_LINE_BYTES], ignored[RECORDER_LINE_BYTES];
+    char report[RECORDER_PATH_BYTES], verdict[RECORDER_LINE_BYTES], told[RECORDER_LINE_BYTES];
     const char *program = recorder_program(one), *pattern = recorder_pattern_names[recorder_pattern_of(one)];
     recorder_path(one, "report", report);
-    int status = recorder_ask(one, "check", history, report, verdict);
-    if (status == 0 && strcmp(verdict, "YES") == 0) {
-        if (!one->keep || is_completed) {
-            remove(history);
-        }
+    recorder_told_condition(one, told);
+    int answer = recorder_verdict(one, history, report, verdict);
+    bool is_undecided = answer == 1 && is_completed && told[0] != '\0';
+    if ((answer == 0 || is_undecided) && (!one->keep || is_completed)) {
+        remove(history);
+    }
+    if (answer == 0 || is_undecided) {
         remove(report);
-        return 0;
+    }
+    if (is_undecided) {
+        recorder_erase_progress();
+        fprintf(stderr, "fifobench: %s of one completion%s: another one may be a YES\n", verdict, told);
+    }
+    if (answer != 1 || is_undecided) {
+        return is_undecided ? 2 : answer;
     }
     recorder_erase_progress();
-    if (status != 1 || strncmp(verdict, "NO ", 3) != 0) {
-        fprintf(stderr, "fifobench: %s says '%s' of %s\n", program, verdict, history);
-        return 2;
-    }
-    recorder_ask(one, "shrink", history, report, ignored);
-    printf("%s: seed %" PRIu64 ", %s%s\n", verdict, one->seed, pattern,
-           is_completed ? ": the queue is wrong, whatever the pending calls do" : "");
-    printf("  history: %s\n  report:  %s\n  see it:  %s draw --text < %s\n", history, report, program, report);
+    printf("%s: seed %" PRIu64 ", %s%s\n  history: %s\n", verdict, one->seed, pattern,
+           is_completed ? ": the queue is wrong, whatever the pending calls do" : "", history);
+    recorder_ask(one, "shrink", history, report, told);
+    printf("  report:  %s\n  see it:  %s draw --text%s < %s\n", report, program, recorder_flags(one, "draw"), report);
     recorder_tell_drawn_in(one, history);
     printf("  again:   seed %" PRIu64 ", pattern %s: the same plan, though threads may meet in another way\n",
            one->seed, pattern);
@@ -153,7 +229,8 @@ static inline int recorder_judge_pending(const struct recorder_settings *one, co
     } else if (status > 0 && status < 126) { // else the shell has found no program
         fprintf(stderr, "fifobench: %s has no command complete, which a later version has\n", program);
     }
-    fprintf(stderr, "  judge:   %s complete < %s | %s check\n", program, pending, program);
+    fprintf(stderr, "  judge:   %s complete < %s | %s check%s\n", program, pending, program,
+            recorder_flags(one, "check"));
     return 2;
 }
 

@@ -1,16 +1,17 @@
 // A good queue and some that are wrong on purpose, recorded and judged.
 //
 //     queue QUEUE [--runs R] [--threads T] [--producers N] [--ops N] [--pattern P] [--percent K] [--seed S]
-//                 [--initial N] [--folder F] [--keep 0|1] [--timeout SECONDS]
+//                 [--initial N] [--condition C] [--folder F] [--keep 0|1] [--timeout SECONDS]
 //     queue QUEUE THREADS OPERATIONS [PATTERN [SEED [INITIAL]]] > history
 //
 // The first makes runs until one shows a violation: status 0 none does, 1 one does, 2 something is wrong. The second
-// makes one run, and writes its history; without a pattern, or with `loop`, it is a loop of one's own. A queue is good; wrong: every 4th value that is found is left in place;
-// stack: the last value comes out first; early: it says empty too early; hang: a dequeue never returns; throw: an
-// enqueue throws.
+// makes one run, and writes its history; without a pattern, or with `loop`, it is a loop of one's own. A queue is good;
+// wrong: every 4th value that is found is left in place; stack: the last value comes out first; shards: values of two
+// producers overtake each other; early: it says empty too early; hang: a dequeue never returns; throw: an enqueue
+// throws.
 #include "recorder.hpp"
 
-#include <cstring>
+#include <algorithm>
 #include <deque>
 #include <iostream>
 #include <memory>
@@ -74,6 +75,19 @@ public:
     }
 };
 
+// Keeps the order of each producer alone.
+class Shards : public Good {
+public:
+    std::optional<std::uint64_t> dequeue() override {
+        const std::lock_guard<std::mutex> guard(lock_);
+        const auto is_of_last = [&](std::uint64_t value) { return value >> 32 == values_.back() >> 32; };
+        const auto at = std::find_if(values_.begin(), values_.end(), is_of_last);
+        const auto found = at == values_.end() ? std::nullopt : std::make_optional(*at);
+        if (found) values_.erase(at);
+        return found;
+    }
+};
+
 // The size is counted beside the list, after it was changed and outside of the lock: so it can be 0 while values are
 // in.
 class Early : public Good {
@@ -130,10 +144,11 @@ std::unique_ptr<Good> make(const std::string& name) {
     if (name == "good") return std::make_unique<Good>();
     if (name == "wrong") return std::make_unique<Wrong>();
     if (name == "stack") return std::make_unique<Stack>();
+    if (name == "shards") return std::make_unique<Shards>();
     if (name == "early") return std::make_unique<Early>();
     if (name == "hang") return std::make_unique<Hang>();
     if (name == "throw") return std::make_unique<Throw>();
-    throw std::invalid_argument("no queue '" + name + "': good, wrong, stack, early, hang or throw");
+    throw std::invalid_argument("no queue '" + name + "': good, wrong, stack, shards, early, hang or throw");
 }
 
 std::uint64_t number(const std::string& word, std::uint64_t least, std::uint64_t most) {
@@ -155,6 +170,15 @@ fifobench::Pattern pattern(const std::string& word) {
     throw std::invalid_argument("no pattern '" + word + "': alternate, mix, bursts or roles");
 }
 
+fifobench::Condition condition(const std::string& word) {
+    for (unsigned place = 0; place < 4; ++place) {
+        if (word == fifobench::condition_names[place]) {
+            return static_cast<fifobench::Condition>(place);
+        }
+    }
+    throw std::invalid_argument("no condition '" + word + "': linearizable, local, weak-empty or both");
+}
+
 void set(fifobench::Settings& settings, const std::string& option, const std::string& word) {
     if (option == "--runs") settings.runs = static_cast<unsigned>(number(word, 1, 1'000'000));
     else if (option == "--threads") settings.threads = static_cast<unsigned>(number(word, 1, 64));
@@ -163,6 +187,7 @@ void set(fifobench::Settings& settings, const std::string& option, const std::st
     else if (option == "--percent") settings.percent = static_cast<unsigned>(number(word, 0, 100));
     else if (option == "--seed") settings.seed = number(word, 0, 4'294'967'295);
     else if (option == "--initial") settings.initial = number(word, 0, 100'000);
+    else if (option == "--condition") settings.condition = condition(word);
     else if (option == "--folder") settings.folder = word;
     else if (option == "--producers") settings.producers = static_cast<unsigned>(number(word, 0, 63));
     else if (option == "--keep") settings.keep = number(word, 0, 1) == 1;

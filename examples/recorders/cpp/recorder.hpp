@@ -81,6 +81,11 @@ enum class Pattern { Alternate, Mix, Bursts, Roles };
 constexpr const char* pattern_names[] = {"alternate", "mix", "bursts", "roles"};
 inline const char* name_of(Pattern pattern) { return pattern_names[static_cast<unsigned>(pattern)]; }
 
+// What a history has to meet. Local: the values of each producer alone are in order. WeakEmpty: an empty dequeue
+// promises nothing. docs/RECORDING.md says which queues promise no more.
+enum class Condition { Linearizable, Local, WeakEmpty, Both };
+constexpr const char* condition_names[] = {"linearizable", "local", "weak-empty", "both"};
+
 struct Settings {
     unsigned threads = 4;
     std::size_t operations = 0;          // of each thread; 0: by the seed, 500, 100 or 2,500
@@ -96,6 +101,7 @@ struct Settings {
     bool choose = true;                  // schedules, if schedule.c is linked; else its points disturb the threads
     bool journal = false;                // with recorder_crash.hpp: events reach a file while the run goes on
     bool keep = false;                   // a search keeps the histories without a violation too
+    Condition condition = Condition::Linearizable;
     std::string program, folder = "fifobench-runs";    // that judges; of the files
 
     // The value of the n-th operation of a thread, and that of initial value n with the thread 64. All have to
@@ -115,8 +121,8 @@ struct Settings {
         return values;
     }
 
-    // Seeds 1 to 4 have 500, 5 to 8 have 100, 9 to 12 have 500, and 13 to 16 have 2,500, which let a ring of 1,024 places
-    // go round; and so on.
+    // Seeds 1 to 4 have 500, 5 to 8 have 100, 9 to 12 have 500, and 13 to 16 have 2,500, which let a ring of 1,024
+    // places go round; and so on.
     std::size_t operations_of_seed() const {
         constexpr std::size_t sizes[] = {2'500, 500, 100, 500};
         return operations != 0 ? operations : sizes[(seed + 3) / 4 % 4];
@@ -705,7 +711,7 @@ private:
         std::error_code ignored;
         std::filesystem::remove(settings_.folder, ignored);    // if it is empty
         std::cout << (judges_ ? "no violation" : "nothing judged") << " in " << runs_ << " runs (seeds "
-                  << settings_.seed << " to " << settings_.seed + runs_ - 1 << "); "
+                  << settings_.seed << " to " << settings_.seed + runs_ - 1 << ')' << told_condition(settings_) << "; "
                   << 100 * overlapping_ / (operations_ + !operations_)
                   << " of 100 operations overlap another; runs without overlap: " << without_overlap_ << std::endl;
     }

@@ -48,6 +48,12 @@ private:
     std::chrono::steady_clock::time_point next_ = std::chrono::steady_clock::now() + std::chrono::seconds(2);
 };
 
+// The condition of a search, as its answer has it, if it isn't the default.
+inline std::string told_condition(const Settings& settings) {
+    const bool is_default = settings.condition == Condition::Linearizable;
+    return is_default ? "" : std::string(", condition ") + condition_names[static_cast<unsigned>(settings.condition)];
+}
+
 // The program, and the files of a run that it judges.
 class Judge {
 public:
@@ -90,25 +96,37 @@ public:
     // Judges the history that is kept, which may be a completion of pending calls. Returns 0, 1 or 2.
     int check(bool is_completed) const {
         const std::string history = path(".history"), report = path(".report");
-        const auto [status, verdict] = ask("check", history, report);
-        if (status == 0 && verdict == "YES") {
+        const auto [answer, verdict] = checked(history, report);
+        const bool is_undecided = answer == 1 && is_completed && !told_condition(settings_).empty();
+        if (answer == 0 || is_undecided) {
             if (!settings_.keep || is_completed) std::filesystem::remove(history);
             std::filesystem::remove(report);
+        }
+        if (answer == 0) {
             return 0;
         }
         Progress::erase();
-        if (status != 1 || verdict.rfind("NO ", 0) != 0) {
-            std::cerr << "fifobench: " << program_ << " says '" << verdict << "' of " << history << std::endl;
-            return 2;
+        if (is_undecided) {
+            std::cerr << "fifobench: " << verdict << " of one completion" << told_condition(settings_)
+                      << ": another one may be a YES" << std::endl;
+        } else if (answer == 2) {
+            std::cerr << "fifobench: " << program_ << verdict << std::endl;
+        } else {
+            tell_violation(verdict, history, report, is_completed);
         }
-        ask("shrink", history, report);
+        return is_undecided ? 2 : answer;
+    }
+
+    // Keeps the report of a violation, and says where it is and how it can be seen.
+    void tell_violation(const std::string& verdict, const std::string& history, const std::string& report,
+                        bool is_completed) const {
         const std::string seed = std::to_string(settings_.seed), pattern = name_of(settings_.pattern_of_seed());
+        ask("shrink", history, report);
         std::cout << verdict << ": seed " << seed << ", " << pattern
                   << (is_completed ? ": the queue is wrong, whatever the pending calls do" : "")
-                  << "\n  history: " << history << "\n  report:  " << report << "\n  see it:  " << program_
-                  << " draw --text < " << report << drawn_in(history) << "\n  again:   seed " << seed << ", pattern "
-                  << pattern << ": the same plan, though threads may meet in another way" << std::endl;
-        return 1;
+                  << "\n  history: " << history << "\n  report:  " << report << "\n  see it:  " << program_ << ' '
+                  << with_flags("draw --text") << " < " << report << drawn_in(history) << "\n  again:   seed " << seed
+                  << ", pattern " << pattern << ": the same plan, though threads may meet in another way" << std::endl;
     }
 
     // The second command of `see it:`, which draws the violation with what runs beside it: the report leaves that out.
@@ -116,7 +134,7 @@ public:
     std::string drawn_in(const std::string& history) const {
         for (const std::string command : {"draw --text --around 20", "draw --text"}) {
             if (ask(command, history, "/dev/null").first == 0) {
-                return "\n           " + program_ + ' ' + command + " < " + history;
+                return "\n           " + program_ + ' ' + with_flags(command) + " < " + history;
             }
         }
         return "";
@@ -145,16 +163,36 @@ public:
                       << (is_refused ? " says '" + first + "' of " + pending
                                      : std::string(" has no command complete, which a later version has")) << '\n';
         }
-        std::cerr << "  judge:   " << program_ << " complete < " << pending << " | " << program_ << " check"
-                  << std::endl;
+        std::cerr << "  judge:   " << program_ << " complete < " << pending << " | " << program_ << ' '
+                  << with_flags("check") << std::endl;
         return 2;
     }
 
 private:
+    // 0: `YES`; 1: `NO`, with its line; 2: neither, with what the program does in place of that.
+    using Verdict = std::pair<int, std::string>;
+
+    // What `check` says of a history, by the condition of the settings.
+    Verdict checked(const std::string& history, const std::string& to) const {
+        const auto [status, line] = ask("check", history, to);
+        if ((status == 0 && line == "YES") || (status == 1 && line.rfind("NO ", 0) == 0)) {
+            return {status, line};
+        }
+        return {2, " says '" + line + "' of " + history};
+    }
+
+    // A command, with the flags that are the condition of the settings.
+    std::string with_flags(const std::string& command) const {
+        static const char* const flags[] = {"", " --local", " --weak-empty", " --local --weak-empty"};
+        const bool has_flags = command.rfind("check", 0) == 0 || command.rfind("shrink", 0) == 0 ||
+                               command.rfind("draw", 0) == 0;
+        return has_flags ? command + flags[static_cast<unsigned>(settings_.condition)] : command;
+    }
+
     // Runs a command of the program. Returns its status, or -1, and the first line of its output.
     std::pair<int, std::string> ask(const std::string& command, const std::string& from, const std::string& to) const {
-        const std::string files = " <'" + from + "' >'" + to + "' 2>/dev/null", line = "'" + program_ + "' " + command;
-        const int status = std::system((line + files).c_str());
+        const std::string files = " <'" + from + "' >'" + to + "' 2>/dev/null";
+        const int status = std::system(("'" + program_ + "' " + with_flags(command) + files).c_str());
         std::string first;
         std::getline(std::ifstream(to), first);
         return {status % 256 == 0 ? status / 256 : -1, first};    // as POSIX has it

@@ -32,8 +32,8 @@ func (cores *cores) list() []int {
 	return list
 }
 
-// Keeps the calling goroutine on a thread and a core of its own until it calls what is returned: goroutine 0 on the first
-// core that it may run on, and so on.
+// Keeps the calling goroutine on a thread and a core of its own until it calls what is returned: goroutine 0 on the
+// first core that it may run on, and so on.
 func stayOnCoreOfLinux(number int) func() {
 	runtime.LockOSThread()
 	var before, one cores

@@ -90,7 +90,7 @@ func (options *Options) tellNone(isJudged bool, more string) Answer {
 		told, answer = "nothing judged in", Wrong
 	}
 	last := options.Seed + options.Runs - 1
-	fmt.Printf("%s %d runs (seeds %d to %d)%s\n", told, options.Runs, options.Seed, last, more)
+	fmt.Printf("%s %d runs (seeds %d to %d)%s%s\n", told, options.Runs, options.Seed, last, options.toldCondition(), more)
 	return answer
 }
 
@@ -112,7 +112,7 @@ func (options *Options) answer(history *History, isJudged bool) (Answer, error) 
 			return NoViolation, err
 		}
 	}
-	return options.judge(history.text(), "")
+	return options.judge(history.text(), false)
 }
 
 func (options *Options) program() string {
@@ -136,9 +136,26 @@ func (options *Options) isFound() bool {
 	return false
 }
 
+// The condition of a search, as its answer has it; empty if it is the default.
+func (options *Options) toldCondition() string {
+	if options.Condition == Linearizable {
+		return ""
+	}
+	return fmt.Sprintf(", condition %s", options.Condition)
+}
+
+// Returns a command, with the flags that are the condition of the options.
+func (options *Options) withFlags(command string) string {
+	switch strings.Fields(command)[0] {
+	case "check", "shrink", "draw":
+		return command + flags[options.Condition]
+	}
+	return command
+}
+
 // Returns what the program writes about this text, and its status.
 func (options *Options) ask(command string, text []byte) ([]byte, int, error) {
-	judge := exec.Command(options.program(), strings.Fields(command)...)
+	judge := exec.Command(options.program(), strings.Fields(options.withFlags(command))...)
 	judge.Stdin = bytes.NewReader(text)
 	told, err := judge.Output()
 	var ended *exec.ExitError
@@ -153,38 +170,60 @@ func firstLine(text []byte) string {
 	return line
 }
 
-// Judges a history, and says of a violation where it is kept. `why` follows the verdict.
-func (options *Options) judge(text []byte, why string) (Answer, error) {
-	verdict, status, err := options.ask("check", text)
-	if err != nil || status == 0 {
-		return NoViolation, err
+// Returns what `check` says of a history, by the condition of the options: YES, or NO and what is violated. An error is
+// that the program says something else.
+func (options *Options) verdict(text []byte) (string, error) {
+	said, status, err := options.ask("check", text)
+	verdict := firstLine(said)
+	if err == nil && status != 0 && status != 1 {
+		err = fmt.Errorf("%s says '%s' of %s", options.program(), verdict, options.path("history"))
 	}
-	kept, err := options.keep("history", text)
+	return verdict, err
+}
+
+// Judges a history, which may be a completion of pending calls, and says of a violation where it is kept.
+func (options *Options) judge(text []byte, isCompleted bool) (Answer, error) {
+	verdict, err := options.verdict(text)
+	if err == nil && verdict == "YES" {
+		return NoViolation, nil
+	}
+	if told := options.toldCondition(); err == nil && isCompleted && told != "" {
+		return Wrong, fmt.Errorf("%s of one completion%s: another one may be a YES", verdict, told)
+	}
+	kept, failed := options.keep("history", text)
+	if failed != nil {
+		return Wrong, failed
+	}
 	if err != nil {
 		return Wrong, err
 	}
-	if status != 1 {
-		return Wrong, fmt.Errorf("%s says '%s' of %s", options.program(), firstLine(verdict), kept)
-	}
-	shrunk, _, err := options.ask("shrink", text)
+	seen, err := options.toldViolation(text, kept)
 	if err != nil {
 		return Wrong, err
 	}
-	report, err := options.keep("report", shrunk)
-	if err != nil {
-		return Wrong, err
+	seed, pattern, why := options.Seed, options.PatternOf(options.Seed), ""
+	if isCompleted {
+		why = ": the queue is wrong, whatever the pending calls do"
 	}
-	seed, pattern := options.Seed, options.PatternOf(options.Seed)
 	eraseProgress()
-	fmt.Printf("%s: seed %d, %s%s\n", firstLine(verdict), seed, pattern, why)
-	fmt.Printf("  history: %s\n  report:  %s\n", kept, report)
-	fmt.Printf("  see it:  %s draw --text < %s\n%s", options.program(), report, options.drawnIn(text, kept))
+	fmt.Printf("%s: seed %d, %s%s\n  history: %s\n%s", verdict, seed, pattern, why, kept, seen)
 	if options.tellAgain != nil {
-		options.tellAgain(firstLine(verdict))
+		options.tellAgain(verdict)
 		return Violation, nil
 	}
 	fmt.Printf("  again:   seed %d, pattern %s: the same plan, though threads may meet in another way\n", seed, pattern)
 	return Violation, nil
+}
+
+// Returns the lines of a violation after its history: the report and pictures.
+func (options *Options) toldViolation(text []byte, kept string) (string, error) {
+	shrunk, _, err := options.ask("shrink", text)
+	if err != nil {
+		return "", err
+	}
+	report, err := options.keep("report", shrunk)
+	return fmt.Sprintf("  report:  %s\n  see it:  %s %s < %s\n%s", report, options.program(),
+		options.withFlags("draw --text"), report, options.drawnIn(text, kept)), err
 }
 
 // Returns the second command of `see it:`, which draws the violation with what runs beside it: the report leaves that
@@ -192,10 +231,14 @@ func (options *Options) judge(text []byte, why string) (Answer, error) {
 func (options *Options) drawnIn(text []byte, kept string) string {
 	for _, command := range []string{"draw --text --around 20", "draw --text"} {
 		if _, status, err := options.ask(command, text); err == nil && status == 0 {
-			return fmt.Sprintf("           %s %s < %s\n", options.program(), command, kept)
+			return fmt.Sprintf("           %s %s < %s\n", options.program(), options.withFlags(command), kept)
 		}
 	}
 	return ""
+}
+
+func (options *Options) path(kind string) string {
+	return filepath.Join(options.Folder, fmt.Sprintf("%d.%s", options.Seed, kind))
 }
 
 // Writes a text into the folder, and gives its path.
@@ -203,8 +246,7 @@ func (options *Options) keep(kind string, text []byte) (string, error) {
 	if err := os.MkdirAll(options.Folder, 0o777); err != nil {
 		return "", err
 	}
-	path := filepath.Join(options.Folder, fmt.Sprintf("%d.%s", options.Seed, kind))
-	return path, os.WriteFile(path, text, 0o666)
+	return options.path(kind), os.WriteFile(options.path(kind), text, 0o666)
 }
 
 // Keeps what there is of a run that ended early, says how it ended, and judges it.
@@ -231,7 +273,7 @@ func (options *Options) judgePending(history *History, pending string) (Answer, 
 	program := options.program()
 	told, status, err := options.ask("complete", history.text())
 	if err == nil && status == 0 {
-		answer, err := options.judge(told, ": the queue is wrong, whatever the pending calls do")
+		answer, err := options.judge(told, true)
 		if err != nil || answer == Violation {
 			return answer, err
 		}
@@ -256,7 +298,7 @@ func (options *Options) judgePending(history *History, pending string) (Answer, 
 	} else if err == nil {
 		say("%s has no command complete, which a later version has", program)
 	}
-	fmt.Fprintf(os.Stderr, "  judge:   %s complete < %s | %s check\n", program, pending, program)
+	fmt.Fprintf(os.Stderr, "  judge:   %s complete < %s | %s %s\n", program, pending, program, options.withFlags("check"))
 	return Wrong, nil
 }
 
@@ -340,7 +382,7 @@ func (options *Options) nameKilled() {
 			continue
 		}
 		say("seed %d was killed in an earlier search", options.Seed+number)
-		fmt.Fprintf(os.Stderr, "  judge:   %s complete --cut < %s.killed | %s check\n", options.program(), stem,
-			options.program())
+		fmt.Fprintf(os.Stderr, "  judge:   %s complete --cut < %s.killed | %s %s\n", options.program(), stem,
+			options.program(), options.withFlags("check"))
 	}
 }

@@ -73,6 +73,22 @@ const (
 
 var patterns = [4]Pattern{Alternate, Mix, Bursts, Roles}
 
+// Condition is what a history has to meet. docs/RECORDING.md says which queues promise no more than the weaker ones.
+type Condition string
+
+const (
+	Linearizable Condition = "linearizable"
+	// Local: the values of each producer alone are in order.
+	Local Condition = "local"
+	// WeakEmpty: an empty dequeue promises nothing.
+	WeakEmpty Condition = "weak-empty"
+	Both      Condition = "both"
+)
+
+// The flags of each condition.
+var flags = map[Condition]string{Linearizable: "", Local: " --local", WeakEmpty: " --weak-empty",
+	Both: " --local --weak-empty"}
+
 // Options are the settings of a run and of a search. Begin with Defaults.
 type Options struct {
 	Threads    int // 1 to 64
@@ -92,6 +108,7 @@ type Options struct {
 	Schedule   any                               // with schedule.go a Schedule; nil: if FIFOBENCH_SCHEDULE=1
 	Journal    bool                              // events reach Folder/SEED.pending while the run goes on
 	Keep       bool                              // a search keeps the histories without a violation too
+	Condition  Condition                         // what a history has to meet
 	isQuiet    bool                              // what was said once isn't said again
 	tellAgain  func(kind string)                 // the last lines of a verdict, with chosen schedules
 }
@@ -111,6 +128,8 @@ func Defaults() Options {
 		Value:   func(thread int, n uint64) uint64 { return uint64(thread)<<32 + n },
 		Drain:   true,
 		Folder:  "fifobench-runs",
+
+		Condition: Linearizable,
 	}
 }
 
@@ -125,8 +144,8 @@ func (options *Options) PatternOf(seed uint64) Pattern {
 	return patterns[(seed+3)%4]
 }
 
-// OperationsOf gives the number of operations of each thread for a seed: unless it is set, 500 for seeds 1 to 4, 100 for 5
-// to 8, 500 for 9 to 12 and 2,500 for 13 to 16, which let a ring of 1,024 places go round; and so on.
+// OperationsOf gives the number of operations of each thread for a seed: unless it is set, 500 for seeds 1 to 4, 100
+// for 5 to 8, 500 for 9 to 12 and 2,500 for 13 to 16, which let a ring of 1,024 places go round; and so on.
 func (options *Options) OperationsOf(seed uint64) int {
 	if options.Operations != 0 {
 		return options.Operations
@@ -166,6 +185,9 @@ func (options *Options) Check() error {
 	}
 	if options.Initial < 0 || options.Initial > MaxInitial {
 		return fmt.Errorf("at most %d initial values", MaxInitial)
+	}
+	if _, isOne := flags[options.Condition]; !isOne {
+		return fmt.Errorf("no condition %q: linearizable, local, weak-empty or both", options.Condition)
 	}
 	for _, pattern := range patterns {
 		if options.PatternOf(0) == pattern {
@@ -637,8 +659,8 @@ func Record(threads, operations int, work func(thread *Thread)) (*History, error
 	return RecordWith(options, work)
 }
 
-// RecordWith is Record with more settings; there is no drain and no pattern. With initial values the history says that the
-// queue holds Options.InitialValues first: put them in before.
+// RecordWith is Record with more settings; there is no drain and no pattern. With initial values the history says that
+// the queue holds Options.InitialValues first: put them in before.
 func RecordWith(options Options, work func(thread *Thread)) (*History, error) {
 	if err := options.Check(); err != nil {
 		return nil, err

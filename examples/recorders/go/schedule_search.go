@@ -280,8 +280,7 @@ func (made *made) kind() (string, error) {
 	case len(made.history.failures) > 0:
 		return "a panic", nil
 	}
-	verdict, _, err := made.options.ask("check", made.history.text())
-	return firstLine(verdict), err
+	return made.options.verdict(made.history.text())
 }
 
 // Makes the run again, leaves out operations and switches, and prints what is left.

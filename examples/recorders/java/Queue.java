@@ -12,17 +12,19 @@ import java.util.concurrent.atomic.AtomicInteger;
  * <pre>
  * Queue QUEUE                                        searches for a violation, status 0, 1 or 2
  * Queue QUEUE [--runs R] [--threads T] [--producers N] [--ops N] [--pattern P] [--percent K] [--seed S]
- *     [--initial N] [--folder F] [--keep 0|1] [--timeout SECONDS]    the same with settings
- * Queue QUEUE THREADS OPERATIONS [PATTERN [SEED [INITIAL]]]          one run, written to standard output
+ *     [--initial N] [--condition C] [--folder F] [--keep 0|1] [--timeout SECONDS]
+ *                                                                the same with settings
+ * Queue QUEUE THREADS OPERATIONS [PATTERN [SEED [INITIAL]]]      one run, written to standard output
  * </pre>
  *
  * Without a pattern, or with {@code loop}, the one run is a loop of one's own.
  *
  * QUEUE is {@code good}, {@code wrong} (every 4th value that is found stays), {@code stack} (last in, first out),
- * {@code early} (says empty too early), {@code hang} (a dequeue never returns) or {@code throw} (a dequeue throws).
+ * {@code shards} (values of two producers overtake each other), {@code early} (says empty too early), {@code hang} (a
+ * dequeue never returns) or {@code throw} (a dequeue throws).
  */
 final class Queue {
-    private static final List<String> KINDS = List.of("good", "wrong", "stack", "early", "hang", "throw");
+    private static final List<String> KINDS = List.of("good", "wrong", "stack", "shards", "early", "hang", "throw");
 
     private static final class Tested implements Recorder.Queue {
         private final String kind;
@@ -76,6 +78,13 @@ final class Queue {
                 if (kind.equals("stack")) {
                     return list.pollLast();
                 }
+                // The first value of the last one's producer: the order of each producer is kept.
+                if (kind.equals("shards") && !list.isEmpty()) {
+                    long producer = list.getLast() >> 32;
+                    Long value = list.stream().filter(each -> each >> 32 == producer).findFirst().orElseThrow();
+                    list.remove(value);
+                    return value;
+                }
                 Long value = list.peekFirst();
                 // The fault of `wrong`: every 4th value that is found is left in place.
                 if (value != null && (++found % 4 != 0 || !kind.equals("wrong"))) {
@@ -127,6 +136,15 @@ final class Queue {
         throw new Refused("no pattern \"" + word + "\": alternate, mix, bursts or roles");
     }
 
+    private static Recorder.Condition condition(String word) throws Refused {
+        for (Recorder.Condition condition : Recorder.Condition.values()) {
+            if (condition.toString().equals(word)) {
+                return condition;
+            }
+        }
+        throw new Refused("no condition \"" + word + "\": linearizable, local, weak-empty or both");
+    }
+
     // One setting of the recorder.
     private static void set(Recorder recorder, String name, String word) throws Refused {
         switch (name) {
@@ -137,6 +155,7 @@ final class Queue {
             case "--percent" -> recorder.percent((int) number(name, word, 0, 100));
             case "--seed" -> recorder.seed(number(name, word, 0, 4_294_967_295L));
             case "--initial" -> recorder.initial((int) number(name, word, 0, Recorder.MAX_INITIAL));
+            case "--condition" -> recorder.condition(condition(word));
             case "--folder" -> recorder.folder(Path.of(word));
             case "--producers" -> recorder.producers((int) number(name, word, 0, 63));
             case "--keep" -> recorder.keep(number(name, word, 0, 1) == 1);
@@ -199,7 +218,7 @@ final class Queue {
     private static int statusOf(String[] words) throws Exception {
         if (words.length == 0 || !KINDS.contains(words[0])) {
             String what = words.length == 0 ? "which queue?" : "no queue \"" + words[0] + "\":";
-            throw new Refused(what + " good, wrong, stack, early, hang or throw");
+            throw new Refused(what + " good, wrong, stack, shards, early, hang or throw");
         }
         String kind = words[0];
         String[] rest = Arrays.copyOfRange(words, 1, words.length);

@@ -99,6 +99,21 @@ public final class Recorder implements AutoCloseable {
         }
     }
 
+    /** What a history has to meet. docs/RECORDING.md says which queues promise no more than the weaker ones. */
+    public enum Condition {
+        LINEARIZABLE,
+        /** The values of each producer alone are in order. */
+        LOCAL,
+        /** An empty dequeue promises nothing. */
+        WEAK_EMPTY,
+        BOTH;
+
+        @Override
+        public String toString() {
+            return name().toLowerCase(Locale.ROOT).replace('_', '-');
+        }
+    }
+
     /** What a search found. Its ordinal is the status that a program ends with. */
     public enum Answer {
         NO_VIOLATION,
@@ -121,6 +136,7 @@ public final class Recorder implements AutoCloseable {
     boolean drains = true;
     boolean hasJournal;
     boolean keepsAll;
+    Condition condition = Condition.LINEARIZABLE;
     Path folder = Path.of("fifobench-runs");
     String program;
     private Chooser chooser;
@@ -209,6 +225,12 @@ public final class Recorder implements AutoCloseable {
     /** Whether a search keeps the histories without a violation too. */
     public Recorder keep(boolean keepsAll) {
         this.keepsAll = keepsAll;
+        return this;
+    }
+
+    /** What a history has to meet; unless set, linearizability. */
+    public Recorder condition(Condition condition) {
+        this.condition = condition;
         return this;
     }
 
@@ -334,7 +356,7 @@ public final class Recorder implements AutoCloseable {
     // The common start: threads wait, for a bounded time, until all are there and two are seen to run at once.
     private static final class Start {
         private static final int LOOKS = 1_000, PASSES = 64;
-        private static final long ARRIVAL_NANOS = 1_000_000_000, RUNNING_NANOS = 100_000_000;
+        private static final long ARRIVAL_NANOS = 1_000_000_000, RUNNING_NANOS = 100_000_000, TURN_NANOS = 3_000_000;
         private final int threads;
         private final AtomicInteger arrived = new AtomicInteger();
         private final AtomicInteger lastBy = new AtomicInteger();
@@ -354,13 +376,18 @@ public final class Recorder implements AutoCloseable {
         }
 
         // Takes turns of looks until the start is open or enough was seen in one turn; false if the time is used up.
+        // Who looks for one that runs at the same time gives way after three milliseconds only: it can't choose its
+        // core, and beside other programs it comes to none again for long.
         private boolean turns(long nanos, BooleanSupplier isSeen, int often) {
-            long begin = System.nanoTime();
-            while (System.nanoTime() - begin < nanos) {
+            long begin = System.nanoTime(), turn = begin, length = often == 1 ? 0 : TURN_NANOS;
+            for (long now = begin; now - begin < nanos; now = System.nanoTime()) {
                 if (isSeenIn(LOOKS, isSeen, often)) {
                     return true;
                 }
-                Thread.yield();
+                if (now - turn >= length) {
+                    Thread.yield();
+                    turn = System.nanoTime();
+                }
             }
             return false;
         }
@@ -437,23 +464,6 @@ public final class Recorder implements AutoCloseable {
         static String head(String name, List<Long> initial) {
             String values = initial.stream().map(value -> Long.toUnsignedString(value) + "\n").collect(joining());
             return name + (initial.isEmpty() ? "1\n" : "2\ninitial " + initial.size() + "\n" + values);
-        }
-
-        // How many operations overlap another.
-        long overlapping() {
-            long open = 0, met = 0, overlapping = 0;
-            for (Event event : events) {
-                long thread = 1L << event.thread;
-                if (event.isCall()) {
-                    met |= open == 0 ? 0 : open | thread;
-                    open |= thread;
-                } else {
-                    overlapping += (met & thread) == 0 ? 0 : 1;
-                    met &= ~thread;
-                    open &= ~thread;
-                }
-            }
-            return overlapping;
         }
     }
 
@@ -656,11 +666,6 @@ public final class Recorder implements AutoCloseable {
                 RecorderJudge.say("seed " + seed + ": " + told);
             }
         }
-    }
-
-    static String toldCall(Event call) {
-        String kind = call.what == CALL_DEQ ? "dequeue" : "enqueue of " + Long.toUnsignedString(call.value);
-        return "thread " + call.thread + " is inside " + kind;
     }
 
     // SplitMix64.

@@ -93,10 +93,23 @@ final class RecorderJudge {
         }
     }
 
+    // The condition of a search, as its answer has it; empty if it is the default.
+    private String toldCondition() {
+        boolean isDefault = recorder.condition == Recorder.Condition.LINEARIZABLE;
+        return isDefault ? "" : ", condition " + recorder.condition;
+    }
+
+    // A command, with the flags that are the condition of the settings.
+    private String withFlags(String command) {
+        List<String> flags = List.of("", " --local", " --weak-empty", " --local --weak-empty");
+        boolean hasFlags = List.of("check", "shrink", "draw").contains(command.split(" ")[0]);
+        return hasFlags ? command + flags.get(recorder.condition.ordinal()) : command;
+    }
+
     // Returns what the program writes about this text, and its status.
     Told ask(String command, byte[] text) throws IOException {
         List<String> words = new ArrayList<>(List.of(program()));
-        words.addAll(List.of(command.split(" ")));
+        words.addAll(List.of(withFlags(command).split(" ")));
         Process judge = new ProcessBuilder(words).redirectError(Redirect.DISCARD).start();
         try (OutputStream input = judge.getOutputStream()) {
             input.write(text);
@@ -132,7 +145,7 @@ final class RecorderJudge {
         if (!isJudged || recorder.keepsAll) {
             keep(history.seed, "history", history.text());
         }
-        return isJudged ? judge(history.seed, history.text(), "") : Recorder.Answer.NO_VIOLATION;
+        return isJudged ? judge(history.seed, history.text(), false) : Recorder.Answer.NO_VIOLATION;
     }
 
     /** What the runs of a search have shown: of each seed the last one that was made. */
@@ -154,7 +167,7 @@ final class RecorderJudge {
             for (int left = recorder.threads == 1 ? 0 : 3;; left--, again++) {
                 Recorder.History history = run.call();
                 Recorder.Answer answer = RecorderJudge.this.answer(history, isJudged);
-                long met = history.overlapping();
+                long met = overlapping(history);
                 if (answer != Recorder.Answer.NO_VIOLATION || met > 0 || left == 0 || again == runs) {
                     events += history.events.size();
                     overlapping += met;
@@ -162,6 +175,23 @@ final class RecorderJudge {
                     return answer;
                 }
             }
+        }
+
+        // How many operations overlap another.
+        private static long overlapping(Recorder.History history) {
+            long open = 0, met = 0, overlapping = 0;
+            for (Recorder.Event event : history.events) {
+                long thread = 1L << event.thread();
+                if (event.isCall()) {
+                    met |= open == 0 ? 0 : open | thread;
+                    open |= thread;
+                } else {
+                    overlapping += (met & thread) == 0 ? 0 : 1;
+                    met &= ~thread;
+                    open &= ~thread;
+                }
+            }
+            return overlapping;
         }
 
         String told() {
@@ -173,8 +203,8 @@ final class RecorderJudge {
     // Says that no run is a violation, and what else there is to say.
     Recorder.Answer tellNone(boolean isJudged, long seed, long end, String more) {
         Progress.erase();
-        System.out.printf("%s %d runs (seeds %d to %d)%s%n", isJudged ? "no violation in" : "nothing judged in",
-                end - seed, seed, end - 1, more);
+        System.out.printf("%s %d runs (seeds %d to %d)%s%s%n", isJudged ? "no violation in" : "nothing judged in",
+                end - seed, seed, end - 1, toldCondition(), more);
         return isJudged ? Recorder.Answer.NO_VIOLATION : Recorder.Answer.WRONG;
     }
 
@@ -184,23 +214,33 @@ final class RecorderJudge {
         }
     }
 
-    // Judges a history, and says of a violation where it is kept. `why` follows the verdict.
-    private Recorder.Answer judge(long seed, byte[] text, String why) throws IOException {
-        Told verdict = ask("check", text);
-        if (verdict.status == 0) {
+    // Returns what `check` says of a history, by the condition of the settings: YES, or NO and what is violated.
+    String verdict(long seed, byte[] text) throws IOException {
+        Told check = ask("check", text);
+        if (check.status != 0 && check.status != 1) {
+            keep(seed, "history", text);
+            throw new IOException(program() + " says '" + check.firstLine() + "' of " + path(seed, "history"));
+        }
+        return check.firstLine();
+    }
+
+    // Judges a history, which may be a completion of pending calls, and says of a violation where it is kept.
+    private Recorder.Answer judge(long seed, byte[] text, boolean isCompleted) throws IOException {
+        String verdict = verdict(seed, text);
+        if (verdict.equals("YES")) {
             return Recorder.Answer.NO_VIOLATION;
         }
-        Path kept = keep(seed, "history", text);
-        if (verdict.status != 1) {
-            throw new IOException(program() + " says '" + verdict.firstLine() + "' of " + kept);
+        if (isCompleted && !toldCondition().isEmpty()) {
+            throw new IOException(verdict + " of one completion" + toldCondition() + ": another one may be a YES");
         }
-        Path report = keep(seed, "report", ask("shrink", text).text);
+        Path kept = keep(seed, "history", text);
+        String seen = toldViolation(seed, text, kept);
         Recorder.Pattern pattern = recorder.patternOf(seed);
+        String why = isCompleted ? ": the queue is wrong, whatever the pending calls do" : "";
         Progress.erase();
-        System.out.printf("%s: seed %d, %s%s%n  history: %s%n  report:  %s%n  see it:  %s draw --text < %s%n%s",
-                verdict.firstLine(), seed, pattern, why, kept, report, program(), report, drawnIn(text, kept));
+        System.out.printf("%s: seed %d, %s%s%n  history: %s%n%s", verdict, seed, pattern, why, kept, seen);
         if (tellAgain != null) {
-            tellAgain.accept(verdict.firstLine());
+            tellAgain.accept(verdict);
         } else {
             System.out.println("  again:   seed " + seed + ", pattern " + pattern
                     + ": the same plan, though threads may meet in another way");
@@ -208,22 +248,35 @@ final class RecorderJudge {
         return Recorder.Answer.VIOLATION;
     }
 
+    // The lines of a violation after its history: the report and its pictures.
+    private String toldViolation(long seed, byte[] text, Path kept) throws IOException {
+        Path report = keep(seed, "report", ask("shrink", text).text);
+        return String.format("  report:  %s%n  see it:  %s %s < %s%n%s", report, program(), withFlags("draw --text"),
+                report, drawnIn(text, kept));
+    }
+
     // The second command of `see it:`, which draws the violation with what runs beside it: the report leaves that out.
     // `draw` refuses more than 400 operations; then there is none.
     private String drawnIn(byte[] text, Path kept) throws IOException {
         for (String command : List.of("draw --text --around 20", "draw --text")) {
             if (ask(command, text).status == 0) {
-                return "           " + program() + " " + command + " < " + kept + System.lineSeparator();
+                return String.format("           %s %s < %s%n", program(), withFlags(command), kept);
             }
         }
         return "";
+    }
+
+    static String toldCall(Recorder.Event call) {
+        String value = Long.toUnsignedString(call.value());
+        return "thread " + call.thread() + " is inside "
+                + (call.what() == Recorder.CALL_DEQ ? "dequeue" : "enqueue of " + value);
     }
 
     // Keeps what there is of a run that ended early, says how it ended, and judges it.
     Recorder.Answer endEarly(Recorder.History history) {
         String told = String.join("; ", history.failures);
         if (history.ending.equals("hang") || history.ending.equals("exception")) {    // else said with the places
-            List<String> calls = history.openCalls().stream().map(Recorder::toldCall).toList();
+            List<String> calls = history.openCalls().stream().map(RecorderJudge::toldCall).toList();
             told += "; " + (calls.isEmpty() ? "no thread is inside a call" : String.join(", ", calls));
         }
         say("seed " + history.seed + ": " + told);
@@ -247,8 +300,7 @@ final class RecorderJudge {
             return Recorder.Answer.WRONG;
         }
         if (completed.status == 0) {
-            String why = ": the queue is wrong, whatever the pending calls do";
-            if (judge(history.seed, completed.text, why) == Recorder.Answer.VIOLATION) {
+            if (judge(history.seed, completed.text, true) == Recorder.Answer.VIOLATION) {
                 return Recorder.Answer.VIOLATION;
             }
             String promise = history.ending.equals("exception") ? "not to throw" : "to return";
@@ -271,7 +323,8 @@ final class RecorderJudge {
     }
 
     private void tellJudge(String command, Path text) {
-        System.err.println("  judge:   " + program() + " " + command + " < " + text + " | " + program() + " check");
+        String check = program() + " " + withFlags("check");
+        System.err.println("  judge:   " + program() + " " + command + " < " + text + " | " + check);
     }
 
     // Names the texts that killed runs of an earlier search have left: they lack the last line.

@@ -157,7 +157,7 @@ final class ScheduledSearch {
         String why = scheduler.outcome.equals("deadlock") ? "no thread can run"
                 : "no operation ends in " + schedule.patience() + " points";
         return why + ": " + calls.stream()
-                .map(call -> Recorder.toldCall(call) + " at " + scheduler.places.get(call.thread()))
+                .map(call -> RecorderJudge.toldCall(call) + " at " + scheduler.places.get(call.thread()))
                 .collect(Collectors.joining(", "));
     }
 
@@ -185,7 +185,7 @@ final class ScheduledSearch {
         if (made.history.ending != null) {
             return made.history.isGivenUp() ? "a hang" : "an exception";
         }
-        return recorder.judge.ask("check", made.history.text()).firstLine();
+        return recorder.judge.verdict(made.history.seed, made.history.text());
     }
 
     // Makes the run again, leaves out operations and switches, and prints what is left.

@@ -2,13 +2,15 @@
 
     queue_program.py QUEUE                                        searches for a violation, status 0, 1 or 2
     queue_program.py QUEUE [--runs R] [--threads T] [--producers N] [--ops N] [--pattern P] [--percent K] [--seed S]
-        [--initial N] [--folder F] [--keep 0|1] [--timeout SECONDS]         the same with settings
+        [--initial N] [--condition C] [--folder F] [--keep 0|1] [--timeout SECONDS]
+                                                                            the same with settings
     queue_program.py QUEUE THREADS OPERATIONS [PATTERN [SEED [INITIAL]]]    one run, written to standard output
 
 Without a pattern, or with `loop`, the one run is a loop of one's own.
 
-QUEUE is `good`, `wrong` (every 4th value that is found stays), `stack` (last in, first out), `early` (says empty too
-early), `hang` (a dequeue never returns) or `throw` (a dequeue raises an exception).
+QUEUE is `good`, `wrong` (every 4th value that is found stays), `stack` (last in, first out), `shards` (values of two
+producers overtake each other), `early` (says empty too early), `hang` (a dequeue never returns) or `throw` (a dequeue
+raises an exception).
 """
 
 import collections
@@ -19,7 +21,7 @@ import time
 
 import recorder
 
-KINDS = ("good", "wrong", "stack", "early", "hang", "throw")
+KINDS = ("good", "wrong", "stack", "shards", "early", "hang", "throw")
 
 
 class Queue:
@@ -55,6 +57,11 @@ class Queue:
                 return None
             if self.kind == "stack":
                 return self.list.pop()
+            # The first value of the last one's producer: the order of each producer is kept.
+            if self.kind == "shards":
+                value = next(value for value in self.list if value >> 32 == self.list[-1] >> 32)
+                self.list.remove(value)
+                return value
             self.found += 1
             # The fault of `wrong`: every 4th value that is found is left in place.
             if self.kind == "wrong" and self.found % 4 == 0:
@@ -107,6 +114,8 @@ def set_option(options, name, word):
         setattr(options, setting, number(name, word, least, most))
     elif name == "--pattern":
         options.pattern = word
+    elif name == "--condition":
+        options.condition = word
     elif name == "--folder":
         options.folder = word
     else:
@@ -169,7 +178,7 @@ def main(words):
     try:
         if not words or words[0] not in KINDS:
             what = f'no queue "{words[0]}":' if words else "which queue?"
-            raise Refused(f"{what} good, wrong, stack, early, hang or throw")
+            raise Refused(f"{what} good, wrong, stack, shards, early, hang or throw")
         options, is_one_run = settings(words[1:])
     except (Refused, ValueError) as refused:
         print(f"queue: {refused}", file=sys.stderr)

@@ -79,6 +79,9 @@ class Options:
     # Whether events reach FOLDER/SEED.pending while the run goes on, so that a killed run leaves them.
     journal: bool = False
     keep: bool = False    # a search keeps the histories without a violation too
+    # What a history has to meet: linearizable; local: the values of each producer alone are in order; weak-empty: an
+    # empty dequeue promises nothing; both.
+    condition: str = "linearizable"
     folder: str = "fifobench-runs"    # where histories and reports are kept
     program: str = None    # else that of the environment variable FIFOBENCH, else fifobench on the PATH
     # Whether the seed chooses how threads interleave, by schedule.py beside this file: True, False, or a dict of its
@@ -123,6 +126,8 @@ class Options:
             raise ValueError(f"at most {MAX_INITIAL} initial values")
         if self.pattern is not None and self.pattern not in PATTERNS:
             raise ValueError(f'no pattern "{self.pattern}": alternate, mix, bursts or roles')
+        if self.condition not in _judge.FLAGS:
+            raise ValueError(f'no condition "{self.condition}": linearizable, local, weak-empty or both')
 
 
 def _tickets():
@@ -207,7 +212,8 @@ def _on_a_core(number):
 class _Start:
     """The common start: threads wait, for a bounded time, until all are there and two are seen to run at once.
 
-    Each waits on a core of its own; then all begin, on any core. Under the interpreter's lock these are two that take turns within a few looks.
+    Each waits on a core of its own; then all begin, on any core. Under the interpreter's lock these are two that take
+    turns within a few looks.
     """
 
     LOOKS = 200
@@ -582,6 +588,6 @@ def search(options, make_queue):
         if answer != Answer.NO_VIOLATION:
             break
     else:
-        answer = _judge.tell_none(found.is_judged, options.seed, found.runs, found.told())
+        answer = _judge.tell_none(options, found.is_judged, options.seed, found.runs, found.told())
     _judge.tell_kept(options, answer, found.is_judged, seed + 1 - options.seed, 2 * found.operations)
     return answer

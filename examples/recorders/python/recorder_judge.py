@@ -1,4 +1,6 @@
-"""What a search asks of the program, and the files of its runs: histories, reports, and the texts of runs that end early.
+"""What a search asks of the program, and the files of its runs.
+
+These are histories, reports, and the texts of runs that end early.
 
 Beside `recorder.py`, which loads it.
 """
@@ -10,6 +12,7 @@ import sys
 import time
 
 MAX_DRAWN = 400    # operations or initial values in a picture
+FLAGS = {"linearizable": "", "local": " --local", "weak-empty": " --weak-empty", "both": " --local --weak-empty"}
 
 
 class Answer(enum.IntEnum):
@@ -98,7 +101,7 @@ class Found:
         try:
             return answer(options, history, self.is_judged)
         except OSError as error:
-            say(f"seed {options.seed}: {error}")
+            say(str(error))
             return Answer.WRONG
 
     def told(self):
@@ -106,11 +109,12 @@ class Found:
         return f"; {share} of 100 operations overlap another; runs without overlap: {self.without_overlap}"
 
 
-def tell_none(is_judged, first, runs, more):
+def tell_none(options, is_judged, first, runs, more):
     """Says that no run is a violation, and what else there is to say."""
     Progress.erase()
     told = "no violation" if is_judged else "nothing judged"
-    print(f"{told} in {runs} runs (seeds {first} to {first + runs - 1}){more}", flush=True)
+    condition = _told_condition(options)
+    print(f"{told} in {runs} runs (seeds {first} to {first + runs - 1}){condition}{more}", flush=True)
     return Answer.NO_VIOLATION if is_judged else Answer.WRONG
 
 
@@ -168,10 +172,22 @@ def is_found(options):
         return False
 
 
+def _told_condition(options):
+    """The condition of a search, as its answer has it; empty if it is the default."""
+    return "" if options.condition == "linearizable" else f", condition {options.condition}"
+
+
+def _with_flags(options, command):
+    """A command, with the flags that are the condition of the options."""
+    has_flags = command.split()[0] in ("check", "shrink", "draw")
+    return command + FLAGS[options.condition] if has_flags else command
+
+
 def ask(options, command, text):
     """Returns what the program writes about this text, and its status."""
-    told = subprocess.run([program_of(options), *command.split()], input=text.encode("ascii"), stdout=subprocess.PIPE,
-                          stderr=subprocess.DEVNULL, check=False)
+    words = [program_of(options), *_with_flags(options, command).split()]
+    told = subprocess.run(words, input=text.encode("ascii"), stdout=subprocess.PIPE, stderr=subprocess.DEVNULL,
+                          check=False)
     return told.stdout.decode("ascii", "replace"), told.returncode
 
 
@@ -182,7 +198,21 @@ def _tell_plan(options):
 
 def _tell_judge(options, command, path):
     program = program_of(options)
-    print(f"  judge:   {program} {command} < {path} | {program} check", file=sys.stderr, flush=True)
+    check = _with_flags(options, "check")
+    print(f"  judge:   {program} {command} < {path} | {program} {check}", file=sys.stderr, flush=True)
+
+
+def verdict_on(options, text):
+    """What `check` says of a history, by the condition of the options: YES, or NO and what is violated.
+
+    OSError is raised if the program says something else.
+    """
+    said, status = ask(options, "check", text)
+    verdict = said.partition("\n")[0]
+    if status not in (0, 1):
+        kept = keep(options, "history", text)
+        raise OSError(f"{program_of(options)} says '{verdict}' of {kept}")
+    return verdict
 
 
 def _drawn_in(options, text, kept):
@@ -192,32 +222,37 @@ def _drawn_in(options, text, kept):
     """
     for command in ("draw --text --around 20", "draw --text"):
         if ask(options, command, text)[1] == 0:
-            return f"\n           {program_of(options)} {command} < {kept}"
+            return f"\n           {program_of(options)} {_with_flags(options, command)} < {kept}"
     return ""
 
 
-def judge_text(options, text, tell_again=None, why=""):
-    """Judges a history, and says of a violation where it is kept. `why` follows the verdict."""
-    verdict, status = ask(options, "check", text)
-    if status == 0:
+def judge_text(options, text, tell_again=None, is_completed=False):
+    """Judges a history, which may be a completion of pending calls, and says of a violation where it is kept."""
+    verdict = verdict_on(options, text)
+    if verdict == "YES":
         return Answer.NO_VIOLATION
-    kept = keep(options, "history", text)
-    first_line = (verdict.splitlines() or [""])[0]
-    if status != 1:
-        say(f"{program_of(options)} says '{first_line}' of {kept}")
+    if is_completed and _told_condition(options):
+        say(f"{verdict} of one completion{_told_condition(options)}: another one may be a YES")
         return Answer.WRONG
-    report = keep(options, "report", ask(options, "shrink", text)[0])
+    kept = keep(options, "history", text)
+    seen = _told_violation(options, text, kept)
+    why = ": the queue is wrong, whatever the pending calls do" if is_completed else ""
     Progress.erase()
-    print(f"{first_line}: seed {options.seed}, {options.pattern_of(options.seed)}{why}")
-    print(f"  history: {kept}")
-    print(f"  report:  {report}")
-    print(f"  see it:  {program_of(options)} draw --text < {report}{_drawn_in(options, text, kept)}")
+    print(f"{verdict}: seed {options.seed}, {options.pattern_of(options.seed)}{why}\n  history: {kept}\n{seen}")
     if tell_again is None:
         _tell_plan(options)
     else:
-        tell_again(first_line)
+        tell_again(verdict)
     sys.stdout.flush()
     return Answer.VIOLATION
+
+
+def _told_violation(options, text, kept):
+    """The lines of a violation after its history: the report and its pictures."""
+    program = program_of(options)
+    report = keep(options, "report", ask(options, "shrink", text)[0])
+    drawn = _with_flags(options, "draw --text")
+    return f"  report:  {report}\n  see it:  {program} {drawn} < {report}{_drawn_in(options, text, kept)}"
 
 
 _FAULTS = {"exception": "If the queue promises not to raise, the exception itself is the fault.",
@@ -233,7 +268,7 @@ def _judge_pending(options, history, pending, tell_again):
         _tell_judge(options, "complete", pending)
         return Answer.WRONG
     if status == 0:
-        found = judge_text(options, completed, tell_again, ": the queue is wrong, whatever the pending calls do")
+        found = judge_text(options, completed, tell_again, is_completed=True)
         if found == Answer.NO_VIOLATION:
             is_drawn = max(len(history.operations()), len(history._initial)) <= MAX_DRAWN
             program = program_of(options)

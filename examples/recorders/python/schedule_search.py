@@ -67,12 +67,12 @@ class Search:
                 try:
                     answer = self._judge(made, is_judged)
                 except OSError as error:
-                    recorder._judge.say(f"seed {seed}: {error}")
+                    recorder._judge.say(str(error))
                     answer = recorder.Answer.WRONG
                 if answer != recorder.Answer.NO_VIOLATION:
                     break
             else:
-                answer = recorder._judge.tell_none(is_judged, first, runs, ", with chosen schedules")
+                answer = recorder._judge.tell_none(options, is_judged, first, runs, ", with chosen schedules")
         recorder._judge.tell_kept(options, answer, is_judged, seed + 1 - first, events)
         return answer
 
@@ -111,8 +111,7 @@ class Search:
             return made.outcome
         if made.history.failures:
             return "an exception" if made.history.has_ended else "a hang"
-        verdict, _ = self.recorder._judge.ask(made.options, "check", made.text())
-        return verdict.partition("\n")[0]
+        return self.recorder._judge.verdict_on(made.options, made.text())
 
     def signature(self, made):
         """The kind of a run, and if no thread gets on, which calls are open: equal if two runs show the same."""

@@ -2,13 +2,15 @@
 //!
 //!     queue QUEUE                                        searches for a violation, status 0, 1 or 2
 //!     queue QUEUE [--runs R] [--threads T] [--producers N] [--ops N] [--pattern P] [--percent K] [--seed S]
-//!         [--initial N] [--folder F] [--keep 0|1] [--timeout SECONDS]    the same with settings
+//!         [--initial N] [--condition C] [--folder F] [--keep 0|1] [--timeout SECONDS]
+//!                                                                        the same with settings
 //!     queue QUEUE THREADS OPERATIONS [PATTERN [SEED [INITIAL]]]          one run, written to standard output
 //!
 //! Without a pattern, or with `loop`, the one run is a loop of one's own.
 //!
-//! QUEUE is `good`, `wrong` (every 4th value that is found stays), `stack` (last in, first out), `early` (says empty
-//! too early), `hang` (a dequeue never returns) or `throw` (a dequeue panics).
+//! QUEUE is `good`, `wrong` (every 4th value that is found stays), `stack` (last in, first out), `shards` (values of
+//! two producers overtake each other), `early` (says empty too early), `hang` (a dequeue never returns) or `throw` (a
+//! dequeue panics).
 
 #![deny(warnings)]
 
@@ -31,6 +33,7 @@ enum Kind {
     Good,
     Wrong,
     Stack,
+    Shards,
     Early,
     Hang,
     Throw,
@@ -44,10 +47,11 @@ impl FromStr for Kind {
             "good" => Ok(Kind::Good),
             "wrong" => Ok(Kind::Wrong),
             "stack" => Ok(Kind::Stack),
+            "shards" => Ok(Kind::Shards),
             "early" => Ok(Kind::Early),
             "hang" => Ok(Kind::Hang),
             "throw" => Ok(Kind::Throw),
-            _ => Err(format!("no queue {word:?}: good, wrong, stack, early, hang or throw")),
+            _ => Err(format!("no queue {word:?}: good, wrong, stack, shards, early, hang or throw")),
         }
     }
 }
@@ -75,6 +79,12 @@ impl Queue {
         let mut values = self.values.lock().unwrap();
         if self.kind == Kind::Stack {
             return values.list.pop_back();
+        }
+        // The first value of the last one's producer: the order of each producer is kept.
+        if self.kind == Kind::Shards {
+            let producer = values.list.back()? >> 32;
+            let place = values.list.iter().position(|value| value >> 32 == producer)?;
+            return values.list.remove(place);
         }
         let value = *values.list.front()?;
         values.found += 1;
@@ -161,6 +171,7 @@ fn set(options: &mut Options, name: &str, word: &str) -> Result<(), String> {
         "--percent" => options.percent = number(name, word, 0, 100)?,
         "--seed" => options.seed = number(name, word, 0, u32::MAX.into())?,
         "--initial" => options.initial = number(name, word, 0, recorder::MAX_INITIAL as u64)? as usize,
+        "--condition" => options.condition = word.parse()?,
         "--folder" => options.folder = PathBuf::from(word),
         "--producers" => options.producers = number(name, word, 0, 63)? as usize,
         "--keep" => options.keep = number(name, word, 0, 1)? == 1,
@@ -216,7 +227,7 @@ fn one_run(options: &Options, queue: &Queue) -> ExitCode {
 fn main() -> ExitCode {
     let words: Vec<String> = env::args().skip(1).collect();
     let parsed = match words.split_first() {
-        None => Err("which queue? good, wrong, stack, early, hang or throw".to_string()),
+        None => Err("which queue? good, wrong, stack, shards, early, hang or throw".to_string()),
         Some((queue, words)) => queue.parse::<Kind>().and_then(|kind| Ok((kind, settings(words)?))),
     };
     match parsed {

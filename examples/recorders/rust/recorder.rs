@@ -22,7 +22,8 @@
 //!
 //! `FIFOBENCH=/path/to/fifobench cargo test -- --nocapture` then makes 100 short runs, each over a fresh queue, judges
 //! each, and prints how many operations overlap. A loop of your own is recorded by `record`. docs/RECORDING.md has the
-//! rules that this module keeps. With `recorder_crash.rs` beside this file and `--cfg fifobench_crash` a run that crashes or is killed leaves a text too.
+//! rules that this module keeps. With `recorder_crash.rs` beside this file and `--cfg fifobench_crash` a run that
+//! crashes or is killed leaves a text too.
 
 #![allow(dead_code, unexpected_cfgs)] // A test uses a part of it.
 
@@ -115,6 +116,36 @@ impl FromStr for Pattern {
     }
 }
 
+/// What a history has to meet. docs/RECORDING.md says which queues promise no more than the weaker ones.
+#[derive(Clone, Copy, Debug, PartialEq, Eq)]
+pub enum Condition {
+    Linearizable,
+    /// The values of each producer alone are in order.
+    Local,
+    /// An empty dequeue promises nothing.
+    WeakEmpty,
+    Both,
+}
+
+impl Condition {
+    pub const ALL: [Condition; 4] = [Condition::Linearizable, Condition::Local, Condition::WeakEmpty, Condition::Both];
+}
+
+impl Display for Condition {
+    fn fmt(&self, f: &mut fmt::Formatter) -> fmt::Result {
+        f.write_str(["linearizable", "local", "weak-empty", "both"][*self as usize])
+    }
+}
+
+impl FromStr for Condition {
+    type Err = String;
+
+    fn from_str(word: &str) -> Result<Condition, String> {
+        let found = Condition::ALL.into_iter().find(|condition| condition.to_string() == word);
+        found.ok_or_else(|| format!("no condition {word:?}: linearizable, local, weak-empty or both"))
+    }
+}
+
 /// The settings of a run and of a search.
 #[derive(Clone, Debug)]
 pub struct Options {
@@ -146,6 +177,8 @@ pub struct Options {
     pub journal: bool,
     /// Whether a search keeps the histories without a violation too.
     pub keep: bool,
+    /// What a history has to meet.
+    pub condition: Condition,
     /// Where histories and reports are kept.
     pub folder: PathBuf,
     /// The program `fifobench`; else that of the environment variable FIFOBENCH, else that on the PATH.
@@ -169,6 +202,7 @@ impl Default for Options {
             drain: true,
             journal: false,
             keep: false,
+            condition: Condition::Linearizable,
             folder: PathBuf::from("fifobench-runs"),
             program: None,
         }

@@ -1,7 +1,7 @@
 //! What a search asks of the program, and the files of its runs: histories, reports, and the texts of runs that end
 //! early. `recorder.rs` takes this file in; it lies beside that.
 
-use super::{Answer, Event, History, Options, CALL_ENQ};
+use super::{Answer, Condition, Event, History, Options, CALL_ENQ};
 use std::env;
 use std::fs;
 use std::io::{self, IsTerminal, Write};
@@ -28,7 +28,8 @@ pub(super) fn search(options: &Options, run: &dyn Fn(&Options) -> History) -> Re
         let outcome = if is_judged { "no violation in" } else { "nothing judged in" };
         let (first, last) = (options.seed, options.seed.wrapping_add(made).wrapping_sub(1));
         let told = format!("{share} of 100 operations overlap another; runs without overlap: {without_overlap}");
-        println!("{outcome} {made} runs (seeds {first} to {last}); {told}");
+        let condition = told_condition(options);
+        println!("{outcome} {made} runs (seeds {first} to {last}){condition}; {told}");
     }
     if options.keep && is_judged && answer != Answer::Wrong {
         println!("  kept:    {made} judged runs with {events} events in {}", options.folder.display());
@@ -76,7 +77,7 @@ impl History {
         if !is_judged || options.keep {
             keep(options, "history", &self.text())?;
         }
-        if is_judged { judge(options, &self.text(), "") } else { Ok(Answer::NoViolation) }
+        if is_judged { judge(options, &self.text(), false) } else { Ok(Answer::NoViolation) }
     }
 
     // Keeps what there is of a run that ends early, says how it ended, and judges it.
@@ -92,9 +93,13 @@ impl History {
     }
 }
 
+fn path(options: &Options, kind: &str) -> PathBuf {
+    options.folder.join(format!("{}.{kind}", options.seed))
+}
+
 // Writes a text into the folder. Replaces an older file, since a journal may still be written to it.
 pub(super) fn keep(options: &Options, kind: &str, text: &[u8]) -> Result<PathBuf, String> {
-    let path = options.folder.join(format!("{}.{kind}", options.seed));
+    let path = path(options, kind);
     let _ = fs::create_dir_all(&options.folder).and_then(|()| fs::remove_file(&path));
     fs::write(&path, text).map_err(|error| format!("can't write {}: {error}", path.display()))?;
     Ok(path)
@@ -159,10 +164,27 @@ fn is_found(options: &Options) -> bool {
     is_found
 }
 
+// The condition of a search, as its answer has it; empty if it is the default.
+fn told_condition(options: &Options) -> String {
+    let is_default = options.condition == Condition::Linearizable;
+    if is_default { String::new() } else { format!(", condition {}", options.condition) }
+}
+
+// A command, with the flags that are the condition of the settings. The C code of chosen schedules has the same flags.
+fn with_flags(options: &Options, command: &str) -> String {
+    let has_flags = ["check", "shrink", "draw"].contains(&command.split(' ').next().unwrap_or_default());
+    format!("{command}{}", if has_flags { flags(options.condition) } else { "" })
+}
+
+pub(super) fn flags(condition: Condition) -> &'static str {
+    ["", " --local", " --weak-empty", " --local --weak-empty"][condition as usize]
+}
+
 // Returns what the program writes about this text, and its status.
 pub(super) fn ask(options: &Options, command: &str, text: &[u8]) -> io::Result<(String, Option<i32>)> {
     let mut judge = Command::new(program(options));
-    judge.args(command.split(' ')).stdin(Stdio::piped()).stdout(Stdio::piped()).stderr(Stdio::null());
+    judge.args(with_flags(options, command).split(' '));
+    judge.stdin(Stdio::piped()).stdout(Stdio::piped()).stderr(Stdio::null());
     let mut judge = judge.spawn()?;
     // The program reads all before it writes. If it refuses a text it reads no further, and then this write may fail.
     if let Some(mut input) = judge.stdin.take() {
@@ -178,31 +200,49 @@ fn drawn_in(options: &Options, text: &[u8], history: &str) -> String {
     let draws = |command: &&str| matches!(ask(options, command, text), Ok((_, Some(0))));
     let command = ["draw --text --around 20", "draw --text"].into_iter().find(draws);
     let program = program(options).display().to_string();
-    command.map_or(String::new(), |command| format!("           {program} {command} < {history}\n"))
+    let told = |command| format!("           {program} {} < {history}\n", with_flags(options, command));
+    command.map_or(String::new(), told)
 }
 
-// Judges a history. `why` follows the verdict.
-fn judge(options: &Options, text: &[u8], why: &str) -> Result<Answer, String> {
+// The lines of a violation after its history: the report and its pictures.
+fn told_violation(options: &Options, text: &[u8], history: &str) -> Result<String, String> {
     let program = program(options).display().to_string();
-    let unasked = |error: io::Error| format!("{program}: {error}");
-    let (verdict, status) = ask(options, "check", text).map_err(unasked)?;
-    if status == Some(0) {
+    let (report, _) = ask(options, "shrink", text).map_err(|error| format!("{program}: {error}"))?;
+    let report = keep(options, "report", report.as_bytes())?.display().to_string();
+    let seen = format!("{program} {} < {report}", with_flags(options, "draw --text"));
+    Ok(format!("  report:  {report}\n  see it:  {seen}\n{}", drawn_in(options, text, history)))
+}
+
+// What `check` says of a history, by the condition of the settings: YES, or NO and what is violated. An error if the
+// program says something else.
+fn verdict_on(options: &Options, text: &[u8]) -> Result<String, String> {
+    let program = program(options).display().to_string();
+    let (verdict, status) = ask(options, "check", text).map_err(|error| format!("{program}: {error}"))?;
+    let verdict = verdict.lines().next().unwrap_or_default().to_string();
+    if status != Some(0) && status != Some(1) {
+        return Err(format!("{program} says '{verdict}' of {}", path(options, "history").display()));
+    }
+    Ok(verdict)
+}
+
+// Judges a history, which may be a completion of pending calls.
+fn judge(options: &Options, text: &[u8], is_completed: bool) -> Result<Answer, String> {
+    let (verdict, condition) = (verdict_on(options, text), told_condition(options));
+    if verdict.as_deref() == Ok("YES") {
         return Ok(Answer::NoViolation);
     }
-    let (seed, pattern) = (options.seed, options.pattern_of(options.seed));
-    let history = keep(options, "history", text)?.display().to_string();
-    let verdict = verdict.lines().next().unwrap_or_default();
-    if status != Some(1) {
-        return Err(format!("{program} says '{verdict}' of {history}"));
+    if is_completed && !condition.is_empty() {
+        return Err(format!("{} of one completion{condition}: another one may be a YES", verdict?));
     }
-    let (report, _) = ask(options, "shrink", text).map_err(unasked)?;
-    let report = keep(options, "report", report.as_bytes())?.display().to_string();
+    let history = keep(options, "history", text)?.display().to_string();
+    let (seed, pattern, verdict) = (options.seed, options.pattern_of(options.seed), verdict?);
+    let why = if is_completed { ": the queue is wrong, whatever the pending calls do" } else { "" };
+    let seen = told_violation(options, text, &history)?;
+    let told = format!("{verdict}: seed {seed}, {pattern}{why}\n  history: {history}\n{seen}");
+    let again = format!("  again:   seed {seed}, pattern {pattern}");
     Progress::erase();
     // On standard output itself: the process may end before a test shows what it has caught.
-    let told = format!("{verdict}: seed {seed}, {pattern}{why}\n  history: {history}\n  report:  {report}\n");
-    let seen = format!("  see it:  {program} draw --text < {report}\n{}", drawn_in(options, text, &history));
-    let again = format!("  again:   seed {seed}, pattern {pattern}: the same plan, though threads may meet in another way");
-    let _ = writeln!(io::stdout(), "{told}{seen}{again}");
+    let _ = writeln!(io::stdout(), "{told}{again}: the same plan, though threads may meet in another way");
     Ok(Answer::Violation)
 }
 
@@ -211,7 +251,7 @@ fn judge_pending(options: &Options, of: &History, pending: &Path, fault: &str) -
     let (program, pending) = (program(options).display().to_string(), pending.display());
     let asked = ask(options, "complete", &of.text());
     if let Ok((history, Some(0))) = &asked {
-        let answer = judge(options, history.as_bytes(), ": the queue is wrong, whatever the pending calls do")?;
+        let answer = judge(options, history.as_bytes(), true)?;
         if answer == Answer::NoViolation {
             // `draw` refuses more than 400 operations or initial values.
             let twice = (of.events.len() + of.open_calls().len()).max(2 * of.initial.len());
@@ -228,6 +268,6 @@ fn judge_pending(options: &Options, of: &History, pending: &Path, fault: &str) -
         Ok(_) => say(&format!("fifobench: {program} has no command complete, which a later version has")),
         Err(_) => {}
     }
-    say(&format!("  judge:   {program} complete < {pending} | {program} check"));
+    say(&format!("  judge:   {program} complete < {pending} | {program} {}", with_flags(options, "check")));
     Ok(Answer::Wrong)
 }

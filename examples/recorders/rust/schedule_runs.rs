@@ -22,7 +22,7 @@
 //! `FIFOBENCH_SEED=17 cargo test ..` begins with that seed, whose run it makes again. A link without schedule.o fails,
 //! and names functions of the form `fifobench_schedule_..` or `__tsan_..`: they are those of schedule.c.
 
-use super::judge::program;
+use super::judge::{flags, program};
 use super::{make_steps, told_panic, Answer, Options, Queue, Run, Start, Steps};
 use std::ffi::{c_char, c_int, c_uint, c_void, CStr, CString};
 use std::panic::{self, AssertUnwindSafe};
@@ -51,6 +51,7 @@ struct RawSearch {
     run: extern "C" fn(*mut c_void, u64, usize),
     pattern: extern "C" fn(*mut c_void, u64) -> *const c_char,
     context: *mut c_void,
+    flags: *const c_char,
 }
 
 extern "C" {
@@ -150,6 +151,7 @@ pub(super) fn search<Q: Queue>(options: &Options, make_queue: impl Fn() -> Q) ->
         (!history.failures.is_empty()).then(|| history.failures.join("; "))
     };
     let context = Context { run: &run, options };
+    let flags = text(flags(options.condition));
     let [program, folder] = [&program(options), &options.folder].map(|path| text(&path.to_string_lossy()));
     let raw = RawSearch {
         program: program.as_ptr(),
@@ -163,6 +165,7 @@ pub(super) fn search<Q: Queue>(options: &Options, make_queue: impl Fn() -> Q) ->
         run: make_run,
         pattern: name_pattern,
         context: ptr::from_ref(&context).cast_mut().cast(),
+        flags: flags.as_ptr(),
     };
     match unsafe { fifobench_search_runs(&raw) } {
         0 => Answer::NoViolation,

@@ -115,12 +115,13 @@ static inline bool recorder_points_search(const struct recorder_settings *settin
         recorder_points_free_runs(settings->choose);
         return false;
     }
+    static const char *const flags[] = {"", " --local", " --weak-empty", " --local --weak-empty"};
     struct recorder_points_context context = {settings, calls};
     struct fifobench_search chosen = {
         .program = settings->program, .folder = settings->folder, .seed = settings->seed, .runs = settings->runs,
         .threads = settings->threads, .seconds = settings->timeout, .keep = settings->keep, .run = recorder_points_run,
         .pattern = recorder_points_pattern, .context = &context,
-        .operations = settings->operations};
+        .operations = settings->operations, .flags = flags[settings->condition]};
     *answer = fifobench_search_runs(&chosen);
     return true;
 }

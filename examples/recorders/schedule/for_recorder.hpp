@@ -84,6 +84,9 @@ Settings settings_of(Settings one, std::uint64_t seed, std::size_t operations) {
     return one;
 }
 
+// The flags of `check` that are a condition.
+constexpr const char* condition_flags[] = {"", " --local", " --weak-empty", " --local --weak-empty"};
+
 // Has `run_one(settings)` make the runs of a search whose schedules are chosen, each in a child process; the answer is
 // that of search_runs. There is none if they aren't chosen: the caller makes free runs.
 template <class Settings, class RunOne>
@@ -106,6 +109,7 @@ void search(const Settings& settings, RunOne& run_one, std::optional<int>& answe
     chosen.seconds = static_cast<unsigned>((settings.timeout.count() + 999) / 1000);
     chosen.keep = settings.keep ? 1 : 0;
     chosen.context = &context;
+    chosen.flags = condition_flags[static_cast<unsigned>(settings.condition)];
     chosen.run = [](void* of, std::uint64_t seed, std::size_t operations) {
         const auto& [all, run] = *static_cast<Context*>(of);
         try {

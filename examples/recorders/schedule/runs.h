@@ -44,13 +44,23 @@ static void make_folder(const char *folder)
     mkdir(path, 0777);
 }
 
+// The flags of `check`, `shrink` and `draw` that are the condition of the search.
+static const char *condition_flags = "";
+
+static const char *flags_of(const char *command)
+{
+    bool has_flags = strncmp(command, "check", 5) == 0 || strncmp(command, "shrink", 6) == 0 ||
+                     strncmp(command, "draw", 4) == 0;
+    return has_flags ? condition_flags : "";
+}
+
 // Runs a command of the program, with its options, from and to a file. Returns its status, or -1.
 static int ask(const char *program, const char *command, const char *from, const char *to)
 {
     int status = 0, count = 1;
     char copy[MAX_LINE_BYTES];
     char *words[MAX_WORDS + 1] = {(char *)program};
-    snprintf(copy, sizeof copy, "%s", command);
+    snprintf(copy, sizeof copy, "%s%s", command, flags_of(command));
     for (char *word = strtok(copy, " "); word != NULL && count < MAX_WORDS; word = strtok(NULL, " ")) {
         words[count++] = word;
     }

@@ -142,6 +142,7 @@ struct fifobench_search {
     // The name of the seed's pattern, for the verdict's line; or NULL.
     const char *(*pattern)(void *context, uint64_t seed);
     void *context;
+    const char *flags;      // of `check`, `shrink` and `draw`, as " --local --weak-empty"; or NULL
 };
 
 // Makes runs until one shows a violation, prints what is found, and keeps SEED.history, SEED.report and SEED.trace.

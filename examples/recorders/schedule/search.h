@@ -140,6 +140,17 @@ static bool tell_early(const char *folder, uint64_t seed, const struct outcome *
     return is_written;
 }
 
+// The condition of the search, as its answer has it; empty if it is the default.
+static char told_condition[MAX_LINE_BYTES];
+
+static void tell_condition(void)
+{
+    bool is_local = strstr(condition_flags, "--local") != NULL, is_weak = strstr(condition_flags, "--weak") != NULL;
+    const char *name = is_local && is_weak ? "both" : is_local ? "local" : is_weak ? "weak-empty" : NULL;
+    snprintf(told_condition, sizeof told_condition, "%s%s", name != NULL ? ", condition " : "",
+             name != NULL ? name : "");
+}
+
 // Judges the completion of a pending text. Returns 0 or 1, and the verdict; or 2 if there is none, and prints the
 // command that gives one.
 static int judge_pending(const char *program, bool judges, const char *pending, const char *history, const char *report,
@@ -150,6 +161,13 @@ static int judge_pending(const char *program, bool judges, const char *pending, 
     if (status == 0) {
         status = ask(program, "check", history, report);
         read_first_line(report, verdict, MAX_LINE_BYTES);
+        // `complete` decides linearizability: by another condition another completion may be right.
+        if (status == 1 && told_condition[0] != '\0') {
+            fprintf(stderr, "fifobench: %s of one completion%s: another one may be a YES\n", verdict, told_condition);
+            remove(history);
+            remove(report);
+            return 2;
+        }
         if ((status == 0 && strcmp(verdict, "YES") == 0) || (status == 1 && strncmp(verdict, "NO ", 3) == 0)) {
             return status;
         }
@@ -162,7 +180,7 @@ static int judge_pending(const char *program, bool judges, const char *pending, 
     } else if (judges) {
         fprintf(stderr, "fifobench: %s has no command complete, which a later version has\n", program);
     }
-    fprintf(stderr, "  judge:   %s complete < %s | %s check\n", program, pending, program);
+    fprintf(stderr, "  judge:   %s complete < %s | %s check%s\n", program, pending, program, flags_of("check"));
     return 2;
 }
 
@@ -294,7 +312,7 @@ static void tell_drawn_in(const char *program, const char *history)
         place++;
     }
     if (place < 2) {
-        printf("           %s %s < %s\n", program, commands[place], history);
+        printf("           %s %s%s < %s\n", program, commands[place], flags_of(commands[place]), history);
     }
 }
 
@@ -310,7 +328,7 @@ static int tell_violation(const struct searching *of, uint64_t seed, const struc
         printf("%s, ", settings->pattern(settings->context, seed));
     }
     printf("with chosen schedules%s\n  history: %s\n  report:  %s\n", why, history, report);
-    printf("  see it:  %s draw --text < %s\n", of->program, report);
+    printf("  see it:  %s draw --text%s < %s\n", of->program, flags_of("draw"), report);
     tell_drawn_in(of->program, history);
     tell_again(of, seed, outcome, stdout);
     if (status != 1) {
@@ -393,9 +411,9 @@ static int search_one(struct searching *of, uint64_t seed)
 // Says what no violation means, and what wasn't seen.
 static int tell_none(const struct searching *of, uint64_t seed, unsigned runs)
 {
-    printf("%s in %u runs (seeds %" PRIu64 " to %" PRIu64 "), with chosen schedules; %" PRIu64
+    printf("%s in %u runs (seeds %" PRIu64 " to %" PRIu64 ")%s, with chosen schedules; %" PRIu64
            " of 100 operations overlap another\n", of->judges ? "no violation" : "nothing judged", runs, seed,
-           seed + runs - 1, 100 * of->overlapping / (of->operations + (of->operations == 0)));
+           seed + runs - 1, told_condition, 100 * of->overlapping / (of->operations + (of->operations == 0)));
     fflush(stdout);
     if (of->accesses == 0) {
         fprintf(stderr, of->locks == 0
@@ -419,6 +437,8 @@ static const char *program_of(const struct fifobench_search *settings)
 int fifobench_search_runs(const struct fifobench_search *settings)
 {
     struct searching of = {.settings = settings, .program = program_of(settings)};
+    condition_flags = settings->flags != NULL ? settings->flags : "";
+    tell_condition();
     unsigned runs = settings->runs != 0 ? settings->runs : DEFAULT_RUNS;
     uint64_t seed = first_seed(settings->seed);
     size_t operations = settings->operations != 0 ? settings->operations : 100;

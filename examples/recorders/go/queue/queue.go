@@ -2,13 +2,15 @@
 //
 //	queue QUEUE                                        searches for a violation, status 0, 1 or 2
 //	queue QUEUE [--runs R] [--threads T] [--producers N] [--ops N] [--pattern P] [--percent K] [--seed S]
-//	    [--initial N] [--folder F] [--keep 0|1] [--timeout SECONDS]    the same with settings
-//	queue QUEUE THREADS OPERATIONS [PATTERN [SEED [INITIAL]]]          one run, written to standard output
+//	    [--initial N] [--condition C] [--folder F] [--keep 0|1] [--timeout SECONDS]
+//	                                                               the same with settings
+//	queue QUEUE THREADS OPERATIONS [PATTERN [SEED [INITIAL]]]      one run, written to standard output
 //
 // Without a pattern, or with loop, the one run is a loop of one's own.
 //
-// QUEUE is good (the channel), wrong (every 4th value that is found stays), stack (last in, first out), early (says
-// empty too early), hang (a dequeue never returns) or throw (a dequeue panics).
+// QUEUE is good (the channel), wrong (every 4th value that is found stays), stack (last in, first out), shards (values
+// of two producers overtake each other), early (says empty too early), hang (a dequeue never returns) or throw (a
+// dequeue panics).
 package main
 
 import (
@@ -97,6 +99,16 @@ func (list *list) take() (uint64, bool) {
 		list.values = list.values[:last]
 		return value, true
 	}
+	// The first value of the last one's producer: the order of each producer is kept.
+	if list.kind == "shards" {
+		place := 0
+		for list.values[place]>>32 != list.values[last]>>32 {
+			place++
+		}
+		value := list.values[place]
+		list.values = append(list.values[:place], list.values[place+1:]...)
+		return value, true
+	}
 	value := list.values[0]
 	list.found++
 	// The fault of wrong: every 4th value that is found is left in place.
@@ -162,6 +174,8 @@ func set(options *fifobench.Options, name, word string) error {
 	case "--initial":
 		found, err = number(name, word, 0, fifobench.MaxInitial)
 		options.Initial = int(found)
+	case "--condition":
+		options.Condition = fifobench.Condition(word)
 	case "--folder":
 		options.Folder = word
 	case "--producers":
@@ -259,13 +273,13 @@ func oneRun(options fifobench.Options, queue fifobench.Queue) int {
 
 func status(words []string) (int, error) {
 	if len(words) == 0 {
-		return 0, fmt.Errorf("which queue? good, wrong, stack, early, hang or throw")
+		return 0, fmt.Errorf("which queue? good, wrong, stack, shards, early, hang or throw")
 	}
 	kind := words[0]
 	switch kind {
-	case "good", "wrong", "stack", "early", "hang", "throw":
+	case "good", "wrong", "stack", "shards", "early", "hang", "throw":
 	default:
-		return 0, fmt.Errorf("no queue %q: good, wrong, stack, early, hang or throw", kind)
+		return 0, fmt.Errorf("no queue %q: good, wrong, stack, shards, early, hang or throw", kind)
 	}
 	options, err := settings(words[1:])
 	if err != nil {
