@@ -8,7 +8,8 @@ pub returns-in-Ok-clause-judged : goal.returns-in-Ok-clause-judged
 returns-in-Ok-clause-judged c = λ list are few.
     let read = c.in-Ok.ensures.events in
     let same = one_list c.args.events.now read.0 list read.1 are in
-    let answered = c.judge_gathered.ensures.found (from_none read.0) read.2 in
+    let answered = subst (λ condition. AnswersOrNoMemory (JudgesHistory condition) (from_none read.0) (answer_of c.judge_gathered.result))
+    c.linearizable.ensures (c.judge_gathered.ensures.found (from_none read.0) read.2) in
     let found = subst (λ events. AnswersOrNoMemory (JudgesHistory linearizability) (from_none events) (answer_of c.judge_gathered.result)) same answered in
     told_one (JudgesHistory linearizability) (from_none list) _ _ _ _ _ found c.tell-in-Ok.ensures
 
