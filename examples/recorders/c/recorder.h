@@ -388,10 +388,12 @@ static inline void recorder_meet(struct recorder *recorder, unsigned number)
     struct recorder_cores before;
     bool is_pinned = !atomic_load(&recorder->open) && recorder_pin(number, &before);
     atomic_fetch_add(&recorder->arrived, 1);
-    while (atomic_load(&recorder->arrived) < recorder->threads && !atomic_load(&recorder->open)) {
+    double until = recorder_seconds() + 1;
+    while (atomic_load(&recorder->arrived) < recorder->threads && !atomic_load(&recorder->open) &&
+           recorder_seconds() < until) {
         sched_yield();
     }
-    double until = recorder_seconds() + (recorder->threads > 1 ? 0.1 : 0);
+    until = recorder_seconds() + (recorder->threads > 1 ? 0.1 : 0);
     while (!atomic_load(&recorder->open) && recorder_seconds() < until && !recorder_has_met(recorder, number)) {
         sched_yield();
     }

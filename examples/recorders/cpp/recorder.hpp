@@ -401,10 +401,11 @@ public:
     void wait(unsigned number) {
         const std::optional<Core> core(open_.load() ? std::nullopt : std::make_optional<Core>(number));
         arrived_.fetch_add(1);
-        while (arrived_.load() < threads_ && !open_.load()) {
+        auto until = std::chrono::steady_clock::now() + std::chrono::seconds(1);
+        while (arrived_.load() < threads_ && !open_.load() && std::chrono::steady_clock::now() < until) {
             std::this_thread::yield();
         }
-        const auto until = std::chrono::steady_clock::now() + std::chrono::milliseconds(100);
+        until = std::chrono::steady_clock::now() + std::chrono::milliseconds(100);
         while (threads_ > 1 && !open_.load() && !has_met(number) && std::chrono::steady_clock::now() < until) {
             std::this_thread::yield();
         }
