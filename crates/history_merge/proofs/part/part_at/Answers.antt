@@ -36,14 +36,16 @@ loop-place-preserved c =
     let whole = operations_of c.args.history.now.events in
     let places = c.args.places.now in
     let i = c.loop-place.place-index in
-    let there = ap (slice_get whole) (sym c.place-item.is ∙ sym c.place.ensures) ∙ ap (λ os. slice_get os c.place.result) (sym c.timeline.ensures.operations) ∙ sym c.get.ensures in
+    let there = ap (slice_get whole) (sym c.place-item.is ∙ sym c.place.ensures)
+    ∙ ap (λ os. slice_get os c.place.result) (sym c.timeline.ensures.operations) ∙ sym c.get.ensures in
     elim c.match-get.branch [
       | in-Some+in_ok-push w ↦ (
         ap (λ t. t.initial) w.timeline-is ∙ w.push.ensures.initial ∙ c.loop-place.invariant.0,
         λ events part.
             ap (λ t. t.operations) w.timeline-is ∙ w.in_ok-push.ensures.added
             ∙ ap (λ os. os ++ w.in-Some.operation ∷ []) (c.loop-place.invariant.1 events part)
-            ∙ sym (one_more_placed whole places (operations_of events) part.stand_there i c.place-item.result c.loop-place-test.true w.in-Some.operation (there ∙ w.in-Some.is)),
+            ∙ sym (one_more_placed whole places (operations_of events) part.stand_there i c.place-item.result c.loop-place-test.true
+            w.in-Some.operation (there ∙ w.in-Some.is)),
       )
       | in_default w ↦ (
         ap (λ t. t.initial) w.timeline-is ∙ c.loop-place.invariant.0,
