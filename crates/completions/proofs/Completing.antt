@@ -1,5 +1,6 @@
 -- Completions, event by event: which operations a completion has, and that the chosen one is complete.
-use Rattle.std.proofs.Common.{◌≡◌, ℕ, zero, suc, ◌<◌, ◌⊎◌, ◌++◌, inl, inr, Bool, true, false, not, List, [], ◌∷◌, Some, None, refl, ap, sym, subst, ◌∙◌, arith}
+use Rattle.std.proofs.Common.{◌≡◌, ℕ, zero, suc, ◌<◌, ◌⊎◌, ◌++◌, inl, inr, Bool, true, false}
+use Rattle.std.proofs.Common.{not, List, [], ◌∷◌, Some, None, refl, ap, sym, subst, ◌∙◌, arith}
 use Rattle.std.specs.Prelude.{All, Contains, nat_eq}
 use Rattle.std.specs.List.{last_or}
 use Rattle.std.proofs.lemmas.Bool.{cases_Bool, eq-eqb, eqb-true}
@@ -73,7 +74,8 @@ module _ (initial : List ℕ) (events : List Event) (history : IsHistoryFrom ini
         | inl here ↦
             let among = stays call here in
             let own : Contains (projection call.thread events) call = passes_filter (λ e. nat_eq e.thread call.thread) events call (eq-eqb call.thread call.thread refl) among in
-            let rises : TicketsRise (projection call.thread events) = AllPairs-filter (λ e f. e.ticket < f.ticket) (λ e. nat_eq e.thread call.thread) events history.tickets_rise in
+            let rises : TicketsRise (projection call.thread events) =
+            AllPairs-filter (λ e f. e.ticket < f.ticket) (λ e. nat_eq e.thread call.thread) events history.tickets_rise in
             elim (call_or_answered (projection call.thread events) call (history.threads_take_turns call.thread) rises own is) [
               | inl last_own ↦ (among, last_is_pending call.thread events call last_own is)
               | inr (x, in_x, ret, later) ↦

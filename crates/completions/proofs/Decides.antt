@@ -1,5 +1,6 @@
 -- The chosen completion decides.
-use Rattle.std.proofs.Common.{◌≡◌, ◌≢◌, ℕ, zero, suc, ◌+◌, ◌-◌, ◌<◌, ◌≤◌, ◌⊎◌, ◌++◌, inl, inr, Bool, true, false, not, List, [], ◌∷◌, length, map}
+use Rattle.std.proofs.Common.{◌≡◌, ◌≢◌, ℕ, zero, suc, ◌+◌, ◌-◌, ◌<◌, ◌≤◌, ◌⊎◌, ◌++◌, inl, inr, Bool}
+use Rattle.std.proofs.Common.{true, false, not, List, [], ◌∷◌, length, map}
 use Rattle.std.proofs.Common.{Option, Some, None, refl, ap, sym, subst, ◌∙◌, arith}
 use Rattle.std.proofs.Common.{ap₂, get_or, take, drop}
 use Rattle.std.specs.Prelude.{AllPairs, Contains, filter, filter_map, option_map, slice_get, ◌&&◌}
@@ -283,7 +284,8 @@ module _ (initial : List ℕ) (events : List Event) (history : IsHistoryFrom ini
             let n = next_ticket events in
             let r : Event = record { ticket = n + length xs; thread = a.call.thread; what = a.what } in
             let p : Operation = record { call = a.call.ticket; ret = r.ticket; thread = a.call.thread; kind = k } in
-            let apart : AllPairs (λ (a b : Answer). a.call.thread ≢ b.call.thread) (xs ++ a ∷ ys) = subst (AllPairs (λ (a b : Answer). a.call.thread ≢ b.call.thread)) is are.apart in
+            let apart : AllPairs (λ (a b : Answer). a.call.thread ≢ b.call.thread) (xs ++ a ∷ ys) =
+            subst (AllPairs (λ (a b : Answer). a.call.thread ≢ b.call.thread)) is are.apart in
             let none : last_of a.call.thread (returns_from n xs) ≡ None = ap (last_or None) (no_return n a.call.thread xs (λ b in_b.
             pairs_across (λ (a b : Answer). a.call.thread ≢ b.call.thread) xs (a ∷ ys) b a apart in_b (zero, omega arith, refl))) in
             let last : last_of r.thread (keeping left_out events ++ returns_from n xs) ≡ Some a.call =
@@ -358,7 +360,8 @@ module _ (initial : List ℕ) (events : List Event) (history : IsHistoryFrom ini
 
     left_value : (i v : ℕ) → slice_get (left_values initial events) i ≡ Some v → (x : Operation) × (slice_get left i ≡ Some x) × (x.kind ≡ Enq v)
     left_value i v at =
-        let mapped : option_map value_of (slice_get left i) ≡ Some v = sym (slice_get-map value_of left i) ∙ ap (λ (vs : List ℕ). slice_get vs i) (left_are initial events) ∙ at in
+        let mapped : option_map value_of (slice_get left i) ≡ Some v =
+        sym (slice_get-map value_of left i) ∙ ap (λ (vs : List ℕ). slice_get vs i) (left_are initial events) ∙ at in
         by_found (slice_get left i) refl mapped
       where
         by_found : (found : Option Operation) → slice_get left i ≡ found → option_map value_of found ≡ Some v
@@ -372,7 +375,8 @@ module _ (initial : List ℕ) (events : List Event) (history : IsHistoryFrom ini
 
     value_left : (i v : ℕ) (x : Operation) → slice_get left i ≡ Some x → x.kind ≡ Enq v → slice_get (left_values initial events) i ≡ Some v
     value_left i v x at kind =
-        ap (λ (vs : List ℕ). slice_get vs i) (sym (left_are initial events)) ∙ slice_get-map value_of left i ∙ ap (option_map value_of) at ∙ ap (λ w. Some w) (ap value_in kind)
+        ap (λ (vs : List ℕ). slice_get vs i) (sym (left_are initial events)) ∙ slice_get-map value_of left i
+        ∙ ap (option_map value_of) at ∙ ap (λ w. Some w) (ap value_in kind)
 
     -- ---- the chosen completion
 

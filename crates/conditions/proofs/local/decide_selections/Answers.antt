@@ -12,7 +12,8 @@ returns-in-No c = λ emptiness shared.
     let history = c.args.history.now in
     let whole = contents_of history in
     let rank = c.loop-rank.rank in
-    let at = places_of_rank emptiness whole c.args.selections.now.used c.args.selections.now.buckets.items rank c.ranked-producer.result c.index.result.now c.as_slice-places.result.now shared
+    let at = places_of_rank emptiness whole c.args.selections.now.used c.args.selections.now.buckets.items rank
+    c.ranked-producer.result c.index.result.now c.as_slice-places.result.now shared
     c.loop-rank-test.true c.if-selections-rank.true c.ranked-producer.ensures c.index.ensures c.as_slice-places.ensures in
     first_refuted history c.requires.complete c.requires.few emptiness rank c.ranked-producer.result c.in-No.violation c.loop-rank.orders.items c.ranked-producer.ensures
     (subst (IsDecidedOf whole (selection_of emptiness c.ranked-producer.result whole)) c.in-No.is (c.in_ok-order.ensures emptiness at))
