@@ -51,6 +51,7 @@ IsDecidedUnder condition history verdict = IsDecidedBy condition.is_local condit
 
 -- ---- claims
 
+-- the claim is evidence, by whether each producer's values are judged alone, and whether empty dequeues promise nothing
 abbrev pub IsTrueBy : Bool → Bool → Contents → Claimed → Type 0
 IsTrueBy false false whole claimed = IsTrueClaim whole.initial whole.operations claimed
 IsTrueBy false true whole claimed = IsTrueWeakClaim whole claimed
