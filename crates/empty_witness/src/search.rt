@@ -34,6 +34,8 @@ pub enum WindowsAnswer {
 
 /// Finds the least free gap in the window of an empty dequeue, or the chosen cover of the window.
 ///
+/// This is for callers who ask for one window: `verdicts::decide` judges all of them, by [`find_witness`].
+///
 /// Gap c is the place just after ticket c, and an operation's window has the gaps from its call to before its return.
 /// Places and tickets are the history's; a cover names its initial values too. Time O(n) for n values, whatever the width
 /// of the window; a covered one costs a sort of them more. The only error is out of memory.
