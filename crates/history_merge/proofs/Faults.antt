@@ -22,6 +22,7 @@ use Rattle.history_merge.proofs.Turns.{finished, fits_in_turns, nothing_after_tu
 use Rattle.history_merge.proofs.Turns.{turns_push, TurnsSoFar}
 use Rattle.history_merge.proofs.Distinct.{cut_at, distinct_push, each_more, initial_distinct, new_from_distinct}
 use Rattle.history_merge.proofs.Distinct.{one_at, twice_before, twice_not_distinct}
+use Rattle.history_merge.proofs.Lists.{slice_get-append_left}
 use Rattle.history_merge.proofs.TheirEvents.{run_of}
 use Rattle.history_merge.specs.declared.clash.Clash.TheVariants as clash
 
@@ -115,7 +116,8 @@ sound_before initial events (suc n) within distinct none =
     let may = may_follow initial (take n events) n (get_or events n d) (none n (get_or events n d) below (slice_get-get_or events n d below)) in
     grind (arith, take-suc, sound_push, sound_before initial events n)
 
-sound_without_fault : (initial : List ℕ) (events : List Event) → AreDistinct initial → NoFaultBefore initial events (length events) → IsSound initial events
+-- events without a fault are sound
+pub sound_without_fault : (initial : List ℕ) (events : List Event) → AreDistinct initial → NoFaultBefore initial events (length events) → IsSound initial events
 sound_without_fault initial events distinct none =
     subst (IsSound initial) (take_all (length events) events (omega arith)) (sound_before initial events (length events) (omega arith) distinct none)
 
@@ -225,9 +227,6 @@ one_first_fault initial events f g known_f known_g first_f first_g = by_first (�
     (λ u b. absurd (twice_not_distinct initial j b.0 a)) (λ k b. ap (λ n. InitialTwice n) (one_twice initial j k a b)) g known_g first_g) f known_f first_f
 
 -- ---- the faults of events to which more are added
-
-pub slice_get-append_left : (xs ys : List Event) (i : ℕ) → i < length xs → slice_get (xs ++ ys) i ≡ slice_get xs i
-slice_get-append_left xs ys i below = grind (arith, common_steps, gets)
 
 pub slice_get-append_seam : (xs : List Event) (y : Event) → slice_get (xs ++ y ∷ []) (length xs) ≡ Some y
 slice_get-append_seam [] y = refl

@@ -91,7 +91,8 @@ fits_in_turns (call ∷ []) e later turns = let called : is_call call.what ≡ t
 fits_in_turns (call ∷ answer ∷ before) e later turns =
     grind (arith, pending_in-pair, answer_is_return, fits_in_turns before e later turns.1)
 
-TakesTurns-append : (events later : List Event) → TakesTurns events → TakesTurns later → TakesTurns (events ++ later)
+-- turns after turns
+pub TakesTurns-append : (events later : List Event) → TakesTurns events → TakesTurns later → TakesTurns (events ++ later)
 TakesTurns-append [] later turns more = more
 TakesTurns-append (call ∷ []) later turns more = absurd turns
 TakesTurns-append (call ∷ answer ∷ rest) later turns more = (turns.0, TakesTurns-append rest later turns.1 more)

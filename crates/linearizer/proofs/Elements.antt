@@ -1,40 +1,33 @@
 -- Elements of lists at their places, and those that stand beside each other in zipped lists.
-use Rattle.linearizer.proofs.Common.{Adds, All, All-contains, All-head, All-map, All-tail, all_zipped_more, AllPairs}
+use Rattle.linearizer.proofs.Common.{Adds, All, All-contains, All-head, All-tail, all_zipped_more, AllPairs}
 use Rattle.linearizer.proofs.Common.{AllPairs-cons, AllZip, AllZip-left, AllZip-right, ap, append-nil, append_assoc}
 use Rattle.linearizer.proofs.Common.{arith, Bool, call_by_return, cases_Bool, cases_eq, clear_course, clear_on, cond}
-use Rattle.linearizer.proofs.Common.{cons_option, Contains, Contains-append_cases, Contains-append_left}
-use Rattle.linearizer.proofs.Common.{Contains-append_right, Contains-get_or, Contains-permutation, contains_at}
-use Rattle.linearizer.proofs.Common.{contains_cons, Contents, Course, course_of, drop, elements_at, Empty, false}
-use Rattle.linearizer.proofs.Common.{filter, filter_map, filter_map-append, flat_map, get_or, get_or-insert_below}
-use Rattle.linearizer.proofs.Common.{get_or-map, get_or_from_slice_get, HoldsPlaces, HoldsValues, inl, inr, insert}
+use Rattle.linearizer.proofs.Common.{cons_option, Contains, Contains-append_cases}
+use Rattle.linearizer.proofs.Common.{Contains-get_or, Contains-permutation, contains_at}
+use Rattle.linearizer.proofs.Common.{contains_cons, Contents, Course, course_of, elements_at, Empty, false}
+use Rattle.linearizer.proofs.Common.{filter, filter_map, filter_map-append, flat_map, get_or}
+use Rattle.linearizer.proofs.Common.{get_or-map, get_or_from_slice_get, HoldsPlaces, HoldsValues, inl, inr}
 use Rattle.linearizer.proofs.Common.{is_empty_answer, is_empty_kind, is_refused, is_refused_kind, IsCalledInRange}
-use Rattle.linearizer.proofs.Common.{IsClear, IsLeastFreeGap, IsNonDecreasingBy, IsNonDecreasingBy-insert, IsNoopAt}
-use Rattle.linearizer.proofs.Common.{IsOperation, IsOrderOf, IsPermutation, IsPermutation-cons, IsPermutation-insert}
+use Rattle.linearizer.proofs.Common.{IsClear, IsLeastFreeGap, IsNoopAt}
+use Rattle.linearizer.proofs.Common.{IsOperation, IsOrderOf, IsPermutation, IsPermutation-cons}
 use Rattle.linearizer.proofs.Common.{IsPermutation-keeps, IsPermutation-refl, IsPermutation-remove, IsPermutation-sym}
 use Rattle.linearizer.proofs.Common.{IsPermutation-trans, IsPositionFor, IsSomeAnd, IsValueOrder, kept, later_by}
-use Rattle.linearizer.proofs.Common.{least_of, length, length-insert, length-map, length-swap, length-take-le, Life}
+use Rattle.linearizer.proofs.Common.{least_of, length, length-map, length-swap, Life}
 use Rattle.linearizer.proofs.Common.{List, lives_in, map, mapped_option, MatchedValue, MatchOption-at_some}
 use Rattle.linearizer.proofs.Common.{MAX_MATCHED, MAX_TIME, None, noop_position, Not, not_in_none, on, one_deeper}
 use Rattle.linearizer.proofs.Common.{one_more, Operation, operation_at, operation_on, OpKind, Option, option_map}
 use Rattle.linearizer.proofs.Common.{ordered_lives, ORIGIN, pairs_at, passed_filter, place_of, PLACES, places_in, refl}
-use Rattle.linearizer.proofs.Common.{remove, return_in_range, set, slice_get, slice_get-get_or, slice_get-map}
+use Rattle.linearizer.proofs.Common.{remove, return_in_range, slice_get, slice_get-map}
 use Rattle.linearizer.proofs.Common.{slice_get_within, Some, subst, suc, swap, Swapped, swapped_from_swap, sym, take}
 use Rattle.linearizer.proofs.Common.{take_all, time_of, Timed, timed, timeline_of, true, zero, ℕ, ⊤, [], ◌++◌, ◌+◌}
 use Rattle.linearizer.proofs.Common.{◌-◌, ◌<◌, ◌∙◌, ◌∷◌, ◌≡◌, ◌≤◌}
-use Rattle.std.proofs.Common.{get_or-take}
 use Rattle.history_merge.specs.declared.packed.TheConstants.{PACKED_LIMIT}
-use Rattle.std.proofs.lemmas.List.{drop_more, set_at}
-use Rattle.std.proofs.lemmas.List.Edits.{insert_end}
+use Rattle.history_merge.proofs.Lists.{at_place, AllPairs-tail}
 
 -- a value of which this holds
 pub from_some_and : {X : Type 0} (o : Option X) (P : X → Type 0) → IsSomeAnd o P → (x : X) × (o ≡ Some x) × P x
 from_some_and None P is = absurd is
 from_some_and (Some x) P is = (x, refl, is)
-
--- each place of a list has its element
-pub at_place : {X : Type 0} (xs : List X) (i : ℕ) → i < length xs → (x : X) × (slice_get xs i ≡ Some x)
-at_place [] i within = absurd (omega arith)
-at_place (x ∷ xs) i within = (_, slice_get-get_or (x ∷ xs) i x within)
 
 -- the element beside one of the first of two zipped lists, and beside one of the second
 module _ {A B : Type 0} (R : A → B → Type 0) (xs : List A) (ys : List B) (i : ℕ) where
@@ -56,17 +49,6 @@ zip_joined R [] xs' [] ys' zip zip' = zip'
 zip_joined R [] xs' (y ∷ ys) ys' zip zip' = absurd zip
 zip_joined R (x ∷ xs) xs' [] ys' zip zip' = absurd zip
 zip_joined R (x ∷ xs) xs' (y ∷ ys) ys' zip zip' = (zip.0, zip_joined R xs xs' ys ys' zip.1 zip')
-
--- what holds of all pairs of a list holds of all of its rest
-pub AllPairs-tail : {X : Type 0} (R : X → X → Type 0) (x : X) (xs : List X) → AllPairs R (x ∷ xs) → AllPairs R xs
-AllPairs-tail R x xs pairs i j d below within = pairs (suc i) (suc j) d (omega arith) (omega arith)
-
--- and of what is made of all of its elements
-pub AllPairs-map : {X Y : Type 0} (f : X → Y) (R : Y → Y → Type 0) (xs : List X) → AllPairs (λ x y. R (f x) (f y)) xs → AllPairs R (map f xs)
-AllPairs-map f R [] pairs = λ i j d below within. absurd (omega arith)
-AllPairs-map f R (x ∷ xs) pairs = AllPairs-cons R (f x) (map f xs)
-    (All-map (R (f x)) f xs (λ k d within. pairs zero (suc k) d (omega arith) (omega arith)))
-    (AllPairs-map f R xs (AllPairs-tail (λ x y. R (f x) (f y)) x xs pairs))
 
 -- ---- operations are added one by one, each at its position
 
@@ -333,14 +315,6 @@ from_flat_map f [] y among = absurd (not_in_none y among)
 from_flat_map f (x ∷ xs) y among = elim (Contains-append_cases (f x) (flat_map f xs) y among) [
   | inl here ↦ (x, (zero, omega arith, refl), here)
   | inr there ↦ let more = from_flat_map f xs y there in (more.0, one_deeper x xs more.0 more.1, more.2)
-]
-
--- what is made of an element is made of all
-pub into_flat_map : {X Y : Type 0} (f : X → List Y) (xs : List X) (x : X) (y : Y) → Contains xs x → Contains (f x) y → Contains (flat_map f xs) y
-into_flat_map f [] x y among at = absurd (not_in_none x among)
-into_flat_map f (z ∷ xs) x y among at = elim (contains_cons z xs x among) [
-  | inl same ↦ Contains-append_left (f z) (flat_map f xs) y (subst (λ w. Contains (f w) y) (sym same) at)
-  | inr later ↦ Contains-append_right (f z) (flat_map f xs) y (into_flat_map f xs x y later at)
 ]
 
 -- ---- the values at the places of their order

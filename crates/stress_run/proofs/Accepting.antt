@@ -1,29 +1,15 @@
 -- A list under a lock, which the log leaves of what was there at first.
-use Rattle.std.proofs.Common.{◌≡◌, ℕ, Bool, true, false, List, [], ◌∷◌, ◌++◌, Option, Some, None, refl, sym, ap, ◌∙◌}
-use Rattle.std.specs.Prelude.{if◌then◌else◌, option_and_then, option_to_list}
+use Rattle.std.proofs.Common.{◌≡◌, ℕ, Bool, true, false, List, [], ◌∷◌, ◌++◌, Some, None, refl, sym, ap, ◌∙◌}
+use Rattle.std.specs.Prelude.{if◌then◌else◌, option_to_list}
 use Rattle.std.proofs.lemmas.Bool.{eq-eqb}
 use Rattle.std.proofs.lemmas.List.{map-append}
-use Rattle.std.proofs.lemmas.Option.{same_Some}
 use Rattle.tickets.specs.declared.note.Effect.{Effect}
 use Rattle.tickets.specs.declared.note.Effect.TheVariants as effect
 use Rattle.tickets.specs.declared.note.Note.{Note}
 use Rattle.tickets.specs.Log.{note_at}
-use Rattle.history_merge.specs.declared.operation.OpKind.{OpKind}
 use Rattle.history_merge.specs.Queue.{accept, accept_all}
 use Rattle.stress_run.specs.Noted.{kind_noted, kinds_noted}
-
--- one operation more is accepted
-accept_more : (queue : List ℕ) (kinds : List OpKind) (k : OpKind) (s t : List ℕ) → accept_all queue kinds ≡ Some s → accept s k ≡ Some t
-    → accept_all queue (kinds ++ k ∷ []) ≡ Some t
-accept_more queue [] k s t e f = ap (λ (q : List ℕ). option_and_then (λ next. accept_all next []) (accept q k)) (same_Some queue s e)
-    ∙ ap (option_and_then (λ next. accept_all next [])) f
-accept_more queue (x ∷ kinds) k s t e f = by_first (λ q g. accept_more q kinds k s t g f) (accept queue x) e
-  where
-    by_first : ((q : List ℕ) → accept_all q kinds ≡ Some s → accept_all q (kinds ++ k ∷ []) ≡ Some t) → (o : Option (List ℕ)) →
-        option_and_then (λ next. accept_all next kinds) o ≡ Some s
-        → option_and_then (λ next. accept_all next (kinds ++ k ∷ [])) o ≡ Some t
-    by_first later None g = cc
-    by_first later (Some q) g = later q g
+use Rattle.recorder_core.proofs.Effects.{accept_more}
 
 -- a note more, of an operation that is accepted
 pub legal_more : (initial : List ℕ) (notes : List Note) (call : ℕ) (e : Effect) (look : ℕ) (s t : List ℕ)
