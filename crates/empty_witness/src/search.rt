@@ -11,7 +11,6 @@ use crate::answer::{GapAnswer, Gaps, WitnessAnswer};
 use crate::cover::cover_of;
 use crate::gaps::least_free_gap;
 use crate::spans::{Span, spans_of};
-use event_records::ORIGIN;
 use history_merge::{OpId, Operation};
 use std::alloc::{AllocError, Global};
 use value_match::{Matching, Places};
@@ -100,11 +99,7 @@ fn answer_at(matching: &Matching, empty: OpId) -> EmptyAnswer
     let operation = matching.operations().get(empty).unwrap();
     EmptyAnswer {
         place: empty,
-        operation: Operation {
-            call: operation.call + ORIGIN,
-            ret: operation.ret + ORIGIN,
-            ..operation
-        },
+        operation: operation.timed(),
     }
 }
 
