@@ -3,10 +3,10 @@ use Rattle.std.specs.Prelude.{slice_get}
 use Rattle.std.proofs.lemmas.Result.{IfOk-weaker}
 use Rattle.conditions.proofs.Places.{decided_of_part}
 use Rattle.conditions.proofs.Parts.{all_pass}
-use Rattle.conditions.proofs.weak.decide_weakly_empty.Goals as goal
+use Rattle.conditions.proofs.weak.decide_weakly_empty_by.Goals as goal
 
 pub returns : goal.returns
-returns c =
+returns g c =
     let whole = c.args.history.now in
     IfOk-weaker c.moved_verdict.result _ _
     (λ moved is. decided_of_part whole (λ value. true) (λ call. false) c.in_ok-part.part c.in_ok-verdict.verdict c.as_slice.result.now moved c.in_ok-part.ensures
