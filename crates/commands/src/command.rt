@@ -21,7 +21,7 @@ use crate::sim::sim;
 use crate::stress::{NamedQueue, stress};
 use clap::Error;
 use clap::error::ErrorKind;
-use command_words::{Order, Task, order_in};
+use command_words::{Task, order_in};
 use history_text::{Buffered, TextSink, TextSource, Watched};
 use messages::FrontKept;
 use std::alloc::Global;
@@ -83,52 +83,20 @@ where
         → E.has_refused errors.old ≡ false → 2 ≤ result
         → SaysMessage (E.contents errors.old) (E.contents errors.new) (E.has_refused errors.new) }
 {
-    match order_in(rt.alloc(), words) {
-        Ok(order) => run_order(rt, &order, reader, writer, errors, terminals, shelf),
+    let order = match order_in(rt.alloc(), words) {
+        Ok(order) => order,
         Err(error) => {
             let status = explain(rt.alloc(), &error, writer);
             say_mistake(rt.alloc(), words, &error, status, terminals, errors);
-            status
+            return status;
         }
-    }
-}
-
-/// Runs the command of an order and returns the status.
-fn run_order<'a, R, S, W, E>(
-    rt: &R,
-    order: &Order<'a>,
-    reader: S,
-    writer: &mut W,
-    errors: &mut E,
-    terminals: Terminals,
-    shelf: &[NamedQueue<'a>],
-) -> u8
-where
-    R: AllocGlobal + Threads + Wait + Sync,
-    S: TextSource + Drop,
-    W: TextSink,
-    E: TextSink,
-    requires fresh { W.has_refused writer.old ≡ false }
-    requires ranges { IsInRange (request_of order.now.task) }
-    ensures reads { IfSome (S.ahead reader) (λ input. PrintsOneOf order.now.is_quiet
-        (AnswersOrNoMemory (AnswersOf (request_of order.now.task)) input)
-        (W.contents writer.old) (W.contents writer.new) (W.has_refused writer.new) result) }
-    ensures stresses { (settings : Settings) → request_of order.now.task ≡ stress settings
-        → PrintsOneOf order.now.is_quiet
-        (AnswersOrNoMemory (Stresses (λ s. s.name.now) (λ s. may s.queue) (λ s. may_preload s.queue) shelf.now) settings)
-        (W.contents writer.old) (W.contents writer.new) (W.has_refused writer.new) result }
-    ensures asked { WritesAndFlushes W.transition (W.has_refused writer.new) writer.old writer.new }
-    ensures passed_on { W.has_refused writer.new ≡ false → W.holds_back writer.new ≡ false }
-    ensures silent { terminals.input ≡ false → terminals.output ≡ false → result ≤ 1 → errors.new ≡ errors.old }
-    ensures said { terminals.input ≡ false → terminals.output ≡ false → E.has_refused errors.old ≡ false → 2 ≤ result
-        → SaysMessage (E.contents errors.old) (E.contents errors.new) (E.has_refused errors.new) }
-{
+    };
     greet(rt.alloc(), &order.task, terminals, errors);
     let mut kept = FrontKept::new(rt.alloc(), reader);
     let outcome = outcome_of(rt, order.task, &mut kept, shelf);
     let status = print_outcome(&outcome, order.is_quiet, writer);
     let ended = Ended {
-        order,
+        order: &order,
         outcome: &outcome,
         kept: &kept,
         shelf,
