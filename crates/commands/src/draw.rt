@@ -27,6 +27,7 @@ use conditions::without_empties;
 use drawing::{MOST_DRAWN, Scene, count_of_lines, drawn_operations, scene_of, terminal_picture};
 use history_merge::{History, Operation};
 use history_text::{PendingText, TextSource};
+use parallel_finders::OnePiece;
 use std::alloc::{AllocError, Global};
 use svg_picture::{html_picture, svg_picture};
 use verdicts::{Claimed, claim};
@@ -209,7 +210,7 @@ fn decided_claim(
 ) -> Result<Claimed, AllocError>
     ensures { IfOk result (IsVerdictClaim condition history.now) }
 {
-    let verdict = decide_under(alloc, history, condition)?;
+    let verdict = decide_under(&OnePiece, alloc, history, condition)?;
     claim(alloc, history, &verdict)
 }
 

@@ -8,12 +8,13 @@ ghost use Rattle.commands.specs.Judging.{Judges, Verifies};
 ghost use Rattle.commands.specs.Outcomes.{answer_of, NamesPlaces};
 
 use crate::input::{claimed_of, given_history, history_of};
-use crate::judging::{decide_under_par, verify_under};
+use crate::judging::{decide_under, verify_under};
 use crate::outcome::{Outcome, Report};
 use command_words::Condition;
 use history_merge::History;
 use history_stats::statistics_of;
 use history_text::{TextSource, Version};
+use parallel_finders::InPieces;
 use std::alloc::Global;
 use std::thread::Threads;
 use verdicts::Claimed;
@@ -30,7 +31,8 @@ where
     ensures places { NamesPlaces result }
 {
     let (_version, history) = given_history(alloc, reader)?;
-    let verdict = decide_under_par(rt, alloc, &history, condition)?;
+    let search = InPieces { rt, pieces: PIECES };
+    let verdict = decide_under(&search, alloc, &history, condition)?;
     Ok(Report::Judged(history, verdict))
 }
 

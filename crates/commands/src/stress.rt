@@ -13,12 +13,14 @@ ghost use Rattle.commands.specs.Judging.{AnswersOrNoMemory};
 ghost use Rattle.commands.specs.Outcomes.{answer_of, NamesPlaces};
 ghost use Rattle.commands.specs.Stressing.{IsFirstNamed, IsShownRun, RunsOrFails, Stresses, StressesQueue, StressesUnshelved, first_values, run_version};
 
-use crate::judging::decide_under_par;
+use crate::histories::PIECES;
+use crate::judging::decide_under;
 use crate::outcome::{Fault, Outcome, Report};
 use command_words::{Condition, StressOptions};
 use event_records::{LEAST_INITIAL_NAME, MAX_OPERATIONS};
 use history_text::Version;
 use queue_interface::TestQueue;
+use parallel_finders::InPieces;
 use std::alloc::{AllocError, Global};
 use std::sync::Wait;
 use std::thread::Threads;
@@ -172,7 +174,8 @@ fn judge_run<R: Threads + Sync>(
 {
     let history = recorded.history(alloc)?;
     let _initial = history.initial();
-    let verdict = decide_under_par(rt, alloc, &history, condition)?;
+    let search = InPieces { rt, pieces: PIECES };
+    let verdict = decide_under(&search, alloc, &history, condition)?;
     Ok(Report::Shown(run_version(count), history, verdict))
 }
 

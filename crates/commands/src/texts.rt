@@ -19,6 +19,7 @@ use crate::shrink::shrink;
 use command_words::{Condition, DrawOptions};
 use history_merge::HistoryBuilder;
 use history_text::{MemorySource, Watched};
+use parallel_finders::OnePiece;
 use std::alloc::{AllocError, Global};
 
 /// What `check` finds in a text. Time and memory as of the command in one thread.
@@ -27,7 +28,7 @@ pub fn check_text(alloc: Global, text: &[u8], condition: Condition) -> Outcome
     ensures places { NamesPlaces result }
 {
     let (_version, history) = given_history(alloc, MemorySource::new(text))?;
-    let verdict = decide_under(alloc, &history, condition)?;
+    let verdict = decide_under(&OnePiece, alloc, &history, condition)?;
     Ok(Report::Judged(history, verdict))
 }
 
@@ -77,7 +78,7 @@ pub fn judge_gathered(alloc: Global, builder: HistoryBuilder, condition: Conditi
     ensures places { NamesPlaces result }
 {
     let history = builder.finish()?;
-    let verdict = decide_under(alloc, &history, condition)?;
+    let verdict = decide_under(&OnePiece, alloc, &history, condition)?;
     Ok(Report::Judged(history, verdict))
 }
 
