@@ -10,11 +10,11 @@ ghost use Rattle.commands.specs.Running.{Prints, PrintsAnswer, PrintsSaid, Write
 
 use crate::faults::write_fault;
 use crate::outcome::{Fault, Outcome, Report};
-use crate::show::{write_rejections, write_shown};
+use crate::show::write_rejections;
 use history_stats::write_statistics;
 use history_text::{
     TextSink, Version, WriteFault, violation_line, write_events, write_history, write_piece,
-    write_verdict,
+    write_shown, write_verdict,
 };
 use verdicts::Verdict;
 

@@ -1,6 +1,9 @@
-use Rattle.commands.proofs.Common.{claim_of, longer_front, operations_of, refused_text, said_in, text_of, verdict_text}
-use Rattle.commands.proofs.Common.{writes_then}
-use Rattle.commands.proofs.show.write_shown.Goals as goal
+use Rattle.history_merge.specs.Operations.{operations_of}
+use Rattle.text_lines.proofs.Putting.{longer_front, refused_text, writes_then}
+use Rattle.verdicts.specs.Claiming.{claim_of}
+use Rattle.history_text.specs.Verdicts.{verdict_text}
+use Rattle.history_text.specs.Versions.{said_in, text_of}
+use Rattle.history_text.proofs.verdict_writer.write_shown.Goals as goal
 
 pub returns-in_err-write_history : goal.returns-in_err-write_history
 returns-in_err-write_history g c = refused_text _ _ _ _ c.from_residual.result _ _ _ c.from_residual.ensures.1
