@@ -300,6 +300,12 @@ Output: a line for each number, its name and its value:
   most-in-queue        the most values definitely in the queue at once:
                        put there by enqueues that had returned, and not given
                        by dequeues that had been called
+  overtakes            dequeues that certainly overtook a value: it was enqueued
+                       before theirs, and dequeued after theirs or never
+  overtaken-at-most    the most values that one dequeue certainly overtook
+  refused-at           of the enqueues that were refused, the least of the most
+                       values that may have been in the queue at once during
+                       the call; no line if none was refused
 
 What `check` refuses is refused, with the same line. A text that goes on after
 its line `end N` is `REFUSED Trailing`: of what `stress` writes, take the
@@ -326,6 +332,8 @@ Example:
   overlapping-percent 100.0
   most-pending 2
   most-in-queue 0
+  overtakes 0
+  overtaken-at-most 0
 ";
 
 pub(crate) const SIM_ABOUT: &str = "Steps the recorder through a schedule, and judges it";
