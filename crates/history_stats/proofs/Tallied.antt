@@ -136,7 +136,7 @@ stay_or_taken p r (s ∷ rest) up = elim (cases_lt s.put p) [
     few : (xs : List Stay) → count_by (stays_at p r) xs ≤ count_by (λ x. nat_lt x.put p) xs
     few xs = sum_by-le-sum_by (λ x. cond (stays_at p r x) 1 0) (λ x. cond (nat_lt x.put p) 1 0) xs (λ x. less (nat_lt x.put p) (not (nat_lt x.taken r)))
 
--- so many of the tallied stays were taken before a ticket
+-- a count of the tallied stays that were taken before a ticket
 pub counted_few : (limit place r found : ℕ) (stays : List Stay) (levels : List (List ℕ)) → place ≤ length stays → r ≤ limit
     → AreTallied limit stays place levels
     → ((limit : ℕ) (numbers : List ℕ) → r ≤ limit → IsTally limit numbers levels → found ≡ count_by (λ x. nat_lt x r) numbers) → found ≤ place

@@ -110,7 +110,7 @@ fn put_before(tally: &mut Tally, stays: &[Stay], place: usize, ticket: u64) -> u
     put
 }
 
-/// Returns the overtaking of a dequeue, if it overtook a value; so many stays are tallied.
+/// Returns the overtaking of a dequeue, if it overtook a value. The first `put` stays are tallied.
 fn overtaking_of(tally: &Tally, put: usize, calls: &[u64], taking: Taking) -> Option<Overtaking>
     requires in_order { IsNonDecreasing calls.now }
     requires tallied { (stays : List Stay) × AreTallied (length calls.now) stays put tally.now.levels.items × (put ≤ length stays) }

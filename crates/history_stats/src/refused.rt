@@ -16,7 +16,7 @@ use history_merge::{OpKind, Operation, Operations};
 use std::alloc::{AllocError, Global};
 use std::collections::BTreeMap;
 
-/// How many values may be in the queue just after the call of a refused enqueue, and the arrivals during it, by their
+/// How many values may be in the queue just after the call of a failed enqueue, and the arrivals during it, by their
 /// places.
 #[derive(Clone, Copy)]
 pub(crate) struct Window {
@@ -25,7 +25,7 @@ pub(crate) struct Window {
     to: usize,
 }
 
-/// Returns, of the refused enqueues, the least of the most values that may have been in the queue at one gap of the call.
+/// Returns, of the failed enqueues, the least of the most values that may have been in the queue at one gap of the call.
 ///
 /// Takes time O(n log n) for n operations and initial values, and memory in proportion to them.
 pub(crate) fn refused_at(
@@ -99,7 +99,7 @@ fn add_one(
     }
 }
 
-/// Returns, of the refused enqueues, the least of the most that are there at one gap of the call: `first` are there from
+/// Returns, of the failed enqueues, the least of the most that are there at one gap of the call: `first` are there from
 /// the beginning, one more comes at each of the first tickets, and one goes at each of the second.
 fn refused_among(
     alloc: Global,
@@ -141,7 +141,7 @@ fn refused_in_order(
     Ok(Some(least_within(&heights, &windows, &mut above, last)))
 }
 
-/// Returns the windows of the refused enqueues.
+/// Returns the windows of the failed enqueues.
 fn windows_of(
     alloc: Global,
     first: usize,

@@ -31,7 +31,7 @@ impl Model for Level {
 }
 
 impl Level {
-    /// Makes a level of so many blocks, each with the count 0.
+    /// Makes a level of this many blocks, each with the count 0.
     fn new(alloc: Global, blocks: usize) -> Result<Level, AllocError>
         ensures { IfOk result (λ level. level ≡ replicate blocks 0) }
     {

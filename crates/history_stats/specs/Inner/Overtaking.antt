@@ -26,7 +26,7 @@ taking_by operations o _ = None
 abbrev pub takings_in : List Operation → List Taking
 takings_in operations = filter_map (λ o. taking_by operations o o.kind) operations
 
--- it was put before the one ticket, and not taken before the other, of which so many calls come before
+-- it was put before the one ticket, and not taken before the other, which comes after this number of calls
 abbrev pub stays_at : ℕ → ℕ → Stay → Bool
 stays_at put_before called s = nat_lt s.put put_before && not (nat_lt s.taken called)
 
