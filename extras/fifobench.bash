@@ -39,8 +39,11 @@ _fifobench() {
         verify)
             _fifobench_words '--local --weak-empty -h --help' "$word"
             ;;
-        convert | stats)
+        convert)
             _fifobench_words '-h --help' "$word"
+            ;;
+        stats)
+            _fifobench_words '--overtakes -h --help' "$word"
             ;;
         complete)
             _fifobench_words '--cut -h --help' "$word"

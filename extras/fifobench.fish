@@ -18,6 +18,7 @@ complete -c fifobench -n '__fish_seen_subcommand_from check shrink sim stress' -
 complete -c fifobench -n '__fish_seen_subcommand_from check shrink verify draw stress' -l local -d 'Judge the values of each producer alone'
 complete -c fifobench -n '__fish_seen_subcommand_from check shrink verify draw stress' -l weak-empty -d 'Judge without empty dequeues'
 complete -c fifobench -n '__fish_seen_subcommand_from complete' -l cut -d 'Take a text that ends early, as far as its lines go'
+complete -c fifobench -n '__fish_seen_subcommand_from stats' -l overtakes -d 'List the dequeues that overtook values'
 complete -c fifobench -n '__fish_seen_subcommand_from draw' -l text -d 'Draw in lines of characters, and not as SVG'
 complete -c fifobench -n '__fish_seen_subcommand_from draw' -l html -d 'Draw as an HTML page, to be looked at in a browser'
 complete -c fifobench -n '__fish_seen_subcommand_from draw' -l around -x -d 'With NO, events drawn around it, 0 to 1000'

@@ -278,6 +278,8 @@ pub(crate) const CUT_HELP: &str = "Takes a text that ends early, as far as its l
 
 pub(crate) const STATS_ABOUT: &str = "Counts how far a history's operations overlap, and more";
 
+pub(crate) const OVERTAKES_HELP: &str = "Lists the dequeues that overtook values";
+
 pub(crate) const STATS_LONG: &str = "\
 Input: the text of a history, as for `check`, from its first line to the line
 `end N`.
@@ -306,6 +308,10 @@ Output: a line for each number, its name and its value:
   refused-at           of the enqueues that were refused, the least of the most
                        values that may have been in the queue at once during
                        the call; no line if none was refused
+
+With `--overtakes` a line for each dequeue that certainly overtook a value, in
+the order of their calls, in place of the numbers: how many values it overtook,
+the ticket of its call, and the value that it gave. No line if none did.
 
 What `check` refuses is refused, with the same line. A text that goes on after
 its line `end N` is `REFUSED Trailing`: of what `stress` writes, take the

@@ -10,7 +10,7 @@ pub use Rattle.commands.specs.Inputs.{alone, claim_on, ClaimOnText, Drawable, Is
 pub use Rattle.commands.specs.Inputs.{IsFaultOfClaimInput, IsFaultOfDrawableInput, IsFaultOfHistoryInput, IsHistoryOf}
 pub use Rattle.commands.specs.Inputs.{with_claim}
 pub use Rattle.commands.specs.Drawing.{Draws, IsSmall}
-pub use Rattle.commands.specs.Judging.{AnswersFor, AnswersOrNoMemory, Converts, Counts, in_version_2, IsCounted}
+pub use Rattle.commands.specs.Judging.{AnswersFor, AnswersOrNoMemory, Converts, Counts, in_version_2, IsCounted, IsCountedAs}
 pub use Rattle.commands.specs.Judging.{IsOfVerdict, IsSound, Judges, said_by, ShrinksSound, Verifies}
 pub use Rattle.commands.specs.Outcomes.{answer_of}
 pub use Rattle.commands.specs.Running.{AnswersOf, PrintsAnswer, PrintsOneOf}

@@ -407,12 +407,15 @@ pub convert_has_one : HasOneAnswer convert
 convert_has_one = one_answer one_history Converts (λ input text a b is. one_of_history (said_by text) a b (λ complete. same))
 
 -- a history has one counting, in whichever version it is written
-one_counting : (v w : Version) (history : HistoryView) (a b : Reply) → Counts (said_in v history) a → Counts (said_in w history) b → a ≡ b
-one_counting v w history a b = one_of_history history a b
+one_counting : (overtakes : Bool) (v w : Version) (history : HistoryView) (a b : Reply) → Counts overtakes (said_in v history) a
+    → Counts overtakes (said_in w history) b → a ≡ b
+one_counting true v w history a b = one_of_history history a b (λ complete x y. x ∙ sym y)
+one_counting false v w history a b = one_of_history history a b
     (λ complete x y. x.is ∙ ap (λ s. counted s) (one_statistics history x.statistics y.statistics x.right y.right) ∙ sym y.is)
 
-pub stats_has_one : HasOneAnswer stats
-stats_has_one = one_answer one_history Counts (λ input text a b is. one_counting text.version text.version (said_by text) a b)
+pub stats_has_one : (overtakes : Bool) → HasOneAnswer (stats overtakes)
+stats_has_one overtakes =
+    one_answer one_history (Counts overtakes) (λ input text a b is. one_counting overtakes text.version text.version (said_by text) a b)
 
 -- ---- what isn't a failure was found of a history
 
@@ -613,8 +616,8 @@ pub converted_is_checked : (condition : Condition) → ConvertedIsChecked condit
 converted_is_checked condition = converted_alike (Judges condition) (one_judgement condition)
 
 -- and so does `stats`
-pub converted_is_counted : ConvertedIsCounted
-converted_is_counted = converted_alike Counts (λ text a b has. one_counting text.version Two (said_by text) a b)
+pub converted_is_counted : (overtakes : Bool) → ConvertedIsCounted overtakes
+converted_is_counted overtakes = converted_alike (Counts overtakes) (λ text a b has. one_counting overtakes text.version Two (said_by text) a b)
 
 -- and so does `verify`
 pub converted_is_verified : (condition : Condition) → ConvertedIsVerified condition

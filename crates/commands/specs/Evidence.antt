@@ -119,9 +119,9 @@ ConvertedIsChecked condition = (bytes : List ℕ) (to : HistoryText) (a b : Repl
     → AnswersOf (check condition) (input_of bytes) a → AnswersOf (check condition) (input_of (text_of to)) b → SameOrNoMemory a b
 
 -- so does `stats`
-abbrev pub ConvertedIsCounted : Type 0
-ConvertedIsCounted = (bytes : List ℕ) (to : HistoryText) (a b : Reply) → AnswersOf convert (input_of bytes) (converted to)
-    → AnswersOf stats (input_of bytes) a → AnswersOf stats (input_of (text_of to)) b → SameOrNoMemory a b
+abbrev pub ConvertedIsCounted : Bool → Type 0
+ConvertedIsCounted overtakes = (bytes : List ℕ) (to : HistoryText) (a b : Reply) → AnswersOf convert (input_of bytes) (converted to)
+    → AnswersOf (stats overtakes) (input_of bytes) a → AnswersOf (stats overtakes) (input_of (text_of to)) b → SameOrNoMemory a b
 
 -- `verify` answers a claim alike behind a text and behind its conversion, or memory runs out
 abbrev pub ConvertedIsVerified : Condition → Type 0

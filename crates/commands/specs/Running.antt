@@ -51,7 +51,7 @@ AnswersOf (verify condition) input answer = AnswersFor IsClaimOf IsFaultOfClaimI
 AnswersOf (draw options) input answer = AnswersFor IsDrawableOf IsFaultOfDrawableInput (Draws options) input answer
 AnswersOf convert input answer = AnswersFor IsHistoryOf IsFaultOfHistoryInput Converts input answer
 AnswersOf (complete takes_cut) input answer = AnswersFor (IsPendingOf takes_cut) (IsFaultOfPendingInput takes_cut) Completes input answer
-AnswersOf stats input answer = AnswersFor IsHistoryOf IsFaultOfHistoryInput Counts input answer
+AnswersOf (stats overtakes) input answer = AnswersFor IsHistoryOf IsFaultOfHistoryInput (Counts overtakes) input answer
 AnswersOf sim input answer = AnswersFor IsScheduleOf IsFaultOfScheduleInput Simulates input answer
 AnswersOf (stress settings) input answer = Unit {0}
 

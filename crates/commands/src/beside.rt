@@ -75,7 +75,7 @@ fn name_of(task: &Task<'_>) -> &'static str {
         Task::Draw(_) => "draw",
         Task::Convert => "convert",
         Task::Complete { .. } => "complete",
-        Task::Stats => "stats",
+        Task::Stats { .. } => "stats",
         Task::Sim => "sim",
         Task::Stress(_) => "stress",
     }

@@ -193,7 +193,7 @@ where
         Task::Draw(options) => return draw(rt.alloc(), reader, options),
         Task::Convert => return convert(rt.alloc(), reader),
         Task::Complete { takes_cut } => return complete(rt.alloc(), reader, takes_cut),
-        Task::Stats => return stats(rt.alloc(), reader),
+        Task::Stats { overtakes } => return stats(rt.alloc(), reader, overtakes),
         Task::Sim => return sim(rt.alloc(), reader),
         Task::Stress(options) => return stress(rt, rt.alloc(), shelf, &options),
     }

@@ -37,7 +37,7 @@ pub fn one_answer()
     ensures draw { (options : DrawOptions) → HasOneAnswer (draw options) }
     ensures convert { HasOneAnswer convert }
     ensures complete { (takes_cut : Bool) → HasOneAnswer (complete takes_cut) }
-    ensures stats { HasOneAnswer stats }
+    ensures stats { (overtakes : Bool) → HasOneAnswer (stats overtakes) }
     ensures sim { HasOneAnswer sim }
 {}
 
@@ -78,6 +78,6 @@ pub fn conversion_keeps_answers()
     ensures same_history { ConvertedIsSameHistory }
     ensures kept { ConvertedIsKept }
     ensures checked { (condition : Condition) → ConvertedIsChecked condition }
-    ensures counted { ConvertedIsCounted }
+    ensures counted { (overtakes : Bool) → ConvertedIsCounted overtakes }
     ensures verified { (condition : Condition) → ConvertedIsVerified condition }
 {}

@@ -1,6 +1,7 @@
 //! What the commands find in a text in memory, all in the caller's thread: nothing is read, printed or started.
 ghost use Rattle.std.specs.Prelude.{◌≡◌, IfOk};
 ghost use Rattle.history_merge.specs.Initial.{HistoryView};
+ghost use Rattle.std.specs.Prelude.{false};
 ghost use Rattle.command_words.specs.Commands.{check, complete, draw, shrink, stats, verify};
 ghost use Rattle.commands.specs.Answers.{answer_text};
 ghost use Rattle.commands.specs.Evidence.{input_of};
@@ -65,10 +66,10 @@ pub fn complete_text(alloc: Global, text: &[u8], takes_cut: bool) -> Outcome
 
 /// What `stats` finds in a text.
 pub fn stats_text(alloc: Global, text: &[u8]) -> Outcome
-    ensures found { AnswersOf stats (input_of text.now) (answer_of result) }
+    ensures found { AnswersOf (stats false) (input_of text.now) (answer_of result) }
     ensures places { NamesPlaces result }
 {
-    stats(alloc, MemorySource::new(text))
+    stats(alloc, MemorySource::new(text), false)
 }
 
 /// What `check` finds in the history that a history builder was given.

@@ -213,7 +213,7 @@ pub extern "C" fn fifobench_stats(
     answer: &mut [u8],
     needed: &mut usize,
 ) -> u8
-    ensures { TellsOneOf (AnswersOrNoMemory (AnswersOf stats) (input_of text.now)) answer.old answer.new needed.new result }
+    ensures { TellsOneOf (AnswersOrNoMemory (AnswersOf (stats false)) (input_of text.now)) answer.old answer.new needed.new result }
 {
     tell(alloc, &stats_text(alloc, text), answer, needed)
 }
