@@ -86,13 +86,13 @@ StressesQueue may may_preload settings answer =
     Whether (settings.threads * settings.operations ≤ MAX_OPERATIONS) (RunsOrFails may may_preload settings answer)
     (answer ≡ refused_limit)
 
--- the name of the proved queue
-abbrev pub proved_name : List ℕ
-proved_name = codes "proved"
+-- the name of a proved queue: a list under one lock, or nodes with a lock for each end
+abbrev pub IsProvedName : List ℕ → Type 0
+IsProvedName name = (name ≡ codes "proved") ⊎ (name ≡ codes "proved-two-lock")
 
--- of a name that no queue of the shelf has: the proved queue's run shows no violation, and any other name is refused
+-- of a name that no queue of the shelf has: the run of a proved queue shows no violation, and any other name is refused
 abbrev pub StressesUnshelved : Settings → Reply → Type 0
-StressesUnshelved settings answer = Whether (settings.queue ≡ proved_name)
+StressesUnshelved settings answer = Whether (IsProvedName settings.queue)
     (StressesQueue AnswersInKind TakesOrRefuses settings answer × ShowsNoViolation answer) (answer ≡ refused_queue)
 
 -- `stress` on a shelf of queues with names: the first of the name is run

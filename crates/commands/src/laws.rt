@@ -18,7 +18,7 @@ ghost use Rattle.commands.specs.Evidence.{CompletedIsDecided, CompletedIsHistory
 ghost use Rattle.commands.specs.Evidence.{CheckedIsValid, CheckedIsValidUnder, RefutedIsValid, ConvertedIsChecked, ConvertedIsCounted, ConvertedIsKept, ConvertedIsSameHistory};
 ghost use Rattle.commands.specs.Evidence.{ConvertedIsVerified, DrawnAsChecked, HasOneAnswer, ShrunkIsChecked, ShrunkIsValid};
 ghost use Rattle.commands.specs.Judging.{SimulatesIn};
-ghost use Rattle.commands.specs.Stressing.{StressesUnshelved, proved_name};
+ghost use Rattle.commands.specs.Stressing.{IsProvedName, StressesUnshelved};
 
 /// No false alarm: the answer to an honest schedule that is done is `YES`.
 #[tactic(auto, using(crate::proofs::OneAnswer::honest_gets_a_yes))]
@@ -41,10 +41,10 @@ pub fn one_answer()
     ensures sim { HasOneAnswer sim }
 {}
 
-/// No false alarm of threads: where no queue of the shelf is called `proved`, what `stress` answers for that name
-/// shows no violation.
-pub fn runs_of_the_proved_queue_are_linearizable()
-    ensures { (settings : Settings) (answer : Reply) → settings.queue ≡ proved_name → StressesUnshelved settings answer → ShowsNoViolation answer }
+/// No false alarm of threads: where no queue of the shelf has the name of a proved queue, what `stress` answers for that
+/// name shows no violation.
+pub fn runs_of_proved_queues_are_linearizable()
+    ensures { (settings : Settings) (answer : Reply) → IsProvedName settings.queue → StressesUnshelved settings answer → ShowsNoViolation answer }
 {}
 
 /// Every answer is evidence. `verify` answers an input, followed by the verdict that `check` writes of it, with
