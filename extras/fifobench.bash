@@ -7,7 +7,7 @@ _fifobench_words() {
 
 _fifobench() {
     local word=$2 before=$3 command=${COMP_WORDS[1]} value=
-    local queues='proved locked two-lock array seg lifo doubling inventing shy losing'
+    local queues='proved proved-two-lock locked two-lock array seg lifo doubling inventing shy losing'
     COMPREPLY=()
     # Behind < and > stands a file, which bash itself completes; elsewhere none does.
     case $before in
@@ -39,8 +39,11 @@ _fifobench() {
         verify)
             _fifobench_words '--local --weak-empty -h --help' "$word"
             ;;
-        convert | stats)
+        convert)
             _fifobench_words '-h --help' "$word"
+            ;;
+        stats)
+            _fifobench_words '--overtakes -h --help' "$word"
             ;;
         complete)
             _fifobench_words '--cut -h --help' "$word"

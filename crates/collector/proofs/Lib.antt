@@ -2,6 +2,6 @@
 -- Draining: what a round has done to the rings so far, one ring more.
 -- Rings: which rings a round and a seal are of, by their threads.
 -- Sealing: how far the seal has come; at its end each list is the whole list that its token names.
-mod Draining
+pub mod Draining
 pub mod Rings
 mod Sealing

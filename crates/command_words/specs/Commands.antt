@@ -6,8 +6,8 @@ use Rattle.clap.specs.Faults.{fault_of}
 use Rattle.clap.specs.Kinds.{Kinds}
 use Rattle.clap.specs.Simple.{App, new_shape, subcommand_of}
 use Rattle.clap.specs.Walk.{Row, Text}
-use Rattle.command_words.specs.Options.{IsWithinRanges, Settings, condition_in, drawing_in, is_quiet, settings_in, settings_of, takes_cut, the_complete}
-use Rattle.command_words.specs.Options.{the_deciding, the_draw, the_judging, the_stress, the_verify}
+use Rattle.command_words.specs.Options.{IsWithinRanges, Settings, condition_in, drawing_in, is_quiet, settings_in, settings_of, lists_overtakings, takes_cut, the_complete}
+use Rattle.command_words.specs.Options.{the_deciding, the_draw, the_judging, the_stats, the_stress, the_verify}
 use Rattle.command_words.specs.declared.options.Condition.{Condition}
 use Rattle.command_words.specs.declared.options.DrawOptions.{DrawOptions}
 use Rattle.command_words.specs.declared.options.TheConstants.{MAX_AROUND}
@@ -23,7 +23,7 @@ abbrev pub the_program : App
 the_program = record {
   top = record the_program_alone.top { is_leaf = false };
   subs = the_deciding (codes "check") ∷ the_deciding (codes "shrink") ∷ the_verify
-      ∷ the_draw ∷ new_shape (codes "convert") ∷ the_complete ∷ new_shape (codes "stats") ∷ the_judging (codes "sim") ∷ the_stress ∷ [];
+      ∷ the_draw ∷ new_shape (codes "convert") ∷ the_complete ∷ the_stats ∷ the_judging (codes "sim") ∷ the_stress ∷ [];
 }
 
 -- what is wrong with the words, or which help they ask for: nothing where they are a command
@@ -39,7 +39,8 @@ pub data Request : Type 0 where
   convert : Request
   -- whether a text that is cut off is taken too
   complete : Bool → Request
-  stats : Request
+  -- whether the dequeues that overtook are listed in place of the numbers
+  stats : Bool → Request
   sim : Request
   stress : Settings → Request
 
@@ -52,7 +53,7 @@ request_named name rows =
     else if bytes_eq name (codes "draw") then Some (draw (drawing_in rows))
     else if bytes_eq name (codes "convert") then Some convert
     else if bytes_eq name (codes "complete") then Some (complete (takes_cut rows))
-    else if bytes_eq name (codes "stats") then Some stats
+    else if bytes_eq name (codes "stats") then Some (stats (lists_overtakings rows))
     else if bytes_eq name (codes "sim") then Some sim
     else if bytes_eq name (codes "stress") then Some (stress (settings_in rows)) else None
 
@@ -80,7 +81,7 @@ request_of (task.Verify condition) = verify condition
 request_of (task.Draw options) = draw options
 request_of task.Convert = convert
 request_of (task.Complete cut) = complete cut
-request_of task.Stats = stats
+request_of (task.Stats overtakes) = stats overtakes
 request_of task.Sim = sim
 request_of (task.Stress options) = stress (settings_of options)
 

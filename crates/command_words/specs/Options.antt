@@ -78,6 +78,10 @@ the_draw = record (new_shape (codes "draw")) { rules = draw_rules }
 abbrev pub the_complete : Shape
 the_complete = record (new_shape (codes "complete")) { rules = flag_rule (codes "cut") ∷ [] }
 
+-- `stats` with its flag
+abbrev pub the_stats : Shape
+the_stats = record (new_shape (codes "stats")) { rules = flag_rule (codes "overtakes") ∷ [] }
+
 -- the options in the order of the help: ranges and defaults
 abbrev pub stress_rules : List Rule
 stress_rules = queue_rule ∷ number_rule (codes "threads") 1 MAX_WORKERS (codes "2")
@@ -141,6 +145,10 @@ is_quiet rows = has_flag (codes "quiet") rows
 -- the flag for texts that are cut off was given
 abbrev pub takes_cut : List Row → Bool
 takes_cut rows = has_flag (codes "cut") rows
+
+-- the flag for dequeues that overtook was given
+abbrev pub lists_overtakings : List Row → Bool
+lists_overtakings rows = has_flag (codes "overtakes") rows
 
 -- linearizability
 abbrev pub linearizability : Condition

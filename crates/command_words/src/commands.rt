@@ -5,7 +5,7 @@ ghost use Rattle.clap.specs.Walk.{rule_of};
 ghost use Rattle.clap.specs.declared.builder.command.Command.TheViews.{out-Command};
 ghost use Rattle.command_words.specs.Commands.{the_program, the_program_alone};
 ghost use Rattle.command_words.specs.Inner.Built.{with_condition, with_first_four, with_last_five, with_plan, with_sizes};
-ghost use Rattle.command_words.specs.Options.{flag_rule, number_rule, queue_rule, quiet_rule, the_complete, the_deciding, the_draw, the_judging, the_stress, the_verify};
+ghost use Rattle.command_words.specs.Options.{flag_rule, number_rule, queue_rule, quiet_rule, the_complete, the_deciding, the_draw, the_judging, the_stats, the_stress, the_verify};
 
 use crate::help;
 use crate::options::MAX_AROUND;
@@ -43,8 +43,7 @@ fn with_last_five<'a>(alloc: Global, app: Command<'a>) -> Result<Command<'a>, Al
     let convert = plain_command(alloc, "convert", help::CONVERT_ABOUT, help::CONVERT_LONG);
     let with_convert = with(app, Ok(convert))?;
     let with_complete = with(with_convert, complete_command(alloc))?;
-    let stats = plain_command(alloc, "stats", help::STATS_ABOUT, help::STATS_LONG);
-    let with_stats = with(with_complete, Ok(stats))?;
+    let with_stats = with(with_complete, stats_command(alloc))?;
     let sim = judging_command(alloc, "sim", help::SIM_ABOUT, help::SIM_LONG);
     let with_sim = with(with_stats, sim)?;
     with(with_sim, stress_command(alloc))
@@ -162,6 +161,17 @@ fn complete_command<'a>(alloc: Global) -> Result<Command<'a>, AllocError>
         alloc,
         "cut",
         help::CUT_HELP,
+    ))
+}
+
+fn stats_command<'a>(alloc: Global) -> Result<Command<'a>, AllocError>
+    ensures shape { IfOk result (λ c. shape_of c ≡ the_stats) }
+    ensures local { IfOk result (λ c. (out-Command c).has_globals ≡ false) }
+{
+    plain_command(alloc, "stats", help::STATS_ABOUT, help::STATS_LONG).arg(flag_option(
+        alloc,
+        "overtakes",
+        help::OVERTAKES_HELP,
     ))
 }
 

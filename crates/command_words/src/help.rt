@@ -278,6 +278,8 @@ pub(crate) const CUT_HELP: &str = "Takes a text that ends early, as far as its l
 
 pub(crate) const STATS_ABOUT: &str = "Counts how far a history's operations overlap, and more";
 
+pub(crate) const OVERTAKES_HELP: &str = "Lists the dequeues that overtook values";
+
 pub(crate) const STATS_LONG: &str = "\
 Input: the text of a history, as for `check`, from its first line to the line
 `end N`.
@@ -300,6 +302,16 @@ Output: a line for each number, its name and its value:
   most-in-queue        the most values definitely in the queue at once:
                        put there by enqueues that had returned, and not given
                        by dequeues that had been called
+  overtakes            dequeues that certainly overtook a value: it was enqueued
+                       before theirs, and dequeued after theirs or never
+  overtaken-at-most    the most values that one dequeue certainly overtook
+  refused-at           of the enqueues that were refused, the least of the most
+                       values that may have been in the queue at once during
+                       the call; no line if none was refused
+
+With `--overtakes` a line for each dequeue that certainly overtook a value, in
+the order of their calls, in place of the numbers: how many values it overtook,
+the ticket of its call, and the value that it gave. No line if none did.
 
 What `check` refuses is refused, with the same line. A text that goes on after
 its line `end N` is `REFUSED Trailing`: of what `stress` writes, take the
@@ -326,6 +338,8 @@ Example:
   overlapping-percent 100.0
   most-pending 2
   most-in-queue 0
+  overtakes 0
+  overtaken-at-most 0
 ";
 
 pub(crate) const SIM_ABOUT: &str = "Steps the recorder through a schedule, and judges it";
@@ -379,9 +393,9 @@ before any worker starts, K of them, and the text of the history is of version
 2. Where the queue has no room for one of them, `FAULT Preload PLACE` says for
 which, counted from 0.
 
-Queues: proved keeps the order, as is proved; locked, two-lock, array and seg
-are made to keep it; lifo, doubling, inventing, shy and losing break it now and
-then, on purpose.
+Queues: proved and proved-two-lock keep the order, as is proved; locked,
+two-lock, array and seg are made to keep it; lifo, doubling, inventing, shy and
+losing break it now and then, on purpose.
 
 Status:
   0  yes

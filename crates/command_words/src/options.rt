@@ -1,9 +1,9 @@
-//! The options of `draw`, `complete` and `stress`.
+//! The options of `draw`, `complete`, `stats` and `stress`.
 ghost use Rattle.std.specs.Prelude.{◌≡◌, ◌≤◌, ℕ, Some, IfSome};
 ghost use Rattle.clap.specs.Matches.{found_of};
 ghost use Rattle.clap.specs.Walk.{rows_of};
 ghost use Rattle.command_words.specs.Options.{IsWithinRanges, around_in, condition_in, drawing_as, drawing_in, form_in, has_flag, is_given, is_quiet, linearizability};
-ghost use Rattle.command_words.specs.Options.{number_in, settings_in, settings_of, takes_cut};
+ghost use Rattle.command_words.specs.Options.{lists_overtakings, number_in, settings_in, settings_of, takes_cut};
 ghost use Rattle.command_words.specs.Inner.Options.{HasDistance, HasNumber, HasSettings};
 
 use clap::ArgMatches;
@@ -126,6 +126,13 @@ pub(crate) fn takes_cut(matches: &ArgMatches<'_>) -> bool
     ensures { result ≡ takes_cut (rows_of (found_of matches.now)) }
 {
     has_flag(matches, "cut")
+}
+
+/// Whether the flag for dequeues that overtook is among the matches of `stats`.
+pub(crate) fn lists_overtakings(matches: &ArgMatches<'_>) -> bool
+    ensures { result ≡ lists_overtakings (rows_of (found_of matches.now)) }
+{
+    has_flag(matches, "overtakes")
 }
 
 fn has_flag(matches: &ArgMatches<'_>, name: &str) -> bool

@@ -8,7 +8,7 @@ ghost use Rattle.command_words.specs.Inner.Commands.{IsAnswerable};
 use crate::commands::the_command;
 use crate::options::{
     Condition, DrawOptions, StressOptions, draw_options, is_quiet, judged_condition,
-    stress_options, takes_cut,
+    lists_overtakings, stress_options, takes_cut,
 };
 use clap::{ArgMatches, Error};
 use std::alloc::Global;
@@ -33,7 +33,10 @@ pub enum Task<'a> {
         takes_cut: bool,
     },
     /// Read a history and print its statistics.
-    Stats,
+    Stats {
+        /// Whether the dequeues that overtook values are printed in their place.
+        overtakes: bool,
+    },
     /// Read a schedule, run it on the recorder's machine, and print what it recorded and the verdict.
     Sim,
     /// Run workers on a queue, and print what was recorded and the verdict.
@@ -100,7 +103,9 @@ fn task_of<'a>(matches: &ArgMatches<'a>) -> Task<'a>
         "complete" => Task::Complete {
             takes_cut: takes_cut(options),
         },
-        "stats" => Task::Stats,
+        "stats" => Task::Stats {
+            overtakes: lists_overtakings(options),
+        },
         "sim" => Task::Sim,
         "stress" => Task::Stress(stress_options(options)),
         _ => unreachable!(),

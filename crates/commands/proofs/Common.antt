@@ -10,7 +10,7 @@ pub use Rattle.commands.specs.Inputs.{alone, claim_on, ClaimOnText, Drawable, Is
 pub use Rattle.commands.specs.Inputs.{IsFaultOfClaimInput, IsFaultOfDrawableInput, IsFaultOfHistoryInput, IsHistoryOf}
 pub use Rattle.commands.specs.Inputs.{with_claim}
 pub use Rattle.commands.specs.Drawing.{Draws, IsSmall}
-pub use Rattle.commands.specs.Judging.{AnswersFor, AnswersOrNoMemory, Converts, Counts, in_version_2, IsCounted}
+pub use Rattle.commands.specs.Judging.{AnswersFor, AnswersOrNoMemory, Converts, Counts, in_version_2, IsCounted, IsCountedAs}
 pub use Rattle.commands.specs.Judging.{IsOfVerdict, IsSound, Judges, said_by, ShrinksSound, Verifies}
 pub use Rattle.commands.specs.Outcomes.{answer_of}
 pub use Rattle.commands.specs.Running.{AnswersOf, PrintsAnswer, PrintsOneOf}
@@ -37,9 +37,9 @@ pub use Rattle.std.proofs.Common.{All, ap, append-nil, arith, Bool, codes, false
 pub use Rattle.std.proofs.Common.{length, List, None, Option, refl, Some, subst, sym, take, true, [], ℕ, ◌++◌, ◌+◌}
 pub use Rattle.std.proofs.Common.{◌<◌, ◌∙◌, ◌∷◌, ◌≡◌, ◌≢◌, ◌≤◌, ◌⊎◌}
 pub use Rattle.std.proofs.Math.Logic.{⊎_map}
-pub use Rattle.std.proofs.lemmas.Option.{IfSome_then}
 pub use Rattle.text_lines.proofs.Putting.{longer_front, one_more_written, refused_text, stops_in_next, writes_then}
-pub use Rattle.text_lines.specs.Input.{Ahead, Ending, EndOfInput, Takes}
+pub use Rattle.history_text.specs.Reading.{Takes}
+pub use Rattle.text_lines.specs.Input.{Ahead, Ending, EndOfInput, Known, OfInput}
 pub use Rattle.text_lines.specs.declared.fault.TextFault.{TextFault}
 pub use Rattle.verdicts.specs.Claiming.{claim_of, operations_at}
 pub use Rattle.verdicts.specs.Decided.{IsDecided}

@@ -1,20 +1,21 @@
 -- From what calls on the reader gave to what the input is, or to its fault. An input says one thing, or has one fault.
 use Rattle.commands.proofs.Common.{Ahead, alone, AnswersFor, AnswersOrNoMemory, ap, append-nil, arith, claim_on}
 use Rattle.commands.proofs.Common.{Claimed, ClaimOnText, Drawable, Ending, EndOfInput, HasText, HasVerdictText}
-use Rattle.commands.proofs.Common.{HistoryText, IfSome, inl, input_of, inr, IsClaimOf, IsDrawableOf}
+use Rattle.commands.proofs.Common.{HistoryText, inl, input_of, inr, IsClaimOf, IsDrawableOf}
 use Rattle.commands.proofs.Common.{IsFaultOfClaimInput, IsFaultOfDrawableInput, IsFaultOfHistoryInput, IsHistoryOf}
 use Rattle.commands.proofs.Common.{IsTextFault, IsVerdictTextFault, line_count, List, None, NoRoomForSchedule}
 use Rattle.commands.proofs.Common.{NoRoomForText, NoRoomForVerdict, Option, refl, Reply, SameOrNoMemory, Some, subst}
 use Rattle.commands.proofs.Common.{sym, Takes, text_of, TextFault, verdict_text, with_claim, [], ℕ, ◌++◌, ◌∙◌, ◌≡◌}
 use Rattle.commands.proofs.Common.{◌≢◌, ◌⊎◌}
 use Rattle.commands.specs.Inputs.{AfterText, FaultBehind, IsFaultBehind, IsFaultOfEnd, IsFaultOfOneText, IsFaultOfScheduleInput}
-use Rattle.commands.specs.Inputs.{IsFaultOfTexts, IsScheduleOf, IsWhole, LacksVerdict}
-use Rattle.history_text.specs.Reading.{HasEndFault, HasFirstFault, HasMore, HasTextFault, HasVerdictTextFault}
-use Rattle.text_lines.proofs.Consuming.{Takes-append}
+use Rattle.commands.specs.Inputs.{history_in, IsFaultOfTexts, IsScheduleOf, IsWhole, LacksVerdict}
+use Rattle.history_text.specs.Reading.{Fails, HasEndFault, HasFirstFault, HasMore, HasTextFault, HasVerdictTextFault, IsEndFault, IsOver}
+use Rattle.history_text.specs.Reading.{Left, MayBeLeft, OfLeft}
+use Rattle.history_text.proofs.Consuming.{before_end, taken_through}
 use Rattle.text_lines.proofs.MemoryOrNot.{follows, is_memory, known_fault}
 use Rattle.text_lines.specs.declared.fault.TextFault.TheVariants.{Read}
 use Rattle.verdicts.specs.declared.verifying.Claimed.TheVariants.{No, Yes}
-use Rattle.history_text.proofs.FirstFaults.{Anything, IsJudged, one_first_fault, text_has_no_fault, texts_agree}
+use Rattle.history_text.proofs.FirstFaults.{Anything, IsJudged, moved, one_first_fault, text_has_no_fault, texts_agree}
 use Rattle.std.specs.declared.result.Result.{Result}
 use Rattle.history_text.proofs.OneHistory as histories
 use Rattle.history_text.proofs.OneSchedule as schedules
@@ -25,7 +26,7 @@ use Rattle.history_text.proofs.OnePending.{has_same, same_text}
 use Rattle.history_text.specs.Pending.{as_pending, HasPendingText, HasPendingTextFault, IsCutText, IsPendingRead, IsPendingTextFault, NoRoomForPending}
 use Rattle.history_text.specs.Pending.{pending_line_count, pending_text}
 use Rattle.text_lines.specs.Faults.{MemoryOr}
-use Rattle.text_lines.specs.Input.{Failure, IsOver}
+use Rattle.text_lines.specs.Input.{after, Known, MayGive, OfInput}
 use Rattle.std.specs.Prelude.{is_some}
 use Rattle.history_text.specs.declared.pending_text.PendingText.{PendingText}
 use Rattle.commands.specs.Completing.{IsFaultOfPendingInput, IsPendingOf}
@@ -33,9 +34,28 @@ use Rattle.std.proofs.Common.{Bool, false, true}
 
 -- ---- what was taken of the input
 
--- what takes nothing more takes the same
-pub taken_through : (input mid left : Option Ahead) (text : List ℕ) → Takes input mid text → Takes mid left [] → Takes input left text
-taken_through input mid left text before after = grind (arith, append-nil, Takes-append)
+-- what a reader has left at first
+abbrev pub start : Known → Left
+start known = record { front = []; behind = known }
+
+-- what holds of some input that is left at first holds of one that the source may give
+pub from_start : (known : Known) (P : Ahead → Type 0) → OfLeft (start known) P → OfInput known P
+from_start known P found = record {
+  input = found.input;
+  may = subst (MayGive known) (sym found.may.2) found.may.1;
+  is_so = found.is_so;
+}
+
+-- the input is what was taken of it, if it is over then
+pub over_input : (known : Known) (left : Left) (text : List ℕ) (P : Ahead → Type 0) → Takes (start known) left text → IsOver EndOfInput left
+    → P (input_of text) → OfInput known P
+over_input known left text P taken over is =
+    from_start known P (before_end (start known) left EndOfInput text (λ e b. P (record { bytes = b; ending = e })) taken over is)
+
+-- so it is if nothing was taken after that
+pub whole_input : (known : Known) (mid left : Left) (text : List ℕ) (P : Ahead → Type 0) → Takes (start known) mid text → Takes mid left []
+    → IsOver EndOfInput left → P (input_of text) → OfInput known P
+whole_input known mid left text P before after = over_input known left text P (taken_through (start known) mid left text before after)
 
 -- ---- an input says one thing
 
@@ -58,17 +78,27 @@ module _ {A : Type 0} (Has : A → Type 0) (said : A → List ℕ) (IsFirst : �
   IsFault a f = IsFirst 0 a.ending a.bytes f ⊎ AfterText Has said (λ value rest. IsNext value a.ending rest f) a.bytes
 
   -- a fault of the text
-  pub first_fault : (input : Option Ahead) (fault : TextFault) → HasFirstFault (IsFirst 0) LacksRoom input fault
-      → IfSome input (λ a. IsFaultOfTexts Has said (IsFirst 0) LacksRoom IsNext LacksNext a fault)
-  first_fault input fault h = grind (arith, follows)
+  pub first_fault : (known : Known) (fault : TextFault) → HasFirstFault (IsFirst 0) LacksRoom (start known) fault
+      → OfInput known (λ a. IsFaultOfTexts Has said (IsFirst 0) LacksRoom IsNext LacksNext a fault)
+  first_fault known fault h = from_start known (λ a. IsFaultOfTexts Has said (IsFirst 0) LacksRoom IsNext LacksNext a fault) (record {
+    input = h.input;
+    may = h.may;
+    is_so = follows (LacksRoom h.input.bytes) (Lacks h.input) (IsFirst 0 h.input.ending h.input.bytes) (IsFault h.input) fault inl (λ f. inl) h.is_so;
+  })
 
   -- a fault of what comes after the text
-  pub next_fault : (input left : Option Ahead) (value : A) (fault : TextFault) → Has value → Takes input left (said value)
+  pub next_fault : (known : Known) (left : Left) (value : A) (fault : TextFault) → Has value → Takes (start known) left (said value)
       → HasFirstFault (IsNext value) (LacksNext value) left fault
-      → IfSome input (λ a. IsFaultOfTexts Has said (IsFirst 0) LacksRoom IsNext LacksNext a fault)
-  next_fault None left value fault has taken h = tt
-  next_fault (Some a) None value fault has taken h = absurd taken
-  next_fault (Some a) (Some b) value fault has taken h = grind (arith, follows)
+      → OfInput known (λ a. IsFaultOfTexts Has said (IsFirst 0) LacksRoom IsNext LacksNext a fault)
+  next_fault known left value fault has taken h = from_start known (λ a. IsFaultOfTexts Has said (IsFirst 0) LacksRoom IsNext LacksNext a fault)
+      (moved (λ b. MemoryOr (LacksNext value b.bytes) (IsNext value b.ending b.bytes) fault)
+      (λ a. IsFaultOfTexts Has said (IsFirst 0) LacksRoom IsNext LacksNext a fault) (start known) left (said value) taken (behind_value value has) h)
+    where
+      behind_value : (x : A) → Has x → (b : Ahead) → MemoryOr (LacksNext x b.bytes) (IsNext x b.ending b.bytes) fault
+          → IsFaultOfTexts Has said (IsFirst 0) LacksRoom IsNext LacksNext (after (said x) b) fault
+      behind_value x has_x b = follows (LacksNext x b.bytes) (Lacks (after (said x) b)) (IsNext x b.ending b.bytes) (IsFault (after (said x) b)) fault
+          (λ room. inr (record { value = x; rest = b.bytes; has = has_x; front = refl; after = room }))
+          (λ f next. inr (record { value = x; rest = b.bytes; has = has_x; front = refl; after = next }))
 
   module _ {judge : ℕ → Ending → List ℕ → Result (A × List ℕ) TextFault} (judged : IsJudged Has said Anything IsFirst judge)
       (one_next : (x : A) (ending : Ending) (rest : List ℕ) (f g : TextFault) → IsNext x ending rest f → IsNext x ending rest g → f ≡ g) where
@@ -110,10 +140,12 @@ module _ {A : Type 0} (Has : A → Type 0) (said : A → List ℕ) (IsFirst : �
 -- ---- one text
 
 -- the input isn't over after a text
-not_over : (left : Option Ahead) (fault : TextFault) → HasEndFault left fault → HasFirstFault IsFaultOfEnd (λ _. ⊥) left fault
-not_over None fault h = tt
-not_over (Some b) text.Memory h = absurd h
-not_over (Some b) fault h = h
+end_or_memory : (a : Ahead) (fault : TextFault) → IsEndFault a fault → MemoryOr ⊥ (IsFaultOfEnd a.ending a.bytes) fault
+end_or_memory a text.Memory h = absurd h
+end_or_memory a fault h = h
+
+not_over : (left : Left) (fault : TextFault) → HasEndFault left fault → HasFirstFault IsFaultOfEnd (λ _. ⊥) left fault
+not_over left fault h = record { input = h.input; may = h.may; is_so = end_or_memory h.input fault h.is_so }
 
 -- an input that is over has no such fault
 none_at_end : (fault : TextFault) → IsFaultOfEnd EndOfInput [] fault → ⊥
@@ -133,14 +165,15 @@ one_at_end ending rest f g x y = absurd x
 
 module _ {A : Type 0} (Has : A → Type 0) (said : A → List ℕ) (IsFirst : ℕ → Ending → List ℕ → TextFault → Type 0) (LacksRoom : List ℕ → Type 0) where
   -- a fault of the text
-  pub text_fault : (input : Option Ahead) (fault : TextFault) → HasFirstFault (IsFirst 0) LacksRoom input fault
-      → IfSome input (λ a. IsFaultOfOneText Has said (IsFirst 0) LacksRoom a fault)
+  pub text_fault : (known : Known) (fault : TextFault) → HasFirstFault (IsFirst 0) LacksRoom (start known) fault
+      → OfInput known (λ a. IsFaultOfOneText Has said (IsFirst 0) LacksRoom a fault)
   text_fault = first_fault Has said IsFirst LacksRoom (λ _. IsFaultOfEnd) (λ _ _. ⊥)
 
   -- a fault of what comes after it
-  pub end_fault : (input left : Option Ahead) (value : A) (fault : TextFault) → Has value → Takes input left (said value)
-      → HasEndFault left fault → IfSome input (λ a. IsFaultOfOneText Has said (IsFirst 0) LacksRoom a fault)
-  end_fault input left value fault has taken h = grind (arith, next_fault, not_over)
+  pub end_fault : (known : Known) (left : Left) (value : A) (fault : TextFault) → Has value → Takes (start known) left (said value)
+      → HasEndFault left fault → OfInput known (λ a. IsFaultOfOneText Has said (IsFirst 0) LacksRoom a fault)
+  end_fault known left value fault has taken h =
+      next_fault Has said IsFirst LacksRoom (λ _. IsFaultOfEnd) (λ _ _. ⊥) known left value fault has taken (not_over left fault h)
 
 module _ {A : Type 0} {Has : A → Type 0} {said : A → List ℕ} {IsFirst : ℕ → Ending → List ℕ → TextFault → Type 0} (LacksRoom : List ℕ → Type 0)
     {judge : ℕ → Ending → List ℕ → Result (A × List ℕ) TextFault} (judged : IsJudged Has said Anything IsFirst judge) where
@@ -224,17 +257,17 @@ one_claim = says_one_thing HasText text_of IsTextFault NoRoomForText (λ t. IsVe
     histories.judged (λ t ending. one_first_fault verdict_texts.judged (line_count t) ending) IsClaimOf one_claim_of claim_parts
 
 -- a fault of the history's text
-pub claim_history_fault : (input : Option Ahead) (fault : TextFault) → HasTextFault 0 input fault → IfSome input (λ a. IsFaultOfClaimInput a fault)
+pub claim_history_fault : (known : Known) (fault : TextFault) → HasTextFault 0 (start known) fault → OfInput known (λ a. IsFaultOfClaimInput a fault)
 claim_history_fault =
     first_fault HasText text_of IsTextFault NoRoomForText (λ t. IsVerdictTextFault (line_count t)) (λ _. NoRoomForVerdict)
 
 -- a fault of the verdict's text, after the history's
-pub verdict_fault : (input left : Option Ahead) (text : HistoryText) (lines : ℕ) (fault : TextFault) → HasText text
-    → Takes input left (text_of text) → lines ≡ line_count text → HasVerdictTextFault lines left fault
-    → IfSome input (λ a. IsFaultOfClaimInput a fault)
-verdict_fault input left text lines fault has taken is h =
+pub verdict_fault : (known : Known) (left : Left) (text : HistoryText) (lines : ℕ) (fault : TextFault) → HasText text
+    → Takes (start known) left (text_of text) → lines ≡ line_count text → HasVerdictTextFault lines left fault
+    → OfInput known (λ a. IsFaultOfClaimInput a fault)
+verdict_fault known left text lines fault has taken is h =
     next_fault HasText text_of IsTextFault NoRoomForText (λ t. IsVerdictTextFault (line_count t)) (λ _. NoRoomForVerdict)
-    input left text fault has taken (rw is at h)
+    known left text fault has taken (rw is at h)
 
 -- ---- a history, and a verdict on it if anything follows; or a text that counts pending calls
 
@@ -286,66 +319,92 @@ one_drawable = says_one_thing HasPendingText pending_text (IsPendingTextFault fa
         let p = claim_parts input x is in
         (as_pending p.0, p.1, has_same p.0 p.2, p.3 ∙ ap (λ t. t ++ p.1) (sym (same_text p.0)), λ fault next. p.4 fault next.0)
 
+-- a text without a count of pending calls is a history's
+pub plain_text : (text : PendingText) → is_some text.open_calls ≡ false → HasPendingText text
+    → HasText (history_in text) × (pending_text text ≡ text_of (history_in text))
+plain_text text plain has =
+    let none : text.open_calls ≡ None = none_counted text.open_calls plain in
+    let same : as_pending (history_in text) ≡ text = ap (λ (calls : Option ℕ). record text { open_calls = calls }) (sym none) in
+    (record { initial = has.initial; events = has.events }, ap (λ (t : PendingText). pending_text t) (sym same) ∙ same_text (history_in text))
+  where
+    none_counted : (calls : Option ℕ) → is_some calls ≡ false → calls ≡ None
+    none_counted None none = refl
+    none_counted (Some n) none = absurd (cc)
+
 -- a fault of the text
-pub drawable_text_fault : (input : Option Ahead) (fault : TextFault) → HasPendingTextFault false 0 input fault
-    → IfSome input (λ a. IsFaultOfDrawableInput a fault)
+pub drawable_text_fault : (known : Known) (fault : TextFault) → HasPendingTextFault false 0 (start known) fault
+    → OfInput known (λ a. IsFaultOfDrawableInput a fault)
 drawable_text_fault = first_fault HasPendingText pending_text (IsPendingTextFault false) NoRoomForPending IsFaultBehind LacksVerdict
 
 -- a text that isn't cut off is whole
-pub read_whole : (lines : ℕ) (old new : Option Ahead) (text : PendingText) (whole : Bool) → IsPendingRead false lines old new text whole
+pub read_whole : (lines : ℕ) (old new : Left) (text : PendingText) (whole : Bool) → IsPendingRead false lines old new text whole
     → (whole ≡ true) × HasPendingText text × Takes old new (pending_text text)
 read_whole lines old new text true read = (refl, read.0, read.1)
 read_whole lines old new text false read = let cut = read.0 in absurd (cc)
 
 -- a fault of what comes after a text
-behind_text : (input left : Option Ahead) (text : PendingText) (fault : TextFault) → HasPendingText text → Takes input left (pending_text text)
-    → HasFirstFault (IsFaultBehind text) (LacksVerdict text) left fault → IfSome input (λ a. IsFaultOfDrawableInput a fault)
+behind_text : (known : Known) (left : Left) (text : PendingText) (fault : TextFault) → HasPendingText text → Takes (start known) left (pending_text text)
+    → HasFirstFault (IsFaultBehind text) (LacksVerdict text) left fault → OfInput known (λ a. IsFaultOfDrawableInput a fault)
 behind_text = next_fault HasPendingText pending_text (IsPendingTextFault false) NoRoomForPending IsFaultBehind LacksVerdict
 
--- a fault of what follows a text that counts pending calls
-pub drawable_end_fault : (input left : Option Ahead) (text : PendingText) (fault : TextFault) → is_some text.open_calls ≡ true
-    → HasPendingText text → Takes input left (pending_text text) → HasEndFault left fault → IfSome input (λ a. IsFaultOfDrawableInput a fault)
-drawable_end_fault input left text fault counts has taken h =
-    behind_text input left text fault has taken (by_calls text.open_calls counts left h)
-  where
-    moved : (b : Ahead) → HasFirstFault IsFaultOfEnd (λ _. ⊥) (Some b) fault → (calls : ℕ)
-        → MemoryOr ((Some calls ≡ None) × NoRoomForVerdict b.bytes) (FaultBehind (Some calls) (pending_line_count text) b.ending b.bytes) fault
-    moved b h calls = follows ⊥ ((Some calls ≡ None) × NoRoomForVerdict b.bytes) (IsFaultOfEnd b.ending b.bytes)
-        (FaultBehind (Some calls) (pending_line_count text) b.ending b.bytes) fault (λ room. absurd room) (λ f first. first) h
+module _ (calls : Option ℕ) (lines : ℕ) (left : Left) (fault : TextFault) where
+  -- the fault of what comes after a text with this count of pending calls and this many lines
+  abbrev HasFaultBehind : Type 0
+  HasFaultBehind = HasFirstFault (FaultBehind calls lines) (λ r. (calls ≡ None) × NoRoomForVerdict r) left fault
 
-    by_calls : (calls : Option ℕ) → is_some calls ≡ true → (l : Option Ahead) → HasEndFault l fault
-        → HasFirstFault (λ e r f. FaultBehind calls (pending_line_count text) e r f) (λ r. (calls ≡ None) × NoRoomForVerdict r) l fault
-    by_calls None counts l h = absurd (cc)
-    by_calls (Some n) counts None h = tt
-    by_calls (Some n) counts (Some b) h = moved b (not_over (Some b) fault h) n
+  -- anything, if pending calls are counted
+  end_behind : is_some calls ≡ true → HasEndFault left fault → HasFaultBehind
+  end_behind counts h = record { input = h.input; may = h.may; is_so = by_calls calls counts (end_or_memory h.input fault h.is_so) }
+    where
+      by_calls : (o : Option ℕ) → is_some o ≡ true → MemoryOr ⊥ (IsFaultOfEnd h.input.ending h.input.bytes) fault
+          → MemoryOr ((o ≡ None) × NoRoomForVerdict h.input.bytes) (FaultBehind o lines h.input.ending h.input.bytes) fault
+      by_calls None none k = absurd (cc)
+      by_calls (Some n) counted k = follows ⊥ ((Some n ≡ None) × NoRoomForVerdict h.input.bytes) (IsFaultOfEnd h.input.ending h.input.bytes)
+          (FaultBehind (Some n) lines h.input.ending h.input.bytes) fault (λ room. absurd room) (λ f first. first) k
+
+  -- a failure, if they aren't
+  failure_behind : is_some calls ≡ false → (fault ≡ Read) × OfLeft left Fails → HasFaultBehind
+  failure_behind counts failed = record { input = failed.1.input; may = failed.1.may; is_so = by_calls calls counts failed.1.is_so }
+    where
+      by_calls : (o : Option ℕ) → is_some o ≡ false → Fails failed.1.input
+          → MemoryOr ((o ≡ None) × NoRoomForVerdict failed.1.input.bytes) (FaultBehind o lines failed.1.input.ending failed.1.input.bytes) fault
+      by_calls (Some n) counted fails = absurd (cc)
+      by_calls None none fails = rw (failed.0, fails.0, fails.1) (inl refl, λ over. let no = over.1 in cc)
+
+  -- the fault of a verdict, if something comes
+  verdict_behind : is_some calls ≡ false → ((a : Ahead) → MayBeLeft left a → HasMore a) → HasVerdictTextFault lines left fault → HasFaultBehind
+  verdict_behind counts more h = record { input = h.input; may = h.may; is_so = by_calls calls counts (more h.input h.may) h.is_so }
+    where
+      by_calls : (o : Option ℕ) → is_some o ≡ false → HasMore h.input
+          → MemoryOr (NoRoomForVerdict h.input.bytes) (IsVerdictTextFault lines h.input.ending h.input.bytes) fault
+          → MemoryOr ((o ≡ None) × NoRoomForVerdict h.input.bytes) (FaultBehind o lines h.input.ending h.input.bytes) fault
+      by_calls (Some n) counted some k = absurd (cc)
+      by_calls None none some k =
+          follows (NoRoomForVerdict h.input.bytes) ((None ≡ None) × NoRoomForVerdict h.input.bytes)
+          (IsVerdictTextFault lines h.input.ending h.input.bytes) (FaultBehind None lines h.input.ending h.input.bytes) fault (λ room. (refl, room))
+          (λ f first. (first, λ over. let nothing = sym some.2 ∙ over.0 in cc)) k
+
+-- a fault of what follows a text that counts pending calls
+pub drawable_end_fault : (known : Known) (left : Left) (text : PendingText) (fault : TextFault) → is_some text.open_calls ≡ true
+    → HasPendingText text → Takes (start known) left (pending_text text) → HasEndFault left fault
+    → OfInput known (λ a. IsFaultOfDrawableInput a fault)
+drawable_end_fault known left text fault counts has taken h =
+    behind_text known left text fault has taken (end_behind text.open_calls (pending_line_count text) left fault counts h)
 
 -- a read that failed where the verdict on a history may begin
-pub drawable_read_fault : (input left : Option Ahead) (t : PendingText) (fault : TextFault) → is_some t.open_calls ≡ false
-    → HasPendingText t → Takes input left (pending_text t) → (fault ≡ Read) × IsOver Failure left → IfSome input (λ a. IsFaultOfDrawableInput a fault)
-drawable_read_fault input left t fault counts has taken failed = behind_text input left t fault has taken (by_calls t.open_calls counts left failed)
-  where
-    by_calls : (calls : Option ℕ) → is_some calls ≡ false → (l : Option Ahead) → (fault ≡ Read) × IsOver Failure l
-        → HasFirstFault (λ e r f. FaultBehind calls (pending_line_count t) e r f) (λ r. (calls ≡ None) × NoRoomForVerdict r) l fault
-    by_calls (Some n) counts l failed = absurd (cc)
-    by_calls None counts None failed = tt
-    by_calls None counts (Some b) failed = rw (failed.0, failed.1.0, failed.1.1) (inl refl, λ over. let no = over.1 in cc)
+pub drawable_read_fault : (known : Known) (left : Left) (text : PendingText) (fault : TextFault) → is_some text.open_calls ≡ false
+    → HasPendingText text → Takes (start known) left (pending_text text) → (fault ≡ Read) × OfLeft left Fails
+    → OfInput known (λ a. IsFaultOfDrawableInput a fault)
+drawable_read_fault known left text fault counts has taken failed =
+    behind_text known left text fault has taken (failure_behind text.open_calls (pending_line_count text) left fault counts failed)
 
 -- a fault of what follows a history, as the text of a verdict
-pub drawable_verdict_fault : (input mid left : Option Ahead) (text : PendingText) (lines : ℕ) (fault : TextFault) → is_some text.open_calls ≡ false
-    → HasPendingText text → Takes input mid (pending_text text) → Takes mid left [] → IfSome left HasMore → lines ≡ pending_line_count text
-    → HasVerdictTextFault lines left fault → IfSome input (λ a. IsFaultOfDrawableInput a fault)
-drawable_verdict_fault input mid left text lines fault counts has before taken more is h =
-    behind_text input left text fault has (taken_through input mid left (pending_text text) before taken)
-    (by_calls text.open_calls counts left more (rw is at h))
-  where
-    by_calls : (calls : Option ℕ) → is_some calls ≡ false → (l : Option Ahead) → IfSome l HasMore → HasVerdictTextFault (pending_line_count text) l fault
-        → HasFirstFault (λ e r f. FaultBehind calls (pending_line_count text) e r f) (λ r. (calls ≡ None) × NoRoomForVerdict r) l fault
-    by_calls (Some n) counts l more h = absurd (cc)
-    by_calls None counts None more h = tt
-    by_calls None counts (Some b) more h =
-        let n = pending_line_count text in
-        follows (NoRoomForVerdict b.bytes) ((None ≡ None) × NoRoomForVerdict b.bytes) (IsVerdictTextFault n b.ending b.bytes)
-        (FaultBehind None n b.ending b.bytes) fault (λ room. (refl, room)) (λ f first. (first, λ over. let none = sym more.2 ∙ over.0 in cc)) h
+pub drawable_verdict_fault : (known : Known) (mid left : Left) (text : PendingText) (lines : ℕ) (fault : TextFault) → is_some text.open_calls ≡ false
+    → HasPendingText text → Takes (start known) mid (pending_text text) → Takes mid left [] → ((a : Ahead) → MayBeLeft left a → HasMore a)
+    → lines ≡ pending_line_count text → HasVerdictTextFault lines left fault → OfInput known (λ a. IsFaultOfDrawableInput a fault)
+drawable_verdict_fault known mid left text lines fault counts has before taken more is h =
+    behind_text known left text fault has (taken_through (start known) mid left (pending_text text) before taken)
+    (verdict_behind text.open_calls (pending_line_count text) left fault counts more (rw is at h))
 
 -- ---- what is answered of an input
 

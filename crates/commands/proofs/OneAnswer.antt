@@ -6,7 +6,7 @@ use Rattle.commands.proofs.Common.{Claimed, ClaimOnText, codes, collected_lists,
 use Rattle.commands.proofs.Common.{ConvertedIsChecked, ConvertedIsCounted, ConvertedIsKept, ConvertedIsSameHistory}
 use Rattle.commands.proofs.Common.{ConvertedIsVerified, Converts, Counts, Event}
 use Rattle.commands.proofs.Common.{false, filter, flat_map, HasOneAnswer, HasText, HasVerdictText, HaveValueLines}
-use Rattle.commands.proofs.Common.{HistoryText, HistoryView, IfSome, IfSome_then, in_version_2, inl, input_of, inr}
+use Rattle.commands.proofs.Common.{HistoryText, HistoryView, Known, OfInput, in_version_2, inl, input_of, inr}
 use Rattle.commands.proofs.Common.{IsClaimOf, IsCompleteFrom, IsCompleteHistory, IsDecided, IsDone}
 use Rattle.commands.proofs.Common.{IsExact, IsFaultOfClaimInput, IsFaultOfHistoryInput, IsHistoryOf, IsLinearizable}
 use Rattle.commands.proofs.Common.{IsMerged, IsOfVerdict, IsSound, IsValidOrNoMemory, IsWithinRanges, judged, Judges}
@@ -17,7 +17,9 @@ use Rattle.commands.proofs.Common.{SameOrNoMemory, Setting, Settings, shown, Shr
 use Rattle.commands.proofs.Common.{ShrunkIsValid, Some, subst, sym, take, text_of, TextFault, true, Two, value_format}
 use Rattle.commands.proofs.Common.{Verdict, verdict_text, verified, Verifies, Version, Yes, [], ℕ, ⊎_map}
 use Rattle.commands.proofs.Common.{◌++◌, ◌+◌, ◌<◌, ◌∙◌, ◌∷◌, ◌≡◌, ◌≢◌, ◌≤◌, ◌⊎◌}
-use Rattle.std.proofs.Common.{Contains, drop, get_or, IsTrue, nat_eq, rules, suc, ◌↔◌}
+use Rattle.std.proofs.Common.{append-nil, Contains, drop, get_or, IsTrue, nat_eq, not, rules, suc, ◌==◌, ◌||◌, ◌↔◌}
+use Rattle.std.specs.Io.KnownBytes.{append_known}
+use Rattle.commands.specs.Running.{Behind}
 use Rattle.clap.specs.Kinds.{HasKind, IsAmong, Kinds}
 use Rattle.clap.specs.Values.{kind_of}
 use Rattle.clap.specs.declared.error.Error.{Error}
@@ -28,11 +30,12 @@ use Rattle.command_words.specs.Options.{linearizability}
 use Rattle.command_words.specs.declared.options.Condition.{Condition}
 use Rattle.commands.proofs.Conditions.{no_is_not_linearizable, no_is_of_the_whole, one_claim_under, one_refuted, true_under}
 use Rattle.commands.specs.Conditions.{IsDecidedUnder, IsTrueUnder}
-use Rattle.commands.specs.Evidence.{CheckedIsValidUnder, RefutedIsValid}
+use Rattle.commands.specs.Evidence.{CheckedIsValidUnder, IsVerdictOrNoMemory, RefutedIsValid}
+use Rattle.commands.specs.Evidence.{SimulatedIsChecked, SimulatedIsValid, StressedIsChecked, StressedIsValid, StressedIsValidUnder}
 use Rattle.commands.specs.Judging.{FaultOr, IsEvident, IsFaulty, IsOfVerdictUnder, IsShrunkPart, ShrinksBy}
 use Rattle.verdicts.specs.Selection.{contents_of}
 use Rattle.commands.specs.Judging.{IsOfValue, IsPlayed, IsShrunk, IsVerdictClaim, Shrinks, Simulates, SimulatesIn}
-use Rattle.commands.specs.Stressing.{first_values, IsFirstNamed, IsShownRun, RunsOrFails}
+use Rattle.commands.specs.Stressing.{first_values, IsFirstNamed, IsShownRun, run_history, run_version, RunsOrFails}
 use Rattle.commands.specs.declared.stress.TheConstants.{TRIES}
 use Rattle.event_records.specs.Question.{Question}
 use Rattle.event_records.specs.declared.kind.Answer.{Answer}
@@ -45,8 +48,11 @@ use Rattle.recorder_core.proofs.Fitting.{merged_is_complete}
 use Rattle.recorder_core.proofs.Legal.{effects_order_is_legal}
 use Rattle.recorder_core.specs.Initial.{AreInitialNames}
 use Rattle.recorder_core.specs.Replay.{AreRecorded, effects_order, IsHonest, Replays}
+use Rattle.simulation.specs.Simulations.{schedule_of}
 use Rattle.simulation.specs.declared.playing.Rejection.{Rejection}
 use Rattle.std.proofs.Math.Seq.{drop-cons}
+use Rattle.text_lines.proofs.Consuming.{some_input}
+use Rattle.std.proofs.lemmas.Bool.Decides.{nat_tests}
 use Rattle.std.proofs.lemmas.Cmp.{nat_list_eq_equiv}
 use Rattle.std.proofs.lemmas.List.{take-append-drop, take_more}
 use Rattle.std.proofs.lemmas.List.Elements.{All-filter, All-from_recursion, All-push, recursion_from_All}
@@ -137,7 +143,7 @@ first_values_are_names count few = grind (arith, length-range_with_len, get_or-r
 -- ---- what a run gives
 
 -- what is answered of the lists that a run recorded is what `stress` answers
-pub recorded_run : (may : Question → Answer → Type 0) (may_preload : ℕ → Bool → Type 0) (settings : Settings) (plan : List (List Kind))
+pub recorded_run : (may : Question → Answer → Type 0) (may_preload : ℕ → ℕ → Bool → Type 0) (settings : Settings) (plan : List (List Kind))
     → IsSeeded settings.seed settings.threads settings.operations settings.percent plan
     → (recorded : RecordedView) → IsRun may plan recorded.lists recorded.total → AreRecorded recorded.lists
     → (given : List ℕ) → given ≡ first_values settings.initial → Replays settings.ring given recorded.lists → AreTaken may_preload given
@@ -156,7 +162,7 @@ recorded_run may may_preload settings plan seeded recorded run are_recorded give
 recorded_run may may_preload settings plan seeded recorded run are_recorded given first replays taken answer (inr memory) = inr (inr memory)
 
 -- a fault of a run on a queue that was given these values is what `stress` answers
-pub failed_run : (may : Question → Answer → Type 0) (may_preload : ℕ → Bool → Type 0) (settings : Settings) (plan : List (List Kind)) (fault : RunFault)
+pub failed_run : (may : Question → Answer → Type 0) (may_preload : ℕ → ℕ → Bool → Type 0) (settings : Settings) (plan : List (List Kind)) (fault : RunFault)
     → IsWithinRanges settings → IsSeeded settings.seed settings.threads settings.operations settings.percent plan
     → (given : List ℕ) → given ≡ first_values settings.initial → IsFaultOfRun may given plan (record { ring = settings.ring; tries = TRIES }) fault
     → ((place : ℕ) → fault ≡ Preload place → IsFirstRefused may_preload given place) → RunsOrFails may may_preload settings (run_fault fault)
@@ -216,10 +222,10 @@ module _ (old new : Option (List ℕ)) (refused : Bool) (result : ℕ) where
   memory_printed false IsAnswer printed = record { answer = memory_fault; right = inr refl; printed = printed }
 
   -- so it is of a command that reads
-  pub reads_out_of_memory : (quiet : Bool) (request : Request) (input : Option Ahead) → PrintsAnswer old new refused result memory_fault
-      → IfSome input (λ a. PrintsOneOf quiet (AnswersOrNoMemory (AnswersOf request) a) old new refused result)
-  reads_out_of_memory quiet request None printed = tt
-  reads_out_of_memory quiet request (Some a) printed = memory_printed quiet (AnswersOf request a) printed
+  pub reads_out_of_memory : (quiet : Bool) (request : Request) (known : Known) → PrintsAnswer old new refused result memory_fault
+      → OfInput known (λ a. PrintsOneOf quiet (AnswersOrNoMemory (AnswersOf request) a) old new refused result)
+  reads_out_of_memory quiet request known printed =
+      let some = some_input known in record { input = some.0; may = some.1; is_so = memory_printed quiet (AnswersOf request some.0) printed }
 
 -- ---- the message that memory ran out
 
@@ -303,15 +309,53 @@ shows_none condition version history (No violation) complete few decided lineari
 
 module _ {A : Type 0} (IsInputOf : Ahead → A → Type 0) (IsFaultOf : Ahead → TextFault → Type 0) where
   -- the input says this value, of which this is answered
-  pub of_value : (P : A → Reply → Type 0) (input : Option Ahead) (value : A) (answer : Reply) → IfSome input (λ a. IsInputOf a value)
-      → P value answer ⊎ (answer ≡ memory_fault) → IfSome input (λ a. AnswersFor IsInputOf IsFaultOf P a answer)
-  of_value P input value answer is answered = IfSome_then input is (λ a of. inl (record { value = value; input_of = of; answered = answered }))
+  pub of_value : (P : A → Reply → Type 0) (known : Known) (value : A) (answer : Reply) → OfInput known (λ a. IsInputOf a value)
+      → P value answer ⊎ (answer ≡ memory_fault) → OfInput known (λ a. AnswersFor IsInputOf IsFaultOf P a answer)
+  of_value P known value answer is answered = record {
+    input = is.input;
+    may = is.may;
+    is_so = inl (record { value = value; input_of = is.is_so; answered = answered });
+  }
 
 -- the fault of a history that is read is what a command answers that answers the faults of histories, and more
-pub faults_answered : (P : HistoryText → Reply → Type 0) (input : Option Ahead) (answer : Reply)
-    → IfSome input (λ a. AnswersFor IsHistoryOf IsFaultOfHistoryInput (λ text. IsFaulty (said_by text)) a answer)
-    → IfSome input (λ a. AnswersFor IsHistoryOf IsFaultOfHistoryInput (λ text. FaultOr (said_by text) (P text)) a answer)
-faults_answered P input answer found = grind (arith, ⊎_map, faulty_or)
+pub faults_answered : (P : HistoryText → Reply → Type 0) (known : Known) (answer : Reply)
+    → OfInput known (λ a. AnswersFor IsHistoryOf IsFaultOfHistoryInput (λ text. IsFaulty (said_by text)) a answer)
+    → OfInput known (λ a. AnswersFor IsHistoryOf IsFaultOfHistoryInput (λ text. FaultOr (said_by text) (P text)) a answer)
+faults_answered P known answer found = let is = found.is_so in record { input = found.input; may = found.may; is_so = grind (arith, ⊎_map, faulty_or) }
+
+-- what holds of every input holds of some
+pub any_input : (known : Known) (P : Ahead → Type 0) → ((a : Ahead) → P a) → OfInput known P
+any_input known P all = let some = some_input known in record { input = some.0; may = some.1; is_so = all some.0 }
+
+-- ---- behind a buffer
+
+-- a buffer that keeps nothing
+keeps_nothing : (a : Option (List ℕ)) → append_known a [] ≡ a
+keeps_nothing None = refl
+keeps_nothing (Some xs) = ap (λ (r : List ℕ). Some r) (append-nil xs)
+
+-- it keeps nothing if it holds nothing back
+nothing_kept : (kept : List ℕ) (more : Bool) → (not (length kept == 0) || more) ≡ false → kept ≡ []
+nothing_kept [] more none = refl
+nothing_kept (x ∷ kept) more none = grind (arith, nat_tests, none)
+
+-- what is printed to a buffer is printed to its writer
+pub behind : (Printed : Option (List ℕ) → Option (List ℕ) → Bool → Type 0) (old new : Option (List ℕ)) (kept : List ℕ) (refused more : Bool)
+    → (refused ≡ false → (not (length kept == 0) || more) ≡ false) → Printed (append_known old []) (append_known new kept) refused
+    → Behind (λ n r. Printed old n r) new
+behind Printed old new kept refused more passed_on printed = record {
+  held = kept;
+  refused = refused;
+  all_passed_on = λ fine. nothing_kept kept more (passed_on fine);
+  printed = subst (λ o. Printed o (append_known new kept) refused) (keeps_nothing old) printed;
+}
+
+-- the same of an answer
+pub behind_one : (quiet : Bool) (IsAnswer : Reply → Type 0) (result : ℕ) (old new : Option (List ℕ)) (kept : List ℕ) (refused more : Bool)
+    → (refused ≡ false → (not (length kept == 0) || more) ≡ false)
+    → PrintsOneOf quiet IsAnswer (append_known old []) (append_known new kept) refused result
+    → Behind (λ n r. PrintsOneOf quiet IsAnswer old n r result) new
+behind_one quiet IsAnswer result = behind (λ old new refused. PrintsOneOf quiet IsAnswer old new refused result)
 
 -- ---- an input has one answer
 
@@ -407,12 +451,15 @@ pub convert_has_one : HasOneAnswer convert
 convert_has_one = one_answer one_history Converts (λ input text a b is. one_of_history (said_by text) a b (λ complete. same))
 
 -- a history has one counting, in whichever version it is written
-one_counting : (v w : Version) (history : HistoryView) (a b : Reply) → Counts (said_in v history) a → Counts (said_in w history) b → a ≡ b
-one_counting v w history a b = one_of_history history a b
+one_counting : (overtakes : Bool) (v w : Version) (history : HistoryView) (a b : Reply) → Counts overtakes (said_in v history) a
+    → Counts overtakes (said_in w history) b → a ≡ b
+one_counting true v w history a b = one_of_history history a b (λ complete x y. x ∙ sym y)
+one_counting false v w history a b = one_of_history history a b
     (λ complete x y. x.is ∙ ap (λ s. counted s) (one_statistics history x.statistics y.statistics x.right y.right) ∙ sym y.is)
 
-pub stats_has_one : HasOneAnswer stats
-stats_has_one = one_answer one_history Counts (λ input text a b is. one_counting text.version text.version (said_by text) a b)
+pub stats_has_one : (overtakes : Bool) → HasOneAnswer (stats overtakes)
+stats_has_one overtakes =
+    one_answer one_history (Counts overtakes) (λ input text a b is. one_counting overtakes text.version text.version (said_by text) a b)
 
 -- ---- what isn't a failure was found of a history
 
@@ -427,6 +474,10 @@ history_fault_fails fault = omega arith
 verdict_is_no_failure : (claimed : Claimed) → answer_status (judged claimed) < 2
 verdict_is_no_failure (claim.Yes order) = omega arith
 verdict_is_no_failure (claim.No kind lines) = omega arith
+
+played_is_no_failure : (rejected : List Rejection) (events : List Event) (claimed : Claimed) → answer_status (played rejected events claimed) < 2
+played_is_no_failure rejected events (claim.Yes order) = omega arith
+played_is_no_failure rejected events (claim.No kind lines) = omega arith
 
 -- an answer whose status is no failure's is found of the history that the input says
 found_of_history : (P : HistoryText → Reply → Type 0) (input : Ahead) (answer : Reply) → answer_status answer < 2
@@ -565,13 +616,86 @@ shrunk_is_valid condition bytes small claimed answer shrinks verifies =
     written_is_valid linearizability (text_of small) small claimed answer (is.history, record { bytes = refl; ending = refl })
     (claim_is_written small claimed is) is verifies
 
+-- a history that is written with its verdict is answered with that verdict
+written_is_checked : (condition : Condition) (t : HistoryText) (claimed : Claimed) (answer : Reply) → IsWrittenUnder condition t claimed
+    → AnswersOf (check condition) (input_of (text_of t)) answer → IsVerdictOrNoMemory claimed answer
+written_is_checked condition t claimed answer is checks =
+    let found = answered_of one_history (Judges condition) (input_of (text_of t)) t answer (is.history, record { bytes = refl; ending = refl }) checks in
+    let right : IsOfVerdictUnder condition (said_by t) judged (judged claimed) =
+    record { verdict = is.right.verdict; decided = is.right.decided; is = ap (λ c. judged c) is.right.is } in
+    ⊎_map (λ x. one_judgement condition t answer (judged claimed) is.history x (inr (is.complete, right))) (λ none. none) found
+
 -- the shrunk history has the verdict that is written after the history
 pub shrunk_is_checked : (condition : Condition) → ShrunkIsChecked condition
-shrunk_is_checked condition bytes small claimed answer shrinks checks =
-    let is = shown_is_written condition (input_of bytes) small claimed shrinks in
-    let found = answered_of one_history (Judges linearizability) (input_of (text_of small)) small answer (is.history, record { bytes = refl; ending = refl }) checks in
-    let right : IsOfVerdict (said_by small) judged (judged claimed) = record { verdict = is.right.verdict; decided = is.right.decided; is = ap (λ c. judged c) is.right.is } in
-    ⊎_map (λ x. one_judgement linearizability small answer (judged claimed) is.history x (inr (is.complete, right))) (λ none. none) found
+shrunk_is_checked condition bytes small claimed answer shrinks =
+    written_is_checked linearizability small claimed answer (shown_is_written condition (input_of bytes) small claimed shrinks)
+
+-- ---- runs
+
+-- what `stress` shows of a run is its history with its verdict
+run_is_written : (condition : Condition) (count : ℕ) (lists : List (List Event)) (text : HistoryText) (claimed : Claimed) → HasText text
+    → IsShownRun condition count lists (shown text claimed) → IsWrittenUnder condition text claimed
+run_is_written condition count lists text claimed has is =
+    let history = run_history count is.events in
+    let said = said_in (run_version count) history in
+    let e : shown text claimed ≡ shown said (claim_of history.initial (operations_of history.events) is.answered.verdict) = is.answered.is in
+    let same_text : said ≡ text = cc in
+    subst (λ t. IsWrittenUnder condition t claimed) same_text (record {
+      complete = is.complete;
+      history = subst HasText (sym same_text) has;
+      right = record { verdict = is.answered.verdict; decided = is.answered.decided; is = cc };
+    })
+
+pub stressed_is_checked : (condition : Condition) → StressedIsChecked condition
+stressed_is_checked condition count lists text claimed answer has is =
+    written_is_checked condition text claimed answer (run_is_written condition count lists text claimed has is)
+
+pub stressed_is_valid_under : (condition : Condition) → StressedIsValidUnder condition
+stressed_is_valid_under condition count lists text claimed answer has has_claim is =
+    written_is_valid condition (text_of text) text claimed answer (has, record { bytes = refl; ending = refl }) has_claim
+    (run_is_written condition count lists text claimed has is)
+
+pub stressed_is_valid : StressedIsValid
+stressed_is_valid count lists text claimed answer has is =
+    stressed_is_valid_under linearizability count lists text claimed answer has
+    (claim_is_written text claimed (run_is_written linearizability count lists text claimed has is)) is
+
+-- a history of a queue that is empty first, as a text of version 1
+abbrev plain : List Event → HistoryText
+plain events = said_in One (record { initial = []; events = events })
+
+-- what `sim` shows of a schedule is its history with its verdict
+simulated_is_written : (input : Ahead) (rejected : List Rejection) (events : List Event) (claimed : Claimed) → HasHistoryText events
+    → AnswersOf sim input (played rejected events claimed) → IsWritten (plain events) claimed
+simulated_is_written input rejected events claimed has (inl read) = of_answer read.answered
+  where
+    setting : Setting
+    setting = record { threads = read.value.threads; ring = read.value.ring; initial = [] }
+
+    of_answer : AnswersOrNoMemory Simulates read.value (played rejected events claimed) → IsWritten (plain events) claimed
+    of_answer (inl (inl (done, is))) =
+        let e : played rejected events claimed
+                ≡ played (rejections setting (schedule_of read.value.steps)) is.events (claim_of [] (operations_of is.events) is.answered.verdict) = is.answered.is in
+        let same_events : is.events ≡ events = cc in
+        subst (λ es. IsWritten (plain es) claimed) same_events (record {
+          complete = from_nothing is.events is.complete;
+          history = record { initial = refl; events = subst HasHistoryText (sym same_events) has };
+          right = record { verdict = is.answered.verdict; decided = is.answered.decided; is = cc };
+        })
+    of_answer (inl (inr (undone, is))) = absurd (cc)
+    of_answer (inr memory) = absurd (cc)
+simulated_is_written input rejected events claimed has (inr faulty) =
+    absurd (omega (arith, played_is_no_failure rejected events claimed, ap answer_status faulty.is, text_fault_fails faulty.fault))
+
+pub simulated_is_checked : SimulatedIsChecked
+simulated_is_checked bytes rejected events claimed answer has simulates =
+    written_is_checked linearizability (plain events) claimed answer (simulated_is_written (input_of bytes) rejected events claimed has simulates)
+
+pub simulated_is_valid : SimulatedIsValid
+simulated_is_valid bytes rejected events claimed answer has simulates =
+    let is = simulated_is_written (input_of bytes) rejected events claimed has simulates in
+    written_is_valid linearizability (text_of (plain events)) (plain events) claimed answer (is.history, record { bytes = refl; ending = refl })
+    (claim_is_written (plain events) claimed is) is
 
 -- ---- a text and its conversion are answered alike
 
@@ -613,8 +737,8 @@ pub converted_is_checked : (condition : Condition) → ConvertedIsChecked condit
 converted_is_checked condition = converted_alike (Judges condition) (one_judgement condition)
 
 -- and so does `stats`
-pub converted_is_counted : ConvertedIsCounted
-converted_is_counted = converted_alike Counts (λ text a b has. one_counting text.version Two (said_by text) a b)
+pub converted_is_counted : (overtakes : Bool) → ConvertedIsCounted overtakes
+converted_is_counted overtakes = converted_alike (Counts overtakes) (λ text a b has. one_counting overtakes text.version Two (said_by text) a b)
 
 -- and so does `verify`
 pub converted_is_verified : (condition : Condition) → ConvertedIsVerified condition

@@ -14,7 +14,8 @@ use Rattle.history_merge.specs.declared.fault.HistoryFault.{HistoryFault}
 use Rattle.history_merge.specs.declared.fault.HistoryFault.TheVariants as history
 use Rattle.history_merge.specs.Names as history_names
 use Rattle.history_stats.specs.declared.statistics.Statistics.{Statistics}
-use Rattle.history_stats.specs.Text.{statistics_text}
+use Rattle.history_stats.specs.declared.overtaking.Overtaking.{Overtaking}
+use Rattle.history_stats.specs.Text.{overtakings_text, statistics_text}
 use Rattle.recorder_core.specs.Names.{name_of}
 use Rattle.simulation.specs.declared.playing.Rejection.{Rejection}
 use Rattle.stress_run.specs.declared.faults.RunFault.{RunFault}
@@ -38,6 +39,8 @@ pub data Reply : Type 0 where
   converted : HistoryText → Reply
   -- the statistics of a history
   counted : Statistics → Reply
+  -- the dequeues of a history that overtook values
+  overtaken : List Overtaking → Reply
   -- a picture, in lines of characters
   drawn : List ℕ → Reply
   -- the input is refused
@@ -91,6 +94,7 @@ answer_text (played rejections events claimed) = rejection_lines rejections ++ (
 answer_text (verified valid) = line (if valid then codes "VALID" else codes "INVALID")
 answer_text (converted text) = text_of text
 answer_text (counted statistics) = statistics_text statistics
+answer_text (overtaken overtakings) = overtakings_text overtakings
 answer_text (drawn picture) = picture
 answer_text (refused_text fault) = line (beginning true ++ named (text_names.name_of fault) (text_names.line_in fault))
 answer_text (refused_history fault) = line (beginning true ++ named (history_names.name_of fault) (history_names.place_in fault))

@@ -1,10 +1,13 @@
 -- An input has one answer. What one command writes, another answers alike: every answer is evidence, and what
 -- `convert` writes stands for the history that it read.
 use Rattle.std.specs.Prelude.{◌≡◌, ◌↔◌, ℕ, Bool, List, ◌++◌, ◌⊎◌, true, ⊤}
+use Rattle.event_records.specs.declared.event.Event.{Event}
+use Rattle.simulation.specs.declared.playing.Rejection.{Rejection}
 use Rattle.text_lines.specs.Input.{Ahead, EndOfInput}
 use Rattle.history_text.specs.Claims.{HasVerdictText}
 use Rattle.history_text.specs.Verdicts.{verdict_text}
-use Rattle.history_text.specs.Versions.{HistoryText, text_of}
+use Rattle.history_text.specs.Histories.{HasHistoryText, history_text}
+use Rattle.history_text.specs.Versions.{HasText, HistoryText, text_of}
 use Rattle.history_text.specs.declared.version.Version.TheVariants.{Two}
 use Rattle.verdicts.specs.declared.verifying.ClaimLine.{ClaimLine}
 use Rattle.verdicts.specs.declared.verifying.Claimed.{Claimed}
@@ -12,15 +15,16 @@ use Rattle.verdicts.specs.declared.verifying.Claimed.TheVariants as claim
 use Rattle.verdicts.specs.declared.verifying.ViolationKind.{ViolationKind}
 use Rattle.completions.specs.Pending.{CompletesLinearizably}
 use Rattle.history_text.specs.declared.pending_text.PendingText.{PendingText}
-use Rattle.command_words.specs.Commands.{check, shrink, verify, draw, convert, complete, stats, Request}
+use Rattle.command_words.specs.Commands.{check, shrink, verify, draw, convert, complete, stats, sim, Request}
 use Rattle.command_words.specs.Options.{linearizability}
 use Rattle.command_words.specs.declared.options.Condition.{Condition}
 use Rattle.command_words.specs.declared.options.DrawOptions.{DrawOptions}
-use Rattle.commands.specs.Answers.{Reply, judged, shown, verified, memory_fault, answer_text, converted}
+use Rattle.commands.specs.Answers.{Reply, judged, shown, played, verified, memory_fault, answer_text, converted}
 use Rattle.commands.specs.Inputs.{IsHistoryOf}
 use Rattle.commands.specs.Completing.{IsPendingOf}
 use Rattle.commands.specs.Judging.{IsSound, said_by}
 use Rattle.commands.specs.Running.{AnswersOf}
+use Rattle.commands.specs.Stressing.{IsShownRun}
 
 -- an input of these bytes and nothing more
 abbrev pub input_of : List ℕ → Ahead
@@ -41,6 +45,10 @@ HasOneAnswer request = (input : Ahead) (a b : Reply) → AnswersOf request input
 -- the verdict is evidence, or memory ran out
 abbrev pub IsValidOrNoMemory : Reply → Type 0
 IsValidOrNoMemory answer = (answer ≡ verified true) ⊎ (answer ≡ memory_fault)
+
+-- it is this verdict, or memory ran out
+abbrev pub IsVerdictOrNoMemory : Claimed → Reply → Type 0
+IsVerdictOrNoMemory claimed answer = (answer ≡ judged claimed) ⊎ (answer ≡ memory_fault)
 
 -- where `check` answers an input with a verdict, `verify` answers that input, followed by the verdict's text, with
 -- `VALID`
@@ -70,7 +78,38 @@ ShrunkIsValid condition = (bytes : List ℕ) (small : HistoryText) (claimed : Cl
 abbrev pub ShrunkIsChecked : Condition → Type 0
 ShrunkIsChecked condition = (bytes : List ℕ) (small : HistoryText) (claimed : Claimed) (answer : Reply)
     → AnswersOf (shrink condition) (input_of bytes) (shown small claimed)
-    → AnswersOf (check linearizability) (input_of (text_of small)) answer → (answer ≡ judged claimed) ⊎ (answer ≡ memory_fault)
+    → AnswersOf (check linearizability) (input_of (text_of small)) answer → IsVerdictOrNoMemory claimed answer
+
+-- where `stress` answers with a history that has a text, and its verdict, `check` answers that text with this very verdict, or memory
+-- runs out
+abbrev pub StressedIsChecked : Condition → Type 0
+StressedIsChecked condition = (count : ℕ) (lists : List (List Event)) (text : HistoryText) (claimed : Claimed) (answer : Reply) → HasText text
+    → IsShownRun condition count lists (shown text claimed) → AnswersOf (check condition) (input_of (text_of text)) answer
+    → IsVerdictOrNoMemory claimed answer
+
+-- and `verify` answers the two texts with `VALID`
+abbrev pub StressedIsValid : Type 0
+StressedIsValid = (count : ℕ) (lists : List (List Event)) (text : HistoryText) (claimed : Claimed) (answer : Reply) → HasText text
+    → IsShownRun linearizability count lists (shown text claimed)
+    → AnswersOf (verify linearizability) (input_of (answer_text (shown text claimed))) answer → IsValidOrNoMemory answer
+
+-- so it does under each condition, if it can read a text of as many lines
+abbrev pub StressedIsValidUnder : Condition → Type 0
+StressedIsValidUnder condition = (count : ℕ) (lists : List (List Event)) (text : HistoryText) (claimed : Claimed) (answer : Reply) → HasText text
+    → HasVerdictText claimed → IsShownRun condition count lists (shown text claimed)
+    → AnswersOf (verify condition) (input_of (answer_text (shown text claimed))) answer → IsValidOrNoMemory answer
+
+-- where `sim` answers with a history that has a text, and its verdict, `check` answers that text with this very verdict, or memory runs out
+abbrev pub SimulatedIsChecked : Type 0
+SimulatedIsChecked = (bytes : List ℕ) (rejected : List Rejection) (events : List Event) (claimed : Claimed) (answer : Reply) → HasHistoryText events
+    → AnswersOf sim (input_of bytes) (played rejected events claimed) → AnswersOf (check linearizability) (input_of (history_text events)) answer
+    → IsVerdictOrNoMemory claimed answer
+
+-- and `verify` answers the two texts with `VALID`
+abbrev pub SimulatedIsValid : Type 0
+SimulatedIsValid = (bytes : List ℕ) (rejected : List Rejection) (events : List Event) (claimed : Claimed) (answer : Reply) → HasHistoryText events
+    → AnswersOf sim (input_of bytes) (played rejected events claimed)
+    → AnswersOf (verify linearizability) (input_of (history_text events ++ verdict_text claimed)) answer → IsValidOrNoMemory answer
 
 -- where `check` answers an input with a verdict, `draw` without a weaker condition answers that input as it answers it followed
 -- by the verdict's text, or memory runs out
@@ -119,9 +158,9 @@ ConvertedIsChecked condition = (bytes : List ℕ) (to : HistoryText) (a b : Repl
     → AnswersOf (check condition) (input_of bytes) a → AnswersOf (check condition) (input_of (text_of to)) b → SameOrNoMemory a b
 
 -- so does `stats`
-abbrev pub ConvertedIsCounted : Type 0
-ConvertedIsCounted = (bytes : List ℕ) (to : HistoryText) (a b : Reply) → AnswersOf convert (input_of bytes) (converted to)
-    → AnswersOf stats (input_of bytes) a → AnswersOf stats (input_of (text_of to)) b → SameOrNoMemory a b
+abbrev pub ConvertedIsCounted : Bool → Type 0
+ConvertedIsCounted overtakes = (bytes : List ℕ) (to : HistoryText) (a b : Reply) → AnswersOf convert (input_of bytes) (converted to)
+    → AnswersOf (stats overtakes) (input_of bytes) a → AnswersOf (stats overtakes) (input_of (text_of to)) b → SameOrNoMemory a b
 
 -- `verify` answers a claim alike behind a text and behind its conversion, or memory runs out
 abbrev pub ConvertedIsVerified : Condition → Type 0

@@ -8,7 +8,7 @@ use Rattle.history_text.specs.Versions.{HistoryText, text_of, line_count, HasTex
 use Rattle.history_text.specs.Schedules.{schedule_text, HasScheduleText, IsScheduleTextFault, NoRoomForSchedule}
 use Rattle.history_text.specs.Verdicts.{verdict_text}
 use Rattle.history_text.specs.Claims.{HasVerdictText, IsVerdictTextFault, NoRoomForVerdict}
-use Rattle.history_text.specs.Reading.{HasEndFault}
+use Rattle.history_text.specs.Reading.{IsEndFault}
 use Rattle.history_text.specs.Pending.{HasPendingText, IsPendingTextFault, NoRoomForPending, pending_line_count, pending_text}
 use Rattle.history_text.specs.declared.pending_text.PendingText.{PendingText}
 use Rattle.text_lines.specs.Input.{Ahead, Ending, EndOfInput}
@@ -40,7 +40,7 @@ IsFaultOfTexts Has text_of IsFirst LacksRoom IsNext LacksNext input fault =
 
 -- the fault of input that should be over: another byte, or a read that fails
 abbrev pub IsFaultOfEnd : Ending → List ℕ → TextFault → Type 0
-IsFaultOfEnd ending rest fault = HasEndFault (Some (record { bytes = rest; ending = ending })) fault
+IsFaultOfEnd ending rest fault = IsEndFault (record { bytes = rest; ending = ending }) fault
 
 -- the fault of input that should be the text of one of these values and nothing more
 abbrev pub IsFaultOfOneText : {A : Type 0} → (A → Type 0) → (A → List ℕ) → (Ending → List ℕ → TextFault → Type 0) → (List ℕ → Type 0) → Ahead

@@ -10,6 +10,7 @@ use Rattle.history_merge.specs.Complete.{IsCompleteHistory}
 use Rattle.history_merge.specs.Merge.{IsMerged}
 use Rattle.history_merge.specs.Operations.{operations_of}
 use Rattle.history_stats.specs.declared.statistics.Statistics.{Statistics}
+use Rattle.history_stats.specs.Overtaking.{overtakings}
 use Rattle.history_stats.specs.Statistics.{AreStatisticsOf}
 use Rattle.value_match.specs.declared.violation.Violation.{Violation}
 use Rattle.recorder_core.specs.Setting.{Setting}
@@ -30,7 +31,7 @@ use Rattle.command_words.specs.Options.{linearizability}
 use Rattle.command_words.specs.declared.options.Condition.{Condition}
 use Rattle.commands.specs.Conditions.{IsDecidedUnder, IsMinimalUnder, IsRefutedPart, IsTrueUnder, Meets}
 use Rattle.commands.specs.Inputs.{ClaimOnText}
-use Rattle.commands.specs.Answers.{Reply, judged, shown, left_open, played, verified, converted, counted, memory_fault, answer_of_text_fault}
+use Rattle.commands.specs.Answers.{Reply, judged, shown, left_open, played, verified, converted, counted, overtaken, memory_fault, answer_of_text_fault}
 use Rattle.commands.specs.Answers.{answer_of_history_fault}
 
 -- ---- histories
@@ -158,9 +159,14 @@ pub record IsCounted (history : HistoryView) (answer : Reply) : Type 0 where
   pub right : AreStatisticsOf history statistics
   pub is : answer ≡ counted statistics
 
--- `stats`: the first fault of the history, or its statistics
-abbrev pub Counts : HistoryText → Reply → Type 0
-Counts text answer = FaultOr (said_by text) (IsCounted (said_by text)) answer
+-- the same, or the dequeues that overtook values, by whether these are listed in their place
+abbrev pub IsCountedAs : Bool → HistoryView → Reply → Type 0
+IsCountedAs false history answer = IsCounted history answer
+IsCountedAs true history answer = answer ≡ overtaken (overtakings history)
+
+-- `stats`: the first fault of the history, or what is counted
+abbrev pub Counts : Bool → HistoryText → Reply → Type 0
+Counts overtakes text answer = FaultOr (said_by text) (IsCountedAs overtakes (said_by text)) answer
 
 -- ---- schedules
 

@@ -14,10 +14,10 @@ use Rattle.verdicts.specs.Claiming.{claim_of, IsWithin}
 use Rattle.std.specs.declared.result.Result.{Result}
 use Rattle.commands.specs.declared.outcome.Report.{Report}
 use Rattle.commands.specs.declared.outcome.Report.TheVariants.{Judged, Shown, LeftOpen, Played, Verified, Converted, Completed, Counted}
-use Rattle.commands.specs.declared.outcome.Report.TheVariants.{Drawn}
+use Rattle.commands.specs.declared.outcome.Report.TheVariants.{Drawn, Overtaken}
 use Rattle.commands.specs.declared.outcome.Fault.{Fault}
 use Rattle.commands.specs.declared.outcome.Fault.TheVariants.{Text, History, Size, Orders, Queue, Limit, Memory, Run}
-use Rattle.commands.specs.Answers.{Reply, judged, shown, left_open, played, verified, converted, counted, drawn, refused_orders, refused_size}
+use Rattle.commands.specs.Answers.{Reply, judged, shown, left_open, played, verified, converted, counted, overtaken, drawn, refused_orders, refused_size}
 use Rattle.commands.specs.Answers.{refused_queue, refused_limit, memory_fault, run_fault, answer_of_text_fault, answer_of_history_fault}
 
 -- the answer that is printed of what was found: of a verdict what it claims, of the rest the same
@@ -32,6 +32,7 @@ answer_of_report (Verified valid) = verified valid
 answer_of_report (Converted history) = converted (said_in Two history)
 answer_of_report (Completed version initial events) = converted (record { version = version; initial = initial; events = events })
 answer_of_report (Counted statistics) = counted statistics
+answer_of_report (Overtaken overtakings) = overtaken overtakings.items
 answer_of_report (Drawn picture) = drawn picture.items
 
 -- the answer that is printed of a fault

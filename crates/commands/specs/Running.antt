@@ -1,6 +1,6 @@
 -- What a run of the program leaves behind.
-use Rattle.std.specs.Prelude.{◌≡◌, ℕ, Bool, true, false, List, Option, ◌⊎◌, codes}
-use Rattle.std.specs.Io.KnownBytes.{Appends}
+use Rattle.std.specs.Prelude.{◌≡◌, ℕ, Bool, true, false, List, [], Option, ◌⊎◌, codes}
+use Rattle.std.specs.Io.KnownBytes.{Appends, append_known}
 use Rattle.text_lines.specs.Input.{Ahead}
 use Rattle.text_lines.specs.Lines.{line}
 use Rattle.text_lines.specs.Writing.{AppendsFront, Asked, IsRefused, IsFlushed}
@@ -43,6 +43,13 @@ PrintsAnswer old new refused result answer = Prints old new refused result (answ
 abbrev pub PrintsSaid : Bool → Option (List ℕ) → Option (List ℕ) → Bool → ℕ → Reply → Type 0
 PrintsSaid quiet old new refused result answer = Prints old new refused result (said_text quiet answer) (answer_status answer)
 
+-- this was printed to a writer behind a buffer, which holds nothing back unless the writer refused
+pub record Behind (Printed : Option (List ℕ) → Bool → Type 0) (new : Option (List ℕ)) : Type 0 where
+  pub held : List ℕ
+  pub refused : Bool
+  pub all_passed_on : refused ≡ false → held ≡ []
+  pub printed : Printed (append_known new held) refused
+
 -- what a command answers of an input; `stress` reads none
 abbrev pub AnswersOf : Request → Ahead → Reply → Type 0
 AnswersOf (check condition) input answer = AnswersFor IsHistoryOf IsFaultOfHistoryInput (Judges condition) input answer
@@ -51,7 +58,7 @@ AnswersOf (verify condition) input answer = AnswersFor IsClaimOf IsFaultOfClaimI
 AnswersOf (draw options) input answer = AnswersFor IsDrawableOf IsFaultOfDrawableInput (Draws options) input answer
 AnswersOf convert input answer = AnswersFor IsHistoryOf IsFaultOfHistoryInput Converts input answer
 AnswersOf (complete takes_cut) input answer = AnswersFor (IsPendingOf takes_cut) (IsFaultOfPendingInput takes_cut) Completes input answer
-AnswersOf stats input answer = AnswersFor IsHistoryOf IsFaultOfHistoryInput Counts input answer
+AnswersOf (stats overtakes) input answer = AnswersFor IsHistoryOf IsFaultOfHistoryInput (Counts overtakes) input answer
 AnswersOf sim input answer = AnswersFor IsScheduleOf IsFaultOfScheduleInput Simulates input answer
 AnswersOf (stress settings) input answer = Unit {0}
 

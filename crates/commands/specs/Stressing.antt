@@ -53,7 +53,7 @@ pub record IsShownRun (condition : Condition) (count : ℕ) (lists : List (List 
   pub answered : IsOfVerdictUnder condition (run_history count events) (shown (said_in (run_version count) (run_history count events))) answer
 
 -- a run of the seed's plan on a queue that may answer so and took the first values: its lists by ticket, with their verdict
-pub record IsRecordedRun (may : Question → Answer → Type 0) (may_preload : ℕ → Bool → Type 0) (settings : Settings) (answer : Reply) : Type 0 where
+pub record IsRecordedRun (may : Question → Answer → Type 0) (may_preload : ℕ → ℕ → Bool → Type 0) (settings : Settings) (answer : Reply) : Type 0 where
   pub preloaded : AreTaken may_preload (first_values settings.initial)
   pub plan : List (List Kind)
   pub seeded : IsSeeded settings.seed settings.threads settings.operations settings.percent plan
@@ -66,7 +66,7 @@ pub record IsRecordedRun (may : Question → Answer → Type 0) (may_preload : �
 
 -- no history: a fault that a run of the seed's plan may have, on a queue that may answer so, with rings and tries of these sizes; the place
 -- that it names is that of the first value which the queue refused
-pub record IsFailedRun (may : Question → Answer → Type 0) (may_preload : ℕ → Bool → Type 0) (settings : Settings) (answer : Reply) : Type 0 where
+pub record IsFailedRun (may : Question → Answer → Type 0) (may_preload : ℕ → ℕ → Bool → Type 0) (settings : Settings) (answer : Reply) : Type 0 where
   pub plan : List (List Kind)
   pub seeded : IsSeeded settings.seed settings.threads settings.operations settings.percent plan
   pub fault : RunFault
@@ -76,27 +76,27 @@ pub record IsFailedRun (may : Question → Answer → Type 0) (may_preload : ℕ
   pub is : answer ≡ run_fault fault
 
 -- a run and its verdict, or a fault that a run may have, or out of memory
-abbrev pub RunsOrFails : (Question → Answer → Type 0) → (ℕ → Bool → Type 0) → Settings → Reply → Type 0
+abbrev pub RunsOrFails : (Question → Answer → Type 0) → (ℕ → ℕ → Bool → Type 0) → Settings → Reply → Type 0
 RunsOrFails may may_preload settings answer =
     IsRecordedRun may may_preload settings answer ⊎ (IsFailedRun may may_preload settings answer ⊎ (answer ≡ memory_fault))
 
 -- what is answered of a queue that may answer so: too many operations are refused, and no others
-abbrev pub StressesQueue : (Question → Answer → Type 0) → (ℕ → Bool → Type 0) → Settings → Reply → Type 0
+abbrev pub StressesQueue : (Question → Answer → Type 0) → (ℕ → ℕ → Bool → Type 0) → Settings → Reply → Type 0
 StressesQueue may may_preload settings answer =
     Whether (settings.threads * settings.operations ≤ MAX_OPERATIONS) (RunsOrFails may may_preload settings answer)
     (answer ≡ refused_limit)
 
--- the name of the proved queue
-abbrev pub proved_name : List ℕ
-proved_name = codes "proved"
+-- the name of a proved queue: a list under one lock, or nodes with a lock for each end
+abbrev pub IsProvedName : List ℕ → Type 0
+IsProvedName name = (name ≡ codes "proved") ⊎ (name ≡ codes "proved-two-lock")
 
--- of a name that no queue of the shelf has: the proved queue's run shows no violation, and any other name is refused
+-- of a name that no queue of the shelf has: the run of a proved queue shows no violation, and any other name is refused
 abbrev pub StressesUnshelved : Settings → Reply → Type 0
-StressesUnshelved settings answer = Whether (settings.queue ≡ proved_name)
-    (StressesQueue AnswersInKind TakesOrRefuses settings answer × ShowsNoViolation answer) (answer ≡ refused_queue)
+StressesUnshelved settings answer = Whether (IsProvedName settings.queue)
+    (StressesQueue AnswersInKind (λ _. TakesOrRefuses) settings answer × ShowsNoViolation answer) (answer ≡ refused_queue)
 
 -- `stress` on a shelf of queues with names: the first of the name is run
-abbrev pub Stresses : {X : Type 0} → (X → List ℕ) → (X → Question → Answer → Type 0) → (X → ℕ → Bool → Type 0) → List X → Settings → Reply → Type 0
+abbrev pub Stresses : {X : Type 0} → (X → List ℕ) → (X → Question → Answer → Type 0) → (X → ℕ → ℕ → Bool → Type 0) → List X → Settings → Reply → Type 0
 Stresses {X} name_of may_of may_preload_of shelf settings answer =
     (All (λ x. name_of x ≢ settings.queue) shelf × StressesUnshelved settings answer)
     ⊎ ((x : X) × IsFirstNamed name_of settings.queue shelf x × StressesQueue (may_of x) (may_preload_of x) settings answer)

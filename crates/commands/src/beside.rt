@@ -17,18 +17,20 @@ use std::iter::once;
 /// Above how many events a run that is written to a terminal is one to be kept in a file.
 const MANY_EVENTS: usize = 2000;
 
-/// Which of the standard streams are terminals.
+/// Which of the standard streams are terminals, and whether standard output and standard error are one file.
 #[derive(Clone, Copy)]
 pub struct Terminals {
     pub input: bool,
     pub output: bool,
+    pub is_one_file: bool,
 }
 
 impl Terminals {
-    /// None of them is one.
+    /// None of them is one, and they are two files.
     pub const NONE: Terminals = Terminals {
         input: false,
         output: false,
+        is_one_file: false,
     };
 }
 
@@ -75,7 +77,7 @@ fn name_of(task: &Task<'_>) -> &'static str {
         Task::Draw(_) => "draw",
         Task::Convert => "convert",
         Task::Complete { .. } => "complete",
-        Task::Stats => "stats",
+        Task::Stats { .. } => "stats",
         Task::Sim => "sim",
         Task::Stress(_) => "stress",
     }
@@ -150,7 +152,7 @@ fn message_of<'b, 'a, S>(
         _ => return sentence(alloc, &Complaint::Write),
     };
     let on_shelf = ended.shelf.iter().map(|shelved| shelved.name);
-    let names: Vec<&str> = once("proved").chain(on_shelf).collect(alloc)?;
+    let names: Vec<&str> = ["proved", "proved-two-lock"].into_iter().chain(on_shelf).collect(alloc)?;
     let task = &ended.order.task;
     let given = Given {
         reads: reads_of(name_of(task)).unwrap_or(Reads::History),
@@ -235,7 +237,7 @@ pub(crate) fn say_mistake<T: AsStr, E: TextSink>(
     }
 }
 
-/// Says what is wrong with the words, unless the terminal shows it as standard output; and how a file is read.
+/// Says what is wrong with the words, unless whoever reads this reads it as standard output; and how a file is read.
 fn say_mistaken_words<T: AsStr, E: TextSink>(
     alloc: Global,
     words: &[T],
@@ -243,7 +245,7 @@ fn say_mistaken_words<T: AsStr, E: TextSink>(
     terminals: Terminals,
     errors: &mut E,
 ) {
-    if !terminals.output {
+    if !terminals.output && !terminals.is_one_file {
         tell_made(&format!(in alloc; "{error}"), errors);
     }
     if error.kind() == ErrorKind::UnknownArgument {

@@ -1,13 +1,14 @@
 //! A run of the program.
-ghost use Rattle.std.specs.Prelude.{◌≡◌, ◌≢◌, ◌≤◌, IfSome, Some, [], false, map};
+ghost use Rattle.std.specs.Prelude.{◌≡◌, ◌≢◌, ◌≤◌, Bool, Some, [], false, map};
 ghost use Rattle.command_words.specs.Commands.{Request, stress, is_quiet_in, request_in, request_of, faults_in, IsInRange};
 ghost use Rattle.command_words.specs.Options.{Settings};
 ghost use Rattle.commands.specs.Judging.{AnswersOrNoMemory};
 ghost use Rattle.commands.specs.Outcomes.{answer_of, NamesPlaces};
-ghost use Rattle.commands.specs.Running.{AnswersOf, PrintsOneOf, ExplainsUse, SaysMessage, WritesAndFlushes};
+ghost use Rattle.commands.specs.Running.{AnswersOf, Behind, PrintsOneOf, ExplainsUse, SaysMessage, WritesAndFlushes};
 ghost use Rattle.commands.specs.Inner.Running.{Explains};
 ghost use Rattle.commands.specs.Stressing.{Stresses};
 ghost use Rattle.clap.specs.Values.{kind_of};
+ghost use Rattle.text_lines.specs.Input.{OfInput, known_of};
 
 use crate::beside::{Ended, Terminals, greet, say_at_end, say_mistake};
 use crate::complete::complete;
@@ -21,7 +22,7 @@ use crate::sim::sim;
 use crate::stress::{NamedQueue, stress};
 use clap::Error;
 use clap::error::ErrorKind;
-use command_words::{Order, Task, order_in};
+use command_words::{Task, order_in};
 use history_text::{Buffered, TextSink, TextSource, Watched};
 use messages::FrontKept;
 use std::alloc::Global;
@@ -54,9 +55,10 @@ where
     E: TextSink,
     requires fresh { W.has_refused writer.old ≡ false }
 
-    // Arguments that are a command which reads: its answer to the input is printed, or that memory ran out for the arguments.
+    // Arguments that are a command which reads: whatever the source, there are bytes with their end, those that it is known to
+    // give, and the answer to them is printed; or that memory ran out for the arguments.
     ensures reads { (request : Request) → faults_in (map T.text words.entry.now) ≡ [] → request_in (map T.text words.entry.now) ≡ Some request
-        → IfSome (S.ahead reader) (λ input. PrintsOneOf (is_quiet_in (map T.text words.entry.now)) (AnswersOrNoMemory (AnswersOf request) input)
+        → OfInput (S.ahead reader) (λ input. PrintsOneOf (is_quiet_in (map T.text words.entry.now)) (AnswersOrNoMemory (AnswersOf request) input)
         (W.contents writer.old) (W.contents writer.new) (W.has_refused writer.new) result) }
 
     // Arguments that are `stress`: what a run on the shelf gives is printed.
@@ -83,52 +85,20 @@ where
         → E.has_refused errors.old ≡ false → 2 ≤ result
         → SaysMessage (E.contents errors.old) (E.contents errors.new) (E.has_refused errors.new) }
 {
-    match order_in(rt.alloc(), words) {
-        Ok(order) => run_order(rt, &order, reader, writer, errors, terminals, shelf),
+    let order = match order_in(rt.alloc(), words) {
+        Ok(order) => order,
         Err(error) => {
             let status = explain(rt.alloc(), &error, writer);
             say_mistake(rt.alloc(), words, &error, status, terminals, errors);
-            status
+            return status;
         }
-    }
-}
-
-/// Runs the command of an order and returns the status.
-fn run_order<'a, R, S, W, E>(
-    rt: &R,
-    order: &Order<'a>,
-    reader: S,
-    writer: &mut W,
-    errors: &mut E,
-    terminals: Terminals,
-    shelf: &[NamedQueue<'a>],
-) -> u8
-where
-    R: AllocGlobal + Threads + Wait + Sync,
-    S: TextSource + Drop,
-    W: TextSink,
-    E: TextSink,
-    requires fresh { W.has_refused writer.old ≡ false }
-    requires ranges { IsInRange (request_of order.now.task) }
-    ensures reads { IfSome (S.ahead reader) (λ input. PrintsOneOf order.now.is_quiet
-        (AnswersOrNoMemory (AnswersOf (request_of order.now.task)) input)
-        (W.contents writer.old) (W.contents writer.new) (W.has_refused writer.new) result) }
-    ensures stresses { (settings : Settings) → request_of order.now.task ≡ stress settings
-        → PrintsOneOf order.now.is_quiet
-        (AnswersOrNoMemory (Stresses (λ s. s.name.now) (λ s. may s.queue) (λ s. may_preload s.queue) shelf.now) settings)
-        (W.contents writer.old) (W.contents writer.new) (W.has_refused writer.new) result }
-    ensures asked { WritesAndFlushes W.transition (W.has_refused writer.new) writer.old writer.new }
-    ensures passed_on { W.has_refused writer.new ≡ false → W.holds_back writer.new ≡ false }
-    ensures silent { terminals.input ≡ false → terminals.output ≡ false → result ≤ 1 → errors.new ≡ errors.old }
-    ensures said { terminals.input ≡ false → terminals.output ≡ false → E.has_refused errors.old ≡ false → 2 ≤ result
-        → SaysMessage (E.contents errors.old) (E.contents errors.new) (E.has_refused errors.new) }
-{
+    };
     greet(rt.alloc(), &order.task, terminals, errors);
     let mut kept = FrontKept::new(rt.alloc(), reader);
     let outcome = outcome_of(rt, order.task, &mut kept, shelf);
     let status = print_outcome(&outcome, order.is_quiet, writer);
     let ended = Ended {
-        order,
+        order: &order,
         outcome: &outcome,
         kept: &kept,
         shelf,
@@ -138,41 +108,79 @@ where
     status
 }
 
-/// Runs the command over a reader and writers of std, as [`run_command`] does, and returns the status. If the reader of the output
-/// has left, nothing is written to standard error.
-pub fn run_over<'a, R, I, O, E>(
+/// What a run of the program leaves: its exit status, and the two streams that it wrote to.
+#[derive(Drop)]
+pub struct Exit<O, E> {
+    pub status: u8,
+    pub output: O,
+    pub errors: E,
+}
+
+/// Runs the command over a reader and writers of std, as [`run_command`] does. The answer is that to the bytes of the reader, as far
+/// as std says them, or to a prefix of them if a read fails. If the reader of the output has left, nothing is written to standard
+/// error.
+pub fn run_over<'a, R, T, I, O, E>(
     rt: &R,
-    words: &'a [String],
+    words: &'a [T],
     input: I,
     output: O,
     errors: E,
     terminals: Terminals,
     shelf: &[NamedQueue<'a>],
-) -> u8
+) -> Exit<O, E>
 where
     R: AllocGlobal + Threads + Wait + Sync,
+    T: AsStr,
     I: Read + Drop,
     O: Write + Drop,
     E: Write + Drop,
+
+    // The answer to the input is printed, or that memory ran out for the arguments.
+    ensures reads { (request : Request) → faults_in (map T.text words.entry.now) ≡ [] → request_in (map T.text words.entry.now) ≡ Some request
+        → OfInput (known_of (I.remaining input)) (λ read. Behind (λ new refused. PrintsOneOf (is_quiet_in (map T.text words.entry.now))
+        (AnswersOrNoMemory (AnswersOf request) read) (O.contents output) new refused result.status) (O.contents result.output)) }
+
+    // What a run on the shelf gives is printed.
+    ensures stresses { (settings : Settings) → faults_in (map T.text words.entry.now) ≡ [] → request_in (map T.text words.entry.now) ≡ Some (stress settings)
+        → Behind (λ new refused. PrintsOneOf (is_quiet_in (map T.text words.entry.now))
+        (AnswersOrNoMemory (Stresses (λ s. s.name.now) (λ s. may s.queue) (λ s. may_preload s.queue) shelf.now) settings)
+        (O.contents output) new refused result.status) (O.contents result.output) }
+
+    // Other arguments are answered by a text about the use of the program.
+    ensures usage { (faults_in (map T.text words.entry.now) ≢ [])
+        → Behind (λ new refused. ExplainsUse (faults_in (map T.text words.entry.now)) (O.contents output) new refused result.status)
+        (O.contents result.output) }
+
+    // With the status 0 or 1 nothing is written to standard error, unless a terminal is there.
+    ensures silent { terminals.input ≡ false → terminals.output ≡ false → result.status ≤ 1 → result.errors ≡ errors }
+
+    // With the status 2 or 3 of a command a message is written there: one or two lines, or a prefix of them.
+    ensures said { faults_in (map T.text words.entry.now) ≡ [] → terminals.input ≡ false → terminals.output ≡ false → 2 ≤ result.status
+        → (refused : Bool) × SaysMessage (E.contents errors) (E.contents result.errors) refused }
 {
     let is_broken = AtomicBool::new(false);
-    let output = Piped {
+    let mut output = Buffered::new(Watched::new(Piped {
         inner: output,
         is_broken: &is_broken,
-    };
-    let errors = Muted {
+    }));
+    let mut errors = Watched::new(Muted {
         inner: errors,
         is_broken: &is_broken,
-    };
-    run_command(
+    });
+    let status = run_command(
         rt,
         words,
         Watched::new(input),
-        &mut Buffered::new(Watched::new(output)),
-        &mut Watched::new(errors),
+        &mut output,
+        &mut errors,
         terminals,
         shelf,
-    )
+    );
+    Exit {
+        status,
+        output: output.into_inner().into_inner().into_inner(),
+        errors: errors.into_inner().into_inner(),
+    }
 }
 
 /// What a command finds, in the input or on the shelf.
@@ -181,7 +189,7 @@ where
     R: AllocGlobal + Threads + Wait + Sync,
     S: TextSource + Drop,
     requires { IsInRange (request_of task) }
-    ensures reads { IfSome (S.ahead reader) (λ input. AnswersOf (request_of task.entry) input (answer_of result)) }
+    ensures reads { OfInput (S.ahead reader) (λ input. AnswersOf (request_of task.entry) input (answer_of result)) }
     ensures stresses { (settings : Settings) → request_of task.entry ≡ stress settings
         → Stresses (λ s. s.name.now) (λ s. may s.queue) (λ s. may_preload s.queue) shelf.now settings (answer_of result) }
     ensures places { NamesPlaces result }
@@ -193,7 +201,7 @@ where
         Task::Draw(options) => return draw(rt.alloc(), reader, options),
         Task::Convert => return convert(rt.alloc(), reader),
         Task::Complete { takes_cut } => return complete(rt.alloc(), reader, takes_cut),
-        Task::Stats => return stats(rt.alloc(), reader),
+        Task::Stats { overtakes } => return stats(rt.alloc(), reader, overtakes),
         Task::Sim => return sim(rt.alloc(), reader),
         Task::Stress(options) => return stress(rt, rt.alloc(), shelf, &options),
     }

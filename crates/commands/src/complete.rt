@@ -9,6 +9,7 @@ ghost use Rattle.commands.specs.Answers.{memory_fault};
 ghost use Rattle.commands.specs.Completing.{Completes, CountsPending, IsCompletable, IsFaultOfPendingInput, IsPendingOf, LacksCompletion};
 ghost use Rattle.commands.specs.Judging.{AnswersFor, AnswersOrNoMemory};
 ghost use Rattle.commands.specs.Outcomes.{answer_of, answer_of_fault, fault_of_completion, NamesPlaces};
+ghost use Rattle.text_lines.specs.Input.{OfInput};
 
 use crate::input::{gathered, pending_of};
 use crate::outcome::{Fault, Outcome, Report};
@@ -20,7 +21,7 @@ use std::alloc::{AllocError, Global};
 
 /// What `complete` finds in what the reader gives; with `takes_cut` in a text that is cut off too.
 pub(crate) fn complete<S: TextSource + Drop>(alloc: Global, reader: S, takes_cut: bool) -> Outcome
-    ensures found { IfSome (S.ahead reader) (λ input. AnswersFor (IsPendingOf takes_cut) (IsFaultOfPendingInput takes_cut) Completes input (answer_of result)) }
+    ensures found { OfInput (S.ahead reader) (λ input. AnswersFor (IsPendingOf takes_cut) (IsFaultOfPendingInput takes_cut) Completes input (answer_of result)) }
     ensures places { NamesPlaces result }
 {
     let text = pending_of(alloc, reader, takes_cut)?;

@@ -1,5 +1,5 @@
 //! `draw`: the picture of a history and a verdict on it.
-ghost use Rattle.std.specs.Prelude.{◌≡◌, ◌≤◌, ℕ, IfOk, IfErr, IfSome, OnOk, None, Option, false, length, true};
+ghost use Rattle.std.specs.Prelude.{◌≡◌, ◌≤◌, ℕ, IfOk, IfErr, OnOk, None, Option, false, length, true};
 ghost use Rattle.event_records.specs.declared.limits.TheConstants.{MAX_INITIAL};
 ghost use Rattle.drawing.specs.Claim.{count_of_lines};
 ghost use Rattle.drawing.specs.Drawn.{drawn_operations};
@@ -16,6 +16,7 @@ ghost use Rattle.verdicts.specs.Selection.{ArePartOf, contents_of};
 ghost use Rattle.commands.specs.Inputs.{IsDrawableOf, IsFaultOfDrawableInput, claim_on, history_in};
 ghost use Rattle.commands.specs.Judging.{AnswersFor, AnswersOrNoMemory, IsSound, IsVerdictClaim};
 ghost use Rattle.commands.specs.Outcomes.{answer_of, answer_of_fault, NamesPlaces};
+ghost use Rattle.text_lines.specs.Input.{OfInput};
 
 use crate::complete::{completed, history_of_completion};
 use crate::input::{drawable_of, history_in};
@@ -27,13 +28,14 @@ use conditions::without_empties;
 use drawing::{MOST_DRAWN, Scene, count_of_lines, drawn_operations, scene_of, terminal_picture};
 use history_merge::{History, Operation};
 use history_text::{PendingText, TextSource};
+use parallel_finders::OnePiece;
 use std::alloc::{AllocError, Global};
 use svg_picture::{html_picture, svg_picture};
 use verdicts::{Claimed, claim};
 
 /// What `draw` finds in what the reader gives.
 pub(crate) fn draw<S: TextSource + Drop>(alloc: Global, reader: S, options: DrawOptions) -> Outcome
-    ensures found { IfSome (S.ahead reader) (λ input. AnswersFor IsDrawableOf IsFaultOfDrawableInput (Draws options) input (answer_of result)) }
+    ensures found { OfInput (S.ahead reader) (λ input. AnswersFor IsDrawableOf IsFaultOfDrawableInput (Draws options) input (answer_of result)) }
     ensures places { NamesPlaces result }
 {
     let (text, claimed) = drawable_of(alloc, reader)?;
@@ -209,7 +211,7 @@ fn decided_claim(
 ) -> Result<Claimed, AllocError>
     ensures { IfOk result (IsVerdictClaim condition history.now) }
 {
-    let verdict = decide_under(alloc, history, condition)?;
+    let verdict = decide_under(&OnePiece, alloc, history, condition)?;
     claim(alloc, history, &verdict)
 }
 

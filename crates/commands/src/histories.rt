@@ -1,19 +1,21 @@
 //! The commands that read a history, alone or with a verdict after it, and draw nothing.
-ghost use Rattle.std.specs.Prelude.{IfSome};
+ghost use Rattle.std.specs.Prelude.{IfSome, false, true};
 ghost use Rattle.history_text.specs.Versions.{said_in};
 ghost use Rattle.history_text.specs.declared.version.Version.{Version};
 ghost use Rattle.commands.specs.Inputs.{IsClaimOf, IsFaultOfClaimInput, IsFaultOfHistoryInput, IsHistoryOf};
 ghost use Rattle.commands.specs.Judging.{AnswersFor, AnswersOrNoMemory, Converts, Counts, IsSound};
 ghost use Rattle.commands.specs.Judging.{Judges, Verifies};
 ghost use Rattle.commands.specs.Outcomes.{answer_of, NamesPlaces};
+ghost use Rattle.text_lines.specs.Input.{OfInput};
 
 use crate::input::{claimed_of, given_history, history_of};
-use crate::judging::{decide_under_par, verify_under};
+use crate::judging::{decide_under, verify_under};
 use crate::outcome::{Outcome, Report};
 use command_words::Condition;
 use history_merge::History;
-use history_stats::statistics_of;
+use history_stats::{overtakings_of, statistics_of};
 use history_text::{TextSource, Version};
+use parallel_finders::InPieces;
 use std::alloc::Global;
 use std::thread::Threads;
 use verdicts::Claimed;
@@ -26,36 +28,50 @@ pub(crate) fn check<R, S>(rt: &R, alloc: Global, reader: S, condition: Condition
 where
     R: Threads + Sync,
     S: TextSource + Drop,
-    ensures found { IfSome (S.ahead reader) (λ input. AnswersFor IsHistoryOf IsFaultOfHistoryInput (Judges condition) input (answer_of result)) }
+    ensures found { OfInput (S.ahead reader) (λ input. AnswersFor IsHistoryOf IsFaultOfHistoryInput (Judges condition) input (answer_of result)) }
     ensures places { NamesPlaces result }
 {
     let (_version, history) = given_history(alloc, reader)?;
-    let verdict = decide_under_par(rt, alloc, &history, condition)?;
+    let search = InPieces { rt, pieces: PIECES };
+    let verdict = decide_under(&search, alloc, &history, condition)?;
     Ok(Report::Judged(history, verdict))
 }
 
 /// What `convert` finds in what the reader gives.
 pub(crate) fn convert<S: TextSource + Drop>(alloc: Global, reader: S) -> Outcome
-    ensures found { IfSome (S.ahead reader) (λ input. AnswersFor IsHistoryOf IsFaultOfHistoryInput Converts input (answer_of result)) }
+    ensures found { OfInput (S.ahead reader) (λ input. AnswersFor IsHistoryOf IsFaultOfHistoryInput Converts input (answer_of result)) }
     ensures places { NamesPlaces result }
 {
     let (_version, history) = given_history(alloc, reader)?;
     Ok(Report::Converted(history))
 }
 
-/// What `stats` finds in what the reader gives.
-pub(crate) fn stats<S: TextSource + Drop>(alloc: Global, reader: S) -> Outcome
-    ensures found { IfSome (S.ahead reader) (λ input. AnswersFor IsHistoryOf IsFaultOfHistoryInput Counts input (answer_of result)) }
+/// What `stats` finds in what the reader gives: the statistics, or the dequeues that overtook values.
+pub(crate) fn stats<S: TextSource + Drop>(alloc: Global, reader: S, overtakes: bool) -> Outcome
+    ensures found { OfInput (S.ahead reader) (λ input. AnswersFor IsHistoryOf IsFaultOfHistoryInput (Counts overtakes) input (answer_of result)) }
     ensures places { NamesPlaces result }
 {
     let (_version, history) = given_history(alloc, reader)?;
+    if overtakes {
+        return list_overtakings(alloc, &history);
+    }
     count(alloc, &history)
+}
+
+/// The dequeues of the history that overtook values.
+fn list_overtakings(alloc: Global, history: &History) -> Outcome
+    requires { IsSound history.now }
+    ensures found { (version : Version) → AnswersOrNoMemory (Counts true) (said_in version history.now) (answer_of result) }
+    ensures places { NamesPlaces result }
+{
+    let overtakings = overtakings_of(alloc, history)?;
+    Ok(Report::Overtaken(overtakings))
 }
 
 /// The statistics of the history.
 fn count(alloc: Global, history: &History) -> Outcome
     requires { IsSound history.now }
-    ensures found { (version : Version) → AnswersOrNoMemory Counts (said_in version history.now) (answer_of result) }
+    ensures found { (version : Version) → AnswersOrNoMemory (Counts false) (said_in version history.now) (answer_of result) }
     ensures places { NamesPlaces result }
 {
     let statistics = statistics_of(alloc, history)?;
@@ -68,7 +84,7 @@ pub(crate) fn verify<S: TextSource + Drop>(
     reader: S,
     condition: Condition,
 ) -> Outcome
-    ensures found { IfSome (S.ahead reader) (λ input. AnswersFor IsClaimOf IsFaultOfClaimInput (Verifies condition) input (answer_of result)) }
+    ensures found { OfInput (S.ahead reader) (λ input. AnswersFor IsClaimOf IsFaultOfClaimInput (Verifies condition) input (answer_of result)) }
     ensures places { NamesPlaces result }
 {
     let (gathered, claimed) = claimed_of(alloc, reader)?;

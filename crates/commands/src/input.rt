@@ -14,6 +14,7 @@ ghost use Rattle.commands.specs.Inputs.{IsDrawableOf, IsFaultOfDrawableInput, dr
 ghost use Rattle.commands.specs.Judging.{IsFaulty, AnswersFor, AnswersOrNoMemory, said_by};
 ghost use Rattle.commands.specs.Answers.{answer_of_history_fault};
 ghost use Rattle.commands.specs.Outcomes.{NamesClash, answer_of_fault};
+ghost use Rattle.text_lines.specs.Input.{OfInput};
 
 use crate::outcome::{Fault, Incomplete};
 use history_merge::{Clash, History, HistoryBuilder, HistoryFault};
@@ -30,9 +31,9 @@ pub(crate) type Gathered = (Version, HistoryBuilder);
 
 /// The one text of a history that the reader gives, of either version.
 fn gathered_of<S: TextSource + Drop>(alloc: Global, reader: S) -> Result<Gathered, TextFault>
-    ensures text { IfOk result (λ read. (text : HistoryText) × HasText text × IsReadAs text read.0 read.1 × IfSome (S.ahead reader)
+    ensures text { IfOk result (λ read. (text : HistoryText) × HasText text × IsReadAs text read.0 read.1 × OfInput (S.ahead reader)
         (λ input. IsHistoryOf input text)) }
-    ensures fault { IfErr result (λ fault. IfSome (S.ahead reader) (λ input. IsFaultOfHistoryInput input fault)) }
+    ensures fault { IfErr result (λ fault. OfInput (S.ahead reader) (λ input. IsFaultOfHistoryInput input fault)) }
 {
     let mut texts = TextReader::new(reader);
     let gathered = read_history(alloc, &mut texts)?;
@@ -46,9 +47,9 @@ pub(crate) fn pending_of<S: TextSource + Drop>(
     reader: S,
     takes_cut: bool,
 ) -> Result<PendingText, TextFault>
-    ensures text { IfOk result (λ text. IfSome (S.ahead reader) (λ input. IsPendingOf takes_cut input text)) }
+    ensures text { IfOk result (λ text. OfInput (S.ahead reader) (λ input. IsPendingOf takes_cut input text)) }
     ensures lines { IfOk result (λ text. HaveValueLines text.version text.initial × HasHistoryText text.events) }
-    ensures fault { IfErr result (λ fault. IfSome (S.ahead reader) (λ input. IsFaultOfPendingInput takes_cut input fault)) }
+    ensures fault { IfErr result (λ fault. OfInput (S.ahead reader) (λ input. IsFaultOfPendingInput takes_cut input fault)) }
 {
     let mut texts = TextReader::new(reader);
     let (text, is_whole) = read_pending(alloc, &mut texts, takes_cut)?;
@@ -63,9 +64,9 @@ pub(crate) fn claimed_of<S: TextSource + Drop>(
     alloc: Global,
     reader: S,
 ) -> Result<(Gathered, Claimed), TextFault>
-    ensures claim { IfOk result (λ read. (text : HistoryText) × HasText text × IsReadAs text read.0.0 read.0.1 × IfSome (S.ahead reader)
+    ensures claim { IfOk result (λ read. (text : HistoryText) × HasText text × IsReadAs text read.0.0 read.0.1 × OfInput (S.ahead reader)
         (λ input. IsClaimOf input (record { text = text; claimed = read.1 }))) }
-    ensures fault { IfErr result (λ fault. IfSome (S.ahead reader) (λ input. IsFaultOfClaimInput input fault)) }
+    ensures fault { IfErr result (λ fault. OfInput (S.ahead reader) (λ input. IsFaultOfClaimInput input fault)) }
 {
     let mut texts = TextReader::new(reader);
     let gathered = read_history(alloc, &mut texts)?;
@@ -79,9 +80,9 @@ pub(crate) fn drawable_of<S: TextSource + Drop>(
     alloc: Global,
     reader: S,
 ) -> Result<(PendingText, Option<Claimed>), TextFault>
-    ensures drawable { IfOk result (λ read. IfSome (S.ahead reader) (λ input. IsDrawableOf input (drawable read.0 read.1))) }
+    ensures drawable { IfOk result (λ read. OfInput (S.ahead reader) (λ input. IsDrawableOf input (drawable read.0 read.1))) }
     ensures lines { IfOk result (λ read. HaveValueLines read.0.version read.0.initial × HasHistoryText read.0.events) }
-    ensures fault { IfErr result (λ fault. IfSome (S.ahead reader) (λ input. IsFaultOfDrawableInput input fault)) }
+    ensures fault { IfErr result (λ fault. OfInput (S.ahead reader) (λ input. IsFaultOfDrawableInput input fault)) }
 {
     let mut texts = TextReader::new(reader);
     let (text, _is_whole) = read_pending(alloc, &mut texts, false)?;
@@ -101,10 +102,10 @@ pub(crate) fn given_history<S: TextSource + Drop>(
     alloc: Global,
     reader: S,
 ) -> Result<(Version, History), Fault>
-    ensures history { IfOk result (λ read. IfSome (S.ahead reader) (λ input. IsHistoryOf input (said_in read.0 read.1))) }
+    ensures history { IfOk result (λ read. OfInput (S.ahead reader) (λ input. IsHistoryOf input (said_in read.0 read.1))) }
     ensures has { IfOk result (λ read. HasText (said_in read.0 read.1)) }
     ensures complete { IfOk result (λ read. IsCompleteFrom read.1.initial read.1.events) }
-    ensures fault { IfErr result (λ fault. IfSome (S.ahead reader) (λ input.
+    ensures fault { IfErr result (λ fault. OfInput (S.ahead reader) (λ input.
         AnswersFor IsHistoryOf IsFaultOfHistoryInput (λ text. IsFaulty (said_by text)) input (answer_of_fault fault))) }
 {
     let gathered = gathered_of(alloc, reader)?;
@@ -181,9 +182,9 @@ pub(crate) fn schedule_of<S: TextSource + Drop>(
     alloc: Global,
     reader: S,
 ) -> Result<Schedule, TextFault>
-    ensures schedule { IfOk result (λ schedule. IfSome (S.ahead reader) (λ input. IsScheduleOf input schedule)) }
+    ensures schedule { IfOk result (λ schedule. OfInput (S.ahead reader) (λ input. IsScheduleOf input schedule)) }
     ensures setting { IfOk result (λ schedule. IsSetting schedule.threads schedule.ring) }
-    ensures fault { IfErr result (λ fault. IfSome (S.ahead reader) (λ input. IsFaultOfScheduleInput input fault)) }
+    ensures fault { IfErr result (λ fault. OfInput (S.ahead reader) (λ input. IsFaultOfScheduleInput input fault)) }
 {
     let mut text = TextReader::new(reader);
     let schedule = read_schedule(alloc, &mut text)?;

@@ -4,16 +4,14 @@ ghost use Rattle.commands.specs.Conditions.{IsDecidedUnder, IsTrueUnder, emptine
 ghost use Rattle.history_merge.specs.Operations.{operations_of};
 ghost use Rattle.verdicts.specs.Claiming.{IsWithin};
 
-use crate::histories::PIECES;
 use command_words::Condition;
 use conditions::{
-    Emptiness, decide_local, decide_local_par, decide_weakly_empty, decide_weakly_empty_par,
-    verify_local, verify_weakly_empty,
+    Emptiness, decide_local_by, decide_weakly_empty_by, verify_local, verify_weakly_empty,
 };
 use history_merge::History;
+use parallel_finders::WitnessSearch;
 use std::alloc::{AllocError, Global};
-use std::thread::Threads;
-use verdicts::{Claimed, Verdict, decide, decide_par, verify};
+use verdicts::{Claimed, Verdict, decide_by, verify};
 
 /// The promise of empty dequeues under the condition.
 pub(crate) fn emptiness_of(condition: Condition) -> Emptiness
@@ -26,41 +24,24 @@ pub(crate) fn emptiness_of(condition: Condition) -> Emptiness
     }
 }
 
-/// Decides whether a history meets the condition, in threads.
-pub(crate) fn decide_under_par<R: Threads + Sync>(
-    rt: &R,
+/// Decides whether a history meets the condition, by this search for covers.
+pub(crate) fn decide_under<S: WitnessSearch>(
+    search: &S,
     alloc: Global,
     history: &History,
     condition: Condition,
 ) -> Result<Verdict, AllocError>
+    requires { S.is_ready search.now }
     ensures decided { IfOk result (IsDecidedUnder condition history.now) }
     ensures places { IfOk result (IsWithin history.now.initial (operations_of history.now.events)) }
 {
     if condition.is_local {
-        let found = decide_local_par(rt, alloc, history, emptiness_of(condition), PIECES)?;
+        let found = decide_local_by(search, alloc, history, emptiness_of(condition))?;
         found.into_verdict(alloc)
     } else if condition.is_weakly_empty {
-        decide_weakly_empty_par(rt, alloc, history, PIECES)
+        decide_weakly_empty_by(search, alloc, history)
     } else {
-        decide_par(rt, alloc, history, PIECES)
-    }
-}
-
-/// Decides whether a history meets the condition.
-pub(crate) fn decide_under(
-    alloc: Global,
-    history: &History,
-    condition: Condition,
-) -> Result<Verdict, AllocError>
-    ensures decided { IfOk result (IsDecidedUnder condition history.now) }
-    ensures places { IfOk result (IsWithin history.now.initial (operations_of history.now.events)) }
-{
-    if condition.is_local {
-        decide_local(alloc, history, emptiness_of(condition))?.into_verdict(alloc)
-    } else if condition.is_weakly_empty {
-        decide_weakly_empty(alloc, history)
-    } else {
-        decide(alloc, history)
+        decide_by(search, alloc, history)
     }
 }
 

@@ -17,8 +17,9 @@ ghost use Rattle.commands.specs.Answers.{Reply, ShowsNoViolation, played};
 ghost use Rattle.commands.specs.Evidence.{CompletedIsDecided, CompletedIsHistory, CompletedIsKept};
 ghost use Rattle.commands.specs.Evidence.{CheckedIsValid, CheckedIsValidUnder, RefutedIsValid, ConvertedIsChecked, ConvertedIsCounted, ConvertedIsKept, ConvertedIsSameHistory};
 ghost use Rattle.commands.specs.Evidence.{ConvertedIsVerified, DrawnAsChecked, HasOneAnswer, ShrunkIsChecked, ShrunkIsValid};
+ghost use Rattle.commands.specs.Evidence.{SimulatedIsChecked, SimulatedIsValid, StressedIsChecked, StressedIsValid, StressedIsValidUnder};
 ghost use Rattle.commands.specs.Judging.{SimulatesIn};
-ghost use Rattle.commands.specs.Stressing.{StressesUnshelved, proved_name};
+ghost use Rattle.commands.specs.Stressing.{IsProvedName, StressesUnshelved};
 
 /// No false alarm: the answer to an honest schedule that is done is `YES`.
 #[tactic(auto, using(crate::proofs::OneAnswer::honest_gets_a_yes))]
@@ -37,14 +38,14 @@ pub fn one_answer()
     ensures draw { (options : DrawOptions) → HasOneAnswer (draw options) }
     ensures convert { HasOneAnswer convert }
     ensures complete { (takes_cut : Bool) → HasOneAnswer (complete takes_cut) }
-    ensures stats { HasOneAnswer stats }
+    ensures stats { (overtakes : Bool) → HasOneAnswer (stats overtakes) }
     ensures sim { HasOneAnswer sim }
 {}
 
-/// No false alarm of threads: where no queue of the shelf is called `proved`, what `stress` answers for that name
-/// shows no violation.
-pub fn runs_of_the_proved_queue_are_linearizable()
-    ensures { (settings : Settings) (answer : Reply) → settings.queue ≡ proved_name → StressesUnshelved settings answer → ShowsNoViolation answer }
+/// No false alarm of threads: where no queue of the shelf has the name of a proved queue, what `stress` answers for that
+/// name shows no violation.
+pub fn runs_of_proved_queues_are_linearizable()
+    ensures { (settings : Settings) (answer : Reply) → IsProvedName settings.queue → StressesUnshelved settings answer → ShowsNoViolation answer }
 {}
 
 /// Every answer is evidence. `verify` answers an input, followed by the verdict that `check` writes of it, with
@@ -53,6 +54,10 @@ pub fn runs_of_the_proved_queue_are_linearizable()
 /// history and of its verdict: `verify` answers it with `VALID`, and `check` answers the history with that same
 /// verdict. `draw` decides a history as `check` does: it answers a history on its own as it answers the history
 /// followed by the verdict of `check`. Or memory runs out.
+///
+/// What `stress` and `sim` write is the text of a history and of its verdict, if the numbers of the history are in the ranges of
+/// the text, as those of Rust's types and of a schedule are: `check` answers the history with that very verdict, and `verify`
+/// answers both with `VALID`.
 pub fn every_answer_is_evidence()
     ensures checked { CheckedIsValid }
     ensures checked_under { (condition : Condition) → CheckedIsValidUnder condition }
@@ -60,6 +65,11 @@ pub fn every_answer_is_evidence()
     ensures shrunk { (condition : Condition) → ShrunkIsValid condition }
     ensures checked_again { (condition : Condition) → ShrunkIsChecked condition }
     ensures drawn { (options : DrawOptions) → DrawnAsChecked options }
+    ensures stressed_again { (condition : Condition) → StressedIsChecked condition }
+    ensures stressed { StressedIsValid }
+    ensures stressed_under { (condition : Condition) → StressedIsValidUnder condition }
+    ensures simulated_again { SimulatedIsChecked }
+    ensures simulated { SimulatedIsValid }
 {}
 
 /// What `complete` writes is the text of a complete history, which every other command reads. `check` answers it with a
@@ -78,6 +88,6 @@ pub fn conversion_keeps_answers()
     ensures same_history { ConvertedIsSameHistory }
     ensures kept { ConvertedIsKept }
     ensures checked { (condition : Condition) → ConvertedIsChecked condition }
-    ensures counted { ConvertedIsCounted }
+    ensures counted { (overtakes : Bool) → ConvertedIsCounted overtakes }
     ensures verified { (condition : Condition) → ConvertedIsVerified condition }
 {}

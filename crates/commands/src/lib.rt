@@ -22,10 +22,10 @@ mod texts;
 mod words;
 
 pub use beside::Terminals;
-pub use command::{run_command, run_over};
+pub use command::{Exit, run_command, run_over};
 pub use laws::{
     completion_decides, conversion_keeps_answers, every_answer_is_evidence,
-    honest_schedules_get_a_yes, one_answer, runs_of_the_proved_queue_are_linearizable,
+    honest_schedules_get_a_yes, one_answer, runs_of_proved_queues_are_linearizable,
 };
 pub use outcome::{Fault, Outcome, Report};
 pub use print::status_of;

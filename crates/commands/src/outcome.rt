@@ -3,7 +3,7 @@ ghost use Rattle.std.specs.Prelude.{◌≡◌, None};
 ghost use Rattle.commands.specs.declared.outcome.Fault.TheVariants as made;
 
 use history_merge::{Clash, History, HistoryFault};
-use history_stats::Statistics;
+use history_stats::{Overtaking, Statistics};
 use history_text::{EventList, TextFault, Values, Version};
 use simulation::Rejections;
 use std::alloc::AllocError;
@@ -32,6 +32,8 @@ pub enum Report {
     Completed(Version, Values, EventList),
     /// The statistics of a history.
     Counted(Statistics),
+    /// The dequeues that overtook values.
+    Overtaken(Vec<Overtaking>),
     /// A picture, in lines of characters.
     Drawn(Vec<u8>),
 }

@@ -1,9 +1,11 @@
 //! Standard output whose reader may leave, and standard error, which says nothing then.
+ghost use Rattle.std.specs.Prelude.{◌≡◌};
+
 use std::io;
 use std::io::{ErrorKind, Write};
 use std::sync::atomic::{AtomicBool, Ordering};
 
-/// A writer that notes where nobody reads any more what it writes.
+/// A writer that notes if nobody reads what it writes any more.
 #[derive(Drop)]
 pub(crate) struct Piped<'a, W> {
     pub inner: W,
@@ -11,7 +13,18 @@ pub(crate) struct Piped<'a, W> {
 }
 
 impl<'a, W> Piped<'a, W> {
-    /// The same failure, noted where the reader has left.
+    /// Returns the writer itself.
+    pub fn into_inner(self) -> W
+        ensures { result ≡ self.entry.inner }
+    {
+        let Piped {
+            inner,
+            is_broken: _,
+        } = self;
+        inner
+    }
+
+    /// Returns the same failure, and notes whether the reader has left.
     fn noted(&self, error: io::Error) -> io::Error {
         if error.kind() == ErrorKind::BrokenPipe {
             self.is_broken.store(true, Ordering::SeqCst);
@@ -21,33 +34,56 @@ impl<'a, W> Piped<'a, W> {
 }
 
 impl<'a, W: Write> Write for Piped<'a, W> {
+    ghost contents = { λ p. W.contents p.inner };
+
     fn write(&mut self, piece: &[u8]) -> io::Result<usize> {
-        self.inner.write(piece).map_err(|error| self.noted(error))
+        match self.inner.write(piece) {
+            Ok(count) => Ok(count),
+            Err(error) => Err(self.noted(error)),
+        }
     }
 
     fn flush(&mut self) -> io::Result<()> {
-        self.inner.flush().map_err(|error| self.noted(error))
+        match self.inner.flush() {
+            Ok(()) => Ok(()),
+            Err(error) => Err(self.noted(error)),
+        }
     }
 }
 
-/// A writer that takes all and passes nothing on where that was noted: who ends a pipe early needs no message.
+/// A writer that refuses all once that was noted: whoever ends a pipe early needs no message.
 #[derive(Drop)]
 pub(crate) struct Muted<'a, W> {
     pub inner: W,
     pub is_broken: &'a AtomicBool,
 }
 
+impl<'a, W> Muted<'a, W> {
+    /// Returns the writer itself.
+    pub fn into_inner(self) -> W
+        ensures { result ≡ self.entry.inner }
+    {
+        let Muted {
+            inner,
+            is_broken: _,
+        } = self;
+        inner
+    }
+}
+
 impl<'a, W: Write> Write for Muted<'a, W> {
+    ghost contents = { λ m. W.contents m.inner };
+
     fn write(&mut self, piece: &[u8]) -> io::Result<usize> {
         if self.is_broken.load(Ordering::SeqCst) {
-            return Ok(piece.len());
+            return Err(io::Error::from(ErrorKind::BrokenPipe));
         }
         self.inner.write(piece)
     }
 
     fn flush(&mut self) -> io::Result<()> {
         if self.is_broken.load(Ordering::SeqCst) {
-            return Ok(());
+            return Err(io::Error::from(ErrorKind::BrokenPipe));
         }
         self.inner.flush()
     }

@@ -10,11 +10,11 @@ ghost use Rattle.commands.specs.Running.{Prints, PrintsAnswer, PrintsSaid, Write
 
 use crate::faults::write_fault;
 use crate::outcome::{Fault, Outcome, Report};
-use crate::show::{write_rejections, write_shown};
-use history_stats::write_statistics;
+use crate::show::write_rejections;
+use history_stats::{write_overtakings, write_statistics};
 use history_text::{
     TextSink, Version, WriteFault, violation_line, write_events, write_history, write_piece,
-    write_verdict,
+    write_shown, write_verdict,
 };
 use verdicts::Verdict;
 
@@ -46,6 +46,9 @@ pub(crate) fn write_outcome<W: TextSink>(
         Ok(Report::Verified(true)) => return write_piece(b"VALID\n", writer),
         Ok(Report::Verified(false)) => return write_piece(b"INVALID\n", writer),
         Ok(Report::Counted(statistics)) => return write_statistics(statistics, writer),
+        Ok(Report::Overtaken(overtakings)) => {
+            return write_overtakings(overtakings.as_slice(), writer);
+        }
         Ok(Report::Drawn(picture)) => return write_piece(picture.as_slice(), writer),
         Err(fault) => return write_fault(*fault, writer),
     }
@@ -69,7 +72,7 @@ pub fn status_of(outcome: &Outcome) -> u8
         Ok(Report::Shown(_, _, verdict)) => return status_of_verdict(verdict),
         Ok(Report::Played(_, _, verdict)) => return status_of_verdict(verdict),
         Ok(Report::LeftOpen(_) | Report::Converted(_) | Report::Completed(..)) => return 0,
-        Ok(Report::Counted(_) | Report::Drawn(_)) => return 0,
+        Ok(Report::Counted(_) | Report::Overtaken(_) | Report::Drawn(_)) => return 0,
         Ok(Report::Verified(true)) => return 0,
         Ok(Report::Verified(false)) => return 1,
         Err(fault) => return fault.status(),
@@ -124,7 +127,8 @@ fn write_said<W: TextSink>(
         Ok(Report::LeftOpen(_)) => return write_piece(b"OPEN\n", writer),
         Ok(Report::Converted(_) | Report::Verified(_)) => return write_outcome(outcome, writer),
         Ok(Report::Completed(..)) => return write_outcome(outcome, writer),
-        Ok(Report::Counted(_) | Report::Drawn(_)) => return write_outcome(outcome, writer),
+        Ok(Report::Counted(_) | Report::Overtaken(_)) => return write_outcome(outcome, writer),
+        Ok(Report::Drawn(_)) => return write_outcome(outcome, writer),
         Err(fault) => return write_fault(*fault, writer),
     }
 }

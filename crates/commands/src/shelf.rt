@@ -68,7 +68,7 @@ impl<R: Wait + Drop + Send + Sync> TestQueue for BuiltIn<R> {
 
     ghost may = { λ _. AnswersInKind };
 
-    ghost may_preload = { λ _. TakesOrRefuses };
+    ghost may_preload = { λ _ _. TakesOrRefuses };
 
     fn enqueue(&self, ask: AskEnq) -> AnsweredEnq {
         on_queue!(self, queue => queue.enqueue(ask))
@@ -78,8 +78,8 @@ impl<R: Wait + Drop + Send + Sync> TestQueue for BuiltIn<R> {
         on_queue!(self, queue => queue.dequeue(ask))
     }
 
-    fn preload(&self, value: u64) -> bool {
-        on_queue!(self, queue => queue.preload(value))
+    fn preload(&self, place: usize, value: u64) -> bool {
+        on_queue!(self, queue => queue.preload(place, value))
     }
 }
 

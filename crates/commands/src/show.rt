@@ -1,35 +1,11 @@
-//! How histories with their verdicts, and refused steps, are printed.
-ghost use Rattle.std.specs.Prelude.{◌≡◌, ◌++◌, []};
-ghost use Rattle.history_merge.specs.Operations.{operations_of};
-ghost use Rattle.history_text.specs.declared.version.Version.TheVariants.{One};
-ghost use Rattle.history_text.specs.Versions.{said_in, text_of};
-ghost use Rattle.history_text.specs.Verdicts.{verdict_text};
+//! How refused steps are printed.
+ghost use Rattle.std.specs.Prelude.{◌≡◌, []};
 ghost use Rattle.text_lines.specs.Writing.{Writes};
 ghost use Rattle.commands.specs.Answers.{rejection_line, rejection_lines};
-ghost use Rattle.verdicts.specs.Claiming.{IsWithin, claim_of};
 
-use history_merge::History;
-use history_text::{TextSink, Version, WriteFault, write_history, write_piece, write_verdict};
+use history_text::{TextSink, WriteFault, write_piece};
 use simulation::Rejection;
 use text_lines::WriteBuffer;
-use verdicts::Verdict;
-
-/// Writes a history, and a verdict on it.
-pub(crate) fn write_shown<W: TextSink>(
-    version: Version,
-    history: &History,
-    verdict: &Verdict,
-    writer: &mut W,
-) -> Result<(), WriteFault>
-    requires places { IsWithin history.now.initial (operations_of history.now.events) verdict.now }
-    requires version { version ≡ One → history.now.initial ≡ [] }
-    ensures { Writes W.contents W.has_refused W.transition
-        (text_of (said_in version history.now)
-        ++ verdict_text (claim_of history.now.initial (operations_of history.now.events) verdict.now)) writer.old writer.new result }
-{
-    write_history(version, history, writer)?;
-    write_verdict(history, verdict, writer)
-}
 
 /// Writes a line for each refused step.
 pub(crate) fn write_rejections<W: TextSink>(

@@ -1,5 +1,5 @@
 //! `shrink`: what shows that a history doesn't meet a condition.
-ghost use Rattle.std.specs.Prelude.{[], ◌≡◌, ◌≤◌, Bool, IfSome, false, length, true};
+ghost use Rattle.std.specs.Prelude.{[], ◌≡◌, ◌≤◌, Bool, false, length, true};
 ghost use Rattle.commands.specs.Conditions.{emptiness_if};
 ghost use Rattle.commands.specs.Inputs.{IsFaultOfHistoryInput, IsHistoryOf};
 ghost use Rattle.commands.specs.Judging.{AnswersFor, AnswersOrNoMemory, IsShrunk, Shrinks};
@@ -13,6 +13,7 @@ ghost use Rattle.history_merge.specs.Operations.{operations_of};
 ghost use Rattle.history_text.specs.Versions.{said_in};
 ghost use Rattle.history_text.specs.declared.version.Version.TheVariants.{One};
 ghost use Rattle.value_match.specs.Outcome.{IsChosenViolation};
+ghost use Rattle.text_lines.specs.Input.{OfInput};
 
 use crate::input::given_history;
 use crate::judging::emptiness_of;
@@ -33,7 +34,7 @@ pub(crate) fn shrink<S: TextSource + Drop>(
     reader: S,
     condition: Condition,
 ) -> Outcome
-    ensures found { IfSome (S.ahead reader)
+    ensures found { OfInput (S.ahead reader)
         (λ input. AnswersFor IsHistoryOf IsFaultOfHistoryInput (Shrinks condition) input (answer_of result)) }
     ensures places { NamesPlaces result }
 {

@@ -4,6 +4,7 @@ ghost use Rattle.history_text.specs.Schedules.{IsSetting};
 ghost use Rattle.commands.specs.Inputs.{IsScheduleOf, IsFaultOfScheduleInput};
 ghost use Rattle.commands.specs.Judging.{Simulates, AnswersFor, AnswersOrNoMemory};
 ghost use Rattle.commands.specs.Outcomes.{answer_of, NamesPlaces};
+ghost use Rattle.text_lines.specs.Input.{OfInput};
 
 use crate::input::schedule_of;
 use crate::outcome::{Outcome, Report};
@@ -15,7 +16,7 @@ use verdicts::decide;
 
 /// What `sim` finds in what the reader gives.
 pub(crate) fn sim<S: TextSource + Drop>(alloc: Global, reader: S) -> Outcome
-    ensures found { IfSome (S.ahead reader) (λ input. AnswersFor IsScheduleOf IsFaultOfScheduleInput Simulates input (answer_of result)) }
+    ensures found { OfInput (S.ahead reader) (λ input. AnswersFor IsScheduleOf IsFaultOfScheduleInput Simulates input (answer_of result)) }
     ensures places { NamesPlaces result }
 {
     let schedule = schedule_of(alloc, reader)?;

@@ -11,18 +11,20 @@ ghost use Rattle.command_words.specs.Options.{settings_of, IsWithinRanges};
 ghost use Rattle.commands.specs.Answers.{ShowsNoViolation};
 ghost use Rattle.commands.specs.Judging.{AnswersOrNoMemory};
 ghost use Rattle.commands.specs.Outcomes.{answer_of, NamesPlaces};
-ghost use Rattle.commands.specs.Stressing.{IsFirstNamed, IsShownRun, RunsOrFails, Stresses, StressesQueue, StressesUnshelved, first_values, run_version};
+ghost use Rattle.commands.specs.Stressing.{IsFirstNamed, IsProvedName, IsShownRun, RunsOrFails, Stresses, StressesQueue, StressesUnshelved, first_values, run_version};
 
-use crate::judging::decide_under_par;
+use crate::histories::PIECES;
+use crate::judging::decide_under;
 use crate::outcome::{Fault, Outcome, Report};
 use command_words::{Condition, StressOptions};
 use event_records::{LEAST_INITIAL_NAME, MAX_OPERATIONS};
 use history_text::Version;
 use queue_interface::TestQueue;
+use parallel_finders::InPieces;
 use std::alloc::{AllocError, Global};
 use std::sync::Wait;
 use std::thread::Threads;
-use stress_run::{Recorded, run_from, run_proved};
+use stress_run::{ProvedQueue, Recorded, run_from, run_proved};
 use workloads::Plan;
 
 /// How often a push into a full ring is tried again before its worker gives up.
@@ -38,7 +40,7 @@ pub struct NamedQueue<'a> {
 }
 
 /// What `stress` finds: a run of the first queue of the name, if one has it, and the verdict on what was recorded. If
-/// none has it, `proved` is the name of the proved queue.
+/// none has it, the name may be that of a proved queue.
 pub fn stress<'a, R: Threads + Wait + Sync>(
     rt: &R,
     alloc: Global,
@@ -68,7 +70,21 @@ fn find<'b, 'a>(shelf: &'b [NamedQueue<'a>], name: &str) -> Option<&'b NamedQueu
     None
 }
 
-/// What `stress` finds of a name that no queue of the shelf has: a run of the proved queue if that is the name.
+/// The proved queue of this name.
+fn proved_of(name: &str) -> Option<ProvedQueue>
+    ensures named { IfSome result (λ _. IsProvedName name.now) }
+    ensures other { IfNone result (¬ IsProvedName name.now) }
+{
+    if name == "proved" {
+        return Some(ProvedQueue::OneLock);
+    }
+    if name == "proved-two-lock" {
+        return Some(ProvedQueue::TwoLocks);
+    }
+    None
+}
+
+/// What `stress` finds of a name that no queue of the shelf has: a run of a proved queue if it has that name.
 fn stress_unshelved<'a, R: Threads + Wait + Sync>(
     rt: &R,
     alloc: Global,
@@ -78,10 +94,9 @@ fn stress_unshelved<'a, R: Threads + Wait + Sync>(
     ensures found { StressesUnshelved (settings_of options.now) (answer_of result) }
     ensures places { NamesPlaces result }
 {
-    if options.queue == "proved" {
-        stress_proved(rt, alloc, options)
-    } else {
-        Err(Fault::Queue)
+    match proved_of(options.queue) {
+        Some(queue) => stress_proved(rt, alloc, queue, options),
+        None => Err(Fault::Queue),
     }
 }
 
@@ -119,14 +134,15 @@ fn run_plan<'a, R: Threads + Sync>(
     judge_run(rt, alloc, &recorded, options.initial, options.condition)
 }
 
-/// What a run of the proved queue gives.
+/// What a run of this proved queue gives.
 fn stress_proved<'a, R: Threads + Wait + Sync>(
     rt: &R,
     alloc: Global,
+    queue: ProvedQueue,
     options: &StressOptions<'a>,
 ) -> Outcome
     requires { IsWithinRanges (settings_of options.now) }
-    ensures found { StressesQueue AnswersInKind TakesOrRefuses (settings_of options.now) (answer_of result) }
+    ensures found { StressesQueue AnswersInKind (λ _. TakesOrRefuses) (settings_of options.now) (answer_of result) }
     ensures linearizable { ShowsNoViolation (answer_of result) }
     ensures places { NamesPlaces result }
 {
@@ -134,7 +150,7 @@ fn stress_proved<'a, R: Threads + Wait + Sync>(
         return Err(Fault::Limit);
     }
     let (plan, initial) = plan_of(alloc, options)?;
-    let recorded = run_proved(rt, alloc, &initial, &plan, options.ring, TRIES)?;
+    let recorded = run_proved(rt, alloc, queue, &initial, &plan, options.ring, TRIES)?;
     judge_run(rt, alloc, &recorded, options.initial, options.condition)
 }
 
@@ -172,7 +188,8 @@ fn judge_run<R: Threads + Sync>(
 {
     let history = recorded.history(alloc)?;
     let _initial = history.initial();
-    let verdict = decide_under_par(rt, alloc, &history, condition)?;
+    let search = InPieces { rt, pieces: PIECES };
+    let verdict = decide_under(&search, alloc, &history, condition)?;
     Ok(Report::Shown(run_version(count), history, verdict))
 }
 

@@ -1,6 +1,7 @@
 //! What the commands find in a text in memory, all in the caller's thread: nothing is read, printed or started.
 ghost use Rattle.std.specs.Prelude.{◌≡◌, IfOk};
 ghost use Rattle.history_merge.specs.Initial.{HistoryView};
+ghost use Rattle.std.specs.Prelude.{false};
 ghost use Rattle.command_words.specs.Commands.{check, complete, draw, shrink, stats, verify};
 ghost use Rattle.commands.specs.Answers.{answer_text};
 ghost use Rattle.commands.specs.Evidence.{input_of};
@@ -19,6 +20,7 @@ use crate::shrink::shrink;
 use command_words::{Condition, DrawOptions};
 use history_merge::HistoryBuilder;
 use history_text::{MemorySource, Watched};
+use parallel_finders::OnePiece;
 use std::alloc::{AllocError, Global};
 
 /// What `check` finds in a text. Time and memory as of the command in one thread.
@@ -27,7 +29,7 @@ pub fn check_text(alloc: Global, text: &[u8], condition: Condition) -> Outcome
     ensures places { NamesPlaces result }
 {
     let (_version, history) = given_history(alloc, MemorySource::new(text))?;
-    let verdict = decide_under(alloc, &history, condition)?;
+    let verdict = decide_under(&OnePiece, alloc, &history, condition)?;
     Ok(Report::Judged(history, verdict))
 }
 
@@ -65,10 +67,10 @@ pub fn complete_text(alloc: Global, text: &[u8], takes_cut: bool) -> Outcome
 
 /// What `stats` finds in a text.
 pub fn stats_text(alloc: Global, text: &[u8]) -> Outcome
-    ensures found { AnswersOf stats (input_of text.now) (answer_of result) }
+    ensures found { AnswersOf (stats false) (input_of text.now) (answer_of result) }
     ensures places { NamesPlaces result }
 {
-    stats(alloc, MemorySource::new(text))
+    stats(alloc, MemorySource::new(text), false)
 }
 
 /// What `check` finds in the history that a history builder was given.
@@ -77,7 +79,7 @@ pub fn judge_gathered(alloc: Global, builder: HistoryBuilder, condition: Conditi
     ensures places { NamesPlaces result }
 {
     let history = builder.finish()?;
-    let verdict = decide_under(alloc, &history, condition)?;
+    let verdict = decide_under(&OnePiece, alloc, &history, condition)?;
     Ok(Report::Judged(history, verdict))
 }
 

@@ -24,16 +24,15 @@ use Rattle.history_merge.specs.Initial.{enqueues_from, initial_enqueues, later_b
 use Rattle.history_merge.specs.Operations.{kind_of, operation_of, operations_of}
 use Rattle.history_merge.proofs.Distinct.{contains_at, contains_cons, cut_at, not_in_none, pairs_at, place_of, rises_later, made_of, traced}
 use Rattle.history_merge.proofs.Turns.{answered_is_call, projection-at}
-use Rattle.value_match.proofs.Lists.{keeps, kept}
 use Rattle.completions.specs.declared.answers.Answer.{Answer}
 use Rattle.completions.specs.Pending.{IsHistoryFrom, TakesTurnsSoFar}
 use Rattle.completions.specs.Completed.{enqueue_answer, given_value, given_values, is_given, left_values}
 use Rattle.completions.specs.Completed.{paired, taken_value, taken_values}
 use Rattle.completions.proofs.Followed.{last_is_pending, last_or-some, operations_keep, operations_made, operations_push, pending_is_last}
-use Rattle.completions.proofs.Whole.{all_members, first_with, pairs_none, pairs_rest}
-
-abbrev tail : {X : Type 0} (x : X) (xs : List X) (y : X) → Contains xs y → Contains (x ∷ xs) y
-tail x xs y among = (suc among.0, omega (arith, among.1), among.2)
+use Rattle.completions.proofs.Whole.{pairs_none}
+use Rattle.completions.proofs.Followed.{head_option}
+use Rattle.history_merge.proofs.Distinct.{contains_cons_option, behind_option}
+use Rattle.history_merge.proofs.Lists.{one_deeper, kept, keeps, all_members, AllPairs-tail, pairs_first}
 
 -- ---- the call before a return
 
@@ -180,24 +179,13 @@ taken_made before e o is = by_what e.what refl is
     by_what (RetDeq v) what made = cc
     by_what RetEmpty what made = cc
 
-cons_cases : {X : Type 0} (made : Option X) (xs : List X) (o : X) → Contains (cons_option made xs) o → (made ≡ Some o) ⊎ Contains xs o
-cons_cases None xs o among = inr among
-cons_cases (Some x) xs o among = elim (contains_cons x xs o among) [ inl here ↦ inl (ap (λ y. Some y) here) | inr there ↦ inr there ]
-
-cons_head : {X : Type 0} (made : Option X) (xs : List X) (o : X) → made ≡ Some o → Contains (cons_option made xs) o
-cons_head made xs o is = rw is (zero, omega arith, refl)
-
-cons_tail : {X : Type 0} (made : Option X) (xs : List X) (o : X) → Contains xs o → Contains (cons_option made xs) o
-cons_tail None xs o among = among
-cons_tail (Some x) xs o among = tail x xs o among
-
 -- they are operations
 pub taken_in : (before later : List Event) (o : Operation) → Contains (taken_from before later) o
     → Contains (operations_of (before ++ later)) o × ((v : ℕ) × (o.kind ≡ Enq v)) × ((e : Event) × Contains later e × (o.ret ≡ e.ticket))
 taken_in before [] o among = absurd (not_in_none o among)
 taken_in before (e ∷ later) o among =
     let parts : (before ++ e ∷ []) ++ later ≡ before ++ e ∷ later = append_assoc before (e ∷ []) later in
-    elim (cons_cases (taken_operation before e) (taken_from (before ++ e ∷ []) later) o among) [
+    elim (contains_cons_option (taken_operation before e) (taken_from (before ++ e ∷ []) later) o among) [
       | inl made ↦
           let found = taken_made before e o made in
           let there = operations_made before e found.0 o (pending_is_last e.thread before found.0 found.1).0 found.2 in
@@ -209,7 +197,7 @@ taken_in before (e ∷ later) o among =
           )
       | inr deeper ↦
           let found = taken_in (before ++ e ∷ []) later o deeper in
-          (subst (λ (es : List Event). Contains (operations_of es) o) parts found.0, found.1, (found.2.0, tail e later found.2.0 found.2.1, found.2.2))
+          (subst (λ (es : List Event). Contains (operations_of es) o) parts found.0, found.1, (found.2.0, one_deeper e later found.2.0 found.2.1, found.2.2))
     ]
   where
     enqueued : (call answer : What) (k : OpKind) → answer ≡ RetEnq → kind_of call answer ≡ Some k → (v : ℕ) × (k ≡ Enq v)
@@ -228,7 +216,7 @@ taken_all before [] o v among is = inl (subst (λ (es : List Event). Contains (o
 taken_all before (e ∷ later) o v among is =
     let parts : before ++ e ∷ later ≡ (before ++ e ∷ []) ++ later = sym (append_assoc before (e ∷ []) later) in
     elim (taken_all (before ++ e ∷ []) later o v (subst (λ (es : List Event). Contains (operations_of es) o) parts among) is) [
-      | inr deeper ↦ inr (cons_tail (taken_operation before e) (taken_from (before ++ e ∷ []) later) o deeper)
+      | inr deeper ↦ inr (behind_option (taken_operation before e) (taken_from (before ++ e ∷ []) later) o deeper)
       | inl old ↦ elim (operations_push before e o old) [
         | inl older ↦ inl older
         | inr (call, last, made) ↦
@@ -241,7 +229,7 @@ taken_all before (e ∷ later) o v among is =
             let taken : taken_operation before e ≡ Some o =
             subst (λ (w : What). (elim w [ RetEnq ↦ option_and_then (λ c. operation_of c (Some e)) (pending_call e.thread before) | _ ↦ None ]) ≡ Some o)
             (sym what) here in
-            inr (cons_head (taken_operation before e) (taken_from (before ++ e ∷ []) later) o taken)
+            inr (head_option (taken_operation before e) (taken_from (before ++ e ∷ []) later) o taken)
       ]
     ]
 
@@ -345,7 +333,7 @@ paired_at (x ∷ calls) (w ∷ values) zero c v at_c at_v =
     subst (λ (e : Event). Contains (paired (x ∷ calls) (w ∷ values)) (record { call = e; what = RetDeq v })) one
     (subst (λ (u : ℕ). Contains (paired (x ∷ calls) (w ∷ values)) (record { call = x; what = RetDeq u })) same (zero, omega arith, refl))
 paired_at (x ∷ calls) (w ∷ values) (suc i) c v at_c at_v =
-    tail (record { call = x; what = RetDeq w }) (paired calls values) (record { call = c; what = RetDeq v }) (paired_at calls values i c v at_c at_v)
+    one_deeper (record { call = x; what = RetDeq w }) (paired calls values) (record { call = c; what = RetDeq v }) (paired_at calls values i c v at_c at_v)
 
 pub paired_from : (calls : List Event) (values : List ℕ) (a : Answer) → Contains (paired calls values) a
     → (i : ℕ) × (v : ℕ) × (slice_get calls i ≡ Some a.call) × (slice_get values i ≡ Some v) × (a.what ≡ RetDeq v)
@@ -364,8 +352,8 @@ paired_apart [] values apart = pairs_none (λ (a b : Answer). a.call.thread ≢ 
 paired_apart (x ∷ calls) [] apart = pairs_none (λ (a b : Answer). a.call.thread ≢ b.call.thread)
 paired_apart (x ∷ calls) (w ∷ values) apart = AllPairs-cons (λ (a b : Answer). a.call.thread ≢ b.call.thread) (record { call = x; what = RetDeq w }) (paired calls values)
     (all_members (λ (b : Answer). x.thread ≢ b.call.thread) (paired calls values) (λ b among.
-    let found = paired_from calls values b among in first_with OtherThread x calls b.call apart (contains_at calls found.0 b.call found.2)))
-    (paired_apart calls values (pairs_rest OtherThread x calls apart))
+    let found = paired_from calls values b among in pairs_first OtherThread x calls b.call apart (contains_at calls found.0 b.call found.2)))
+    (paired_apart calls values (AllPairs-tail OtherThread x calls apart))
 
 -- an answer to an enqueue
 pub enqueue_answer_is : (events : List Event) (c : Event) (a : Answer) → enqueue_answer events c ≡ Some a

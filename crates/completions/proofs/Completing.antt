@@ -4,8 +4,7 @@ use Rattle.std.proofs.Common.{not, List, [], ◌∷◌, Some, None, refl, ap, sy
 use Rattle.std.specs.Prelude.{All, Contains, nat_eq}
 use Rattle.std.specs.List.{last_or}
 use Rattle.std.proofs.lemmas.Bool.{cases_Bool, eq-eqb, eqb-true}
-use Rattle.std.proofs.Common.{length-append}
-use Rattle.std.proofs.lemmas.List.{append_assoc, get_or_append_left}
+use Rattle.std.proofs.lemmas.List.{append_assoc}
 use Rattle.std.proofs.lemmas.List.Elements.{All-contains, Contains-append_cases, Contains-append_left, Contains-append_right}
 use Rattle.std.proofs.lemmas.List.Kept.{AllPairs-filter}
 use Rattle.event_records.specs.declared.event.Event.{Event}
@@ -15,15 +14,10 @@ use Rattle.history_merge.specs.declared.operation.Operation.{Operation}
 use Rattle.history_merge.specs.Operations.{operation_of, operations_of}
 use Rattle.history_merge.proofs.Distinct.{contains_cons, not_in_none, rises_later}
 use Rattle.history_merge.proofs.Turns.{answer_is_return}
-use Rattle.value_match.proofs.Lists.{passed_filter, passes_filter}
 use Rattle.completions.specs.Pending.{IsHistoryFrom, IsPendingCall, TakesTurnsSoFar}
 use Rattle.completions.proofs.Followed.{keeping, last_above, last_in, last_is_pending, last_of, last_or-some, made_by_call, made_later}
 use Rattle.completions.proofs.Followed.{only_last, operations_kept, pending_is_last, rises_front}
-
--- what holds of all holds of those in front
-all_front : {X : Type 0} (P : X → Type 0) (xs ys : List X) → All P (xs ++ ys) → All P xs
-all_front P xs ys all k d below =
-    subst P (get_or_append_left xs ys d k below) (all k d (omega (arith, below, length-append xs ys)))
+use Rattle.history_merge.proofs.Lists.{passes_filter, passed_filter, All-left}
 
 -- a call of a thread whose events take turns is the last of them, or a return comes after it
 call_or_answered : (xs : List Event) (c : Event) → TakesTurnsSoFar xs → TicketsRise xs → Contains xs c → is_call c.what ≡ true
@@ -101,7 +95,7 @@ module _ (initial : List ℕ) (events : List Event) (history : IsHistoryFrom ini
         let whole : keeping out events ++ returns ≡ (keeping out events ++ before) ++ r ∷ after =
         ap (λ (es : List Event). keeping out events ++ es) is ∙ sym (append_assoc (keeping out events) before (r ∷ after)) in
         let front = rises_front (keeping out events ++ before) (r ∷ after) (subst TicketsRise whole rise) in
-        let earlier = all_front (λ (x : Event). is_call x.what ≡ false) before (r ∷ after) (subst (All (λ (x : Event). is_call x.what ≡ false)) is rets) in
+        let earlier = All-left (λ (x : Event). is_call x.what ≡ false) before (r ∷ after) (subst (All (λ (x : Event). is_call x.what ≡ false)) is rets) in
         let pending = was_pending before r.thread call front earlier last (made_by_call call r o made) in
         let in_r : Contains returns r = subst (λ (es : List Event). Contains es r) (sym is) (Contains-append_right before (r ∷ after) r (zero, omega arith, refl)) in
         inr (call, r, pending.0, pending.1, in_r, (last_in (keeping out events ++ before) r.thread call last).1, made)

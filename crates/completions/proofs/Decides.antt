@@ -3,7 +3,7 @@ use Rattle.std.proofs.Common.{◌≡◌, ◌≢◌, ℕ, zero, suc, ◌+◌, ◌
 use Rattle.std.proofs.Common.{true, false, not, List, [], ◌∷◌, length, map}
 use Rattle.std.proofs.Common.{Option, Some, None, refl, ap, sym, subst, ◌∙◌, arith}
 use Rattle.std.proofs.Common.{ap₂, get_or, take, drop}
-use Rattle.std.specs.Prelude.{AllPairs, Contains, filter, filter_map, option_map, slice_get, ◌&&◌}
+use Rattle.std.specs.Prelude.{AllPairs, Contains, filter, filter_map, option_map, slice_get}
 use Rattle.std.specs.List.{last_or}
 use Rattle.std.proofs.lemmas.Bool.{cases_Bool}
 use Rattle.std.proofs.lemmas.List.{append_assoc}
@@ -22,8 +22,7 @@ use Rattle.history_merge.specs.Initial.{enqueues_from, initial_enqueues, later_b
 use Rattle.history_merge.specs.Inner.Timeline.{timeline}
 use Rattle.history_merge.specs.Operations.{Did, kind_of, NoneDid, operation_of, operations_of}
 use Rattle.history_merge.proofs.Distinct.{contains_at, contains_cons, cut_at, made_of, not_in_none, place_of, traced}
-use Rattle.history_merge.proofs.Timelines.{pairs_map, timeline_is_complete}
-use Rattle.value_match.proofs.Lists.{keeps, kept, mapped_from, mapped_to, passed_filter, passes_filter}
+use Rattle.history_merge.proofs.Timelines.{timeline_is_complete}
 use Rattle.verdicts.proofs.Exactly.{linearizable_without, violation_excludes_order}
 use Rattle.completions.specs.declared.answers.Answer.{Answer}
 use Rattle.completions.specs.Pending.{IsCompletion, IsDeciding, IsHistoryFrom, IsPendingCall}
@@ -32,10 +31,12 @@ use Rattle.completions.specs.Completed.{next_ticket, paired, pending_calls, retu
 use Rattle.completions.proofs.Followed.{keeping, last_above, last_in, last_of, last_of-append, one_by_ticket, operations_keep, operations_made, pending_is_last}
 use Rattle.completions.proofs.Completing.{completed_or_ended, same_operations}
 use Rattle.completions.proofs.Whole.{after_last, test_of_pending, AreAnswers, below_next, is_answer, is_complete, no_return, only_pending}
-use Rattle.completions.proofs.Whole.{only_returns, pairs_across, pairs_append, pairs_made, pending_by_test, return_of, returns-append, tickets_rise}
+use Rattle.completions.proofs.Whole.{only_returns, pairs_across, pairs_made, pending_by_test, return_of, returns-append, tickets_rise}
 use Rattle.completions.proofs.Answering.{enqueue_answer_is, enqueue_answered, taken_rises, value_in, given_by, given_value_is, left_are}
 use Rattle.completions.proofs.Answering.{left_enqueues, OtherThread, paired_apart, paired_at, paired_from, taken_all, taken_from, taken_in, value_of}
 use Rattle.completions.proofs.Deciding.{Chosen, Completes, Ends, EnqueuesGiven, GivesLeft, NoViolation, ours_has_none}
+use Rattle.completions.proofs.Whole.{and_false}
+use Rattle.history_merge.proofs.Lists.{kept, keeps, mapped_from, mapped_to, passes_filter, passed_filter, pairs_append, pairs_map}
 
 -- ---- the timeline
 
@@ -266,10 +267,6 @@ module _ (initial : List ℕ) (events : List Event) (history : IsHistoryFrom ini
         let tickets = ap (λ (e : Event). e.ticket) same in
         let one = one_by_ticket events l.0 a.call history.tickets_rise l_events pending.0 (omega (arith, l.2, m.2, tickets)) in
         l.1 ∙ ap (λ y. Some y) one
-      where
-        and_false : (a b : Bool) → b ≡ true → (a && not b) ≡ false
-        and_false true b is = ap not is
-        and_false false b is = refl
 
     -- and its return makes an operation
     answered_made : (a : Answer) (k : OpKind) → Contains answered a → kind_of a.call.what a.what ≡ Some k

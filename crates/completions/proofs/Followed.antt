@@ -19,6 +19,7 @@ use Rattle.history_merge.specs.declared.operation.Operation.{Operation}
 use Rattle.history_merge.specs.Faults.{pending_call}
 use Rattle.history_merge.specs.Operations.{kind_of, operation_of, operations_of}
 use Rattle.history_merge.proofs.Distinct.{contains_cons, not_in_none, one_by_key, pairs_at, place_of, rises_later}
+use Rattle.history_merge.proofs.Distinct.{contains_cons_option, behind_option}
 
 -- ---- the last event of a thread
 
@@ -94,26 +95,19 @@ made_by_call call answer o made = elim (cases_Bool (is_call call.what)) [
   | inr isnt ↦ let clash : None ≡ Some o = rw (no_kind call.what answer.what isnt, operation_of) at made in cc
 ]
 
-in_cons_option : {X : Type 0} (made : Option X) (xs : List X) (o : X) → Contains (cons_option made xs) o → (made ≡ Some o) ⊎ Contains xs o
-in_cons_option None xs o among = inr among
-in_cons_option (Some x) xs o among = elim (contains_cons x xs o among) [ inl here ↦ inl (ap (λ y. Some y) here) | inr there ↦ inr there ]
-
-head_option : {X : Type 0} (made : Option X) (xs : List X) (o : X) → made ≡ Some o → Contains (cons_option made xs) o
+-- an element that is there comes first
+pub head_option : {X : Type 0} (made : Option X) (xs : List X) (o : X) → made ≡ Some o → Contains (cons_option made xs) o
 head_option made xs o is = rw is (zero, omega arith, refl)
-
-tail_option : {X : Type 0} (made : Option X) (xs : List X) (o : X) → Contains xs o → Contains (cons_option made xs) o
-tail_option None xs o among = among
-tail_option (Some x) xs o among = (suc among.0, omega (arith, among.1), among.2)
 
 -- operations stay, whatever comes after
 pub operations_keep : (xs more : List Event) (o : Operation) → Contains (operations_of xs) o → Contains (operations_of (xs ++ more)) o
 operations_keep [] more o among = absurd (not_in_none o among)
 operations_keep (x ∷ xs) more o among =
     let p : Event → Bool = λ r. nat_eq r.thread x.thread in
-    elim (in_cons_option (operation_of x (find p xs)) (operations_of xs) o among) [
+    elim (contains_cons_option (operation_of x (find p xs)) (operations_of xs) o among) [
       | inl made ↦ head_option (operation_of x (find p (xs ++ more))) (operations_of (xs ++ more)) o
           (ap (operation_of x) (find-append p xs more) ∙ found (find p xs) refl made)
-      | inr there ↦ tail_option (operation_of x (find p (xs ++ more))) (operations_of (xs ++ more)) o (operations_keep xs more o there)
+      | inr there ↦ behind_option (operation_of x (find p (xs ++ more))) (operations_of (xs ++ more)) o (operations_keep xs more o there)
     ]
   where
     found : (f : Option Event) → find (λ r. nat_eq r.thread x.thread) xs ≡ f → operation_of x f ≡ Some o
@@ -135,7 +129,7 @@ operations_made (x ∷ xs) e call o last made = by_later (last_of e.thread xs) r
         → Contains (operations_of ((x ∷ xs) ++ e ∷ [])) o
     by_later (Some l) is deeper =
         let same : l ≡ call = let whole = last_of-cons x xs e.thread l is in let both : Some l ≡ Some call = sym whole ∙ last in cc in
-        tail_option (operation_of x (next_after x (xs ++ e ∷ []))) (operations_of (xs ++ e ∷ [])) o (deeper l (is ∙ ap (λ y. Some y) same))
+        behind_option (operation_of x (next_after x (xs ++ e ∷ []))) (operations_of (xs ++ e ∷ [])) o (deeper l (is ∙ ap (λ y. Some y) same))
     by_later None is deeper = elim (cases_Bool (nat_eq x.thread e.thread)) [
       | inl own ↦
           let threads : x.thread ≡ e.thread = eqb-true x.thread e.thread own in
@@ -153,13 +147,13 @@ operations_made (x ∷ xs) e call o last made = by_later (last_of e.thread xs) r
 -- and no other operation comes by it
 pub operations_push : (xs : List Event) (e : Event) (o : Operation) → Contains (operations_of (xs ++ e ∷ [])) o
     → Contains (operations_of xs) o ⊎ ((call : Event) × (last_of e.thread xs ≡ Some call) × (operation_of call (Some e) ≡ Some o))
-operations_push [] e o among = elim (in_cons_option (operation_of e None) [] o among) [ inl made ↦ cc | inr none ↦ inl none ]
+operations_push [] e o among = elim (contains_cons_option (operation_of e None) [] o among) [ inl made ↦ cc | inr none ↦ inl none ]
 operations_push (x ∷ xs) e o among =
-    elim (in_cons_option (operation_of x (find (λ r. nat_eq r.thread x.thread) (xs ++ e ∷ []))) (operations_of (xs ++ e ∷ [])) o among) [
+    elim (contains_cons_option (operation_of x (find (λ r. nat_eq r.thread x.thread) (xs ++ e ∷ []))) (operations_of (xs ++ e ∷ [])) o among) [
       | inl made ↦ by_next (find (λ r. nat_eq r.thread x.thread) xs) refl
           (ap (operation_of x) (sym (find-append (λ r. nat_eq r.thread x.thread) xs (e ∷ []))) ∙ made)
       | inr there ↦ elim (operations_push xs e o there) [
-        | inl old ↦ inl (tail_option (operation_of x (find (λ r. nat_eq r.thread x.thread) xs)) (operations_of xs) o old)
+        | inl old ↦ inl (behind_option (operation_of x (find (λ r. nat_eq r.thread x.thread) xs)) (operations_of xs) o old)
         | inr new ↦ inr (new.0, last_of-cons x xs e.thread new.0 new.1, new.2)
       ]
     ]

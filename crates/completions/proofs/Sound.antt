@@ -1,29 +1,20 @@
 -- Events without a fault but pending calls are a history.
-use Rattle.std.proofs.Common.{◌≡◌, ℕ, zero, suc, ◌+◌, ◌<◌, ◌≤◌, ◌++◌, inl, inr, true, false, not, List, [], ◌∷◌, length, get_or, take, Option}
+use Rattle.std.proofs.Common.{◌≡◌, ℕ, suc, ◌+◌, ◌≤◌, ◌++◌, inl, inr, true, false, not, List, [], ◌∷◌, length, Option}
 use Rattle.std.proofs.Common.{Some, None, refl, ap, sym, subst, ◌∙◌, arith, length-append}
-use Rattle.std.specs.Prelude.{Contains, filter, filter_map, IfOk, IsErrAnd, OnOk, MatchOption, ⊤, Result, Ok, Err}
+use Rattle.std.specs.Prelude.{Contains, filter, filter_map, IfOk, IsErrAnd, OnOk, MatchOption, Result, Ok, Err}
 use Rattle.std.specs.List.{last_or}
-use Rattle.std.proofs.lemmas.List.{append-nil, take_all}
-use Rattle.std.proofs.Math.Seq.{take-suc}
+use Rattle.std.proofs.lemmas.List.{append-nil}
 use Rattle.std.proofs.lemmas.Bool.{cases_Bool, cases_lt}
-use Rattle.std.proofs.lemmas.Bool.Decides.{eqb_tells, nat_tests}
-use Rattle.std.proofs.lemmas.Grind.{common_steps}
-use Rattle.std.proofs.lemmas.List.Elements.{All-nil, All-push}
-use Rattle.std.proofs.lemmas.List.Quantifiers.{all_pairs_push}
-use Rattle.std.proofs.lemmas.Option.{slice_get-get_or}
 use Rattle.event_records.specs.declared.event.Event.{Event}
-use Rattle.event_records.specs.declared.event.What.TheVariants.{CallEnq}
 use Rattle.event_records.specs.declared.limits.TheConstants.{MAX_EVENTS, MAX_TICKET}
 use Rattle.event_records.specs.Projection.{projection}
-use Rattle.event_records.specs.Turns.{answers, is_call, TakesTurns, TicketsRise}
-use Rattle.history_merge.specs.Complete.{AreDistinct}
-use Rattle.history_merge.specs.Faults.{IsFirstFault, NoFaultBefore}
+use Rattle.event_records.specs.Turns.{answers, is_call, TakesTurns}
+use Rattle.history_merge.specs.Faults.{IsFirstFault}
 use Rattle.history_merge.specs.Initial.{HistoryView, IsCompleteFrom}
 use Rattle.history_merge.specs.declared.fault.HistoryFault.{HistoryFault}
 use Rattle.history_merge.specs.declared.fault.HistoryFault.TheVariants.{Pending}
-use Rattle.history_merge.proofs.Distinct.{distinct_push}
-use Rattle.history_merge.proofs.Faults.{IsSound, MayFollow, may_follow, nothing_pending_in_complete}
-use Rattle.history_merge.proofs.Turns.{one_event_more, pending_in, turns_push, TurnsSoFar}
+use Rattle.history_merge.proofs.Faults.{IsSound, nothing_pending_in_complete, sound_without_fault}
+use Rattle.history_merge.proofs.Turns.{pending_in, TurnsSoFar}
 use Rattle.completions.specs.Completed.{answers_to, calls_dequeue, completed, enqueue_answer, is_left_out, is_pending, left_values, next_ticket}
 use Rattle.completions.specs.Completed.{paired, pending_calls, returns_from}
 use Rattle.completions.specs.declared.answers.Answer.{Answer}
@@ -79,37 +70,10 @@ complete_is_history initial events whole = record {
 
 -- ---- events without a fault
 
-last_is : (o : Option Event) (e : Event) (events : List Event) (d : Event) → last_or o (e ∷ events) ≡ Some (get_or (e ∷ events) (length events) d)
-last_is o e [] d = refl
-last_is o e (x ∷ events) d = last_is (Some e) x events d
-
-above_all : (events : List Event) (ticket : ℕ) → TicketsRise events → MatchOption (last_or None events) ⊤ (λ last. last.ticket < ticket)
-    → (k : ℕ) (d : Event) → k < length events → (get_or events k d).ticket < ticket
-above_all [] ticket rise above k d below = absurd (omega arith)
-above_all (e ∷ events) ticket rise above k d below =
-    let last : (get_or (e ∷ events) (length events) d).ticket < ticket =
-    subst (λ o. MatchOption o ⊤ (λ l. l.ticket < ticket)) (last_is None e events d) above in
-    grind (arith, nat_tests, cases_lt)
-
-sound_push : (initial : List ℕ) (events : List Event) (e : Event) → IsSound initial events → MayFollow initial events e
-    → IsSound initial (events ++ e ∷ [])
-sound_push initial events e sound may =
-    grind (arith, common_steps, all_pairs_push, above_all, All-push, distinct_push, eqb_tells, turns_push, one_event_more)
-
-sound_before : (initial : List ℕ) (events : List Event) (n : ℕ) → n ≤ length events → AreDistinct initial → NoFaultBefore initial events (length events)
-    → IsSound initial (take n events)
-sound_before initial events zero within distinct none = grind (arith, All-nil, append-nil)
-sound_before initial events (suc n) within distinct none =
-    let d : Event = record { ticket = 0; thread = 0; what = CallEnq 0 } in
-    let below : n < length events = omega arith in
-    let may = may_follow initial (take n events) n (get_or events n d) (none n (get_or events n d) below (slice_get-get_or events n d below)) in
-    grind (arith, take-suc, sound_push, sound_before initial events n)
-
 -- what a history builder takes but for pending calls is a history
 pending_is_history : (initial : List ℕ) (events : List Event) (ticket : ℕ) → IsFirstFault initial events (Pending ticket) → IsHistoryFrom initial events
 pending_is_history initial events ticket (distinct, none, least) =
-    sound_is_history initial events
-    (subst (IsSound initial) (take_all (length events) events (omega arith)) (sound_before initial events (length events) (omega arith) distinct none))
+    sound_is_history initial events (sound_without_fault initial events distinct none)
 
 -- ---- a complete history stays as it is
 

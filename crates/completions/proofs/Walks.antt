@@ -20,11 +20,12 @@ use Rattle.event_records.specs.declared.limits.TheConstants.{MAX_THREAD, MAX_THR
 use Rattle.event_records.specs.Projection.{projection}
 use Rattle.history_merge.proofs.Turns.{last_or-push, projection-push_other, projection-push_own}
 use Rattle.completions.specs.declared.answers.Answer.{Answer}
-use Rattle.completions.proofs.Whole.{all_members, filter_all, filter_none, pending_by_test, returns-append}
+use Rattle.completions.proofs.Whole.{filter_all, filter_none, pending_by_test, returns-append}
 use Rattle.completions.specs.Completed.{given_value, given_values, is_given, is_left_out, is_pending, next_ticket, paired, returns_from, taken_value, taken_values}
 use Rattle.completions.specs.Inner.Walk.{AreGiven, AreLast, HasWalked}
 use Rattle.completions.specs.Pending.{IsHistoryFrom, IsPendingCall}
 use Rattle.completions.specs.declared.walk.Walk.{Walk}
+use Rattle.history_merge.proofs.Lists.{option_cons, all_members}
 
 -- what stands past the end of a list of events
 abbrev pub past_end : Event
@@ -89,10 +90,6 @@ found_if_given events given v r are search = by_result r (searched given v r sea
       | inl before ↦ let read = get_or_default given among.0 0 v among.1 ∙ among.2 in let less = none.1 among.0 before in omega (arith, read, less)
       | inr behind ↦ let read = get_or_default given among.0 0 v among.1 ∙ among.2 in let less = none.2 among.0 behind among.1 in omega (arith, read, less)
     ]))
-
-option_cons : {X : Type 0} (o : Option X) (xs : List X) → cons_option o xs ≡ option_to_list o ++ xs
-option_cons None xs = refl
-option_cons (Some x) xs = refl
 
 cons_append : {X : Type 0} (o : Option X) (xs ys : List X) → cons_option o (xs ++ ys) ≡ cons_option o xs ++ ys
 cons_append None xs ys = refl

@@ -7,52 +7,29 @@ use Rattle.std.specs.List.{last_or}
 use Rattle.std.specs.Option.{option_map_or}
 use Rattle.std.proofs.lemmas.Bool.{cases_Bool, eq-eqb, eqb-true, ne_eqb}
 use Rattle.std.proofs.lemmas.List.{append_assoc, append-nil, get_or_append_left}
-use Rattle.std.proofs.lemmas.List.Elements.{All-append, All-contains, All-filter, Contains-get_or, Contains-append_left, Contains-append_right}
+use Rattle.std.proofs.lemmas.List.Elements.{All-append, All-contains, All-filter, Contains-append_left, Contains-append_right}
 use Rattle.std.proofs.lemmas.List.Elements.{filter-append, filter_map-append}
 use Rattle.std.proofs.lemmas.List.Folds.{Any-from_list_any, list_any_at}
 use Rattle.std.proofs.lemmas.List.Kept.{AllPairs-cons, AllPairs-filter}
 use Rattle.event_records.specs.declared.event.Event.{Event}
 use Rattle.event_records.specs.declared.event.What.{What}
-use Rattle.event_records.specs.declared.event.What.TheVariants.{CallEnq}
 use Rattle.event_records.specs.declared.limits.TheConstants.{MAX_THREAD, MAX_TICKET}
 use Rattle.event_records.specs.Projection.{projection}
 use Rattle.event_records.specs.Turns.{answers, is_call, TakesTurns, TicketsRise}
 use Rattle.history_merge.specs.Complete.{AreDistinct, called_value, called_values}
 use Rattle.history_merge.specs.Faults.{pending_call}
 use Rattle.history_merge.specs.Initial.{IsCompleteFrom}
-use Rattle.history_merge.proofs.Distinct.{contains_cons, not_in_none, pairs_at, place_of, rises_later}
-use Rattle.history_merge.proofs.Turns.{answer_is_return, nothing_after_turns}
-use Rattle.value_match.proofs.Lists.{keeps, kept, passed_filter}
+use Rattle.history_merge.proofs.Distinct.{contains_cons, not_in_none, rises_later}
+use Rattle.history_merge.proofs.Turns.{answer_is_return, nothing_after_turns, TakesTurns-append, last_or-push}
 use Rattle.completions.specs.declared.answers.Answer.{Answer}
 use Rattle.completions.specs.Pending.{IsHistoryFrom, IsPendingCall, TakesTurnsSoFar}
 use Rattle.completions.specs.Completed.{completed_by, is_answered, is_left_out, is_pending, next_ticket, returns_from}
 use Rattle.completions.proofs.Followed.{keeping, last_above, last_in, last_is_pending, last_of, one_by_ticket, pending_is_last}
+use Rattle.history_merge.proofs.Formed.{no_value}
+use Rattle.verdicts.proofs.Selections.{filters_swap}
+use Rattle.history_merge.proofs.Lists.{contains_head, one_deeper, kept, keeps, passed_filter, all_members, AllPairs-tail, pairs_first, pairs_back, pairs_append}
 
 -- ---- lists
-
-abbrev head : {X : Type 0} (x : X) (xs : List X) → Contains (x ∷ xs) x
-head x xs = (zero, omega arith, refl)
-
-abbrev tail : {X : Type 0} (x : X) (xs : List X) (y : X) → Contains xs y → Contains (x ∷ xs) y
-tail x xs y among = (suc among.0, omega (arith, among.1), among.2)
-
-pub all_members : {X : Type 0} (P : X → Type 0) (xs : List X) → ((x : X) → Contains xs x → P x) → All P xs
-all_members P xs each k d below = each (get_or xs k d) (Contains-get_or xs k d below)
-
-pub first_with : {X : Type 0} (R : X → X → Type 0) (x : X) (xs : List X) (y : X) → AllPairs R (x ∷ xs) → Contains xs y → R x y
-first_with R x xs y pairs among = let at = place_of xs y among in pairs_at R (x ∷ xs) zero (suc at.0) x y pairs (omega arith) refl at.1
-
-pub pairs_rest : {X : Type 0} (R : X → X → Type 0) (x : X) (xs : List X) → AllPairs R (x ∷ xs) → AllPairs R xs
-pairs_rest R x xs pairs i j d below inside = pairs (suc i) (suc j) d (omega arith) (omega arith)
-
-pub pairs_append : {X : Type 0} (R : X → X → Type 0) (xs ys : List X) → AllPairs R xs → AllPairs R ys
-    → ((x y : X) → Contains xs x → Contains ys y → R x y) → AllPairs R (xs ++ ys)
-pairs_append R [] ys first second across = second
-pairs_append R (x ∷ xs) ys first second across =
-    AllPairs-cons R x (xs ++ ys)
-    (All-append (R x) xs ys (all_members (R x) xs (λ y among. first_with R x xs y first among))
-    (all_members (R x) ys (λ y among. across x y (head x xs) among)))
-    (pairs_append R xs ys (pairs_rest R x xs first) second (λ y z in_y in_z. across y z (tail x xs y in_y) in_z))
 
 pub pairs_none : {X : Type 0} (R : X → X → Type 0) → AllPairs R []
 pairs_none R i j d below inside = absurd (omega arith)
@@ -61,12 +38,12 @@ pairs_none R i j d below inside = absurd (omega arith)
 pub pairs_made : {X Y : Type 0} (R : X → X → Type 0) (S : Y → Y → Type 0) (h : X → Option Y) (xs : List X)
     → ((x y : X) (b c : Y) → h x ≡ Some b → h y ≡ Some c → R x y → S b c) → AllPairs R xs → AllPairs S (filter_map h xs)
 pairs_made R S h [] each pairs = pairs_none S
-pairs_made {X} {Y} R S h (x ∷ xs) each pairs = by_head (h x) refl (pairs_made R S h xs each (pairs_rest R x xs pairs))
+pairs_made {X} {Y} R S h (x ∷ xs) each pairs = by_head (h x) refl (pairs_made R S h xs each (AllPairs-tail R x xs pairs))
   where
     by_head : (made : Option Y) → h x ≡ made → AllPairs S (filter_map h xs) → AllPairs S (filter_map h (x ∷ xs))
     by_head None is rest = rw is rest
     by_head (Some b) is rest = rw is (AllPairs-cons S b (filter_map h xs) (all_members (S b) (filter_map h xs) (λ c among.
-        let from = kept h xs c among in each x from.0 b c is from.2 (first_with R x xs from.0 pairs from.1))) rest)
+        let from = kept h xs c among in each x from.0 b c is from.2 (pairs_first R x xs from.0 pairs from.1))) rest)
 
 pub pairs_front : {X : Type 0} (R : X → X → Type 0) (xs ys : List X) → AllPairs R (xs ++ ys) → AllPairs R xs
 pairs_front {X} R xs ys pairs i j d below inside =
@@ -75,15 +52,11 @@ pairs_front {X} R xs ys pairs i j d below inside =
     let at_j = get_or_append_left xs ys d j inside in
     subst (λ (x : X). R x (get_or xs j d)) at_i (subst (λ (y : X). R (get_or (xs ++ ys) i d) y) at_j holds)
 
-pub pairs_back : {X : Type 0} (R : X → X → Type 0) (xs ys : List X) → AllPairs R (xs ++ ys) → AllPairs R ys
-pairs_back R [] ys pairs = pairs
-pairs_back R (x ∷ xs) ys pairs = pairs_back R xs ys (pairs_rest R x (xs ++ ys) pairs)
-
 pub pairs_across : {X : Type 0} (R : X → X → Type 0) (xs ys : List X) (x y : X) → AllPairs R (xs ++ ys) → Contains xs x → Contains ys y → R x y
 pairs_across R [] ys x y pairs in_x in_y = absurd (not_in_none x in_x)
 pairs_across {X} R (z ∷ xs) ys x y pairs in_x in_y = elim (contains_cons z xs x in_x) [
-  | inl here ↦ subst (λ (w : X). R w y) here (first_with R z (xs ++ ys) y pairs (Contains-append_right xs ys y in_y))
-  | inr there ↦ pairs_across R xs ys x y (pairs_rest R z (xs ++ ys) pairs) there in_y
+  | inl here ↦ subst (λ (w : X). R w y) here (pairs_first R z (xs ++ ys) y pairs (Contains-append_right xs ys y in_y))
+  | inr there ↦ pairs_across R xs ys x y (AllPairs-tail R z (xs ++ ys) pairs) there in_y
 ]
 
 -- ---- distinct values stay distinct where some events are left out
@@ -104,11 +77,11 @@ called_distinct p (e ∷ events) distinct = by_value (called_value e.what) refl 
         elim (cases_Bool (p e)) [ inl stays ↦ rw (stays, is) rest | inr gone ↦ rw gone rest ]
     by_value (Some v) is deeper =
         let whole : AreDistinct (v ∷ called_values events) = rw is at distinct in
-        let rest = deeper (pairs_rest (λ a b. a ≢ b) v (called_values events) whole) in
+        let rest = deeper (AllPairs-tail (λ a b. a ≢ b) v (called_values events) whole) in
         elim (cases_Bool (p e)) [
           | inl stays ↦ rw (stays, is) (AllPairs-cons (λ a b. a ≢ b) v (called_values (filter p events))
               (all_members (λ w. v ≢ w) (called_values (filter p events))
-              (λ w among. first_with (λ a b. a ≢ b) v (called_values events) w whole (called_still p events w among))) rest)
+              (λ w among. pairs_first (λ a b. a ≢ b) v (called_values events) w whole (called_still p events w among))) rest)
           | inr gone ↦ rw gone rest
         ]
 
@@ -131,45 +104,13 @@ turns_split (x ∷ answer ∷ rest) turns = elim (turns_split rest turns.1) [
   | inr (done, call, is, whole, waits) ↦ inr (x ∷ answer ∷ done, call, ap (λ (es : List Event). x ∷ answer ∷ es) is, (turns.0, whole), waits)
 ]
 
-last_or-end : (xs : List Event) (x : Event) (o : Option Event) → last_or o (xs ++ x ∷ []) ≡ Some x
-last_or-end [] x o = refl
-last_or-end (y ∷ xs) x o = last_or-end xs x (Some y)
-
-pub turns_append : (xs ys : List Event) → TakesTurns xs → TakesTurns ys → TakesTurns (xs ++ ys)
-turns_append [] ys turns more = more
-turns_append (call ∷ []) ys turns more = absurd turns
-turns_append (call ∷ answer ∷ rest) ys turns more = (turns.0, turns_append rest ys turns.1 more)
-
-filter_filter : (p q : Event → Bool) (xs : List Event) → filter p (filter q xs) ≡ filter q (filter p xs)
-filter_filter p q [] = refl
-filter_filter p q (x ∷ xs) = by_tests (p x) refl (q x) refl (filter_filter p q xs)
-  where
-    by_tests : (a : Bool) → p x ≡ a → (b : Bool) → q x ≡ b → filter p (filter q xs) ≡ filter q (filter p xs)
-        → filter p (filter q (x ∷ xs)) ≡ filter q (filter p (x ∷ xs))
-    by_tests true in_p true in_q rest =
-        let left : filter p (filter q (x ∷ xs)) ≡ x ∷ filter p (filter q xs) = rw in_q (rw in_p refl) in
-        let right : filter q (filter p (x ∷ xs)) ≡ x ∷ filter q (filter p xs) = rw in_p (rw in_q refl) in
-        left ∙ ap (λ (es : List Event). x ∷ es) rest ∙ sym right
-    by_tests true in_p false in_q rest =
-        let left : filter p (filter q (x ∷ xs)) ≡ filter p (filter q xs) = rw in_q refl in
-        let right : filter q (filter p (x ∷ xs)) ≡ filter q (filter p xs) = rw in_p (rw in_q refl) in
-        left ∙ rest ∙ sym right
-    by_tests false in_p true in_q rest =
-        let left : filter p (filter q (x ∷ xs)) ≡ filter p (filter q xs) = rw in_q (rw in_p refl) in
-        let right : filter q (filter p (x ∷ xs)) ≡ filter q (filter p xs) = rw in_p refl in
-        left ∙ rest ∙ sym right
-    by_tests false in_p false in_q rest =
-        let left : filter p (filter q (x ∷ xs)) ≡ filter p (filter q xs) = rw in_q refl in
-        let right : filter q (filter p (x ∷ xs)) ≡ filter q (filter p xs) = rw in_p refl in
-        left ∙ rest ∙ sym right
-
 pub filter_none : (p : Event → Bool) (xs : List Event) → ((x : Event) → Contains xs x → p x ≡ false) → filter p xs ≡ []
 filter_none p [] each = refl
 filter_none p (x ∷ xs) each = rw (each x (zero, omega arith, refl)) (filter_none p xs (λ y among. each y (suc among.0, omega (arith, among.1), among.2)))
 
 pub filter_all : (p : Event → Bool) (xs : List Event) → ((x : Event) → Contains xs x → p x ≡ true) → filter p xs ≡ xs
 filter_all p [] each = refl
-filter_all p (x ∷ xs) each = rw (each x (head x xs)) (ap (λ (es : List Event). x ∷ es) (filter_all p xs (λ y among. each y (tail x xs y among))))
+filter_all p (x ∷ xs) each = rw (each x (contains_head x xs)) (ap (λ (es : List Event). x ∷ es) (filter_all p xs (λ y among. each y (one_deeper x xs y among))))
 
 -- the last of a list whose tickets rise is above all
 last_whole : (xs : List Event) (e : Event) → Contains xs e → TicketsRise xs → (l : Event) × (last_or None xs ≡ Some l) × (e.ticket ≤ l.ticket)
@@ -179,7 +120,7 @@ last_whole (x ∷ []) e among rise = elim (contains_cons x [] e among) [
   | inr there ↦ absurd (not_in_none e there)
 ]
 last_whole (x ∷ y ∷ ys) e among rise =
-    let deeper = last_whole (y ∷ ys) y (head y ys) (rises_later x (y ∷ ys) rise) in
+    let deeper = last_whole (y ∷ ys) y (contains_head y ys) (rises_later x (y ∷ ys) rise) in
     let less : x.ticket < y.ticket = rise zero (suc zero) x (omega arith) (omega arith) in
     elim (contains_cons x (y ∷ ys) e among) [
       | inl here ↦ let same = ap (λ (z : Event). z.ticket) here in (deeper.0, deeper.1, omega (arith, same, less, deeper.2))
@@ -198,10 +139,10 @@ return_of n (a ∷ rest) r among =
     elim (contains_cons (record { ticket = n; thread = a.call.thread; what = a.what }) (returns_from (n + 1) rest) r among) [
       | inl here ↦
           let tickets : n ≡ r.ticket = ap (λ (e : Event). e.ticket) here in
-          (a, head a rest, sym (ap (λ (e : Event). e.thread) here), sym (ap (λ (e : Event). e.what) here), omega (arith, tickets), omega (arith, tickets))
+          (a, contains_head a rest, sym (ap (λ (e : Event). e.thread) here), sym (ap (λ (e : Event). e.what) here), omega (arith, tickets), omega (arith, tickets))
       | inr there ↦
           let found = return_of (n + 1) rest r there in
-          (found.0, tail a rest found.0 found.1, found.2, found.3, omega (arith, found.4), omega (arith, found.5))
+          (found.0, one_deeper a rest found.0 found.1, found.2, found.3, omega (arith, found.4), omega (arith, found.5))
     ]
 
 pub returns-append : (n : ℕ) (xs ys : List Answer) → returns_from n (xs ++ ys) ≡ returns_from n xs ++ returns_from (n + length xs) ys
@@ -220,7 +161,7 @@ returns_rise n (a ∷ rest) = AllPairs-cons (λ e f. e.ticket < f.ticket) (recor
 pub no_return : (n t : ℕ) (answers : List Answer) → ((a : Answer) → Contains answers a → a.call.thread ≢ t) → projection t (returns_from n answers) ≡ []
 no_return n t [] none = refl
 no_return n t (a ∷ rest) none =
-    rw (ne_eqb a.call.thread t (none a (head a rest))) (no_return (n + 1) t rest (λ b among. none b (tail a rest b among)))
+    rw (ne_eqb a.call.thread t (none a (contains_head a rest))) (no_return (n + 1) t rest (λ b among. none b (one_deeper a rest b among)))
 
 one_return : (n : ℕ) (answers : List Answer) (a : Answer) → Contains answers a → AllPairs (λ a b. a.call.thread ≢ b.call.thread) answers
     → (r : Event) × (projection a.call.thread (returns_from n answers) ≡ r ∷ []) × (r.what ≡ a.what)
@@ -230,11 +171,11 @@ one_return n (b ∷ rest) a among apart = elim (contains_cons b rest a among) [
       let first : Event = record { ticket = n; thread = b.call.thread; what = b.what } in
       let threads : b.call.thread ≡ a.call.thread = ap (λ (c : Answer). c.call.thread) here in
       let others : projection a.call.thread (returns_from (n + 1) rest) ≡ [] =
-      no_return (n + 1) a.call.thread rest (λ c in_c same. first_with (λ a b. a.call.thread ≢ b.call.thread) b rest c apart in_c (threads ∙ sym same)) in
+      no_return (n + 1) a.call.thread rest (λ c in_c same. pairs_first (λ a b. a.call.thread ≢ b.call.thread) b rest c apart in_c (threads ∙ sym same)) in
       (first, rw (eq-eqb b.call.thread a.call.thread threads) (ap (λ (es : List Event). first ∷ es) others), ap (λ (c : Answer). c.what) here)
   | inr there ↦
-      let found = one_return (n + 1) rest a there (pairs_rest (λ a b. a.call.thread ≢ b.call.thread) b rest apart) in
-      let other : b.call.thread ≢ a.call.thread = first_with (λ a b. a.call.thread ≢ b.call.thread) b rest a apart there in
+      let found = one_return (n + 1) rest a there (AllPairs-tail (λ a b. a.call.thread ≢ b.call.thread) b rest apart) in
+      let other : b.call.thread ≢ a.call.thread = pairs_first (λ a b. a.call.thread ≢ b.call.thread) b rest a apart there in
       (found.0, rw (ne_eqb b.call.thread a.call.thread other) found.1, found.2)
 ]
 
@@ -242,12 +183,17 @@ no_called : (events : List Event) → All (λ r. is_call r.what ≡ false) event
 no_called [] rets = refl
 no_called (r ∷ rest) rets =
     rw (no_value r.what (rets zero r (omega arith))) (no_called rest (λ k d below. rets (suc k) d (omega arith)))
-  where
-    no_value : (what : What) → is_call what ≡ false → called_value what ≡ None
-    no_value (CallEnq v) is = cc
-    no_value _ is = refl
 
 -- ---- answers
+
+-- two tests that are both passed, and one of two that isn't
+and_true : (a b : Bool) → (a && b) ≡ true → (a ≡ true) × (b ≡ true)
+and_true true b is = (refl, is)
+and_true false b is = cc
+
+pub and_false : (a b : Bool) → b ≡ true → (a && not b) ≡ false
+and_false true b is = ap not is
+and_false false b is = refl
 
 module _ (initial : List ℕ) (events : List Event) (history : IsHistoryFrom initial events) where
   -- what is pending by the test is pending, and the other way round
@@ -258,10 +204,6 @@ module _ (initial : List ℕ) (events : List Event) (history : IsHistoryFrom ini
       let here : nat_eq last.0.ticket e.ticket ≡ true = rw last.1 at parts.1 in
       let same = one_by_ticket events last.0 e history.tickets_rise (last_in events e.thread last.0 last.1).0 among (eqb-true last.0.ticket e.ticket here) in
       last_is_pending e.thread events e (last.1 ∙ ap (λ y. Some y) same) parts.0
-    where
-      and_true : (a b : Bool) → (a && b) ≡ true → (a ≡ true) × (b ≡ true)
-      and_true true b is = (refl, is)
-      and_true false b is = cc
 
   pub test_of_pending : (e : Event) → IsPendingCall events e → is_pending events e ≡ true
   test_of_pending e pending =
@@ -282,11 +224,7 @@ module _ (initial : List ℕ) (events : List Event) (history : IsHistoryFrom ini
     returns = returns_from (next_ticket events) answered
 
     pub only_pending : (e : Event) → Contains events e → out e ≡ true → IsPendingCall events e
-    only_pending e among gone = pending_by_test e among (first_true (is_pending events e) (not (is_answered answered e)) gone)
-      where
-        first_true : (a b : Bool) → (a && b) ≡ true → a ≡ true
-        first_true true b is = refl
-        first_true false b is = cc
+    only_pending e among gone = pending_by_test e among (and_true (is_pending events e) (not (is_answered answered e)) gone).0
 
     pub only_returns : All (λ r. is_call r.what ≡ false) returns
     only_returns = all_members (λ r. is_call r.what ≡ false) returns (λ r among.
@@ -347,7 +285,7 @@ module _ (initial : List ℕ) (events : List Event) (history : IsHistoryFrom ini
     turns_of_pending : (t : ℕ) (done : List Event) (call : Event) → projection t events ≡ done ++ call ∷ [] → TakesTurns done → is_call call.what ≡ true
         → TakesTurns (keeping out (projection t events) ++ projection t returns)
     turns_of_pending t done call is whole waits =
-        let last : last_of t events ≡ Some call = ap (last_or None) is ∙ last_or-end done call None in
+        let last : last_of t events ≡ Some call = ap (last_or None) is ∙ last_or-push None done call in
         let here = last_in events t call last in
         let pending : IsPendingCall events call = last_is_pending call.thread events call (ap (λ u. last_of u events) here.1 ∙ last) waits in
         let rises : TicketsRise (done ++ call ∷ []) = subst TicketsRise is
@@ -358,7 +296,7 @@ module _ (initial : List ℕ) (events : List Event) (history : IsHistoryFrom ini
         let in_own : Contains (projection t events) x = subst (λ (es : List Event). Contains es x) (sym is) (Contains-append_left done (call ∷ []) x among) in
         let there = passed_filter (λ e. nat_eq e.thread t) events x in_own in
         stays_before t x call there.0 (eqb-true x.thread t there.1) last
-        (pairs_across (λ e f. e.ticket < f.ticket) done (call ∷ []) x call rises among (head call [])))) in
+        (pairs_across (λ e f. e.ticket < f.ticket) done (call ∷ []) x call rises among (contains_head call [])))) in
         subst (λ (es : List Event). TakesTurns (es ++ projection t returns)) (sym stay) (by_answer here.0 here.1 pending (cases_Bool (is_answered answered call)))
       where
         by_answer : Contains events call → call.thread ≡ t → IsPendingCall events call → ((is_answered answered call ≡ true) ⊎ (is_answered answered call ≡ false))
@@ -376,11 +314,7 @@ module _ (initial : List ℕ) (events : List Event) (history : IsHistoryFrom ini
             let parts : (done ++ keeping out (call ∷ [])) ++ projection t returns ≡ done ++ call ∷ one.0 ∷ [] =
             ap (λ (es : List Event). (done ++ es) ++ projection t returns) stays ∙ ap (λ (es : List Event). (done ++ call ∷ []) ++ es) returned
             ∙ append_assoc done (call ∷ []) (one.0 ∷ []) in
-            subst TakesTurns (sym parts) (turns_append done (call ∷ one.0 ∷ []) whole (kinds, tt))
-          where
-            and_false : (a b : Bool) → b ≡ true → (a && not b) ≡ false
-            and_false true b is = ap not is
-            and_false false b is = refl
+            subst TakesTurns (sym parts) (TakesTurns-append done (call ∷ one.0 ∷ []) whole (kinds, tt))
         by_answer in_events own pending (inr silent) =
             let gone : out call ≡ true = rw (test_of_pending call pending, silent) refl in
             let left : keeping out (call ∷ []) ≡ [] = rw gone refl in
@@ -399,7 +333,7 @@ module _ (initial : List ℕ) (events : List Event) (history : IsHistoryFrom ini
     turns t =
         let own : projection t (completed_by events answered) ≡ keeping out (projection t events) ++ projection t returns =
         filter-append (λ e. nat_eq e.thread t) (keeping out events) returns
-        ∙ ap (λ (es : List Event). es ++ projection t returns) (filter_filter (λ e. nat_eq e.thread t) (λ e. not (out e)) events) in
+        ∙ ap (λ (es : List Event). es ++ projection t returns) (filters_swap (λ e. nat_eq e.thread t) (λ e. not (out e)) events) in
         subst TakesTurns (sym own) (elim (turns_split (projection t events) (history.threads_take_turns t)) [
           | inl whole ↦ turns_of_idle t whole
           | inr (done, call, is, whole, waits) ↦ turns_of_pending t done call is whole waits

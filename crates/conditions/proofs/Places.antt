@@ -1,5 +1,5 @@
 -- A verdict on a selection, by the places of the whole history.
-use Rattle.std.proofs.Common.{◌≡◌, ℕ, zero, suc, ◌<◌, ◌++◌, Bool, List, [], ◌∷◌, length, get_or, map, Option, Some}
+use Rattle.std.proofs.Common.{◌≡◌, ℕ, zero, ◌<◌, ◌++◌, Bool, List, [], ◌∷◌, length, get_or, map, Option, Some}
 use Rattle.std.proofs.Common.{None, refl, ap, ap₂, sym, subst, ◌∙◌, arith}
 use Rattle.std.specs.Prelude.{All, Contains, filter, flat_map, option_map, slice_get}
 use Rattle.std.specs.List.{cons_option}
@@ -37,12 +37,7 @@ use Rattle.conditions.specs.declared.part.Part.{Part}
 use Rattle.conditions.specs.Inner.Moved.{moved_place, moved_source, moved_step, moved_verdict, moved_violation}
 use Rattle.conditions.specs.Laws.{ShowsIn}
 use Rattle.conditions.proofs.Showing.{violations_are_of_the_whole}
-
--- something stands at each place
-stands_at : {X : Type 0} (xs : List X) (p : ℕ) → p < length xs → (x : X) × (slice_get xs p ≡ Some x)
-stands_at [] p below = absurd (omega arith)
-stands_at (x ∷ xs) zero below = (x, refl)
-stands_at (x ∷ xs) (suc p) below = stands_at xs p (omega arith)
+use Rattle.history_merge.proofs.Lists.{at_place}
 
 module _ (whole selected : Contents) (places : List ℕ) (at : ArePlacesOf whole.operations places selected.operations)
     (same_initial : (p : ℕ) → p < length selected.initial → slice_get whole.initial p ≡ slice_get selected.initial p) where
@@ -57,10 +52,10 @@ module _ (whole selected : Contents) (places : List ℕ) (at : ArePlacesOf whole
 
   within_moved : (place : LinePlace) → IsPlaceWithin selected.initial selected.operations place → IsPlaceWithin whole.initial whole.operations (moved place)
   within_moved (Op p) within =
-      let there = stands_at selected.operations p within in
+      let there = at_place selected.operations p within in
       slice_get_within whole.operations (moved_place places p) there.0 (placed_at whole.operations places selected.operations p p at within ∙ there.1)
   within_moved (Initial p) within =
-      let there = stands_at selected.initial p within in
+      let there = at_place selected.initial p within in
       slice_get_within whole.initial p there.0 (same_initial p within ∙ there.1)
 
   -- the places name the same lines

@@ -14,8 +14,6 @@ use Rattle.std.proofs.lemmas.List.Sorted.{Contains-permutation, IsPermutation-sy
 use Rattle.std.proofs.lemmas.Option.{slice_get_within}
 use Rattle.event_records.specs.declared.limits.TheConstants.{MAX_INITIAL, ORIGIN}
 use Rattle.history_merge.specs.declared.operation.Operation.{Operation}
-use Rattle.history_merge.specs.declared.operation.OpKind.{OpKind}
-use Rattle.history_merge.specs.declared.operation.OpKind.TheVariants.{Deq, Empty, Enq, Not}
 use Rattle.history_merge.specs.Complete.{AreComplete}
 use Rattle.history_merge.specs.Faults.{is_initial}
 use Rattle.history_merge.specs.Initial.{Contents, initial_enqueues, later_by}
@@ -35,6 +33,7 @@ use Rattle.conditions.specs.declared.sharing.Share.TheVariants.{Everybody, Nobod
 use Rattle.conditions.specs.Conditions.{counts_for, enqueues, is_producer, judges_empties, producer_of}
 use Rattle.conditions.specs.Inner.Parts.{initial_of}
 use Rattle.conditions.specs.Inner.Producers.{AreProducers, goes_to, produced_by, producer_at, share_of, share_of_value}
+use Rattle.value_match.proofs.FreshDequeues.{calls_for}
 
 -- ---- a search by value
 
@@ -69,13 +68,6 @@ no_producer whole xs v are none = by_case (producer_of whole v) refl
         absurd (none found.1.0 found.0 found.1.1 (ap (λ (x : Produced). x.value) found.1.2 ∙ found.2))
 
 -- ---- the producers of the values that are enqueued
-
--- an operation that has this value to enqueue calls for it
-calls_for : (k : OpKind) (v : ℕ) → enqueued_value k ≡ Some v → (k ≡ Enq v) ⊎ (k ≡ Not v)
-calls_for (Enq w) v is = let same : w ≡ v = cc in inl (ap Enq same)
-calls_for (Not w) v is = let same : w ≡ v = cc in inr (ap Not same)
-calls_for (Deq w) v is = cc
-calls_for Empty v is = cc
 
 pub value_told : (o : Option ℕ) (v : ℕ) → option_map_or (λ w. nat_eq w v) o false ≡ true → o ≡ Some v
 value_told None v is = cc

@@ -4,6 +4,7 @@ ghost use Rattle.event_records.specs.declared.limits.TheConstants.{MAX_INITIAL};
 ghost use Rattle.history_merge.specs.Initial.{IsCompleteFrom};
 ghost use Rattle.history_merge.specs.Legal.{ArePlacesOf};
 ghost use Rattle.history_merge.specs.Operations.{operations_of};
+ghost use Rattle.parallel_finders.specs.declared.TheConstants.{MAX_PIECES};
 ghost use Rattle.verdicts.specs.Selection.{ArePartOf, contents_of};
 ghost use Rattle.conditions.specs.declared.producer.Emptiness.{Emptiness};
 ghost use Rattle.conditions.specs.Claims.{verdict_of};
@@ -21,9 +22,11 @@ use crate::selections::{Selections, initial_of, part_at, selections_of};
 use crate::sharing::places_selected;
 use event_records::OwnedSlice;
 use history_merge::{History, OpId};
+use parallel_finders::{InPieces, OnePiece, WitnessSearch};
 use std::alloc::{AllocError, Global};
+use std::thread::Threads;
 use value_match::Violation;
-use verdicts::{Order, Verdict, decide};
+use verdicts::{Order, Verdict, decide_by};
 
 /// A linearization of a producer's selection.
 #[derive(Debug, Drop)]
@@ -116,29 +119,33 @@ pub fn selection(
 }
 
 /// Decides whether a producer's selection is linearizable, by places of the whole history.
-fn decide_selection(
+fn decide_selection<S: WitnessSearch>(
+    search: &S,
     alloc: Global,
     history: &History,
     producer: Producer,
     places: &[OpId],
 ) -> Result<Verdict, AllocError>
-    requires { (emptiness : Emptiness) × ArePlacesOf (operations_of history.now.events) places.now
+    requires search { S.is_ready search.now }
+    requires places { (emptiness : Emptiness) × ArePlacesOf (operations_of history.now.events) places.now
         (selection_of emptiness producer (contents_of history.now)).operations }
     ensures { IfOk result (λ verdict. (emptiness : Emptiness)
         → ArePlacesOf (operations_of history.now.events) places.now (selection_of emptiness producer (contents_of history.now)).operations
         → IsDecidedOf (contents_of history.now) (selection_of emptiness producer (contents_of history.now)) verdict) }
 {
     let part = part_at(alloc, history, producer, places)?;
-    let verdict = decide(alloc, &part.history)?;
+    let verdict = decide_by(search, alloc, &part.history)?;
     moved_verdict(alloc, places, &verdict)
 }
 
 /// Decides for each producer's selection, up to the first that isn't linearizable.
-fn decide_selections(
+fn decide_selections<S: WitnessSearch>(
+    search: &S,
     alloc: Global,
     history: &History,
     selections: &Selections,
 ) -> Result<LocalVerdict, AllocError>
+    requires search { S.is_ready search.now }
     requires complete { IsCompleteFrom history.now.initial history.now.events }
     requires few { length history.now.initial ≤ MAX_INITIAL }
     requires shared { (emptiness : Emptiness) × AreSharedOut emptiness (contents_of history.now) selections.now.used selections.now.buckets.items }
@@ -150,7 +157,7 @@ fn decide_selections(
         if selections.used[rank] {
             let producer = ranked(rank);
             let places = selections.buckets[rank].as_slice();
-            match decide_selection(alloc, history, producer, places)? {
+            match decide_selection(search, alloc, history, producer, places)? {
                 Verdict::Yes(order) => orders.push(LocalOrder { producer, order })?,
                 Verdict::No(violation) => return Ok(LocalVerdict::No(producer, violation)),
             }
@@ -178,7 +185,36 @@ pub fn decide_local(
 ) -> Result<LocalVerdict, AllocError>
     ensures { IfOk result (IsLocallyDecided emptiness (contents_of history.now)) }
 {
+    decide_local_by(&OnePiece, alloc, history, emptiness)
+}
+
+/// What [`decide_local`] answers, where the searches for covers run in pieces that may run at once.
+///
+/// Whatever the number of pieces, the answer is the same.
+pub fn decide_local_par<R: Threads + Sync>(
+    rt: &R,
+    alloc: Global,
+    history: &History,
+    emptiness: Emptiness,
+    pieces: usize,
+) -> Result<LocalVerdict, AllocError>
+    requires { (1 ≤ pieces) × (pieces ≤ MAX_PIECES) }
+    ensures { IfOk result (IsLocallyDecided emptiness (contents_of history.now)) }
+{
+    decide_local_by(&InPieces { rt, pieces }, alloc, history, emptiness)
+}
+
+/// What [`decide_local`] answers, by this search for covers.
+pub fn decide_local_by<S: WitnessSearch>(
+    search: &S,
+    alloc: Global,
+    history: &History,
+    emptiness: Emptiness,
+) -> Result<LocalVerdict, AllocError>
+    requires { S.is_ready search.now }
+    ensures { IfOk result (IsLocallyDecided emptiness (contents_of history.now)) }
+{
     let selections = selections_of(alloc, history, emptiness)?;
     let _initial = history.initial();
-    decide_selections(alloc, history, &selections)
+    decide_selections(search, alloc, history, &selections)
 }

@@ -4,6 +4,7 @@ ghost use Rattle.event_records.specs.declared.limits.TheConstants.{MAX_EVENTS};
 ghost use Rattle.history_merge.specs.Initial.{IsCompleteFrom};
 ghost use Rattle.history_merge.specs.declared.operation.Operation.{Operation};
 ghost use Rattle.history_merge.specs.Legal.{ArePlacesOf};
+ghost use Rattle.parallel_finders.specs.declared.TheConstants.{MAX_PIECES};
 ghost use Rattle.verdicts.specs.Selection.{ArePartOf, contents_of, selects};
 ghost use Rattle.conditions.specs.Conditions.{without_empties};
 ghost use Rattle.conditions.specs.Decided.{IsDecidedOf};
@@ -12,8 +13,10 @@ ghost use Rattle.conditions.specs.Inner.Parts.{IsPart};
 use crate::moved::moved_verdict;
 use crate::part::{Part, part_of};
 use history_merge::{History, OpId, OpKind, Operations};
+use parallel_finders::{InPieces, OnePiece, WitnessSearch};
 use std::alloc::{AllocError, Global};
-use verdicts::{Verdict, decide};
+use std::thread::Threads;
+use verdicts::{Verdict, decide_by};
 
 /// Returns whether the operation at this place has a value: it is no empty dequeue.
 fn has_value(operations: &Operations<'_>, place: OpId) -> bool
@@ -75,7 +78,34 @@ pub fn without_empties(alloc: Global, history: &History) -> Result<History, Allo
 pub fn decide_weakly_empty(alloc: Global, history: &History) -> Result<Verdict, AllocError>
     ensures { IfOk result (IsDecidedOf (contents_of history.now) (without_empties (contents_of history.now))) }
 {
+    decide_weakly_empty_by(&OnePiece, alloc, history)
+}
+
+/// What [`decide_weakly_empty`] answers, where the search for a cover runs in pieces that may run at once.
+///
+/// Whatever the number of pieces, the answer is the same.
+pub fn decide_weakly_empty_par<R: Threads + Sync>(
+    rt: &R,
+    alloc: Global,
+    history: &History,
+    pieces: usize,
+) -> Result<Verdict, AllocError>
+    requires { (1 ≤ pieces) × (pieces ≤ MAX_PIECES) }
+    ensures { IfOk result (IsDecidedOf (contents_of history.now) (without_empties (contents_of history.now))) }
+{
+    decide_weakly_empty_by(&InPieces { rt, pieces }, alloc, history)
+}
+
+/// What [`decide_weakly_empty`] answers, by this search for a cover.
+pub fn decide_weakly_empty_by<S: WitnessSearch>(
+    search: &S,
+    alloc: Global,
+    history: &History,
+) -> Result<Verdict, AllocError>
+    requires { S.is_ready search.now }
+    ensures { IfOk result (IsDecidedOf (contents_of history.now) (without_empties (contents_of history.now))) }
+{
     let part = part_without_empties(alloc, history)?;
-    let verdict = decide(alloc, &part.history)?;
+    let verdict = decide_by(search, alloc, &part.history)?;
     moved_verdict(alloc, part.places.as_slice(), &verdict)
 }

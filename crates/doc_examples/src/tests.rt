@@ -178,10 +178,10 @@ impl<R: Wait + Drop + Send + Sync> TestQueue for OneSlot<R> {
 
     ghost may = { λ _. AnswersInKind };
 
-    ghost may_preload = { λ _. TakesOrRefuses };
+    ghost may_preload = { λ _ _. TakesOrRefuses };
 
     fn enqueue(&self, ask: AskEnq) -> AnsweredEnq {
-        if self.preload(ask.value()) {
+        if self.fill(ask.value()) {
             ask.taken()
         } else {
             ask.not_taken()
@@ -196,7 +196,13 @@ impl<R: Wait + Drop + Send + Sync> TestQueue for OneSlot<R> {
         }
     }
 
-    fn preload(&self, value: u64) -> bool {
+    fn preload(&self, _place: usize, value: u64) -> bool {
+        self.fill(value)
+    }
+}
+
+impl<R: Wait + Drop> OneSlot<R> {
+    fn fill(&self, value: u64) -> bool {
         let mut slot = self.slot.lock(&self.rt);
         if slot.is_some() {
             return false;
@@ -217,8 +223,8 @@ fn one_slot<R: Wait + Drop>(rt: R) -> OneSlot<R> {
 #[test]
 fn test_queue_example(rt: HostRuntime) -> Result<(), Fail> {
     let queue = one_slot(rt);
-    assert!(rt; queue.preload(5));
-    assert!(rt; !queue.preload(6));
+    assert!(rt; queue.preload(0, 5));
+    assert!(rt; !queue.preload(1, 6));
     Ok(())
 }
 

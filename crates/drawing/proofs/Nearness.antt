@@ -1,8 +1,8 @@
 -- Which operations are drawn: those that overlap one of a `NO`, and with no distance no others; and the bars in the lanes are these.
 use Rattle.drawing.proofs.Common.{ap, AreComplete, arith, BarsAreOfOperations, Bool, cases_lt, Claimed, ClaimLine}
-use Rattle.drawing.proofs.Common.{cond, cond_both, Contains, Contains-append_left, Contains-append_right, contains_at}
+use Rattle.drawing.proofs.Common.{cond, cond_both, Contains, contains_at}
 use Rattle.drawing.proofs.Common.{contains_cons, count_by, drawn_operations, eq-eqb, eqb-true, Event, events_before}
-use Rattle.drawing.proofs.Common.{false, find, flat_map, found_first, get_or, HistoryView, InitialLinesHaveNumbers}
+use Rattle.drawing.proofs.Common.{false, find, found_first, get_or, HistoryView, InitialLinesHaveNumbers}
 use Rattle.drawing.proofs.Common.{InitialNumbersAreOfLines, inl, inr, is_near_any, is_under_way, IsCompleteHistory}
 use Rattle.drawing.proofs.Common.{IsPartitionedBy-ltb, IsTraced, length, LinesAreDrawn, List, list_any, lt-ltb, map}
 use Rattle.drawing.proofs.Common.{nat_lt, nat_tests, No, None, not_in_none, one_at, one_deeper, Op, Operation}
@@ -22,17 +22,10 @@ use Rattle.drawing.proofs.Below.{fewer, one_fewer}
 use Rattle.std.proofs.lemmas.List.Quantifiers.{position-Some}
 use Rattle.verdicts.proofs.ShownLines.{each_there}
 use Rattle.verdicts.proofs.ShrunkHistories.{operation_among, value_among}
+use Rattle.history_merge.proofs.Lists.{into_flat_map}
 use Rattle.drawing.specs.declared.scene.Row.TheVariants as row
 
 -- ---- lists
-
--- what one element makes is among what all make
-pub in_flat_map : {X A : Type 0} (f : X → List A) (xs : List X) (x : X) (a : A) → Contains xs x → Contains (f x) a → Contains (flat_map f xs) a
-in_flat_map f [] x a among here = absurd (not_in_none x among)
-in_flat_map f (y ∷ ys) x a among here = elim (contains_cons y ys x among) [
-  | inl same ↦ Contains-append_left (f y) (flat_map f ys) a (subst (λ z. Contains (f z) a) (sym same) here)
-  | inr there ↦ Contains-append_right (f y) (flat_map f ys) a (in_flat_map f ys x a there here)
-]
 
 -- an element that passes is found
 pub any_of : {X : Type 0} (p : X → Bool) (xs : List X) (x : X) → Contains xs x → p x ≡ true → list_any p xs ≡ true
@@ -77,7 +70,7 @@ parted_by_ticket events ticket rise = IsPartitionedBy-ltb (λ (e : Event). e.tic
 -- ---- lines
 
 in_operations : (lines : List ClaimLine) (o : Operation) → Contains lines (Op o) → Contains (operations_in lines) o
-in_operations lines o among = in_flat_map operation_in lines (Op o) o among (contains_at (o ∷ []) 0 o refl)
+in_operations lines o among = into_flat_map operation_in lines (Op o) o among (contains_at (o ∷ []) 0 o refl)
 
 from_operations : (lines : List ClaimLine) (o : Operation) → Contains (operations_in lines) o → Contains lines (Op o)
 from_operations [] o among = absurd (not_in_none o among)

@@ -21,7 +21,8 @@ use Rattle.verdicts.proofs.Selections.{no_longer}
 use Rattle.verdicts.specs.declared.verifying.ClaimLine.TheVariants as line
 use Rattle.drawing.specs.declared.scene.Row.TheVariants.{Effect, Head, Initial, Ticket}
 use Rattle.drawing.proofs.Below.{fewer, one_fewer}
-use Rattle.drawing.proofs.Nearness.{any_of, in_flat_map}
+use Rattle.drawing.proofs.Nearness.{any_of}
+use Rattle.history_merge.proofs.Lists.{into_flat_map}
 
 -- ---- the effects of a `YES`, and the numbers of a claim
 
@@ -142,7 +143,7 @@ in_initial_rows (front ∷ others) drawn j v some at =
     let own = flat_map initial_row (enumerate_from 0 drawn) in
     let rest = values_left_out (length (front ∷ others) - length drawn) (length drawn) in
     Contains-append_right (Head ∷ []) (own ++ rest) (Initial j v) (Contains-append_left own rest (Initial j v)
-    (in_flat_map initial_row (enumerate_from 0 drawn) (j, v) (Initial j v) (in_enumerated drawn j v at) (contains_at (Initial j v ∷ []) 0 (Initial j v) refl)))
+    (into_flat_map initial_row (enumerate_from 0 drawn) (j, v) (Initial j v) (in_enumerated drawn j v at) (contains_at (Initial j v ∷ []) 0 (Initial j v) refl)))
 
 -- so is it among all rows
 drawn_has_row : (history : HistoryView) (claimed : Claimed) (drawn : List Operation) (j v : ℕ) → slice_get (drawn_initial history claimed drawn) j ≡ Some v
@@ -309,7 +310,7 @@ after_its_event : (order : List Operation) (i : ℕ) (o : Operation) (e : Event)
 unfolding effect_rows
 after_its_event order i o e at here =
     Contains-append_right (Ticket e.ticket ∷ []) (flat_map (effect_if order e.ticket) (enumerate_from 0 order)) (Effect o (i + 1) (point order i))
-    (in_flat_map (effect_if order e.ticket) (enumerate_from 0 order) (i, o) (Effect o (i + 1) (point order i)) (in_enumerated order i o at)
+    (into_flat_map (effect_if order e.ticket) (enumerate_from 0 order) (i, o) (Effect o (i + 1) (point order i)) (in_enumerated order i o at)
     (subst (λ b. Contains (cond b (Effect o (i + 1) (point order i) ∷ []) []) (Effect o (i + 1) (point order i))) (sym (eq-eqb (point order i) e.ticket (sym here)))
     (contains_at (Effect o (i + 1) (point order i) ∷ []) 0 (Effect o (i + 1) (point order i)) refl)))
 

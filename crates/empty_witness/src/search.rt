@@ -11,7 +11,6 @@ use crate::answer::{GapAnswer, Gaps, WitnessAnswer};
 use crate::cover::cover_of;
 use crate::gaps::least_free_gap;
 use crate::spans::{Span, spans_of};
-use event_records::ORIGIN;
 use history_merge::{OpId, Operation};
 use std::alloc::{AllocError, Global};
 use value_match::{Matching, Places};
@@ -33,6 +32,8 @@ pub enum WindowsAnswer {
 }
 
 /// Finds the least free gap in the window of an empty dequeue, or the chosen cover of the window.
+///
+/// This is for callers who ask for one window: `verdicts::decide` judges all of them, by [`find_witness`].
 ///
 /// Gap c is the place just after ticket c, and an operation's window has the gaps from its call to before its return.
 /// Places and tickets are the history's; a cover names its initial values too. Time O(n) for n values, whatever the width
@@ -98,11 +99,7 @@ fn answer_at(matching: &Matching, empty: OpId) -> EmptyAnswer
     let operation = matching.operations().get(empty).unwrap();
     EmptyAnswer {
         place: empty,
-        operation: Operation {
-            call: operation.call + ORIGIN,
-            ret: operation.ret + ORIGIN,
-            ..operation
-        },
+        operation: operation.timed(),
     }
 }
 

@@ -6,7 +6,10 @@ use commands::{
 };
 use history_text::{Buffered, Watched};
 use std::alloc::Global;
+use std::fs;
+use std::fs::Files;
 use std::io::{IsTerminal, Write};
+use std::os::unix::fs::MetadataExt;
 use std::process::ExitCode;
 
 /// The size of the largest block by which glibc learns what to keep: 32 MiB, less what it adds to a block.
@@ -17,6 +20,7 @@ fn main(rt: HostRuntime) -> ExitCode {
     let terminals = Terminals {
         input: rt.stdin().is_terminal(),
         output: rt.stdout().is_terminal(),
+        is_one_file: is_one_file(&rt),
     };
     let errors = rt.stderr();
     let words = match words_of(&rt) {
@@ -37,8 +41,19 @@ fn main(rt: HostRuntime) -> ExitCode {
         }
     }
     let output = std::io::writer(&rt);
-    let status = run_over(&rt, &words, rt.reader(), output, errors, terminals, &shelf);
-    ExitCode::from(status)
+    let exit = run_over(&rt, &words, rt.reader(), output, errors, terminals, &shelf);
+    ExitCode::from(exit.status)
+}
+
+/// Returns whether standard output and standard error are one file, so that whoever reads one reads the other.
+fn is_one_file<R: Files>(rt: &R) -> bool {
+    match (
+        fs::metadata(rt, "/dev/stdout"),
+        fs::metadata(rt, "/dev/stderr"),
+    ) {
+        (Ok(output), Ok(errors)) => output.dev() == errors.dev() && output.ino() == errors.ino(),
+        _ => false,
+    }
 }
 
 /// Says why the command can't begin.

@@ -39,6 +39,9 @@ use std::alloc::Global;
 /// The number of the interface that the header describes.
 const INTERFACE: u32 = 1;
 
+/// The bits of linearizability itself.
+const LINEARIZABILITY: u32 = 0;
+
 /// What `check` answers of the text.
 ///
 /// Time and memory as of the command in one thread, and memory for the answer beside it.
@@ -51,12 +54,7 @@ pub extern "C" fn fifobench_check(
 ) -> u8
     ensures { TellsOneOf (AnswersOrNoMemory (AnswersOf (check linearizability)) (input_of text.now)) answer.old answer.new needed.new result }
 {
-    tell(
-        alloc,
-        &check_text(alloc, text, Condition::linearizable()),
-        answer,
-        needed,
-    )
+    fifobench_check_under(alloc, text, LINEARIZABILITY, answer, needed)
 }
 
 /// What `shrink` answers of the text.
@@ -69,12 +67,7 @@ pub extern "C" fn fifobench_shrink(
 ) -> u8
     ensures { TellsOneOf (AnswersOrNoMemory (AnswersOf (shrink linearizability)) (input_of text.now)) answer.old answer.new needed.new result }
 {
-    tell(
-        alloc,
-        &shrink_text(alloc, text, Condition::linearizable()),
-        answer,
-        needed,
-    )
+    fifobench_shrink_under(alloc, text, LINEARIZABILITY, answer, needed)
 }
 
 /// What `verify` answers of the text.
@@ -87,12 +80,7 @@ pub extern "C" fn fifobench_verify(
 ) -> u8
     ensures { TellsOneOf (AnswersOrNoMemory (AnswersOf (verify linearizability)) (input_of text.now)) answer.old answer.new needed.new result }
 {
-    tell(
-        alloc,
-        &verify_text(alloc, text, Condition::linearizable()),
-        answer,
-        needed,
-    )
+    fifobench_verify_under(alloc, text, LINEARIZABILITY, answer, needed)
 }
 
 /// What `check` answers of the text under a condition: linearizability, or the weaker ones of its bits.
@@ -213,7 +201,7 @@ pub extern "C" fn fifobench_stats(
     answer: &mut [u8],
     needed: &mut usize,
 ) -> u8
-    ensures { TellsOneOf (AnswersOrNoMemory (AnswersOf stats) (input_of text.now)) answer.old answer.new needed.new result }
+    ensures { TellsOneOf (AnswersOrNoMemory (AnswersOf (stats false)) (input_of text.now)) answer.old answer.new needed.new result }
 {
     tell(alloc, &stats_text(alloc, text), answer, needed)
 }

@@ -22,7 +22,8 @@ const SHRUNK: &str =
 
 const COUNTED: &str =
     "events 0\noperations 0\nthreads 0\nenqueued 0\nrefused 0\ndequeued 0\nempty 0\ninitial 0\nthread-changes 0\n\
-    overlapping 0\noverlapping-percent 0.0\nmost-pending 0\nmost-in-queue 0\n";
+    overlapping 0\noverlapping-percent 0.0\nmost-pending 0\nmost-in-queue 0\n\
+    overtakes 0\novertaken-at-most 0\n";
 
 /// Which of the functions over a text is called.
 #[derive(Clone, Copy)]

@@ -12,7 +12,7 @@ pub use history_merge::{
 };
 pub use history_text::{
     MemorySource, TextFault, TextReader, TextSink, TextSource, Version, Watched, WriteFault,
-    read_history, read_verdict, write_history, write_verdict,
+    read_history, read_verdict, write_history, write_shown, write_verdict,
 };
 pub use queue_interface::{AnsweredDeq, AnsweredEnq, AskDeq, AskEnq, TestQueue};
 pub use stress_run::{

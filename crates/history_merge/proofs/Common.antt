@@ -48,7 +48,7 @@ pub use Rattle.event_records.specs.declared.event.What.{What}
 pub use Rattle.event_records.specs.declared.event.What.TheVariants.{CallEnq, RetEmpty, RetEnq}
 pub use Rattle.event_records.specs.declared.limits.TheConstants.{MAX_EVENTS, MAX_INITIAL, MAX_THREAD, MAX_THREADS}
 pub use Rattle.event_records.specs.declared.limits.TheConstants.{MAX_TICKET, MAX_TIME, ORIGIN}
-pub use Rattle.history_merge.specs.Clashes.{AreFirstWith, IsClash, Stands}
+pub use Rattle.history_merge.specs.Clashes.{AreFirstWith, Explains, fault_of, IsClash, Stands}
 pub use Rattle.history_merge.specs.Complete.{AreApart, AreComplete, AreDistinct, called_value, called_values}
 pub use Rattle.history_merge.specs.Complete.{IsCompleteHistory, IsTimed}
 pub use Rattle.history_merge.specs.Events.{call_event, called_by, events_of, maybe_return, put_by_ticket, put_each}
@@ -62,7 +62,7 @@ pub use Rattle.history_merge.specs.Gathering.{IsForming, Knows, name_in}
 pub use Rattle.history_merge.specs.Initial.{Contents, enqueue_at, enqueues_from, initial_enqueues}
 pub use Rattle.history_merge.specs.Initial.{IsCompleteFrom, later_by}
 pub use Rattle.history_merge.specs.Inner.Clashes.{IsSought}
-pub use Rattle.history_merge.specs.Inner.Forming.{AreCalledIn, FitsTurn, is_called_in, IsFormedOf, NothingPending}
+pub use Rattle.history_merge.specs.Inner.Forming.{AreCalledIn, FitsTurn, is_called_in, IsFormedOf, IsLeastPendingCall, NothingPending}
 pub use Rattle.history_merge.specs.Inner.History.{AreInTurn, AreLeft, comes_by_ticket, due_in, FollowsInTurn}
 pub use Rattle.history_merge.specs.Inner.History.{IsFirstDue, IsKept, IsRunOf, next_of}
 pub use Rattle.history_merge.specs.Inner.Timeline.{earlier_by, IsTimeline, operations_on, timeline}

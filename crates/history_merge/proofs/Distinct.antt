@@ -364,7 +364,7 @@ pub record IsTraced (events : List Event) (o : Operation) : Type 0 where
   pub none_between : (k : ℕ) (e : Event) → called_at < k → k < returned_at → slice_get events k ≡ Some e → nat_eq e.thread call.thread ≡ false
 
 -- what a list and perhaps one element before it contain
-contains_cons_option : {X : Type 0} (o : Option X) (xs : List X) (x : X) → Contains (cons_option o xs) x → (o ≡ Some x) ⊎ Contains xs x
+pub contains_cons_option : {X : Type 0} (o : Option X) (xs : List X) (x : X) → Contains (cons_option o xs) x → (o ≡ Some x) ⊎ Contains xs x
 contains_cons_option None xs x among = inr among
 contains_cons_option (Some y) xs x among = elim (contains_cons y xs x among) [ inl same ↦ inl (ap (λ z. Some z) same) | inr there ↦ inr there ]
 
@@ -625,16 +625,17 @@ was_called_is : (events : List Event) (v : ℕ) → was_called events v ≡ list
 was_called_is [] v = refl
 was_called_is (e ∷ events) v = grind (arith, was_called_is events v)
 
-deeper : (o : Option ℕ) (values : List ℕ) (w : ℕ) → Contains values w → Contains (cons_option o values) w
-deeper None values w among = among
-deeper (Some v) values w among = (suc among.0, omega (arith, among.1), among.2)
+-- what a list contains, it contains behind one that there may be
+pub behind_option : {X : Type 0} (o : Option X) (xs : List X) (x : X) → Contains xs x → Contains (cons_option o xs) x
+behind_option None xs x among = among
+behind_option (Some y) xs x among = (suc among.0, omega (arith, among.1), among.2)
 
 -- the value that an event calls with is among those of the calls
 pub value_called : (events : List Event) (i : ℕ) (e : Event) (w : ℕ) → slice_get events i ≡ Some e → called_value e.what ≡ Some w
     → Contains (called_values events) w
 value_called [] i e w at is = cc
 value_called (x ∷ events) zero e w at is = grind (arith, same_Some)
-value_called (x ∷ events) (suc i) e w at is = deeper (called_value x.what) (called_values events) w (value_called events i e w at is)
+value_called (x ∷ events) (suc i) e w at is = behind_option (called_value x.what) (called_values events) w (value_called events i e w at is)
 
 -- the same of a value that may be initial too
 pub known_is : (initial : List ℕ) (events : List Event) (v : ℕ)

@@ -6,6 +6,7 @@ use Rattle.history_merge.proofs.Common.{common_steps, Contains, Contains-append_
 use Rattle.history_merge.proofs.Common.{Err, Event, fault_at, FitsTurn, Forming, Gathering, get_or-append-add}
 use Rattle.history_merge.proofs.Common.{get_or-append_seam, get_or_append_left, gets, HasFormed, HasGathered}
 use Rattle.history_merge.proofs.Common.{HasMetFault, HasRefusedInitial, HistoryFault, IfErr, IfOk, IfSome}
+use Rattle.history_merge.proofs.Common.{Explains, fault_of}
 use Rattle.history_merge.proofs.Common.{InitialTwice, inl, inr, is_some, IsClash, IsCompleteFrom, IsCompleteHistory}
 use Rattle.history_merge.proofs.Common.{IsErrAnd, IsFirstFault, IsFirstFaultAt, IsFirstTwice, IsForming}
 use Rattle.history_merge.proofs.Common.{IsLeastPending, IsRunOf, IsSought, Knows, last_or, length, MatchOption}
@@ -22,6 +23,7 @@ use Rattle.history_merge.proofs.Turns.{finished, fits_in_turns, nothing_after_tu
 use Rattle.history_merge.proofs.Turns.{turns_push, TurnsSoFar}
 use Rattle.history_merge.proofs.Distinct.{cut_at, distinct_push, each_more, initial_distinct, new_from_distinct}
 use Rattle.history_merge.proofs.Distinct.{one_at, twice_before, twice_not_distinct}
+use Rattle.history_merge.proofs.Lists.{slice_get-append_left}
 use Rattle.history_merge.proofs.TheirEvents.{run_of}
 use Rattle.history_merge.specs.declared.clash.Clash.TheVariants as clash
 
@@ -115,7 +117,8 @@ sound_before initial events (suc n) within distinct none =
     let may = may_follow initial (take n events) n (get_or events n d) (none n (get_or events n d) below (slice_get-get_or events n d below)) in
     grind (arith, take-suc, sound_push, sound_before initial events n)
 
-sound_without_fault : (initial : List ℕ) (events : List Event) → AreDistinct initial → NoFaultBefore initial events (length events) → IsSound initial events
+-- events without a fault are sound
+pub sound_without_fault : (initial : List ℕ) (events : List Event) → AreDistinct initial → NoFaultBefore initial events (length events) → IsSound initial events
 sound_without_fault initial events distinct none =
     subst (IsSound initial) (take_all (length events) events (omega arith)) (sound_before initial events (length events) (omega arith) distinct none)
 
@@ -226,9 +229,6 @@ one_first_fault initial events f g known_f known_g first_f first_g = by_first (�
 
 -- ---- the faults of events to which more are added
 
-pub slice_get-append_left : (xs ys : List Event) (i : ℕ) → i < length xs → slice_get (xs ++ ys) i ≡ slice_get xs i
-slice_get-append_left xs ys i below = grind (arith, common_steps, gets)
-
 pub slice_get-append_seam : (xs : List Event) (y : Event) → slice_get (xs ++ y ∷ []) (length xs) ≡ Some y
 slice_get-append_seam [] y = refl
 slice_get-append_seam (x ∷ xs) y = slice_get-append_seam xs y
@@ -278,7 +278,7 @@ met_fault_is_first initial events fault (inr (i, found)) = first_fault_at initia
 
 -- after a fault was met, events are passed over
 pub gathered_after_fault : (initial : List ℕ) (events : List Event) (e : Event) (g : Gathering) → true ≡ is_some g.fault
-    → length events < MAX_EVENTS → IfSome g.clash (IsClash initial (events ++ e ∷ [])) → HasGathered initial events g
+    → length events < MAX_EVENTS → IfSome g.clash (Explains initial (events ++ e ∷ []) g.fault) → HasGathered initial events g
     → HasGathered initial (events ++ e ∷ []) g
 gathered_after_fault initial events e g some few clash known = record {
   few_initial = known.few_initial;
@@ -325,7 +325,7 @@ of_err P Q R (Err fault) is told = told fault is
 -- what a builder begins with: its values are noted and distinct, or one stands twice
 pub begun : (g : Gathering) (initial : List ℕ) (called : CalledValues) (r : Result (Unit {0}) HistoryFault) → length initial ≤ MAX_INITIAL
     → HasFormed [] g.forming → g.count ≡ 0 → g.forming.timeline.initial ≡ initial → g.called ≡ called → g.fault ≡ result_err r
-    → IfOk r (λ _. Knows initial called × AreDistinct initial) → IfErr r (HasRefusedInitial initial) → IfSome g.clash (IsClash initial [])
+    → IfOk r (λ _. Knows initial called × AreDistinct initial) → IfErr r (HasRefusedInitial initial) → IfSome g.clash (Explains initial [] g.fault)
     → HasGathered initial [] g
 begun g initial called r few formed count is same fault noted refused clash = search (rules, append-nil)
 
@@ -371,20 +371,69 @@ stands-push events x here = subst (λ n. slice_get (events ++ x.event ∷ []) n 
 pub first_with-append : (events later : List Event) (x y : Placed) → Stands events x → AreFirstWith events x y → AreFirstWith (events ++ later) x y
 first_with-append events later x y at are = grind (arith, slice_get_within, slice_get-append_left)
 
--- what contradicts each other does so, whatever comes after
-pub clash-append : (initial : List ℕ) (events later : List Event) (found : Clash) → IsClash initial events found → IsClash initial (events ++ later) found
-clash-append initial events later (clash.Tickets x y) is = (stands-append events later x is.0, stands-append events later y is.1, is.2)
-clash-append initial events later (clash.Calls x y) is = grind (arith, stands-append, slice_get_within, take-append-le)
-clash-append initial events later (clash.Values x y) is = grind (arith, stands-append, first_with-append)
-clash-append initial events later (clash.Initial place x) is = (stands-append events later x is.0, is.1)
-clash-append initial events later (clash.Twice value i j) is = is
-clash-append initial events later (clash.Pending x) is = stands-append events later x is
+-- that a call is pending isn't met while events come
+met_not_pending : (initial : List ℕ) (events : List Event) (ticket : ℕ) → HasMetFault initial events (Pending ticket) → ⊥
+met_not_pending initial events ticket (inl (inl memory)) = cc
+met_not_pending initial events ticket (inl (inr (j, is, twice))) = cc
+met_not_pending initial events ticket (inr (i, found)) = let other = found.2.2 in grind arith
+
+-- what contradicts each other at a fault that was met does so, whatever comes after
+clash-append : (initial : List ℕ) (events later : List Event) (found : Clash) → HasMetFault initial events (fault_of found)
+    → IsClash initial events found → IsClash initial (events ++ later) found
+clash-append initial events later (clash.Tickets x y) met is = (stands-append events later x is.0, stands-append events later y is.1, is.2, is.3)
+clash-append initial events later (clash.Calls x y) met is = grind (arith, stands-append, slice_get_within, take-append-le)
+clash-append initial events later (clash.Values x y) met is = grind (arith, stands-append, first_with-append)
+clash-append initial events later (clash.Initial place x) met is = (stands-append events later x is.0, is.1)
+clash-append initial events later (clash.Twice value i j) met is = is
+clash-append initial events later (clash.Pending x) met is = absurd (met_not_pending initial events x.event.ticket met)
 
 -- the same of what is kept
-pub kept-append : (initial : List ℕ) (events later : List Event) (kept : Option Clash) → IfSome kept (IsClash initial events)
-    → IfSome kept (IsClash initial (events ++ later))
-kept-append initial events later None is = is
-kept-append initial events later (Some found) is = clash-append initial events later found is
+pub kept-append : (initial : List ℕ) (events later : List Event) (g : Gathering) → HasGathered initial events g
+    → IfSome g.clash (Explains initial (events ++ later) g.fault)
+kept-append initial events later g known = of_kept g.clash known.clash
+  where
+    of_kept : (kept : Option Clash) → IfSome kept (Explains initial events g.fault) → IfSome kept (Explains initial (events ++ later) g.fault)
+    of_kept None is = is
+    of_kept (Some found) is = (clash-append initial events later found (kept_is_met initial events g (fault_of found) is.1 known) is.0, is.1)
+
+-- what contradicts each other, and the fault that it explains
+pub explains : (initial : List ℕ) (events : List Event) (kept : Option HistoryFault) (found : Option Clash) → IfSome found (IsClash initial events)
+    → IfSome found (λ clash. kept ≡ Some (fault_of clash)) → IfSome found (Explains initial events kept)
+explains initial events kept None is same = is
+explains initial events kept (Some found) is same = (is, same)
+
+-- what is kept are events or values that contradict each other
+pub kept_is_clash : (initial : List ℕ) (events : List Event) (g : Gathering) → HasGathered initial events g → IfSome g.clash (IsClash initial events)
+kept_is_clash initial events g known = of_kept g.clash known.clash
+  where
+    of_kept : (kept : Option Clash) → IfSome kept (Explains initial events g.fault) → IfSome kept (IsClash initial events)
+    of_kept None is = is
+    of_kept (Some found) is = is.0
+
+-- the fault that they explain is the first
+pub kept_is_first : (initial : List ℕ) (events : List Event) (g : Gathering) → HasGathered initial events g
+    → IfSome g.clash (λ found. IsFirstFault initial events (fault_of found))
+kept_is_first initial events g known = of_kept g.clash known.clash
+  where
+    of_kept : (kept : Option Clash) → IfSome kept (Explains initial events g.fault) → IfSome kept (λ found. IsFirstFault initial events (fault_of found))
+    of_kept None is = is
+    of_kept (Some found) is = met_fault_is_first initial events (fault_of found) (kept_is_met initial events g (fault_of found) is.1 known)
+
+-- out of memory isn't explained by events
+not_memory : (found : Clash) → fault_of found ≢ Memory
+not_memory (clash.Tickets x y) = λ is. cc
+not_memory (clash.Calls x y) = λ is. cc
+not_memory (clash.Values x y) = λ is. cc
+not_memory (clash.Initial place x) = λ is. cc
+not_memory (clash.Twice value i j) = λ is. cc
+not_memory (clash.Pending x) = λ is. cc
+
+-- in a complete history nothing contradicts anything
+pub none_in_complete : (initial : List ℕ) (events : List Event) (found : Option Clash) → IsCompleteFrom initial events
+    → IfSome found (λ clash. IsFirstFault initial events (fault_of clash)) → found ≡ None
+none_in_complete initial events None complete first = refl
+none_in_complete initial events (Some clash) complete first =
+    absurd (not_memory clash (complete_has_no_fault initial events (fault_of clash) first complete))
 
 -- where an event stands as more come after it, for `clash_of`
 pub ruleset standing = (first_with-append, stands-append, stands-push, take-append_seam)

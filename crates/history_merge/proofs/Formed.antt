@@ -155,7 +155,7 @@ none_pending_at events thread old within known is = grind arith
 -- ---- what a call and a return are judged by
 
 -- a return calls with no value
-no_value : (what : What) → is_call what ≡ false → called_value what ≡ None
+pub no_value : (what : What) → is_call what ≡ false → called_value what ≡ None
 no_value what h = grind arith
 
 pub fault_of_call : (initial : List ℕ) (events : List Event) (place : ℕ) (e : Event) → breaks_ticket_order events e ≡ false → e.thread ≤ MAX_THREAD
@@ -210,7 +210,8 @@ next_in_turns [] e (a ∷ rest) turns call = (a, refl, turns.0)
 next_in_turns (c ∷ []) e later turns call = absurd (false≢true (sym (answer_is_return c.what e.what turns.0) ∙ call))
 next_in_turns (c ∷ a ∷ before) e later turns call = next_in_turns before e later turns.1 call
 
-no_operation : (e : Event) (next : Option Event) → is_call e.what ≡ false → operation_of e next ≡ None
+-- a return begins no operation
+pub no_operation : (e : Event) (next : Option Event) → is_call e.what ≡ false → operation_of e next ≡ None
 no_operation e next h = grind arith
 
 operation_answered : (e answer : Event) → answers e.what answer.what ≡ true → operation_of e (Some answer) ≡ Some (operation_so_far e (Some answer))

@@ -3,6 +3,7 @@
 -- TheirEvents: the operations determine the events.
 -- Distinct: what a run enqueued and dequeued, and where; what the operations of a complete history have in common, and what
 -- distinguishes them and their values.
+-- Lists: what lists contain, and what holds of all of them.
 -- PlaceLists: operations at places of a list.
 -- KnownValues: values that rise, and which values are known.
 -- Formed: what the builder holds after each event.
@@ -12,6 +13,7 @@ mod Common
 pub mod TheirEvents
 pub mod Formed
 pub mod Distinct
+pub mod Lists
 pub mod Turns
 pub mod Faults
 pub mod Timelines

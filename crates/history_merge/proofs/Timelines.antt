@@ -17,6 +17,7 @@ use Rattle.history_merge.proofs.Common.{⊤, ◌++◌, ◌+◌, ◌-◌, ◌↔�
 use Rattle.std.proofs.Common.{append_assoc, Err, length-take-le, List, Ok, Result, ℕ, ◌<◌, ◌≤◌}
 use Rattle.std.proofs.lemmas.List.{length-append}
 use Rattle.history_merge.proofs.Distinct.{all_apart, contains_cons, each_timed, not_in_none, traced, value_called}
+use Rattle.history_merge.proofs.Lists.{pairs_map}
 
 -- ---- operations and events that all come so much later
 
@@ -37,13 +38,6 @@ all_back n operations = grind (arith, map_map, map_fixed, there_and_back)
 -- operations that are the same when moved were the same
 pub later_injective : (n : ℕ) (xs ys : List Operation) → map (later_by n) xs ≡ map (later_by n) ys → xs ≡ ys
 later_injective n xs ys same = sym (all_back n xs) ∙ ap (map (earlier_by n)) same ∙ all_back n ys
-
--- what holds of each two elements' images holds of each two images
-pub pairs_map : {X Y : Type 0} (R : Y → Y → Type 0) (f : X → Y) (xs : List X) → AllPairs (λ x y. R (f x) (f y)) xs → AllPairs R (map f xs)
-pairs_map R f [] pairs = λ i j d below inside. absurd (omega arith)
-pairs_map R f (x ∷ xs) pairs =
-    AllPairs-cons R (f x) (map f xs) (All-map (R (f x)) f xs (λ k d inside. pairs zero (suc k) d (omega arith) (omega arith)))
-    (pairs_map R f xs (λ i j d below inside. pairs (suc i) (suc j) d (omega arith) (omega arith)))
 
 -- what changes no kind, and gives none precedence that hadn't it, keeps an order legal
 pub legal_moved : (move : Operation → Operation) (queue : List ℕ) (operations order : List Operation)

@@ -1,10 +1,10 @@
 -- What a walk over the events keeps of each thread, and calls and returns of one thread, event by event.
 use Rattle.history_merge.proofs.Common.{All, All-head, All-tail, answers, ap, append-nil, append_assoc, arith, CallEnq}
-use Rattle.history_merge.proofs.Common.{[], cases_lt, eq-eqb, Event, filter-append, FitsTurn, is_call, IsLeastPending}
+use Rattle.history_merge.proofs.Common.{[], cases_lt, common_steps, eq-eqb, Event, filter-append, FitsTurn, is_call, IsLeastPendingCall}
 use Rattle.history_merge.proofs.Common.{last_or, MatchOption, MAX_THREAD, nat_eq, nat_tests, None, NothingPending}
 use Rattle.history_merge.proofs.Common.{Option, option_and_then, pending_call, projection, refl, RetEmpty, RetEnq}
 use Rattle.history_merge.proofs.Common.{Some, sym, TakesTurns, then_some, true, What, ◌++◌, ◌+◌, ◌∙◌, ◌∷◌, ◌≡◌}
-use Rattle.std.proofs.Common.{ℕ, ◌≤◌, ◌<◌, false, List}
+use Rattle.std.proofs.Common.{ℕ, ◌≤◌, ◌<◌, false, Bool, List}
 
 -- ---- the pending calls, and how one more event changes them
 
@@ -48,18 +48,39 @@ projection-above (e ∷ events) thread above within =
 pub pending_call-above : (events : List Event) (thread : ℕ) → MAX_THREAD < thread → All (λ e. e.thread ≤ MAX_THREAD) events → pending_call thread events ≡ None
 pending_call-above events thread above within = ap pending_in (projection-above events thread above within)
 
--- the least ticket of the pending calls of the threads before this one
-abbrev pub IsLeastBefore : List Event → ℕ → Option ℕ → Type 0
+-- the last of a thread's own events is the thread's
+last_of_thread : (o : Option Event) (thread : ℕ) (events : List Event) (call : Event) → ((e : Event) → o ≡ Some e → e.thread ≡ thread)
+    → last_or o (projection thread events) ≡ Some call → call.thread ≡ thread
+last_of_thread o thread [] call own is = own call is
+last_of_thread o thread (e ∷ events) call own is =
+    by_test (nat_eq e.thread thread) refl (last_of_thread (Some e) thread events call) (last_of_thread o thread events call own)
+  where
+    by_test : (b : Bool) → nat_eq e.thread thread ≡ b
+        → (((x : Event) → Some e ≡ Some x → x.thread ≡ thread) → last_or (Some e) (projection thread events) ≡ Some call → call.thread ≡ thread)
+        → (last_or o (projection thread events) ≡ Some call → call.thread ≡ thread) → call.thread ≡ thread
+    by_test true own_event from_here after_others = from_here (λ x is_e. grind (arith, nat_tests)) (rw own_event at is)
+    by_test false other from_here after_others = after_others (rw other at is)
+
+-- the pending call of a thread is the thread's
+pending_of_thread : (thread : ℕ) (events : List Event) (call : Event) → pending_call thread events ≡ Some call → call.thread ≡ thread
+pending_of_thread thread events call is = by_last (last_or None (projection thread events)) refl
+  where
+    by_last : (last : Option Event) → last_or None (projection thread events) ≡ last → call.thread ≡ thread
+    by_last None is_none = let none = rw is_none at is in cc
+    by_last (Some e) is_e = last_of_thread None thread events call (λ x none. cc) (grind (arith, common_steps))
+
+-- the pending call with the least ticket, of the threads before this one
+abbrev pub IsLeastBefore : List Event → ℕ → Option Event → Type 0
 IsLeastBefore events n None = (k : ℕ) → k < n → pending_call k events ≡ None
-IsLeastBefore events n (Some ticket) =
-    ((k : ℕ) × (call : Event) × (k < n) × (pending_call k events ≡ Some call) × (call.ticket ≡ ticket))
-    × ((k : ℕ) (call : Event) → k < n → pending_call k events ≡ Some call → ticket ≤ call.ticket)
+IsLeastBefore events n (Some least) =
+    ((k : ℕ) × (k < n) × (pending_call k events ≡ Some least))
+    × ((k : ℕ) (call : Event) → k < n → pending_call k events ≡ Some call → least.ticket ≤ call.ticket)
 
 -- the least of the pending calls, or that there is none
-pub least_pending : (events : List Event) (least : Option ℕ) → All (λ e. e.thread ≤ MAX_THREAD) events → IsLeastBefore events (MAX_THREAD + 1) least
-    → MatchOption least (NothingPending events) (IsLeastPending events)
+pub least_pending : (events : List Event) (least : Option Event) → All (λ e. e.thread ≤ MAX_THREAD) events → IsLeastBefore events (MAX_THREAD + 1) least
+    → MatchOption least (NothingPending events) (IsLeastPendingCall events)
 least_pending events None within least = grind (arith, cases_lt, pending_call-above)
-least_pending events (Some ticket) within least = grind (arith, cases_lt, pending_call-above)
+least_pending events (Some call) within least = grind (arith, cases_lt, pending_call-above, pending_of_thread)
 
 -- ---- one thread in turn
 
@@ -91,7 +112,8 @@ fits_in_turns (call ∷ []) e later turns = let called : is_call call.what ≡ t
 fits_in_turns (call ∷ answer ∷ before) e later turns =
     grind (arith, pending_in-pair, answer_is_return, fits_in_turns before e later turns.1)
 
-TakesTurns-append : (events later : List Event) → TakesTurns events → TakesTurns later → TakesTurns (events ++ later)
+-- turns after turns
+pub TakesTurns-append : (events later : List Event) → TakesTurns events → TakesTurns later → TakesTurns (events ++ later)
 TakesTurns-append [] later turns more = more
 TakesTurns-append (call ∷ []) later turns more = absurd turns
 TakesTurns-append (call ∷ answer ∷ rest) later turns more = (turns.0, TakesTurns-append rest later turns.1 more)

@@ -1,5 +1,5 @@
 -- What in a history contradicts what.
-use Rattle.std.specs.Prelude.{◌≡◌, ◌≢◌, ℕ, suc, ◌<◌, List, Some, slice_get, take}
+use Rattle.std.specs.Prelude.{◌≡◌, ◌≢◌, ℕ, suc, ◌<◌, ◌≤◌, List, Option, Some, slice_get, take}
 use Rattle.event_records.specs.declared.event.Event.{Event}
 use Rattle.history_merge.specs.declared.clash.Clash.{Clash}
 use Rattle.history_merge.specs.declared.clash.Clash.TheVariants as clash
@@ -32,15 +32,15 @@ pub record AreEqualInitial (initial : List ℕ) (value i j : ℕ) : Type 0 where
   pub first : slice_get initial i ≡ Some value
   pub again : slice_get initial j ≡ Some value
 
--- these events, or these initial values, contradict each other: an event and the one before it, a call and the pending call of its
--- thread, two calls with one value, a call with an initial value, two equal initial values; or the call is there that never returns
+-- these events, or these initial values, contradict each other: an event and the one before it, whose ticket isn't below; a call and the
+-- pending call of its thread; two calls with one value; a call with an initial value; two equal initial values; or the call never returns
 abbrev pub IsClash : List ℕ → List Event → Clash → Type 0
-IsClash initial events (clash.Tickets x y) = Stands events x × Stands events y × (suc x.place ≡ y.place)
+IsClash initial events (clash.Tickets x y) = Stands events x × Stands events y × (suc x.place ≡ y.place) × (y.event.ticket ≤ x.event.ticket)
 IsClash initial events (clash.Calls x y) = Stands events x × Stands events y × (pending_call y.event.thread (take y.place events) ≡ Some x.event)
 IsClash initial events (clash.Values x y) = Stands events x × Stands events y × AreFirstWith events x y
 IsClash initial events (clash.Initial place x) = Stands events x × EnqueuesInitial initial place x
 IsClash initial events (clash.Twice value i j) = AreEqualInitial initial value i j
-IsClash initial events (clash.Pending x) = Stands events x
+IsClash initial events (clash.Pending x) = Stands events x × (pending_call x.event.thread events ≡ Some x.event)
 
 -- the fault that it explains
 abbrev pub fault_of : Clash → HistoryFault
@@ -50,3 +50,7 @@ fault_of (clash.Values x y) = DuplicateValue y.place
 fault_of (clash.Initial place x) = DuplicateValue x.place
 fault_of (clash.Twice value i j) = InitialTwice j
 fault_of (clash.Pending x) = Pending x.event.ticket
+
+-- they contradict each other, and the fault that this explains is the one that is kept
+abbrev pub Explains : List ℕ → List Event → Option HistoryFault → Clash → Type 0
+Explains initial events kept clash = IsClash initial events clash × (kept ≡ Some (fault_of clash))

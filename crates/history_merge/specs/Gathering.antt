@@ -13,7 +13,7 @@ use Rattle.history_merge.specs.declared.called.CalledValues.{CalledValues}
 use Rattle.history_merge.specs.declared.called.TheConstants.{LOOSE}
 use Rattle.history_merge.specs.declared.forming.Forming.{Forming}
 use Rattle.history_merge.specs.declared.gathering.Gathering.{Gathering}
-use Rattle.history_merge.specs.Clashes.{IsClash}
+use Rattle.history_merge.specs.Clashes.{Explains}
 use Rattle.history_merge.specs.Complete.{AreDistinct, called_values}
 use Rattle.history_merge.specs.Faults.{fault_at, pending_call, NoFaultBefore, IsFirstFaultAt, IsFirstTwice}
 use Rattle.history_merge.specs.Forming.{operations_so_far, waiting}
@@ -77,7 +77,7 @@ pub record HasGathered (initial : List ℕ) (events : List Event) (gathering : G
   pub few_initial : length initial ≤ MAX_INITIAL
   pub few : length events ≤ MAX_EVENTS
   pub gathered : MatchOption gathering.fault (IsForming initial events gathering) (HasMetFault initial events)
-  pub clash : IfSome gathering.clash (IsClash initial events)
+  pub clash : IfSome gathering.clash (Explains initial events gathering.fault)
 
 -- what contracts see of a history builder
 abbrev pub BuilderView : Type 0

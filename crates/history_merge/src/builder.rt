@@ -1,8 +1,8 @@
 //! The builder of a history whose queue starts with some values.
-ghost use Rattle.std.specs.Prelude.{◌≡◌, ◌<◌, ◌≤◌, ℕ, List, [], ◌∷◌, ◌++◌, IfErr, IfOk, IfSome, IsErr, MatchResult, length, vec_len};
+ghost use Rattle.std.specs.Prelude.{◌≡◌, ◌<◌, ◌≤◌, ℕ, List, [], ◌∷◌, ◌++◌, None, IfErr, IfOk, IfSome, IsErr, MatchResult, length, vec_len};
 ghost use Rattle.event_records.specs.declared.event.Event.{Event};
 ghost use Rattle.event_records.specs.declared.limits.TheConstants.{MAX_EVENTS, MAX_INITIAL};
-ghost use Rattle.history_merge.specs.Clashes.{IsClash};
+ghost use Rattle.history_merge.specs.Clashes.{IsClash, fault_of};
 ghost use Rattle.history_merge.specs.Faults.{IsFirstFault};
 ghost use Rattle.history_merge.specs.Gathering.{HasGathered, KeepsFault};
 ghost use Rattle.history_merge.specs.Initial.{IsCompleteFrom};
@@ -80,11 +80,15 @@ impl HistoryBuilder {
     }
 
     /// Returns what contradicts what at the first fault, if that is a `TicketOrder`, `CallWhilePending`, `DuplicateValue`,
-    /// `Pending` or `InitialTwice`, and memory didn't run out; [`Clash::fault`] is that fault then.
+    /// `Pending` or `InitialTwice`, and memory didn't run out; [`Clash::fault`] is that fault then. A ticket above
+    /// [`event_records::MAX_TICKET`] contradicts no other event.
     ///
     /// Time O(n) if there is a fault, otherwise O(1).
     pub fn clash(&self) -> Option<Clash>
-        ensures { (initial : List ℕ) (events : List Event) → HasGathered initial events self.now → IfSome result (IsClash initial events) }
+        ensures clash { (initial : List ℕ) (events : List Event) → HasGathered initial events self.now → IfSome result (IsClash initial events) }
+        ensures fault { (initial : List ℕ) (events : List Event) → HasGathered initial events self.now
+            → IfSome result (λ clash. IsFirstFault initial events (fault_of clash)) }
+        ensures none { (initial : List ℕ) (events : List Event) → HasGathered initial events self.now → IsCompleteFrom initial events → result ≡ None }
     {
         self.gathering.clash()
     }

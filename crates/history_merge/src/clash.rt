@@ -112,7 +112,8 @@ pub(crate) fn clash_of(fault: HistoryFault, later: Placed, forming: &Forming) ->
     match fault {
         HistoryFault::TicketOrder(_) => {
             let before = first_event(forming, Sought::Place(later.place.checked_sub(1)?))?;
-            Some(Clash::Tickets(before, later))
+            let is_above = later.event.ticket > before.event.ticket;
+            (!is_above).then_some(Clash::Tickets(before, later))
         }
         HistoryFault::CallWhilePending(_) => {
             let call = forming.call_of(later.event.thread)?;
@@ -145,7 +146,8 @@ fn first_place(values: &[u64], value: u64) -> Option<usize>
 
 /// What initial values that have this fault contradict. Time O(k) for k values.
 pub(crate) fn clash_of_initial(fault: Option<HistoryFault>, initial: &[u64]) -> Option<Clash>
-    ensures { (events : List Event) → IfSome result (IsClash initial.now events) }
+    ensures clash { (events : List Event) → IfSome result (IsClash initial.now events) }
+    ensures fault { IfSome result (λ clash. fault ≡ Some (fault_of clash)) }
 {
     let Some(HistoryFault::InitialTwice(later)) = fault else {
         return None;

@@ -2,10 +2,10 @@
 ghost use Rattle.std.specs.Prelude.{◌≡◌, ◌≤◌, ◌<◌, ◌||◌, true, false, ℕ, List, [], ◌∷◌, ◌++◌, MatchOption, OnErr, OnOk, length};
 ghost use Rattle.event_records.specs.declared.event.Event.{Event};
 ghost use Rattle.event_records.specs.Turns.{is_call};
-ghost use Rattle.history_merge.specs.Faults.{IsLeastPending, breaks_ticket_order, calls_initial, pending_call, repeats_value};
+ghost use Rattle.history_merge.specs.Faults.{breaks_ticket_order, calls_initial, pending_call, repeats_value};
 ghost use Rattle.history_merge.specs.Forming as judged;
 ghost use Rattle.history_merge.specs.Forming.{operations_so_far};
-ghost use Rattle.history_merge.specs.Inner.Forming.{NothingPending};
+ghost use Rattle.history_merge.specs.Inner.Forming.{IsLeastPendingCall, NothingPending};
 ghost use Rattle.history_merge.specs.Inner.History.{AreOfRun, IsRunOf};
 ghost use Rattle.history_merge.specs.Gathering.{HasFormed, IsTaken};
 
@@ -172,17 +172,17 @@ impl Forming {
         Some(operation.call_event())
     }
 
-    /// Returns the least ticket of a pending call.
+    /// Returns the pending call with the least ticket.
     #[tactic(auto, using(crate::proofs::Turns::least_pending))]
-    pub(crate) fn least_pending(&self) -> Option<u64>
-        ensures { (events : List Event) → HasFormed events self.now → MatchOption result (NothingPending events) (IsLeastPending events) }
+    pub(crate) fn least_pending(&self) -> Option<Event>
+        ensures { (events : List Event) → HasFormed events self.now → MatchOption result (NothingPending events) (IsLeastPendingCall events) }
     {
-        let mut least = None;
+        let mut least: Option<Event> = None;
         for thread in 0..=MAX_THREAD {
             if let Some(call) = self.call_of(thread)
-                && least.is_none_or(|ticket| call.ticket < ticket)
+                && least.is_none_or(|other| call.ticket < other.ticket)
             {
-                least = Some(call.ticket);
+                least = Some(call);
             }
         }
         least

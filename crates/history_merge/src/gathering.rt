@@ -3,7 +3,7 @@ ghost use Rattle.std.specs.Prelude.{◌≡◌, ◌||◌, ◌<◌, ◌≤◌, fal
 ghost use Rattle.std.specs.Prelude.{IfOk, IfSome, IsErr, IsSome, MatchResult, length, vec_len};
 ghost use Rattle.event_records.specs.declared.event.Event.{Event};
 ghost use Rattle.event_records.specs.declared.limits.TheConstants.{MAX_EVENTS, MAX_INITIAL};
-ghost use Rattle.history_merge.specs.Clashes.{IsClash};
+ghost use Rattle.history_merge.specs.Clashes.{Explains, IsClash, fault_of};
 ghost use Rattle.history_merge.specs.Faults.{IsFirstFault, calls_initial, repeats_value};
 ghost use Rattle.history_merge.specs.Forming.{operations_so_far};
 ghost use Rattle.history_merge.specs.Gathering.{HasFormed, HasGathered, IsFollowed, IsForming, Knows};
@@ -95,7 +95,7 @@ impl Gathering {
         requires { AreOfRun self.old.forming.timeline.operations }
         ensures clash { (events : List Event) → HasFormed events self.old.forming → IsRunOf events self.old.forming.timeline.operations
             → length events < MAX_EVENTS → self.old.count ≡ length events
-            → IfSome self.new.clash (IsClash self.old.forming.timeline.initial (events ++ event ∷ [])) }
+            → IfSome self.new.clash (Explains self.old.forming.timeline.initial (events ++ event ∷ []) (Some fault)) }
         ensures fault { self.new.fault ≡ Some fault }
         ensures forming { self.new.forming ≡ self.old.forming }
     {
@@ -103,21 +103,26 @@ impl Gathering {
             place: self.count,
             event,
         };
-        self.clash = clash_of(fault, placed, &self.forming);
+        self.clash = match clash_of(fault, placed, &self.forming) {
+            Some(found) if found.fault() == fault => Some(found),
+            _ => None,
+        };
         self.fault = Some(fault);
     }
 
     /// Returns what contradicts what at the first fault. Time O(n) if there is one.
     pub(crate) fn clash(&self) -> Option<Clash>
         requires { (initial : List ℕ) × (events : List Event) × HasGathered initial events self.now }
-        ensures { (initial : List ℕ) (events : List Event) → HasGathered initial events self.now → IfSome result (IsClash initial events) }
+        ensures clash { (initial : List ℕ) (events : List Event) → HasGathered initial events self.now → IfSome result (IsClash initial events) }
+        ensures fault { (initial : List ℕ) (events : List Event) → HasGathered initial events self.now
+            → IfSome result (λ clash. IsFirstFault initial events (fault_of clash)) }
     {
         if self.fault.is_some() {
             return self.clash;
         }
-        let ticket = self.forming.least_pending()?;
-        let call = first_event(&self.forming, Sought::Ticket(ticket))?;
-        Some(Clash::Pending(call))
+        let call = self.forming.least_pending()?;
+        let placed = first_event(&self.forming, Sought::Whole(call))?;
+        Some(Clash::Pending(placed))
     }
 
     /// Returns the history of the initial values and the events if it is complete, otherwise the first fault.
@@ -137,8 +142,8 @@ impl Gathering {
         if let Some(fault) = fault {
             return Err(fault);
         }
-        if let Some(ticket) = forming.least_pending() {
-            return Err(HistoryFault::Pending(ticket));
+        if let Some(call) = forming.least_pending() {
+            return Err(HistoryFault::Pending(call.ticket));
         }
         Ok(History::new(forming.into_timeline()))
     }

@@ -1,6 +1,7 @@
-ghost use Rattle.std.specs.Prelude.{◌≡◌};
+ghost use Rattle.std.specs.Prelude.{◌≡◌, ◌≤◌};
+ghost use Rattle.event_records.specs.declared.limits.TheConstants.{MAX_TICKET, ORIGIN};
 
-use event_records::{Event, What};
+use event_records::{Event, MAX_TICKET, ORIGIN, What};
 use std::marker::Model;
 
 /// What an operation did.
@@ -73,6 +74,21 @@ pub struct Operation {
 
 impl Operation {
     ghost use Rattle.history_merge.specs.Events.{call_event, return_event};
+    ghost use Rattle.history_merge.specs.Initial.{later_by};
+
+    /// Returns the operation at the times of its tickets, which are [`ORIGIN`] later than these.
+    #[inline(always)]
+    pub fn timed(self) -> Operation
+        requires call { self.call ≤ MAX_TICKET }
+        requires ret { self.ret ≤ MAX_TICKET }
+        ensures { result ≡ later_by ORIGIN self }
+    {
+        Operation {
+            call: self.call + ORIGIN,
+            ret: self.ret + ORIGIN,
+            ..self
+        }
+    }
 
     /// Returns the event of its call.
     #[inline(always)]

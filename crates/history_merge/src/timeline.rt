@@ -151,7 +151,7 @@ impl Timeline {
         ensures added { OnOk result (self.new.operations ≡ self.old.operations ++ operation ∷ []) }
         ensures kept { OnErr result (self.new.operations ≡ self.old.operations) }
     {
-        push(&mut self.all, later(operation))
+        push(&mut self.all, PackedOperation::new(operation.timed()))
     }
 }
 
@@ -177,20 +177,6 @@ fn operation_at(operations: &[PackedOperation], place: usize) -> Option<Operatio
         Some(operation) => Some(operation.unpack()),
         None => None,
     }
-}
-
-/// The operation at the times of its tickets.
-#[inline(always)]
-fn later(operation: Operation) -> PackedOperation
-    requires call { operation.call ≤ MAX_TICKET }
-    requires ret { operation.ret ≤ MAX_TICKET }
-    ensures { result ≡ later_by ORIGIN operation }
-{
-    PackedOperation::new(Operation {
-        call: operation.call + ORIGIN,
-        ret: operation.ret + ORIGIN,
-        ..operation
-    })
 }
 
 /// An enqueue of the value that is called and returns at this time.

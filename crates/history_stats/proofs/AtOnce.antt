@@ -1,13 +1,13 @@
 -- The most at once: how many tickets lie below a gap, a sweep over the tickets at which things come, and how many are gone by then.
 use Rattle.std.proofs.Common.{◌≡◌, ℕ, zero, suc, ◌+◌, ◌<◌, ◌≤◌, List, [], ◌∷◌, length, get_or, cond, refl, ◌∙◌, ap}
 use Rattle.std.proofs.Common.{inl, inr, arith, nat_lt, ◌-◌, max, map, not, sym, ◌++◌, take, Bool, true, false}
-use Rattle.std.specs.List.Sorted.{IsNonDecreasing, IsPermutation}
-use Rattle.std.proofs.lemmas.Bool.{cases_lt, lt-ltb, le-ltb}
+use Rattle.std.specs.List.Sorted.{IsNonDecreasing, IsPartitionPoint, IsPermutation}
+use Rattle.std.proofs.lemmas.Bool.{cases_lt, lt-ltb, le-ltb, ltb-false, ltb-true}
 use Rattle.std.proofs.lemmas.Bool.Decides.{nat_tests}
 use Rattle.std.proofs.lemmas.List.Sums.{sum_by-cons, sum_by-le-sum_by, count_by-le-length, sum_by-append, sum_by_more}
 use Rattle.std.proofs.lemmas.List.Sorted.{sum_by-IsPermutation}
 use Rattle.history_stats.specs.Inner.AtOnce.{count_before}
-use Rattle.std.specs.Prelude.{All, ◌&&◌, count_by}
+use Rattle.std.specs.Prelude.{All, ◌&&◌, count_by, nat_le}
 use Rattle.std.proofs.lemmas.List.Elements.{All-head, All-tail}
 use Rattle.history_merge.specs.declared.operation.Operation.{Operation}
 use Rattle.history_stats.specs.AtOnce.{IsMost, is_pending_at, pending_at, is_taken_before, stay_count}
@@ -211,3 +211,31 @@ most_queued_is initial operations goes_before arrivals first_goes departures mos
         let one = firsts gap in
         let two = puts gap in
         omega (arith, both, one, two, alike gap initial, alike gap (values_put_before gap operations))
+
+-- ---- the place of a ticket among others
+
+-- where those below a gap end, if they come first
+pub count_is_place : (gap place : ℕ) (tickets : List ℕ) → place ≤ length tickets
+    → IsPartitionPoint (λ t. nat_lt t gap ≡ true) (λ t. nat_lt t gap ≡ false) tickets place → place ≡ count_before gap tickets
+count_is_place gap zero [] within cut = refl
+count_is_place gap (suc place) [] within cut = absurd (omega arith)
+count_is_place gap zero (x ∷ xs) within cut =
+    let here = cut.1 zero 0 (omega arith) (omega arith) in
+    let more = count_is_place gap zero xs (omega arith) (λ k d above below. absurd (omega arith), λ k d above below. cut.1 (suc k) d (omega arith) (omega arith)) in
+    more ∙ sym (count_above gap x xs (ltb-false x gap here))
+count_is_place gap (suc place) (x ∷ xs) within cut =
+    let here = cut.0 zero 0 (omega arith) (omega arith) in
+    let more = count_is_place gap place xs (omega arith) (
+      λ k d above below. cut.0 (suc k) d (omega arith) (omega arith),
+      λ k d above below. cut.1 (suc k) d (omega arith) (omega arith),
+    ) in
+    omega (arith, more, count_below_more gap x xs (ltb-true x gap here))
+
+-- where those up to a ticket end, if they come first
+pub count_by_place : (ticket place : ℕ) (tickets : List ℕ) → place ≤ length tickets
+    → IsPartitionPoint (λ t. nat_le t ticket ≡ true) (λ t. nat_le t ticket ≡ false) tickets place → place ≡ count_before (ticket + 1) tickets
+count_by_place ticket place tickets within cut = count_is_place (ticket + 1) place tickets within
+    (λ k d above below. sym (same (get_or tickets k d)) ∙ cut.0 k d above below, λ k d above below. sym (same (get_or tickets k d)) ∙ cut.1 k d above below)
+  where
+    same : (t : ℕ) → nat_le t ticket ≡ nat_lt t (ticket + 1)
+    same t = grind (arith, nat_tests)

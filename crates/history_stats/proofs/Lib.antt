@@ -4,4 +4,10 @@
 pub mod AtOnce
 pub mod Threads
 pub mod Overlaps
+pub mod Blocks
 pub mod OneStatistics
+pub mod Staying
+pub mod Taken
+pub mod Tallied
+pub mod Overtaken
+pub mod Refusals

@@ -1,11 +1,28 @@
 -- A history has one statistics.
-use Rattle.std.proofs.Common.{◌≡◌, sym, ◌∙◌}
+use Rattle.std.proofs.Common.{◌≡◌, ℕ, List, None, Option, Some, ap, arith, refl, sym, ◌∙◌}
+use Rattle.std.specs.Prelude.{MatchOption}
 use Rattle.history_merge.specs.Initial.{HistoryView}
 use Rattle.history_merge.specs.Operations.{operations_of}
+use Rattle.history_merge.specs.declared.operation.Operation.{Operation}
+use Rattle.history_stats.specs.Refusing.{IsRefusedAt, NoRefusal, maybe_queued_at}
 use Rattle.history_stats.specs.AtOnce.{pending_at, queued_at}
 use Rattle.history_stats.specs.Statistics.{AreStatisticsOf}
 use Rattle.history_stats.specs.declared.statistics.Statistics.{Statistics}
 use Rattle.history_stats.proofs.AtOnce.{one_most}
+
+-- numbers have one least of the most during a refusal
+one_least : (operations : List Operation) (f : ℕ → ℕ) (a b : ℕ) → IsRefusedAt operations f a → IsRefusedAt operations f b → a ≡ b
+one_least operations f a b x y =
+    let under = x.at_each y.refusal y.is_refusal in
+    let over = y.at_each x.refusal x.is_refusal in
+    omega (arith, under.2, y.at_most under.0 under.1, over.2, x.at_most over.0 over.1)
+
+one_maybe : (operations : List Operation) (f : ℕ → ℕ) (a b : Option ℕ) → MatchOption a (NoRefusal operations) (IsRefusedAt operations f)
+    → MatchOption b (NoRefusal operations) (IsRefusedAt operations f) → a ≡ b
+one_maybe operations f None None x y = refl
+one_maybe operations f None (Some b) x y = absurd (x y.refusal y.is_refusal)
+one_maybe operations f (Some a) None x y = absurd (y x.refusal x.is_refusal)
+one_maybe operations f (Some a) (Some b) x y = ap Some (one_least operations f a b x y)
 
 pub one_statistics : (history : HistoryView) (a b : Statistics) → AreStatisticsOf history a → AreStatisticsOf history b → a ≡ b
 one_statistics history a b x y =
@@ -25,4 +42,7 @@ one_statistics history a b x y =
       overlapping_tenths = (x.overlapping_tenths ∙ sym y.overlapping_tenths) i;
       most_pending = pending i;
       most_queued = queued i;
+      overtakes = (x.overtakes ∙ sym y.overtakes) i;
+      overtaken_at_most = (x.overtaken_at_most ∙ sym y.overtaken_at_most) i;
+      refused_at = one_maybe (operations_of history.events) (maybe_queued_at history) a.refused_at b.refused_at x.refused_at y.refused_at i;
     }

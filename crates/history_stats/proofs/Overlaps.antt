@@ -12,18 +12,9 @@ use Rattle.std.proofs.lemmas.List.Sums.{sum_by-append}
 use Rattle.history_merge.specs.declared.operation.Operation.{Operation}
 use Rattle.history_stats.specs.Counts.{overlap}
 use Rattle.history_stats.specs.Inner.AtOnce.{IsLastReturn}
+use Rattle.history_merge.proofs.Lists.{All-right, pairs_back}
 
 -- ---- the parts of a list
-
--- of the second of two lists all pairs are pairs of both together
-pairs_right : {X : Type 0} (R : X → X → Type 0) (xs ys : List X) → AllPairs R (xs ++ ys) → AllPairs R ys
-pairs_right R [] ys pairs = pairs
-pairs_right R (x ∷ xs) ys pairs = pairs_right R xs ys (λ i j d before below. pairs (suc i) (suc j) d (omega arith) (omega arith))
-
--- what holds of all of two lists holds of all of the second
-all_right : {X : Type 0} (P : X → Type 0) (xs ys : List X) → All P (xs ++ ys) → All P ys
-all_right P [] ys each = each
-all_right P (x ∷ xs) ys each = all_right P xs ys (All-tail P x (xs ++ ys) each)
 
 -- those after the first
 behind_first : (x : Operation) (rest : List Operation) → AllPairs (λ a b. a.call < b.call) (x ∷ rest) → All (λ o. x.call < o.call) rest
@@ -85,8 +76,8 @@ pub overlap_told : (earlier later : List Operation) (x : Operation) (is_earlier 
     → is_later ≡ list_any (λ o. nat_le o.call x.ret) later
     → (is_earlier || is_later) ≡ list_any (overlap x) (earlier ++ x ∷ later)
 overlap_told earlier later x is_earlier is_later rise forward tells_earlier tells_later =
-    let rises = pairs_right (λ (a b : Operation). a.call < b.call) earlier (x ∷ later) rise in
-    let goes = all_right (λ (o : Operation). o.call < o.ret) earlier (x ∷ later) forward in
+    let rises = pairs_back (λ (a b : Operation). a.call < b.call) earlier (x ∷ later) rise in
+    let goes = All-right (λ (o : Operation). o.call < o.ret) earlier (x ∷ later) forward in
     let one = tells_earlier ∙ sym (any_earlier earlier later x rise (All-head (λ (o : Operation). o.call < o.ret) x later goes)) in
     let other = tells_later ∙ sym (any_alike (overlap x) (λ (o : Operation). nat_le o.call x.ret) later
     (λ k d below. overlaps_later x (get_or later k d) (behind_first x later rises k d below)
@@ -107,8 +98,8 @@ pub record Counted (all left : List Operation) (count last_return : ℕ) : Type 
 pub left_rise : (all old left : List Operation) (x : Operation) (count last_return : ℕ) → old ≡ x ∷ left → AllPairs (λ a b. a.call < b.call) all
     → Counted all old count last_return → AllPairs (λ a b. a.call < b.call) left
 left_rise all old left x count last_return is rise was =
-    pairs_right (λ (a b : Operation). a.call < b.call) (x ∷ []) left (subst (AllPairs (λ (a b : Operation). a.call < b.call)) is
-    (pairs_right (λ (a b : Operation). a.call < b.call) was.seen old (subst (AllPairs (λ (a b : Operation). a.call < b.call)) (sym was.parts) rise)))
+    pairs_back (λ (a b : Operation). a.call < b.call) (x ∷ []) left (subst (AllPairs (λ (a b : Operation). a.call < b.call)) is
+    (pairs_back (λ (a b : Operation). a.call < b.call) was.seen old (subst (AllPairs (λ (a b : Operation). a.call < b.call)) (sym was.parts) rise)))
 
 -- one more has a return that may be the last
 last_more : (seen : List Operation) (x : Operation) (last next : ℕ) → IsLastReturn seen last → (length seen ≡ 0 → last ≡ 0) → next ≡ max last x.ret

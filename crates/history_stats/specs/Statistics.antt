@@ -1,7 +1,9 @@
 -- The statistics of a history.
-use Rattle.std.specs.Prelude.{◌≡◌, length}
+use Rattle.std.specs.Prelude.{◌≡◌, MatchOption, length, map}
 use Rattle.history_merge.specs.Initial.{HistoryView}
 use Rattle.history_merge.specs.Operations.{operations_of}
+use Rattle.history_stats.specs.Overtaking.{greatest, overtakings}
+use Rattle.history_stats.specs.Refusing.{IsRefusedAt, NoRefusal, maybe_queued_at}
 use Rattle.history_stats.specs.declared.statistics.Statistics.{Statistics}
 use Rattle.history_stats.specs.AtOnce.{IsMost, pending_at, queued_at}
 use Rattle.history_stats.specs.Counts.{change_count, is_dequeued, is_empty, is_enqueued, is_refused, kind_count, overlapping_count, tenths_of_percent}
@@ -22,3 +24,6 @@ pub record AreStatisticsOf (history : HistoryView) (s : Statistics) : Type 0 whe
   pub overlapping_tenths : s.overlapping_tenths ≡ tenths_of_percent (overlapping_count (operations_of history.events)) (length (operations_of history.events))
   pub most_pending : IsMost (pending_at (operations_of history.events)) s.most_pending
   pub most_queued : IsMost (queued_at history) s.most_queued
+  pub overtakes : s.overtakes ≡ length (overtakings history)
+  pub overtaken_at_most : s.overtaken_at_most ≡ greatest (map (λ o. o.count) (overtakings history))
+  pub refused_at : MatchOption s.refused_at (NoRefusal (operations_of history.events)) (IsRefusedAt (operations_of history.events) (maybe_queued_at history))

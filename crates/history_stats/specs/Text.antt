@@ -1,6 +1,9 @@
 -- The text of statistics: a line for each number, a name and its value.
+use Rattle.std.specs.Option.{option_map_or}
+use Rattle.std.specs.List.{flat_map}
 use Rattle.std.specs.Prelude.{ℕ, ◌/◌, ◌%◌, List, [], ◌∷◌, ◌++◌, codes, decimal}
 use Rattle.text_lines.specs.Lines.{line, spaced}
+use Rattle.history_stats.specs.declared.overtaking.Overtaking.{Overtaking}
 use Rattle.history_stats.specs.declared.statistics.Statistics.{Statistics}
 
 -- the line of a name and its value
@@ -11,7 +14,7 @@ statistic_line name value = line (spaced (name ∷ value ∷ []))
 abbrev pub decimal_of_tenths : ℕ → List ℕ
 decimal_of_tenths tenths = decimal (tenths / 10) ++ codes "." ++ decimal (tenths % 10)
 
--- the lines of all numbers, in this order
+-- the lines of all numbers, in this order; the last one only where an enqueue was refused
 abbrev pub statistics_text : Statistics → List ℕ
 statistics_text s = statistic_line (codes "events") (decimal s.events)
     ++ statistic_line (codes "operations") (decimal s.operations)
@@ -26,3 +29,14 @@ statistics_text s = statistic_line (codes "events") (decimal s.events)
     ++ statistic_line (codes "overlapping-percent") (decimal_of_tenths s.overlapping_tenths)
     ++ statistic_line (codes "most-pending") (decimal s.most_pending)
     ++ statistic_line (codes "most-in-queue") (decimal s.most_queued)
+    ++ statistic_line (codes "overtakes") (decimal s.overtakes)
+    ++ statistic_line (codes "overtaken-at-most") (decimal s.overtaken_at_most)
+    ++ option_map_or (λ least. statistic_line (codes "refused-at") (decimal least)) s.refused_at []
+
+-- the line of an overtaking: how many values, the ticket of the dequeue's call, its value
+abbrev pub overtaking_line : Overtaking → List ℕ
+overtaking_line o = line (spaced (decimal o.count ∷ decimal o.ticket ∷ decimal o.value ∷ []))
+
+-- a line for each
+abbrev pub overtakings_text : List Overtaking → List ℕ
+overtakings_text overtakings = flat_map overtaking_line overtakings

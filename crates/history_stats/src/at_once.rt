@@ -45,3 +45,19 @@ fn gone_by(departures: &[u64], known: usize, ticket: u64) -> usize
     }
     gone
 }
+
+/// Returns how many of the tickets, which lie in order, come before this one. Time O(log n) for n tickets.
+pub(crate) fn count_before(tickets: &[u64], ticket: u64) -> usize
+    requires { IsNonDecreasing tickets.now }
+    ensures { result ≡ count_before ticket tickets.now }
+{
+    tickets.partition_point(|other| *other < ticket)
+}
+
+/// Returns how many of the tickets, which lie in order, come before this one or are it. Time O(log n) for n tickets.
+pub(crate) fn count_by(tickets: &[u64], ticket: u64) -> usize
+    requires { IsNonDecreasing tickets.now }
+    ensures { result ≡ count_before (ticket + 1) tickets.now }
+{
+    tickets.partition_point(|other| *other <= ticket)
+}

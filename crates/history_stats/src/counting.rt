@@ -102,7 +102,7 @@ fn is_enqueued(kind: OpKind) -> bool
     matches!(kind, OpKind::Enq(_))
 }
 
-fn is_refused(kind: OpKind) -> bool
+pub(crate) fn is_refused(kind: OpKind) -> bool
     ensures { result ≡ is_refused kind }
 {
     matches!(kind, OpKind::Not(_))

@@ -1,16 +1,22 @@
 //! What a history is like, in numbers: how many events, operations and threads it has, how far its operations
-//! overlap, and how many values its queue definitely held.
+//! overlap, how many values its queue definitely held, and which dequeues certainly overtook values.
 #![tactic(auto)]
 
 mod at_once;
 mod counting;
 mod laws;
 mod overlapping;
+mod overtaking;
 mod pending;
 mod queued;
+mod refused;
 mod statistics;
+mod stays;
+mod takings;
+mod tally;
 mod writing;
 
 pub use laws::a_history_has_one_statistics;
+pub use overtaking::{Overtaking, overtakings_of};
 pub use statistics::{Statistics, statistics_of};
-pub use writing::write_statistics;
+pub use writing::{write_overtakings, write_statistics};

@@ -47,7 +47,11 @@ fn first_takes(alloc: Global, operations: &Operations<'_>) -> Result<BTreeMap<u6
 }
 
 /// Keeps the ticket for the value, if no lower one is kept for it.
-fn keep_least(kept: &mut BTreeMap<u64, u64>, value: u64, ticket: u64) -> Result<(), AllocError>
+pub(crate) fn keep_least(
+    kept: &mut BTreeMap<u64, u64>,
+    value: u64,
+    ticket: u64,
+) -> Result<(), AllocError>
     ensures { OnOk result ((gap v : ℕ) → is_kept_before gap kept.new v ≡ (is_kept_before gap kept.old v || (v == value && nat_lt ticket gap))) }
 {
     let least = match kept.get(&value) {
@@ -59,14 +63,14 @@ fn keep_least(kept: &mut BTreeMap<u64, u64>, value: u64, ticket: u64) -> Result<
 }
 
 /// Returns the ticket that is kept for the value, if one is.
-fn ticket_for(kept: &BTreeMap<u64, u64>, value: u64) -> Option<u64>
+pub(crate) fn ticket_for(kept: &BTreeMap<u64, u64>, value: u64) -> Option<u64>
     ensures { (gap : ℕ) → option_map_or (λ t. nat_lt t gap) result false ≡ is_kept_before gap kept.now value }
 {
     kept.get(&value).copied()
 }
 
 /// Adds the tickets at which initial values go.
-fn add_initial(
+pub(crate) fn add_initial(
     departures: &mut Vec<u64>,
     values: &[u64],
     takes: &BTreeMap<u64, u64>,
@@ -131,7 +135,7 @@ fn add_one(
 }
 
 /// Adds the tickets at which a value comes, and goes if it was taken. It doesn't go before it comes.
-fn add_stay(
+pub(crate) fn add_stay(
     arrivals: &mut Vec<u64>,
     departures: &mut Vec<u64>,
     put: u64,

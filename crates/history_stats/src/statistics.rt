@@ -6,8 +6,10 @@ use crate::counting::{
     change_count, dequeued_count, empty_count, enqueued_count, refused_count, thread_count,
 };
 use crate::overlapping::{overlapping_count, tenths_of_percent};
+use crate::overtaking::{greatest_count, overtakings_of};
 use crate::pending::most_pending;
 use crate::queued::most_queued;
+use crate::refused::refused_at;
 use event_records::Event;
 use history_merge::History;
 use std::alloc::{AllocError, Global};
@@ -41,6 +43,13 @@ pub struct Statistics {
     pub most_pending: usize,
     /// The most values that were definitely in the queue at once.
     pub most_queued: usize,
+    /// The dequeues that certainly overtook a value: one that was enqueued before theirs, and dequeued after it or never.
+    pub overtakes: usize,
+    /// The most values that one dequeue certainly overtook.
+    pub overtaken_at_most: usize,
+    /// Of the failed enqueues, the least of the most values that may have been in the queue at once during the call; if no
+    /// enqueue failed, none.
+    pub refused_at: Option<usize>,
 }
 
 /// Returns the events of a history, in a list of their own.
@@ -63,6 +72,8 @@ pub fn statistics_of(alloc: Global, history: &History) -> Result<Statistics, All
     let initial = history.initial();
     let most_pending = most_pending(alloc, &operations)?;
     let most_queued = most_queued(alloc, initial, &operations)?;
+    let refused_at = refused_at(alloc, initial, &operations)?;
+    let overtakings = overtakings_of(alloc, history)?;
     let overlapping = overlapping_count(&operations);
     Ok(Statistics {
         events: events.len(),
@@ -78,5 +89,8 @@ pub fn statistics_of(alloc: Global, history: &History) -> Result<Statistics, All
         overlapping_tenths: tenths_of_percent(overlapping, operations.len()),
         most_pending,
         most_queued,
+        overtakes: overtakings.len(),
+        overtaken_at_most: greatest_count(overtakings.as_slice()),
+        refused_at,
     })
 }

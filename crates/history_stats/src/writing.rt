@@ -1,8 +1,10 @@
 //! How statistics are written.
 ghost use Rattle.std.specs.Prelude.{◌≡◌, ◌+◌, ◌≤◌, ◌++◌, decimal, length, []};
+ghost use Rattle.std.specs.Option.{option_map_or};
 ghost use Rattle.text_lines.specs.Writing.{Writes};
-ghost use Rattle.history_stats.specs.Text.{decimal_of_tenths, statistic_line, statistics_text};
+ghost use Rattle.history_stats.specs.Text.{decimal_of_tenths, overtaking_line, overtakings_text, statistic_line, statistics_text};
 
+use crate::overtaking::Overtaking;
 use crate::statistics::Statistics;
 use text_lines::{TextSink, WriteBuffer, WriteFault, write_piece};
 
@@ -16,6 +18,36 @@ pub fn write_statistics<W: TextSink>(
     let mut kept = WriteBuffer::new();
     push_statistics(&mut kept, statistics);
     write_piece(kept.as_slice(), writer)
+}
+
+/// Writes a line for each dequeue that overtook values: their count, the ticket of its call and its value. It doesn't
+/// flush the writer.
+pub fn write_overtakings<W: TextSink>(
+    overtakings: &[Overtaking],
+    writer: &mut W,
+) -> Result<(), WriteFault>
+    ensures { Writes W.contents W.has_refused W.transition (overtakings_text overtakings.now) writer.old writer.new result }
+{
+    let mut kept = WriteBuffer::new();
+    for overtaking in overtakings {
+        kept.clear();
+        push_overtaking(&mut kept, *overtaking);
+        write_piece(kept.as_slice(), writer)?;
+    }
+    Ok(())
+}
+
+/// Adds the line of an overtaking.
+fn push_overtaking(kept: &mut WriteBuffer, overtaking: Overtaking)
+    requires { kept.old ≡ [] }
+    ensures { kept.new ≡ overtaking_line overtaking }
+{
+    kept.push_number(overtaking.count as u64);
+    kept.push(b" ");
+    kept.push_number(overtaking.ticket);
+    kept.push(b" ");
+    kept.push_number(overtaking.value);
+    kept.push(b"\n");
 }
 
 /// Adds all lines.
@@ -36,6 +68,9 @@ fn push_statistics(kept: &mut WriteBuffer, statistics: &Statistics)
     push_tenths_line(kept, b"overlapping-percent", statistics.overlapping_tenths);
     push_line(kept, b"most-pending", statistics.most_pending);
     push_line(kept, b"most-in-queue", statistics.most_queued);
+    push_line(kept, b"overtakes", statistics.overtakes);
+    push_line(kept, b"overtaken-at-most", statistics.overtaken_at_most);
+    push_known_line(kept, b"refused-at", statistics.refused_at);
 }
 
 /// Adds the line of a number.
@@ -49,6 +84,17 @@ fn push_line(kept: &mut WriteBuffer, name: &[u8], value: usize)
     kept.push(b" ");
     kept.push_number(value as u64);
     kept.push(b"\n");
+}
+
+/// Adds the line of a number, if there is one.
+fn push_known_line(kept: &mut WriteBuffer, name: &[u8], value: Option<usize>)
+    requires room { length kept.old + 64 ≤ 4096 }
+    requires short_name { length name.now ≤ 20 }
+    ensures line { kept.new ≡ kept.old ++ option_map_or (λ n. statistic_line name.now (decimal n)) value [] }
+{
+    if let Some(number) = value {
+        push_line(kept, name, number);
+    }
 }
 
 /// Adds the line of a number of tenths.

@@ -1,12 +1,15 @@
 -- What is taken from the buffer of a reader.
 use Rattle.history_text.proofs.Common.{[], Ahead, ap, append_assoc, arith, common_steps, drop, drop-drop, EndOfInput}
-use Rattle.history_text.proofs.Common.{HasMore, IfSome, IsOver, IsOverIf, length, length-append, length-drop}
-use Rattle.history_text.proofs.Common.{length-take-le, List, nat_lt, nat_tests, None, not, Option, refl, Some, suc}
-use Rattle.history_text.proofs.Common.{take, take-add, take_all, Takes, with_front, zero, ℕ, ◌++◌, ◌+◌, ◌-◌, ◌<◌, ◌∙◌}
+use Rattle.history_text.proofs.Common.{after, Exactly, Gives, Known, Left, MayBeLeft, over, subst, sym}
+use Rattle.history_text.proofs.Common.{HasMore, IsOver, IsOverIf, length, length-append, length-drop}
+use Rattle.history_text.proofs.Common.{length-take-le, List, nat_lt, nat_tests, not, refl, suc}
+use Rattle.history_text.proofs.Common.{take, take-add, take_all, Takes, zero, ℕ, ◌++◌, ◌+◌, ◌-◌, ◌<◌, ◌∙◌}
 use Rattle.history_text.proofs.Common.{◌∷◌, ◌≡◌, ◌≤◌}
+use Rattle.std.proofs.Common.{slice_index_or, true}
 use Rattle.std.proofs.Math.Seq.{take-append-add}
 use Rattle.std.proofs.lemmas.List.Edits.{take-paste}
 use lib.Seq.{paste}
+use Rattle.history_text.proofs.Consuming.{nothing_left, takes_front, takes_read}
 
 -- the bytes of a buffer from one place to another
 abbrev pub part : List ℕ → ℕ → ℕ → List ℕ
@@ -23,38 +26,66 @@ part_splits bytes at filled len text within fits is =
     omega (arith, long, length-drop len rest, length-drop at bytes, within, fits) in
     ap (λ (r : List ℕ). take (filled - at) r) is ∙ rw (count, take-append-add, drop-drop) refl
 
+-- what is left where a buffer is filled up to a place
+abbrev left_in : List ℕ → ℕ → ℕ → Known → Left
+left_in bytes at filled behind = record { front = part bytes at filled; behind = behind }
+
 -- text at a place of the buffer is taken
-pub takes_from_buffer : (bytes : List ℕ) (at filled len room : ℕ) (text : List ℕ) (ahead : Option Ahead) → len ≤ filled - at → filled ≤ length bytes
+pub takes_from_buffer : (bytes : List ℕ) (at filled len room : ℕ) (text : List ℕ) (behind : Known) → len ≤ filled - at → filled ≤ length bytes
     → length bytes ≤ at + room → take room (drop at bytes) ≡ text ++ drop len (take room (drop at bytes))
-    → Takes (with_front (part bytes at filled) ahead) (with_front (part bytes (at + len) filled) ahead) text
-takes_from_buffer bytes at filled len room text None within fits all is = tt
-takes_from_buffer bytes at filled len room text (Some a) within fits all is =
+    → Takes (left_in bytes at filled behind) (left_in bytes (at + len) filled behind) text
+takes_from_buffer bytes at filled len room text behind within fits all is =
     let whole : take room (drop at bytes) ≡ drop at bytes = take_all room (drop at bytes) (omega (arith, length-drop at bytes, all)) in
     let splits = part_splits bytes at filled len text within fits (rw whole at is) in
-    (ap (λ (r : List ℕ). r ++ a.bytes) splits ∙ append_assoc text (part bytes (at + len) filled) a.bytes, refl)
+    subst (λ (front : List ℕ). Takes (record { front = front; behind = behind }) (left_in bytes (at + len) filled behind) text) (sym splits)
+    (takes_front text (part bytes (at + len) filled) behind)
 
-has_more_behind : (front : List ℕ) (a : Ahead) → 0 < length front → HasMore (record { bytes = front ++ a.bytes; ending = a.ending })
+-- what stands at a place, and what comes after it
+byte_at : (bytes : List ℕ) (at : ℕ) → at < length bytes → drop at bytes ≡ slice_index_or bytes at 0 ∷ drop 1 (drop at bytes)
+byte_at [] at within = absurd (omega (arith, within))
+byte_at (b ∷ bytes) zero within = refl
+byte_at (b ∷ bytes) (suc at) within = byte_at bytes at (omega (arith, within))
+
+-- the next byte of the buffer is taken
+pub takes_byte : (bytes : List ℕ) (at filled : ℕ) (behind : Known) → at < filled → filled ≤ length bytes
+    → Takes (left_in bytes at filled behind) (left_in bytes (at + 1) filled behind) (slice_index_or bytes at 0 ∷ [])
+takes_byte bytes at filled behind some fits =
+    let whole : take (length bytes) (drop at bytes) ≡ drop at bytes = take_all (length bytes) (drop at bytes) (omega (arith, length-drop at bytes)) in
+    takes_from_buffer bytes at filled 1 (length bytes) (slice_index_or bytes at 0 ∷ []) behind (omega (arith, some)) fits (omega arith)
+    (rw whole (byte_at bytes at (omega (arith, some, fits))))
+
+-- where nothing is left of a buffer, what a read gives is left, and nothing is taken
+pub read_anew : (bytes more : List ℕ) (at filled n : ℕ) (old new : Known) → filled ≤ at → Gives old new (take n more)
+    → Takes (left_in bytes at filled old) (left_in more 0 n new) []
+read_anew bytes more at filled n old new none gives =
+    let empty : filled - at ≡ 0 = omega (arith, none) in
+    let all : n - 0 ≡ n = omega arith in rw (empty, all) (takes_read [] (take n more) old new gives)
+
+has_more_behind : (front : List ℕ) (a : Ahead) → 0 < length front → HasMore (after front a)
 has_more_behind [] a some = absurd (omega (arith, some))
 has_more_behind (b ∷ front) a some = (b, front ++ a.bytes, refl)
 
--- a byte of the buffer is ahead
-pub has_more_in_buffer : (bytes : List ℕ) (at filled : ℕ) (ahead : Option Ahead) → at < filled → filled ≤ length bytes
-    → IfSome (with_front (part bytes at filled) ahead) HasMore
-has_more_in_buffer bytes at filled None some within = tt
-has_more_in_buffer bytes at filled (Some a) some within = grind (arith, length-take-le, length-drop, has_more_behind)
+-- if a byte of the buffer is left, one is ahead
+pub has_more_in_buffer : (bytes : List ℕ) (at filled : ℕ) (behind : Known) → at < filled → filled ≤ length bytes
+    → (a : Ahead) → MayBeLeft (left_in bytes at filled behind) a → HasMore a
+has_more_in_buffer bytes at filled behind some within a may =
+    subst HasMore (sym may.2) (has_more_behind (part bytes at filled) may.0 (grind (arith, length-take-le, length-drop)))
 
 -- whether a read gave a byte says whether the input is over
-pub over_if_nothing : (ahead : Option Ahead) (n : ℕ) (bytes : List ℕ) → n ≤ length bytes → 0 < length bytes
-    → (n ≡ 0 → 0 < length bytes → IsOver EndOfInput ahead) → IsOverIf (with_front (part bytes 0 n) ahead) (not (nat_lt 0 n))
-over_if_nothing None zero bytes within some ends = tt
-over_if_nothing (Some a) zero bytes within some ends = ends refl some
-over_if_nothing ahead (suc n) bytes within some ends = grind (arith, nat_tests, common_steps, has_more_in_buffer)
+pub over_if_nothing : (behind : Known) (n : ℕ) (bytes : List ℕ) → n ≤ length bytes → (n ≡ 0 → behind ≡ Exactly (over EndOfInput))
+    → IsOverIf (left_in bytes 0 n behind) (not (nat_lt 0 n))
+over_if_nothing behind zero bytes within ends =
+    subst (λ (b : Known). IsOver EndOfInput (record { front = []; behind = b })) (sym (ends refl)) (nothing_left EndOfInput)
+over_if_nothing behind (suc n) bytes within ends =
+    let some : nat_lt 0 (suc n) ≡ true = grind (arith, nat_tests) in rw some (has_more_in_buffer bytes 0 (suc n) behind (omega arith) within)
 
 -- the bytes that are left, moved to the front, and those of a read after them: nothing is taken
-pub moved_and_read : (bytes more : List ℕ) (at filled n : ℕ) (old new : Option Ahead) → at ≤ filled → filled ≤ length bytes
-    → take (filled - at) more ≡ take (filled - at) (paste bytes 0 (drop at bytes) (filled - at)) → Takes old new (take n (drop (filled - at) more))
-    → Takes (with_front (part bytes at filled) old) (with_front (part more 0 (filled - at + n)) new) []
-moved_and_read bytes more at filled n None new in_order within kept takes = tt
-moved_and_read bytes more at filled n (Some a) None in_order within kept takes = takes
-moved_and_read bytes more at filled n (Some a) (Some b) in_order within kept takes =
-    grind (arith, nat_tests, common_steps, paste, take-paste, length-drop, take-add, append_assoc)
+pub moved_and_read : (bytes more : List ℕ) (at filled n : ℕ) (old new : Known) → at ≤ filled → filled ≤ length bytes
+    → take (filled - at) more ≡ take (filled - at) (paste bytes 0 (drop at bytes) (filled - at)) → Gives old new (take n (drop (filled - at) more))
+    → Takes (left_in bytes at filled old) (left_in more 0 (filled - at + n) new) []
+moved_and_read bytes more at filled n old new in_order within kept gives =
+    let given = take n (drop (filled - at) more) in
+    let fronts : part bytes at filled ++ given ≡ part more 0 (filled - at + n) =
+    grind (arith, nat_tests, common_steps, paste, take-paste, length-drop, take-add, append_assoc) in
+    subst (λ (front : List ℕ). Takes (left_in bytes at filled old) (record { front = front; behind = new }) []) fronts
+    (takes_read (part bytes at filled) given old new gives)

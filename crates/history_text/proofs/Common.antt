@@ -20,14 +20,14 @@ pub use Rattle.event_records.specs.declared.limits.TheConstants.{MAX_CLAIM_LINES
 pub use Rattle.event_records.specs.declared.limits.TheConstants.{MAX_TICKET}
 pub use Rattle.text_lines.specs.Forms.{AreOfForm, FieldForm, Number, numbers_in, parse_line, spelled, Table, Word}
 pub use Rattle.text_lines.specs.Inner.Lines.{has_no_line_feed, IsPartOfLine}
-pub use Rattle.text_lines.specs.Input.{Ahead, Ending, EndOfInput, Failure, IsOver, Takes}
+pub use Rattle.text_lines.specs.Input.{after, Ahead, Ending, EndOfInput, Exactly, Failure, Gives, Known, over}
 pub use Rattle.text_lines.specs.Lines.{begins_as_end, end_in, end_line, fault_at, fields_of, Front, front_of}
 pub use Rattle.text_lines.specs.Lines.{greatest_value, header_fault, is_line_feed, line, longest_line, Nothing, spaced}
 pub use Rattle.text_lines.specs.Lines.{TooLong, Unfinished, Whole, ◌>>=◌}
 pub use Rattle.text_lines.specs.Writing.{Asked, PutsText, TakesFront, TakesSome}
 pub use Rattle.text_lines.specs.declared.fault.TextFault.{TextFault}
 pub use Rattle.text_lines.specs.declared.fault.TextFault.TheVariants.{Cut, Header, Line, Memory, Read}
-pub use Rattle.text_lines.proofs.Consuming.{before, before_end, Takes-append}
+pub use Rattle.text_lines.proofs.Consuming.{some_input}
 pub use Rattle.text_lines.proofs.Fronts.{front_too_long, front_unfinished, whole}
 pub use Rattle.text_lines.proofs.Numbers.{end_ok, text_is}
 pub use Rattle.text_lines.proofs.Putting.{one_more_put, puts_after, puts_then, some_kept, some_then, stops_at_next}
@@ -50,13 +50,13 @@ pub use Rattle.history_text.specs.Claims.{valued_operation}
 pub use Rattle.history_text.specs.Histories.{event_format, event_forms, event_in, event_line, event_of, HasEventLine}
 pub use Rattle.history_text.specs.Histories.{HasHistoryText, HasValueInRange, lines_to_end, plain_event, valued_event}
 pub use Rattle.history_text.specs.Histories.{what_fields}
-pub use Rattle.history_text.specs.Inner.Taking.{BrokenLineFault, count_format, FaultAtFront, HasItemsFault, IsItemLine}
+pub use Rattle.history_text.specs.Inner.Taking.{behind, BrokenLineFault, count_format, FaultAtFront, HasItemsFault, IsItemLine}
 pub use Rattle.history_text.specs.Inner.Taking.{IsOfInput, IsSpelled, NoLineFault, setting_format}
 pub use Rattle.history_text.specs.Inner.Verdicts.{line_text, lines_text}
 pub use Rattle.history_text.specs.Items.{a_value, FaultAmong, Format, HaveLines, item_at_front, item_in, ItemFault}
 pub use Rattle.history_text.specs.Items.{line_at_front, line_of, LineFault, lines_of, NoRoom, NoRoomAmong, read_by}
-pub use Rattle.history_text.specs.Reading.{BeginsWith, HasFirstFault, HasMore, HasTextFault, Input, IsAll, IsOverIf}
-pub use Rattle.history_text.specs.Reading.{with_front}
+pub use Rattle.history_text.specs.Reading.{BeginsWith, Fails, HasFirstFault, HasMore, HasTextFault, Input, IsAll, IsOver}
+pub use Rattle.history_text.specs.Reading.{IsOverIf, Left, MayBeLeft, OfLeft, Takes}
 pub use Rattle.history_text.specs.Schedules.{draining, HasScheduleText, HasStepLine, IsAnswerInRange}
 pub use Rattle.history_text.specs.Schedules.{IsScheduleTextFault, IsSetting, lines_before_steps, NoRoomForSchedule}
 pub use Rattle.history_text.specs.Schedules.{plain_saying, plain_step, schedule_header, schedule_text, setting_fields}

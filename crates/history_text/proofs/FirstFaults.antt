@@ -1,22 +1,27 @@
 -- From a fault of one line to the first fault of the whole input, and what is read of a text that stands at its front.
 use Rattle.history_text.proofs.Common.{[], Ahead, All-from_recursion, All-push, AllByRecursion, ap, append-nil}
-use Rattle.history_text.proofs.Common.{append_assoc, arith, before, before_end, BeginsWith, BrokenLineFault, bytes_eq}
+use Rattle.history_text.proofs.Common.{after, Left, MayBeLeft, OfLeft, over}
+use Rattle.history_text.proofs.Common.{append_assoc, arith, BeginsWith, BrokenLineFault, bytes_eq}
 use Rattle.history_text.proofs.Common.{count_before_events, end_line, Ending, EndOfInput, Err, event_format, Failure}
 use Rattle.history_text.proofs.Common.{false, false_from_ne_true, fault_at, FaultAmong, FaultAtFront, fields_of}
 use Rattle.history_text.proofs.Common.{flat_map-append, Format, Front, front_of, front_too_long, front_unfinished}
 use Rattle.history_text.proofs.Common.{has_no_line_feed, HasFirstFault, HasItemsFault, HasTextFault, HaveLines}
 use Rattle.history_text.proofs.Common.{HaveValueLines, Header, header_fault, header_of, IfErr, IfOk, IfSome}
-use Rattle.history_text.proofs.Common.{if◌then◌else◌, inr, is_line_feed, IsErrAnd, IsOfInput, IsOver}
+use Rattle.history_text.proofs.Common.{if◌then◌else◌, inl, inr, is_line_feed, IsErrAnd, IsOfInput, IsOver}
 use Rattle.history_text.proofs.Common.{IsPartOfLine, IsSpelled, IsTextFault, item_at_front, item_in, ItemFault}
 use Rattle.history_text.proofs.Common.{join_with_byte-slice_split, length, length-append, line, line_at_front, line_of}
 use Rattle.history_text.proofs.Common.{lines_before_events, lines_of, lines_of_initial, List, longest_line}
 use Rattle.history_text.proofs.Common.{MatchResult, Memory, nat_lt, nat_tests, NoLineFault, None, NoRoom, NoRoomAmong}
 use Rattle.history_text.proofs.Common.{NoRoomForText, Nothing, NoVersionFault, Ok, One, Option, recursion_from_All}
-use Rattle.history_text.proofs.Common.{refl, Result, Some, spaced, subst, suc, sym, Takes, Takes-append, text_is}
+use Rattle.history_text.proofs.Common.{refl, Result, Some, spaced, subst, suc, sym, Takes, text_is}
 use Rattle.history_text.proofs.Common.{TextFault, TooLong, true, Two, Unfinished, Version, Whole, whole, zero, ℕ, ◌++◌}
 use Rattle.history_text.proofs.Common.{◌+◌, ◌<◌, ◌>>=◌, ◌^◌, ◌∙◌, ◌∷◌, ◌≡◌, ◌≤◌, common_steps}
 use Rattle.text_lines.proofs.MemoryOrNot.{follows, is_memory, known_fault}
+use Rattle.text_lines.specs.Faults.{MemoryOr}
+use Rattle.history_text.specs.Inner.Taking.{HasFaultAmong}
+use Rattle.history_text.proofs.Common.{LineFault}
 use Rattle.history_text.proofs.FormLines.{end_front, IsReadBack, Says}
+use Rattle.history_text.proofs.Consuming.{Takes-append, before, before_end, some_left}
 
 -- ---- one step after another
 
@@ -179,18 +184,16 @@ pub record IsJudged {T : Type 0} (HasIt : T → Type 0) (text : T → List ℕ) 
   pub read : (lines : ℕ) (ending : Ending) (t : T) (rest : List ℕ) → HasIt t → MayFollow ending rest → judge lines ending (text t ++ rest) ≡ Ok (t, rest)
   pub found : (lines : ℕ) (ending : Ending) (bytes : List ℕ) (fault : TextFault) → IsFault lines ending bytes fault → judge lines ending bytes ≡ Err fault
 
--- these bytes are known to stand at the front, and what comes after them is so
-abbrev pub Stands : (Ending → List ℕ → Type 0) → Option Ahead → List ℕ → Type 0
-Stands MayFollow None text = ⊥
-Stands MayFollow (Some a) text = (rest : List ℕ) × (a.bytes ≡ text ++ rest) × MayFollow a.ending rest
+-- whatever may be left, these bytes stand at its front, and what comes after them is so
+abbrev pub Stands : (Ending → List ℕ → Type 0) → Left → List ℕ → Type 0
+Stands MayFollow left text = (a : Ahead) → MayBeLeft left a → (rest : List ℕ) × (a.bytes ≡ text ++ rest) × MayFollow a.ending rest
 
 -- anything may follow
 abbrev pub Anything : Ending → List ℕ → Type 0
 Anything ending rest = Unit {0}
 
-pub stands : (old : Option Ahead) (text : List ℕ) → BeginsWith old text → Stands Anything old text
-stands None text begins = absurd begins
-stands (Some a) text begins = (begins.0, begins.1, tt)
+pub stands : (old : Left) (text : List ℕ) → BeginsWith old text → Stands Anything old text
+stands old text begins = λ a may. let here = begins a may in (here.0, here.1, tt)
 
 module _ {T : Type 0} {HasIt : T → Type 0} {text : T → List ℕ} {MayFollow : Ending → List ℕ → Type 0}
     {IsFault : ℕ → Ending → List ℕ → TextFault → Type 0} {judge : ℕ → Ending → List ℕ → Result (T × List ℕ) TextFault}
@@ -212,63 +215,68 @@ module _ {T : Type 0} {HasIt : T → Type 0} {text : T → List ℕ} {MayFollow 
   one_first_fault lines ending bytes f g h k = grind arith
 
   -- a text that stands there is read, unless memory runs out
-  pub reads_what_is_there : {V : Type 0} (LacksRoom : List ℕ → Type 0) (P : V → Type 0) (Told : V → T → Type 0) (lines : ℕ) (old new : Option Ahead)
+  pub reads_what_is_there : {V : Type 0} (LacksRoom : List ℕ → Type 0) (P : V → Type 0) (Told : V → T → Type 0) (lines : ℕ) (old new : Left)
       (r : Result V TextFault) → IfOk r P → IfErr r (HasFirstFault (IsFault lines) LacksRoom old)
-      → ((v : V) → P v → (t : T) × HasIt t × Takes old new (text t) × ((b : Ahead) → new ≡ Some b → MayFollow b.ending b.bytes) × Told v t)
+      → ((v : V) → P v → (t : T) × HasIt t × Takes old new (text t) × ((b : Ahead) → MayBeLeft new b → MayFollow b.ending b.bytes) × Told v t)
       → (t : T) → HasIt t → Stands MayFollow old (text t) → MatchResult r (λ v. Told v t) (λ fault. fault ≡ Memory)
-  reads_what_is_there L P Told lines None new r ok err found t has stands = absurd stands
-  reads_what_is_there L P Told lines (Some a) None (Ok v) ok err found t has stands = absurd ((found v ok).2)
-  reads_what_is_there L P Told lines (Some a) (Some b) (Ok v) ok err found t has stands =
+  reads_what_is_there L P Told lines old new (Ok v) ok err found t has there =
       let is = found v ok in
-      let same = texts_agree a.ending is.0 t b.bytes stands.0 is.1 has (subst (λ e. MayFollow e b.bytes) is.2.1 (is.3 b refl)) stands.2
-      (sym is.2.0 ∙ stands.1) in
+      let some = some_left new in
+      let here = there (after (text is.0) some.0) (is.2.before some.0 some.1) in
+      let same = texts_agree some.0.ending is.0 t some.0.bytes here.0 is.1 has (is.3 some.0 some.1) here.2 here.1 in
       subst (Told v) same.0 is.4
-  reads_what_is_there L P Told lines (Some a) new (Err fault) ok err found t has stands =
-      grind (arith, is_memory, text_has_no_fault, known_fault)
+  reads_what_is_there L P Told lines old new (Err fault) ok err found t has there =
+      let here = there err.input err.may in
+      elim (is_memory fault) [
+        | inl memory ↦ memory
+        | inr other ↦
+            let known = known_fault (L err.input.bytes) (IsFault lines err.input.ending err.input.bytes) fault other err.is_so in
+            absurd (text_has_no_fault lines err.input.ending t here.0 fault has here.2 (rw here.1 at known))
+      ]
 
 -- ---- what the line ahead is, by what was taken of it and by what its fields say
 
 -- what holds of the front of the input
-abbrev pub AtFront : Option Ahead → (Ending → Front → Type 0) → Type 0
-AtFront old P = IfSome old (λ a. P a.ending (front_of a.bytes))
+abbrev pub AtFront : Left → (Ending → Front → Type 0) → Type 0
+AtFront old P = OfLeft old (λ a. P a.ending (front_of a.bytes))
 
 over_by : (P : Ending → Front → Type 0) (end : Ending) (given : List ℕ) → IsPartOfLine given → P end Unfinished → P end Nothing → P end (front_of given)
 over_by P end [] part some none = none
 over_by P end (b ∷ given) part some none = subst (P end) (sym (front_unfinished (b ∷ given) part (omega arith))) some
 
 -- a read failed
-pub at_failure : (P : Ending → Front → Type 0) (old new : Option Ahead) (given : List ℕ) → Takes old new given → IsPartOfLine given
+pub at_failure : (P : Ending → Front → Type 0) (old new : Left) (given : List ℕ) → Takes old new given → IsPartOfLine given
     → IsOver Failure new → P Failure Unfinished → P Failure Nothing → AtFront old P
 at_failure P old new given taken part over some none =
     before_end old new Failure given (λ e b. P e (front_of b)) taken over (over_by P Failure given part some none)
 
 -- the input ended after some bytes
-pub at_cut : (P : Ending → Front → Type 0) (old new : Option Ahead) (given : List ℕ) → Takes old new given → IsPartOfLine given
+pub at_cut : (P : Ending → Front → Type 0) (old new : Left) (given : List ℕ) → Takes old new given → IsPartOfLine given
     → IsOver EndOfInput new → 0 < length given → P EndOfInput Unfinished → AtFront old P
 at_cut P old new given taken part over more holds =
     before_end old new EndOfInput given (λ e b. P e (front_of b)) taken over (subst (P EndOfInput) (sym (front_unfinished given part more)) holds)
 
 -- the line was too long
-pub at_long : (P : Ending → Front → Type 0) (old new : Option Ahead) (given : List ℕ) (b : ℕ) → Takes old new (given ++ b ∷ []) → IsPartOfLine given
+pub at_long : (P : Ending → Front → Type 0) (old new : Left) (given : List ℕ) (b : ℕ) → Takes old new (given ++ b ∷ []) → IsPartOfLine given
     → length given ≡ longest_line → is_line_feed b ≡ false → ((e : Ending) → P e TooLong) → AtFront old P
-at_long P old new given b taken part full other holds = grind (arith, front_too_long)
+at_long P old new given b taken part full other holds =
+    before old new (given ++ b ∷ []) (λ e r. P e (front_of r)) taken (λ e more. grind (arith, front_too_long))
 
 -- the line was whole
-pub at_line : (P : Ending → Front → Type 0) (old new : Option Ahead) (bytes : List ℕ) → Takes old new (line bytes) → IsPartOfLine bytes
+pub at_line : (P : Ending → Front → Type 0) (old new : Left) (bytes : List ℕ) → Takes old new (line bytes) → IsPartOfLine bytes
     → ((e : Ending) (rest : List ℕ) → P e (Whole bytes rest)) → AtFront old P
 at_line P old new bytes taken part holds =
     before old new (line bytes) (λ e r. P e (front_of r)) taken (λ e more. subst (P e) (sym (whole bytes more part)) (holds e more))
 
 -- where no line is whole there is none
-pub no_line : (long : TextFault) (old : Option Ahead) (fault : TextFault) → FaultAtFront (BrokenLineFault long) old fault
+pub no_line : (long : TextFault) (old : Left) (fault : TextFault) → FaultAtFront (BrokenLineFault long) old fault
     → FaultAtFront (NoLineFault long) old fault
-no_line long None fault h = tt
-no_line long (Some a) fault h = grind (arith, h)
+no_line long old fault h = let broken = h.is_so in record { input = h.input; may = h.may; is_so = grind (arith, broken) }
 
 -- ---- items
 
 -- a line with a fault is that of the next item
-pub items_faulty : {A : Type 0} (format : Format A) (n k : ℕ) (old new : Option Ahead) (bytes : List ℕ) (r : Result (Option A) TextFault)
+pub items_faulty : {A : Type 0} (format : Format A) (n k : ℕ) (old new : Left) (bytes : List ℕ) (r : Result (Option A) TextFault)
     → Takes old new (line bytes) → IsPartOfLine bytes → r ≡ item_in format n k bytes
     → IfErr r (FaultAtFront (λ end fault front. item_at_front format n k end front ≡ Err fault) old)
 items_faulty format n k old new bytes (Ok item) taken part e = tt
@@ -278,7 +286,7 @@ items_faulty format n k old new bytes (Err fault) taken part e =
 -- ---- whole lines
 
 -- a faulty next line has been counted
-pub next_line_faulty : {A : Type 0} (read : ℕ → List (List ℕ) → Result A TextFault) (n m : ℕ) (old new : Option Ahead) (bytes : List ℕ)
+pub next_line_faulty : {A : Type 0} (read : ℕ → List (List ℕ) → Result A TextFault) (n m : ℕ) (old new : Left) (bytes : List ℕ)
     (r : Result A TextFault) → m ≡ n → Takes old new (line bytes) × IsPartOfLine bytes → r ≡ read m (fields_of bytes)
     → IfErr r (FaultAtFront (λ end fault front. line_at_front read n end front ≡ Err fault) old)
 next_line_faulty read n m old new bytes (Ok said) same taken e = tt
@@ -286,40 +294,64 @@ next_line_faulty read n m old new bytes (Err fault) same taken e =
     at_line (λ end front. line_at_front read n end front ≡ Err fault) old new bytes taken.0 taken.1 (λ end rest. rw (← same, ← e) refl)
 
 -- the line of an item is taken
-pub required_taken : {A : Type 0} (format : Format A) (old new : Option Ahead) (bytes : List ℕ) (r : Result A TextFault) → Takes old new (line bytes)
+pub required_taken : {A : Type 0} (format : Format A) (old new : Left) (bytes : List ℕ) (r : Result A TextFault) → Takes old new (line bytes)
     → IfOk r (IsSpelled format (fields_of bytes)) → IfOk r (λ item. Takes old new (line_of format item) × format.HasLine item)
 required_taken format old new bytes (Ok item) taken spelled =
     (subst (λ b. Takes old new (line b)) (sym (join_with_byte-slice_split 32 bytes) ∙ ap spaced spelled.text) taken, spelled.line)
 required_taken format old new bytes (Err fault) taken spelled = tt
 
 -- a fault of the input isn't out of memory
-pub first_is : (IsFault : Ending → List ℕ → TextFault → Type 0) (LacksRoom : List ℕ → Type 0) (old : Option Ahead) (fault : TextFault)
-    → IsOfInput fault → IfSome old (λ a. IsFault a.ending a.bytes fault) → HasFirstFault IsFault LacksRoom old fault
-first_is F L None fault other h = tt
-first_is F L (Some a) Memory other h = absurd other
-first_is F L (Some a) fault other h = h
+pub first_is : (IsFault : Ending → List ℕ → TextFault → Type 0) (LacksRoom : List ℕ → Type 0) (old : Left) (fault : TextFault)
+    → IsOfInput fault → OfLeft old (λ a. IsFault a.ending a.bytes fault) → HasFirstFault IsFault LacksRoom old fault
+first_is F L old Memory other h = absurd other
+first_is F L old fault other h = h
 
 -- what holds of the input after a front holds of the whole
-moved : (P Q : Ending → List ℕ → Type 0) (old mid : Option Ahead) (front : List ℕ) → Takes old mid front
-    → ((e : Ending) (r : List ℕ) → P e r → Q e (front ++ r)) → IfSome mid (λ a. P a.ending a.bytes) → IfSome old (λ a. Q a.ending a.bytes)
-moved P Q None mid front taken step h = tt
-moved P Q (Some a) None front taken step h = absurd taken
-moved P Q (Some a) (Some b) front taken step h = grind arith
+pub moved : (P Q : Ahead → Type 0) (old mid : Left) (front : List ℕ) → Takes old mid front → ((a : Ahead) → P a → Q (after front a))
+    → OfLeft mid P → OfLeft old Q
+moved P Q old mid front taken step h = record { input = after front h.input; may = taken.before h.input h.may; is_so = step h.input h.is_so }
 
 -- a fault of the line after a taken front, line m, is one of the whole input
 pub line_fault : (P : ℕ → Ending → List ℕ → TextFault → Type 0) (Q : Ending → List ℕ → TextFault → Type 0) (LacksRoom : List ℕ → Type 0) (n m : ℕ)
-    (old mid : Option Ahead) (front : List ℕ) (fault : TextFault) → m ≡ n → IsOfInput fault → Takes old mid front
+    (old mid : Left) (front : List ℕ) (fault : TextFault) → m ≡ n → IsOfInput fault → Takes old mid front
     → ((e : Ending) (r : List ℕ) → P n e r fault → Q e (front ++ r) fault)
-    → IfSome mid (λ a. P m a.ending a.bytes fault) → HasFirstFault Q LacksRoom old fault
+    → OfLeft mid (λ a. P m a.ending a.bytes fault) → HasFirstFault Q LacksRoom old fault
 line_fault P Q L n m old mid front fault same of_input taken step h = first_is Q L old fault of_input
-    (moved (λ e r. P m e r fault) (λ e r. Q e r fault) old mid front taken (λ e r. rw same (step e r)) h)
+    (moved (λ a. P m a.ending a.bytes fault) (λ a. Q a.ending a.bytes fault) old mid front taken (λ a. rw same (step a.ending a.bytes)) h)
 
 -- a first fault of what follows a taken front, from line m on, is a first one of the whole input
 pub later_fault : (P : ℕ → Ending → List ℕ → TextFault → Type 0) (Q : Ending → List ℕ → TextFault → Type 0) (L M : List ℕ → Type 0) (n m : ℕ)
-    (old mid : Option Ahead) (front : List ℕ) (fault : TextFault) → m ≡ n → Takes old mid front
+    (old mid : Left) (front : List ℕ) (fault : TextFault) → m ≡ n → Takes old mid front
     → ((e : Ending) (r : List ℕ) (f : TextFault) → P n e r f → Q e (front ++ r) f) → ((r : List ℕ) → L r → M (front ++ r))
     → HasFirstFault (P m) L mid fault → HasFirstFault Q M old fault
-later_fault P Q L M n m old mid front fault same taken step room h = grind (arith, moved, follows)
+later_fault P Q L M n m old mid front fault same taken step room h =
+    moved (λ a. MemoryOr (L a.bytes) (P m a.ending a.bytes) fault) (λ a. MemoryOr (M a.bytes) (Q a.ending a.bytes) fault) old mid front taken
+    (λ a. follows (L a.bytes) (M (front ++ a.bytes)) (P m a.ending a.bytes) (Q a.ending (front ++ a.bytes)) fault (room a.bytes)
+    (λ f. rw same (step a.ending a.bytes f))) h
+
+-- the fault of the line after some items, line m, is the first of their lines
+pub item_fault : {A : Type 0} (format : Format A) (items : List A) (n m k : ℕ) (old mid : Left) (fault : TextFault) → HaveLines format items
+    → k ≡ length items → m ≡ n + k → IsOfInput fault → Takes old mid (lines_of format items)
+    → FaultAtFront (λ end f front. item_at_front format m k end front ≡ Err f) mid fault → HasItemsFault format n old fault
+item_fault format items n m k old mid fault right count same of_input taken h =
+    line_fault (λ j e r f. item_at_front format j k e (front_of r) ≡ Err f) (λ e b f. ItemFault format n e f b) (NoRoom format) (n + k) m old mid
+    (lines_of format items) fault same of_input taken
+    (λ e r next. record {
+      items = items;
+      rest = r;
+      right = right;
+      front = refl;
+      next = subst (λ (j : ℕ). item_at_front format (n + j) j e (front_of r) ≡ Err fault) count next;
+    }) h
+
+-- so is that of the line after fewer items than were told
+pub among_fault : {A : Type 0} (format : Format A) (many : ℕ) (items : List A) (n m : ℕ) (old mid : Left) (fault : TextFault)
+    → AllByRecursion format.HasLine items → length items < many → m ≡ n + length items → IsOfInput fault → Takes old mid (lines_of format items)
+    → FaultAtFront (λ end f front. line_at_front format.read m end front ≡ Err f) mid fault → HasFaultAmong format many n old fault
+among_fault format many items n m old mid fault each fewer same of_input taken h =
+    line_fault (λ j e r f. LineFault format.read j e f r) (λ e b f. FaultAmong format many n e f b) (NoRoomAmong format many) (n + length items) m
+    old mid (lines_of format items) fault same of_input taken
+    (λ e r next. record { items = items; rest = r; fewer = fewer; each = each; front = refl; next = next }) h
 
 -- ---- one more item
 
@@ -330,36 +362,39 @@ HaveLines-push format items x right last few =
     grind (arith, nat_tests, common_steps, recursion_from_All, All-push, All-from_recursion, length-append)
 
 -- the lines of the items so far and of one more are taken
-pub takes_item : {A : Type 0} (format : Format A) (items : List A) (x : A) (old mid new : Option Ahead) → Takes old mid (lines_of format items)
+pub takes_item : {A : Type 0} (format : Format A) (items : List A) (x : A) (old mid new : Left) → Takes old mid (lines_of format items)
     → Takes mid new (line_of format x) → Takes old new (lines_of format (items ++ x ∷ []))
 takes_item format items x old mid new h k =
     rw (flat_map-append (line_of format) items (x ∷ []), append-nil (line_of format x)) (Takes-append old mid new _ _ h k)
 
 -- one item more than there is room for, of as many as were told
-pub no_room_among : {A : Type 0} (format : Format A) (k : ℕ) (items : List A) (x : A) (old mid new : Option Ahead) → HaveLines format items
+pub no_room_among : {A : Type 0} (format : Format A) (k : ℕ) (items : List A) (x : A) (old mid new : Left) → HaveLines format items
     → Takes old mid (lines_of format items) → length items < k → k ≤ format.most → format.HasLine x → Takes mid new (line_of format x)
-    → IfSome old (λ a. NoRoomAmong format k a.bytes)
-no_room_among format k items x None mid new right taken fewer most has now = tt
-no_room_among format k items x (Some a) None new right taken fewer most has now = absurd taken
-no_room_among format k items x (Some a) (Some b) None right taken fewer most has now = absurd now
-no_room_among format k items x (Some a) (Some b) (Some c) right taken fewer most has now = record {
-  room = record {
-    items = items;
-    last = x;
-    rest = c.bytes;
-    right = HaveLines-push format items x right has (omega (arith, fewer, most));
-    front = (takes_item format items x (Some a) (Some b) (Some c) taken now).0;
-  };
-  fewer = fewer;
-}
+    → OfLeft old (λ a. NoRoomAmong format k a.bytes)
+no_room_among format k items x old mid new right taken fewer most has now =
+    let some = some_left new in
+    let all = takes_item format items x old mid new taken now in record {
+      input = after (lines_of format (items ++ x ∷ [])) some.0;
+      may = all.before some.0 some.1;
+      is_so = record {
+        room = record {
+          items = items;
+          last = x;
+          rest = some.0.bytes;
+          right = HaveLines-push format items x right has (omega (arith, fewer, most));
+          front = refl;
+        };
+        fewer = fewer;
+      };
+    }
 
 -- one item more than there may be
-pub no_room : {A : Type 0} (format : Format A) (items : List A) (x : A) (old mid new : Option Ahead) → HaveLines format items
+pub no_room : {A : Type 0} (format : Format A) (items : List A) (x : A) (old mid new : Left) → HaveLines format items
     → Takes old mid (lines_of format items) → length items < format.most → format.HasLine x → Takes mid new (line_of format x)
-    → IfSome old (λ a. NoRoom format a.bytes)
-no_room format items x None mid new right taken few range now = tt
-no_room format items x (Some a) mid new right taken few range now =
-    (no_room_among format format.most items x (Some a) mid new right taken few (omega arith) range now).room
+    → OfLeft old (λ a. NoRoom format a.bytes)
+no_room format items x old mid new right taken few range now =
+    let lacks = no_room_among format format.most items x old mid new right taken few (omega arith) range now in
+    record { input = lacks.input; may = lacks.may; is_so = lacks.is_so.room }
 
 -- ---- answers
 
@@ -371,17 +406,17 @@ carries (Err y) fault is = cc
 -- ---- histories of either version: the first line
 
 -- another line is that of none
-pub other_version : (old new : Option Ahead) (bytes : List ℕ) → Takes old new (line bytes) → IsPartOfLine bytes
+pub other_version : (old new : Left) (bytes : List ℕ) → Takes old new (line bytes) → IsPartOfLine bytes
     → ((version : Version) → bytes ≡ header_of version → ⊥) → FaultAtFront NoVersionFault old Header
-other_version None new bytes taken part other = tt
-other_version (Some a) new bytes taken part other = λ version.
-    let differ : bytes_eq bytes (header_of version) ≡ false = false_from_ne_true _ (λ same. other version (text_is bytes (header_of version) same)) in
-    at_line (λ end front. header_fault (header_of version) end front ≡ Some Header) (Some a) new bytes taken part (λ end rest. rw differ refl)
+other_version old new bytes taken part other =
+    let differ : (version : Version) → bytes_eq bytes (header_of version) ≡ false =
+    λ version. false_from_ne_true _ (λ same. other version (text_is bytes (header_of version) same)) in
+    at_line (λ end front. NoVersionFault end Header front) old new bytes taken part (λ end rest version. rw (differ version) refl)
 
 -- ---- histories of either version: the events
 
 -- a line after those before the events has it
-pub event_is_first : (version : Version) (initial : List ℕ) (lines n : ℕ) (old mid : Option Ahead) (fault : TextFault)
+pub event_is_first : (version : Version) (initial : List ℕ) (lines n : ℕ) (old mid : Left) (fault : TextFault)
     → n ≡ lines + count_before_events version initial + 1 → HaveValueLines version initial → Takes old mid (lines_before_events version initial)
     → HasItemsFault event_format n mid fault → HasTextFault lines old fault
 event_is_first One initial lines n old mid fault n_is right taken h =

@@ -1,5 +1,6 @@
 -- Two claims whose texts are one input are one, and an input has one first fault.
 use Rattle.history_text.proofs.Common.{[], Ahead, ap, append-nil, append_assoc, arith, claim_line_format, ClaimFault}
+use Rattle.history_text.proofs.Common.{Left}
 use Rattle.history_text.proofs.Common.{codes, Ending, EndOfInput, Err, false, first_line, FirstLineFault, Format}
 use Rattle.history_text.proofs.Common.{Front, front_of, HasVerdictText, HaveLines, inl, inr, IsAll, IsVerdictTextFault}
 use Rattle.history_text.proofs.Common.{Line, line, lines_of, List, None, Nothing, Ok, operation_format, Option, refl}
@@ -87,9 +88,9 @@ pub judged : IsJudged HasVerdictText verdict_text IsLast IsVerdictTextFault verd
 judged = record { read = read; found = found }
 
 -- a verdict that is all of the input stands there
-pub stands : (old : Option Ahead) (text : List ℕ) → IsAll old text → Stands IsLast old text
-stands None text all = absurd all
-stands (Some a) text all = ([], all.0 ∙ sym (append-nil text), (refl, all.1))
+pub stands : (old : Left) (text : List ℕ) → IsAll old text → Stands IsLast old text
+stands old text all = λ a may.
+    let is = all a may in ([], ap (λ (b : Ahead). b.bytes) is ∙ sym (append-nil text), (refl, ap (λ (b : Ahead). b.ending) is))
 
 -- two claims of one text are one
 pub texts_agree : (c d : Claimed) → HasVerdictText c → HasVerdictText d → verdict_text c ≡ verdict_text d → c ≡ d

@@ -1,11 +1,16 @@
 -- From a fault of one line to the first fault of a text whose calls may be pending.
 use Rattle.history_text.proofs.Common.{Ahead, ap, append_assoc, arith, bytes_eq, count_before_events, Ending, Err, Event}
+use Rattle.history_text.proofs.Common.{after, Left, OfLeft}
 use Rattle.history_text.proofs.Common.{event_format, false, false_from_ne_true, FaultAtFront, front_of, HasFirstFault, HasTextFault}
 use Rattle.history_text.proofs.Common.{HaveLines, HaveValueLines, header_fault, header_of, Header, IfErr, IfSome, inl, inr}
 use Rattle.history_text.proofs.Common.{IsOfInput, IsPartOfLine, IsTextFault, ItemFault, length, line, lines_of, lines_of_initial, List}
-use Rattle.history_text.proofs.Common.{None, NoRoom, NoRoomForText, Ok, One, Option, refl, Result, Some, subst, sym, Takes, Takes-append, text_is}
+use Rattle.history_text.proofs.Common.{None, NoRoom, NoRoomForText, Ok, One, Option, refl, Result, Some, subst, sym, Takes, text_is}
 use Rattle.history_text.proofs.Common.{TextFault, true, Two, Version, ℕ, ◌++◌, ◌+◌, ◌≡◌}
-use Rattle.history_text.proofs.FirstFaults.{at_line, later_fault, line_fault}
+use Rattle.history_text.proofs.Common.{append-nil, count_format, end_line, FaultAmong, IfOk, line_of, lines_before_events, MAX_INITIAL, NoRoomAmong}
+use Rattle.history_text.proofs.Common.{NoVersionFault, value_format}
+use Rattle.history_text.proofs.FirstFaults.{at_line, first_is, later_fault, line_fault}
+use Rattle.history_text.specs.Inner.Taking.{HasFaultAmong}
+use Rattle.std.proofs.Common.{◌≤◌}
 use Rattle.history_text.specs.Inner.Pending.{HasEventsFault, IsStop, NoRoomForValues, ValuesFault}
 use Rattle.history_text.specs.Pending.{event_line_in, FaultAfterEvents, first_line_of, HasPendingText, HasPendingTextFault}
 use Rattle.history_text.specs.Pending.{IsCutText, IsPendingTextFault, last_line_in, lines_after_stop, NoFirstLine, NoRoomForPending, pending_text, StopsAfter}
@@ -14,11 +19,12 @@ use Rattle.history_text.specs.declared.pending_text.PendingText.{PendingText}
 use Rattle.std.proofs.Common.{Bool, ◌≢◌}
 use Rattle.text_lines.specs.Faults.{MemoryOr}
 use Rattle.text_lines.specs.declared.fault.TextFault.TheVariants.{Cut, Memory}
+use Rattle.history_text.proofs.Consuming.{taken_through, Takes-append}
 
 -- ---- one line
 
 -- a faulty next line has been counted
-pub whole_line_faulty : {A : Type 0} (read : ℕ → List ℕ → Result A TextFault) (n m : ℕ) (old new : Option Ahead) (bytes : List ℕ)
+pub whole_line_faulty : {A : Type 0} (read : ℕ → List ℕ → Result A TextFault) (n m : ℕ) (old new : Left) (bytes : List ℕ)
     (r : Result A TextFault) → m ≡ n → Takes old new (line bytes) × IsPartOfLine bytes → r ≡ read m bytes
     → IfErr r (FaultAtFront (λ end fault front. whole_line_at_front (read n) n end front ≡ Err fault) old)
 whole_line_faulty read n m old new bytes (Ok said) same taken e = tt
@@ -26,17 +32,16 @@ whole_line_faulty read n m old new bytes (Err fault) same taken e =
     at_line (λ end front. whole_line_at_front (read n) n end front ≡ Err fault) old new bytes taken.0 taken.1 (λ end rest. rw (← same, ← e) refl)
 
 -- another line is the first of none
-pub other_first : (old new : Option Ahead) (bytes : List ℕ) → Takes old new (line bytes) → IsPartOfLine bytes
+pub other_first : (old new : Left) (bytes : List ℕ) → Takes old new (line bytes) → IsPartOfLine bytes
     → ((is_pending : Bool) (version : Version) → bytes ≡ first_line_of is_pending version → ⊥) → FaultAtFront NoFirstLine old Header
-other_first None new bytes taken part other = tt
-other_first (Some a) new bytes taken part other = λ is_pending version.
-    let first = first_line_of is_pending version in
-    let differ : bytes_eq bytes first ≡ false = false_from_ne_true _ (λ same. other is_pending version (text_is bytes first same)) in
-    at_line (λ end front. header_fault first end front ≡ Some Header) (Some a) new bytes taken part (λ end rest. rw differ refl)
+other_first old new bytes taken part other =
+    let differ : (is_pending : Bool) (version : Version) → bytes_eq bytes (first_line_of is_pending version) ≡ false =
+    λ is_pending version. false_from_ne_true _ (λ same. other is_pending version (text_is bytes (first_line_of is_pending version) same)) in
+    at_line (λ end front. NoFirstLine end Header front) old new bytes taken part (λ end rest is_pending version. rw (differ is_pending version) refl)
 
 -- ---- the lines of events, and those after them
 
-module _ (is_pending : Bool) (n m : ℕ) (events : List Event) (right : HaveLines event_format events) (old mid : Option Ahead) (fault : TextFault)
+module _ (is_pending : Bool) (n m : ℕ) (events : List Event) (right : HaveLines event_format events) (old mid : Left) (fault : TextFault)
     (of_input : IsOfInput fault) where
   -- the fault of a line after these events
   pub stops_after : m ≡ n + length events → Takes old mid (lines_of event_format events)
@@ -68,6 +73,52 @@ module _ (is_pending : Bool) (n m : ℕ) (events : List Event) (right : HaveLine
         },
       )) h
 
+-- the line that counts the events comes after the one that counts pending calls
+pub counted_taken : (is_pending : Bool) (calls : Option ℕ) (events : List Event) (old mid stop new : Left) → IsStop is_pending calls → is_pending ≡ true
+    → Takes old mid (lines_of event_format events) → Takes mid stop (stop_line calls (length events)) → Takes stop new (end_line (length events))
+    → Takes old new (lines_of event_format events ++ (stop_line calls (length events) ++ lines_after_stop calls (length events)))
+counted_taken is_pending None events old mid stop new is pending lines here last = let other = is.of_kind in absurd (cc)
+counted_taken is_pending (Some calls) events old mid stop new is pending lines here last =
+    Takes-append old mid new _ _ lines (Takes-append mid stop new _ _ here last)
+
+-- and nothing comes after it, if no pending calls are counted
+pub plain_taken : (is_pending : Bool) (calls : Option ℕ) (events : List Event) (old mid stop : Left) → IsStop is_pending calls → is_pending ≡ false
+    → Takes old mid (lines_of event_format events) → Takes mid stop (stop_line calls (length events))
+    → Takes old stop (lines_of event_format events ++ (stop_line calls (length events) ++ lines_after_stop calls (length events)))
+plain_taken is_pending (Some calls) events old mid stop is plain lines here = let other = is.of_kind in absurd (cc)
+plain_taken is_pending None events old mid stop is plain lines here =
+    Takes-append old mid stop _ _ lines (rw append-nil here)
+
+-- ---- the initial values
+
+-- what is read of them
+pub values_read : {V : Type 0} (items_of : V → List ℕ) (count : ℕ) (old mid new : Left) (r : Result V TextFault) → Takes old mid (line_of count_format count)
+    → IfOk r (λ v. HaveLines value_format (items_of v) × Takes mid new (lines_of value_format (items_of v))) → IfOk r (λ v. length (items_of v) ≡ count)
+    → IfOk r (λ v. HaveValueLines Two (items_of v) × Takes old new (value_lines Two (items_of v)))
+values_read items_of count old mid new (Err fault) first read long = tt
+values_read items_of count old mid new (Ok v) first read long =
+    (read.0, Takes-append old mid new _ _ (subst (λ k. Takes old mid (line_of count_format k)) (sym long) first) read.1)
+
+-- and their fault
+pub values_fault : {V : Type 0} (count n m : ℕ) (old mid : Left) (r : Result V TextFault) → count ≤ MAX_INITIAL → m ≡ n + 1
+    → Takes old mid (line_of count_format count) → IfErr r (HasFaultAmong value_format count m mid)
+    → IfErr r (HasFirstFault (ValuesFault Two n) (NoRoomForValues Two) old)
+values_fault count n m old mid (Ok v) few same first h = tt
+values_fault count n m old mid (Err fault) few same first h =
+    later_fault (λ k e b f. FaultAmong value_format count k e f b) (ValuesFault Two n) (NoRoomAmong value_format count) (NoRoomForValues Two) (n + 1) m
+    old mid (line_of count_format count) fault same first (λ e b f k. inr (count, few, (b, refl, k))) (λ b k. (count, few, (b, refl, k))) h
+
+-- the lines before the events
+pub lines_before_taken : (version : Version) (initial : List ℕ) (old mid new : Left) → Takes old mid (line (header_of version))
+    → Takes mid new (value_lines version initial) → Takes old new (lines_before_events version initial)
+lines_before_taken One initial old mid new first none = taken_through old mid new _ first none
+lines_before_taken Two initial old mid new first values = Takes-append old mid new _ _ first values
+
+-- a first line that is that of no version
+pub version_fault : (lines : ℕ) (old : Left) (fault : TextFault) → IsOfInput fault → FaultAtFront NoVersionFault old fault → HasTextFault lines old fault
+version_fault lines old fault of_input h =
+    first_is (IsTextFault lines) NoRoomForText old fault of_input (record { input = h.input; may = h.may; is_so = inl h.is_so })
+
 -- ---- the whole text
 
 -- what is known of a fault holds of it, out of memory aside
@@ -75,13 +126,15 @@ known_too : (L : Type 0) (P Q : TextFault → Type 0) (fault : TextFault) → Q 
 known_too L P Q Memory known h = h
 known_too L P Q fault known h = (h, known)
 
-has_known : (P Q : Ending → List ℕ → TextFault → Type 0) (L : List ℕ → Type 0) (old : Option Ahead) (fault : TextFault)
+has_known : (P Q : Ending → List ℕ → TextFault → Type 0) (L : List ℕ → Type 0) (old : Left) (fault : TextFault)
     → ((e : Ending) (b : List ℕ) → Q e b fault) → HasFirstFault P L old fault → HasFirstFault (λ e b f. P e b f × Q e b f) L old fault
-has_known P Q L None fault known h = tt
-has_known P Q L (Some a) fault known h = known_too (L a.bytes) (P a.ending a.bytes) (Q a.ending a.bytes) fault (known a.ending a.bytes) h
+has_known P Q L old fault known h =
+    let e = h.input.ending in
+    let b = h.input.bytes in
+    record { input = h.input; may = h.may; is_so = known_too (L b) (P e b) (Q e b) fault (known e b) h.is_so }
 
 -- a fault of the lines of initial values of a history
-pub history_values_first : (version : Version) (lines m : ℕ) (old mid : Option Ahead) (fault : TextFault) → m ≡ lines + 2
+pub history_values_first : (version : Version) (lines m : ℕ) (old mid : Left) (fault : TextFault) → m ≡ lines + 2
     → Takes old mid (line (header_of version)) → HasFirstFault (ValuesFault version m) (NoRoomForValues version) mid fault → HasTextFault lines old fault
 history_values_first version lines m old mid fault same taken h =
     later_fault (λ k e r f. ValuesFault version k e r f) (IsTextFault lines) (NoRoomForValues version) NoRoomForText (lines + 2) m old mid
@@ -95,7 +148,7 @@ history_values_first version lines m old mid fault same taken h =
     room One r k = absurd k
     room Two r k = (Two, (r, refl, inl k))
 
-module _ (takes_cut is_pending : Bool) (version : Version) (lines m : ℕ) (old mid : Option Ahead) (fault : TextFault) where
+module _ (takes_cut is_pending : Bool) (version : Version) (lines m : ℕ) (old mid : Left) (fault : TextFault) where
   -- a fault of the lines of initial values
   pub values_first : m ≡ lines + 2 → Takes old mid (line (first_line_of is_pending version))
       → HasFirstFault (ValuesFault version m) (NoRoomForValues version) mid fault → HasPendingTextFault takes_cut lines old fault
@@ -145,23 +198,16 @@ module _ (takes_cut is_pending : Bool) (version : Version) (lines m : ℕ) (old 
   -- what is read of a text that is cut off
   pub cut_read : (t : PendingText) → version ≡ t.version → m ≡ lines + count_before_events t.version t.initial + 1 → HaveValueLines t.version t.initial
       → Takes old mid (line (first_line_of is_pending t.version) ++ value_lines t.version t.initial) → fault ≡ Cut
-      → HasEventsFault is_pending m mid t.events t.open_calls fault → IfSome old (λ a. IsCutText lines a t)
-  cut_read t of same right taken cut h = found old mid taken (rw (same, cut) at h)
-    where
-      found : (a b : Option Ahead) → Takes a b (line (first_line_of is_pending t.version) ++ value_lines t.version t.initial)
-          → HasEventsFault is_pending (lines + count_before_events t.version t.initial + 1) b t.events t.open_calls Cut → IfSome a (λ x. IsCutText lines x t)
-      found None b took is = tt
-      found (Some a) None took is = absurd took
-      found (Some a) (Some b) took is = record {
-        is_pending = is_pending;
-        initial = right;
-        rest = b.bytes;
-        front = took.0;
-        cut = rw took.1 at is;
+      → HasEventsFault is_pending m mid t.events t.open_calls fault → OfLeft old (λ a. IsCutText lines a t)
+  cut_read t of same right taken cut h =
+      let is = rw (same, cut) at h in record {
+        input = after (line (first_line_of is_pending t.version) ++ value_lines t.version t.initial) is.input;
+        may = taken.before is.input is.may;
+        is_so = record { is_pending = is_pending; initial = right; rest = is.input.bytes; front = refl; cut = is.is_so };
       }
 
 -- what is read of a text that is whole
-pub whole_read : (t : PendingText) (is_pending : Bool) (old a b new : Option Ahead) → Takes old a (line (first_line_of is_pending t.version))
+pub whole_read : (t : PendingText) (is_pending : Bool) (old a b new : Left) → Takes old a (line (first_line_of is_pending t.version))
     → HaveValueLines t.version t.initial → Takes a b (value_lines t.version t.initial) → HaveLines event_format t.events → IsStop is_pending t.open_calls
     → Takes b new (lines_of event_format t.events ++ (stop_line t.open_calls (length t.events) ++ lines_after_stop t.open_calls (length t.events)))
     → HasPendingText t × Takes old new (pending_text t)

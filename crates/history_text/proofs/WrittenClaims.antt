@@ -18,6 +18,7 @@ use Rattle.recorder_core.proofs.Ticketed.{operation_events}
 use Rattle.verdicts.specs.declared.verdict.Verdict.{Verdict}
 use Rattle.verdicts.specs.declared.verdict.Verdict.TheVariants as found
 use Rattle.verdicts.specs.declared.shown.LinePlace.{LinePlace}
+use Rattle.history_merge.proofs.Lists.{some_of}
 use Rattle.verdicts.specs.declared.shown.LinePlace.TheVariants as place
 
 -- a complete history has a text
@@ -63,10 +64,6 @@ mapped : {X Y : Type 0} (P : Y → Type 0) (f : X → Y) (o : Option X) (y : Y) 
 mapped P f None y is each = cc
 mapped P f (Some x) y is each = let same : f x ≡ y = cc in subst P same (each x refl)
 
-few_places : {X Y : Type 0} (at : Y → Option X) (places : List Y) → length (filter_map at places) ≤ length places
-few_places at [] = omega arith
-few_places at (p ∷ places) = grind (arith, few_places at places)
-
 -- ---- the operations of a `YES`
 
 module _ (initial : List ℕ) (events : List Event) (values : AllByRecursion (λ v. v ≤ greatest_value) initial) (text : HasHistoryText events) where
@@ -82,12 +79,12 @@ module _ (initial : List ℕ) (events : List Event) (values : AllByRecursion (λ
   claim_by_parts : (verdict : Verdict) → length (verdict_places verdict) ≤ MAX_CLAIM_LINES → HasVerdictText (claim_of initial (operations_of events) verdict)
   claim_by_parts (found.Yes places) few = record {
     each = at_places HasOperationLine (slice_get (operations_of events)) places has_line_at;
-    few = let fewer = few_places (slice_get (operations_of events)) places in
+    few = let fewer = some_of (slice_get (operations_of events)) places in
         let shown : length (map place.Op places) ≡ length places = simp length-map in omega (arith, fewer, few, shown);
   }
   claim_by_parts (found.No violation) few = record {
     each = at_places HasClaimLine (line_at initial (operations_of events)) (violation_places violation) has_claim_line;
-    few = let fewer = few_places (line_at initial (operations_of events)) (violation_places violation) in omega (arith, fewer, few);
+    few = let fewer = some_of (line_at initial (operations_of events)) (violation_places violation) in omega (arith, fewer, few);
   }
 
 values_of : (version : Version) (initial : List ℕ) → HaveValueLines version initial → AllByRecursion (λ v. v ≤ greatest_value) initial

@@ -7,7 +7,7 @@ use Rattle.event_records.specs.declared.event.Event.{Event}
 use Rattle.event_records.specs.declared.limits.TheConstants.{MAX_EVENTS, MAX_THREADS}
 use Rattle.text_lines.specs.declared.fault.TextFault.{TextFault}
 use Rattle.text_lines.specs.declared.fault.TextFault.TheVariants.{Line, Limit, Cut}
-use Rattle.text_lines.specs.Input.{Ahead, Ending, Takes}
+use Rattle.text_lines.specs.Input.{Ahead, Ending}
 use Rattle.text_lines.specs.Lines.{line, spaced, end_line, Front, Whole, TooLong, Unfinished, Nothing, front_of, fault_at, fields_of, ◌>>=◌}
 use Rattle.text_lines.specs.Lines.{begins_as_end, end_in, header_fault, After}
 use Rattle.text_lines.specs.Forms.{Table, FieldForm, Word, Number}
@@ -17,7 +17,7 @@ use Rattle.history_text.specs.declared.pending_line.EventLine.{EventLine}
 use Rattle.history_text.specs.declared.pending_line.EventLine.TheVariants.{OneEvent, Stop}
 use Rattle.history_text.specs.declared.pending_text.PendingText.{PendingText}
 use Rattle.history_text.specs.Items.{HaveLines, lines_of, read_by}
-use Rattle.history_text.specs.Reading.{HasFirstFault}
+use Rattle.history_text.specs.Reading.{HasFirstFault, Left, OfLeft, Takes}
 use Rattle.history_text.specs.Histories.{event_format, event_in, HasHistoryText}
 use Rattle.history_text.specs.Versions.{HistoryText, header_of, lines_of_initial, count_before_events, HaveValueLines}
 use Rattle.history_text.specs.Versions.{InitialFault, AfterInitial, NoRoomAfterHeader}
@@ -167,14 +167,14 @@ pub record IsCutText (lines : ℕ) (input : Ahead) (t : PendingText) : Type 0 wh
 -- ---- what a call on a reader says
 
 -- the text stands at the front; or what comes of it before the input ends, where that is allowed
-abbrev pub IsPendingRead : Bool → ℕ → Option Ahead → Option Ahead → PendingText → Bool → Type 0
+abbrev pub IsPendingRead : Bool → ℕ → Left → Left → PendingText → Bool → Type 0
 IsPendingRead takes_cut lines old new t true = HasPendingText t × Takes old new (pending_text t)
-IsPendingRead takes_cut lines old new t false = (takes_cut ≡ true) × IfSome old (λ a. IsCutText lines a t)
+IsPendingRead takes_cut lines old new t false = (takes_cut ≡ true) × OfLeft old (λ a. IsCutText lines a t)
 
 -- the first line is right, and so is what comes after it up to where there was no room
 abbrev pub NoRoomForPending : List ℕ → Type 0
 NoRoomForPending bytes = (is_pending : Bool) × (version : Version) × After (line (first_line_of is_pending version)) (NoRoomAfterHeader version) bytes
 
 -- the first fault of such a text
-abbrev pub HasPendingTextFault : Bool → ℕ → Option Ahead → TextFault → Type 0
+abbrev pub HasPendingTextFault : Bool → ℕ → Left → TextFault → Type 0
 HasPendingTextFault takes_cut lines left fault = HasFirstFault (IsPendingTextFault takes_cut lines) NoRoomForPending left fault

@@ -1,61 +1,85 @@
 -- What a call on a reader says of the input that the reader had ahead.
-use Rattle.std.specs.Prelude.{◌≡◌, ℕ, Bool, true, false, List, ◌∷◌, ◌++◌, Option, Some, None, IfSome}
+use Rattle.std.specs.Prelude.{◌≡◌, ℕ, Bool, true, false, List, [], ◌∷◌, ◌++◌}
 use Rattle.text_lines.specs.declared.fault.TextFault.{TextFault}
 use Rattle.text_lines.specs.declared.fault.TextFault.TheVariants.{Read, Trailing}
 use Rattle.text_lines.specs.Faults.{MemoryOr}
-use Rattle.text_lines.specs.Input.{Ahead, Ending, EndOfInput, Failure, IsOver}
+use Rattle.text_lines.specs.Input.{after, Ahead, Ending, EndOfInput, Failure, Known, MayGive, over}
 use Rattle.history_text.specs.Versions.{IsTextFault, NoRoomForText}
 use Rattle.history_text.specs.Schedules.{IsScheduleTextFault, NoRoomForSchedule}
 use Rattle.history_text.specs.Claims.{IsVerdictTextFault, NoRoomForVerdict}
 
--- a reader of texts: what is still to be judged, if the source says it, and what became of the rest
+-- what is left to be judged: bytes that were read, and then what is known of what the source gives
+pub record Left : Type 0 where
+  pub front : List ℕ
+  pub behind : Known
+
+-- a reader of texts: what is left to be judged, and what became of the rest
 pub record Input : Type 0 where
-  pub left : Option Ahead
+  pub left : Left
   pub lines : ℕ  -- how many lines were taken
   pub is_stopped : Bool  -- a call answered a fault
 
--- these bytes first, and then what is known ahead
-abbrev pub with_front : List ℕ → Option Ahead → Option Ahead
-with_front front None = None
-with_front front (Some a) = Some (record { bytes = front ++ a.bytes; ending = a.ending })
+-- as far as it is known, this may be what is left
+abbrev pub MayBeLeft : Left → Ahead → Type 0
+MayBeLeft left a = (more : Ahead) × MayGive left.behind more × (a ≡ after left.front more)
 
--- the first fault of what is ahead, as far as that is known; out of memory says that a line without fault was there
-abbrev pub HasFirstFault : (Ending → List ℕ → TextFault → Type 0) → (List ℕ → Type 0) → Option Ahead → TextFault → Type 0
-HasFirstFault IsFault LacksRoom left fault = IfSome left (λ a. MemoryOr (LacksRoom a.bytes) (IsFault a.ending a.bytes) fault)
+-- some input that may be left is so: the one that is known, if it is known
+pub record OfLeft (left : Left) (IsSo : Ahead → Type 0) : Type 0 where
+  pub input : Ahead
+  pub may : MayBeLeft left input
+  pub is_so : IsSo input
+
+-- these bytes were taken: whatever may be left now may have been left after them
+pub record Takes (old new : Left) (given : List ℕ) : Type 0 where
+  pub before : (a : Ahead) → MayBeLeft new a → MayBeLeft old (after given a)
+
+-- whatever may be left, no byte is, and the input ends so
+pub record IsOver (ending : Ending) (left : Left) : Type 0 where
+  pub only : (a : Ahead) → MayBeLeft left a → a ≡ over ending
+
+-- the first fault of what is left; out of memory says that a line without fault was there
+abbrev pub HasFirstFault : (Ending → List ℕ → TextFault → Type 0) → (List ℕ → Type 0) → Left → TextFault → Type 0
+HasFirstFault IsFault LacksRoom left fault = OfLeft left (λ a. MemoryOr (LacksRoom a.bytes) (IsFault a.ending a.bytes) fault)
 
 -- the first fault of a history's text
-abbrev pub HasTextFault : ℕ → Option Ahead → TextFault → Type 0
+abbrev pub HasTextFault : ℕ → Left → TextFault → Type 0
 HasTextFault lines left fault = HasFirstFault (IsTextFault lines) NoRoomForText left fault
 
 -- the first fault of a schedule's text
-abbrev pub HasScheduleTextFault : ℕ → Option Ahead → TextFault → Type 0
+abbrev pub HasScheduleTextFault : ℕ → Left → TextFault → Type 0
 HasScheduleTextFault lines left fault = HasFirstFault (IsScheduleTextFault lines) NoRoomForSchedule left fault
 
 -- the first fault of a verdict's text
-abbrev pub HasVerdictTextFault : ℕ → Option Ahead → TextFault → Type 0
+abbrev pub HasVerdictTextFault : ℕ → Left → TextFault → Type 0
 HasVerdictTextFault lines left fault = HasFirstFault (IsVerdictTextFault lines) NoRoomForVerdict left fault
 
--- these bytes are known to stand at the front
-abbrev pub BeginsWith : Option Ahead → List ℕ → Type 0
-BeginsWith None text = ⊥
-BeginsWith (Some a) text = (rest : List ℕ) × (a.bytes ≡ text ++ rest)
+-- whatever may be left, these bytes stand at its front
+abbrev pub BeginsWith : Left → List ℕ → Type 0
+BeginsWith left text = (a : Ahead) → MayBeLeft left a → (rest : List ℕ) × (a.bytes ≡ text ++ rest)
 
--- these bytes are known to be all that is left
-abbrev pub IsAll : Option Ahead → List ℕ → Type 0
-IsAll None text = ⊥
-IsAll (Some a) text = (a.bytes ≡ text) × (a.ending ≡ EndOfInput)
+-- whatever may be left, it is these bytes, and no failure
+abbrev pub IsAll : Left → List ℕ → Type 0
+IsAll left text = (a : Ahead) → MayBeLeft left a → a ≡ record { bytes = text; ending = EndOfInput }
 
 -- at least one byte is ahead
 abbrev pub HasMore : Ahead → Type 0
 HasMore a = (b : ℕ) × (more : List ℕ) × (a.bytes ≡ b ∷ more)
 
--- the fault if the input should be over: a byte is ahead, or the source failed
-abbrev pub HasEndFault : Option Ahead → TextFault → Type 0
-HasEndFault left Trailing = IfSome left HasMore
-HasEndFault left Read = IsOver Failure left
-HasEndFault left _ = ⊥
+-- no byte is ahead, but a failure
+abbrev pub Fails : Ahead → Type 0
+Fails a = (a.bytes ≡ []) × (a.ending ≡ Failure)
 
--- whether the input is over: it is, and the source didn't fail; or a byte is ahead
-abbrev pub IsOverIf : Option Ahead → Bool → Type 0
+-- the fault of an input that should be over: a byte is there, or the source failed
+abbrev pub IsEndFault : Ahead → TextFault → Type 0
+IsEndFault a Trailing = HasMore a
+IsEndFault a Read = Fails a
+IsEndFault a _ = ⊥
+
+-- the fault of what is left, which should be nothing
+abbrev pub HasEndFault : Left → TextFault → Type 0
+HasEndFault left fault = OfLeft left (λ a. IsEndFault a fault)
+
+-- whether the input is over: it is, and the source didn't fail; or a byte is ahead, whatever else may be
+abbrev pub IsOverIf : Left → Bool → Type 0
 IsOverIf left true = IsOver EndOfInput left
-IsOverIf left false = IfSome left HasMore
+IsOverIf left false = (a : Ahead) → MayBeLeft left a → HasMore a

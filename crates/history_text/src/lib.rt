@@ -39,5 +39,5 @@ pub use text_lines::{
     Buffered, MemorySource, ReadFailed, TextFault, TextSink, TextSource, Watched, WriteFault,
     write_piece,
 };
-pub use verdict_writer::{violation_line, write_verdict};
+pub use verdict_writer::{violation_line, write_shown, write_verdict};
 pub use version::Version;

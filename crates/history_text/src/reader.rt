@@ -4,7 +4,7 @@ ghost use Rattle.std.specs.Prelude.{option_to_list, is_err, not, Err, Ok, length
 ghost use Rattle.event_records.specs.declared.limits.TheConstants.{MAX_INITIAL};
 ghost use Rattle.verdicts.specs.declared.verifying.Claimed.{Claimed};
 ghost use Rattle.history_text.specs.declared.schedule.Schedule.{Schedule};
-ghost use Rattle.text_lines.specs.Input.{EndOfInput, Failure, Takes, IsOver};
+ghost use Rattle.text_lines.specs.Input.{EndOfInput, Failure};
 ghost use Rattle.text_lines.specs.Lines.{header_fault, line};
 ghost use Rattle.history_text.specs.Items.{item_at_front, line_at_front, line_of, lines_of, HaveLines};
 ghost use Rattle.history_text.specs.Versions.{header_of, NoVersionFault};
@@ -12,8 +12,8 @@ ghost use Rattle.history_text.specs.Versions.{lines_before_events, count_before_
 ghost use Rattle.history_text.specs.Schedules.{schedule_text, HasScheduleText};
 ghost use Rattle.history_text.specs.Verdicts.{verdict_text};
 ghost use Rattle.history_text.specs.Claims.{claim_length, HasVerdictText, first_line, FirstLineFault};
-ghost use Rattle.history_text.specs.Reading.{HasTextFault, HasScheduleTextFault, HasVerdictTextFault, HasEndFault, IsOverIf};
-ghost use Rattle.history_text.specs.Reading.{BeginsWith, IsAll};
+ghost use Rattle.history_text.specs.Reading.{HasTextFault, HasScheduleTextFault, HasVerdictTextFault, HasEndFault, IsOver, IsOverIf, Takes};
+ghost use Rattle.history_text.specs.Reading.{BeginsWith, Fails, IsAll, OfLeft};
 ghost use Rattle.history_text.specs.Inner.Taking.{TakesLine, FaultAtFront, BrokenLineFault, NoLineFault, TakesItem, TakesItems};
 ghost use Rattle.history_text.specs.Inner.Taking.{HasItemsFault, HasFaultAmong, IsOfInput};
 ghost use Rattle.history_text.specs.Inner.Pending.{NoRoomForValues, ValuesFault};
@@ -57,24 +57,24 @@ pub struct TextReader<R: TextSource> {
 
 impl<R: TextSource> Model for TextReader<R> {
     ghost use Rattle.std.specs.Prelude.{◌-◌, ◌≤◌, take, drop};
-    ghost use Rattle.history_text.specs.Reading.{Input, with_front};
-    ghost use Rattle.history_text.specs.Inner.Taking.{IsSeen};
+    ghost use Rattle.history_text.specs.Reading.{Input};
+    ghost use Rattle.history_text.specs.Inner.Taking.{behind};
 
     ghost Value = { Input };
 
     ghost view = { λ r. record {
-      left = with_front (take (r.filled - r.at) (drop r.at r.buffer)) (R.ahead r.source);
+      left = record { front = take (r.filled - r.at) (drop r.at r.buffer); behind = behind r.end (R.ahead r.source) };
       lines = r.lines;
       is_stopped = r.is_stopped;
     } };
 
-    ghost invariant = { λ r. (r.at ≤ r.filled) × (r.filled ≤ 4160) × IsSeen r.end (R.ahead r.source) };
+    ghost invariant = { λ r. (r.at ≤ r.filled) × (r.filled ≤ 4160) };
 }
 
 impl<R: TextSource> TextReader<R> {
     /// Makes a reader at the beginning of its source. It takes no memory, and asks for nothing yet.
     pub fn new(source: R) -> Self
-        ensures { result ≡ record { left = R.ahead source; lines = 0; is_stopped = false } }
+        ensures { result ≡ record { left = record { front = []; behind = R.ahead source }; lines = 0; is_stopped = false } }
     {
         TextReader {
             source,
@@ -453,7 +453,6 @@ impl<R: TextSource> TextReader<R> {
 /// Checks that the input is over: `Trailing` comes if one more byte is there, `Read` if the source fails.
 pub fn at_end<R: TextSource>(reader: &mut TextReader<R>) -> Result<(), TextFault>
     requires { reader.old.is_stopped ≡ false }
-    ensures ok { OnOk result (IsOver EndOfInput reader.old.left) }
     ensures left { OnOk result (Takes reader.old.left reader.new.left [] × IsOver EndOfInput reader.new.left) }
     ensures fault { IfErr result (HasEndFault reader.old.left) }
     ensures lines { reader.new.lines ≡ reader.old.lines }
@@ -474,7 +473,7 @@ pub fn is_at_end<R: TextSource>(reader: &mut TextReader<R>) -> Result<bool, Text
     requires { reader.old.is_stopped ≡ false }
     ensures left { IfOk result (λ _. Takes reader.old.left reader.new.left []) }
     ensures over { IfOk result (λ is_over. IsOverIf reader.new.left is_over) }
-    ensures fault { IfErr result (λ fault. (fault ≡ TextFault.Read) × IsOver Failure reader.old.left) }
+    ensures fault { IfErr result (λ fault. (fault ≡ TextFault.Read) × OfLeft reader.old.left Fails) }
     ensures lines { reader.new.lines ≡ reader.old.lines }
     ensures stopped { reader.new.is_stopped ≡ is_err result }
 {

@@ -1,7 +1,7 @@
 //! What a reader asks of its source.
-ghost use Rattle.std.specs.Prelude.{◌≡◌, ◌+◌, ◌≤◌, IfOk, length, drop, take};
-ghost use Rattle.text_lines.specs.Input.{ReadTakes};
-ghost use Rattle.history_text.specs.Inner.Taking.{IsSeen};
+ghost use Rattle.std.specs.Prelude.{◌≡◌, ◌+◌, ◌≤◌, [], IfOk, OnErr, length, drop, take};
+ghost use Rattle.text_lines.specs.Input.{EndOfInput, Exactly, Failure, Gives, over};
+ghost use Rattle.history_text.specs.Inner.Taking.{behind};
 
 use text_lines::{ReadFailed, TextSource};
 
@@ -26,12 +26,13 @@ pub(crate) fn read_at<R: TextSource>(
     at: usize,
 ) -> Result<usize, ReadFailed>
     requires room { at + BUFFER_LEN ≤ length buffer.old }
-    requires seen { IsSeen end.old (R.ahead source.old) }
     ensures bound { IfOk result (λ n. n ≤ BUFFER_LEN) }
-    ensures bytes { ReadTakes (R.ahead source.old) (R.ahead source.new) result (drop at buffer.new) }
+    ensures bytes { IfOk result (λ n. Gives (behind end.old (R.ahead source.old)) (behind end.new (R.ahead source.new)) (take n (drop at buffer.new))) }
+    ensures over { IfOk result (λ n. n ≡ 0 → behind end.new (R.ahead source.new) ≡ Exactly (over EndOfInput)) }
+    ensures failed { OnErr result (Gives (behind end.old (R.ahead source.old)) (behind end.new (R.ahead source.new)) []
+        × (behind end.new (R.ahead source.new) ≡ Exactly (over Failure))) }
     ensures before { take at buffer.new ≡ take at buffer.old }
     ensures len { length buffer.new ≡ length buffer.old }
-    ensures seen { IsSeen end.new (R.ahead source.new) }
 {
     match *end {
         SourceEnd::NotSeen => {}

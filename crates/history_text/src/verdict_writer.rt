@@ -6,10 +6,14 @@ ghost use Rattle.text_lines.specs.Lines.{line, spaced};
 ghost use Rattle.history_text.specs.Verdicts.{kind_fields, kind_name, operation_line, claim_line, verdict_text, IsWithin};
 ghost use Rattle.history_text.specs.Verdicts.{maybe_place, violation_places, places_of_step, violation_kind, claim_of};
 ghost use Rattle.history_text.specs.Inner.Verdicts.{line_text, lines_text, word_of};
+ghost use Rattle.history_text.specs.declared.version.Version.TheVariants.{One};
+ghost use Rattle.history_text.specs.Versions.{said_in, text_of};
 ghost use Rattle.verdicts.specs.declared.shown.LinePlace.TheVariants as place;
 ghost use Rattle.text_lines.specs.Writing.{Puts, Writes, PutsText};
 
+use crate::history_writer::write_history;
 use crate::lines::{WritesLine, put_each};
+use crate::version::Version;
 use history_merge::{History, OpId, OpKind, Operation, Operations};
 use text_lines::{TextSink, WriteBuffer, WriteFault, write_piece};
 use value_match::{CoverStep, Violation};
@@ -261,4 +265,23 @@ pub fn write_verdict<W: TextSink>(
         writer,
     )?;
     write_piece(kept.as_slice(), writer)
+}
+
+/// Writes the text of a history and that of a verdict on it, as `stress` prints them and `verify` reads them.
+///
+/// It writes what [`crate::write_history`] and [`write_verdict`] write, and flushes no more than they do.
+pub fn write_shown<W: TextSink>(
+    version: Version,
+    history: &History,
+    verdict: &Verdict,
+    writer: &mut W,
+) -> Result<(), WriteFault>
+    requires places { IsWithin history.now.initial (operations_of history.now.events) verdict.now }
+    requires version { version ≡ One → history.now.initial ≡ [] }
+    ensures { Writes W.contents W.has_refused W.transition
+        (text_of (said_in version history.now)
+        ++ verdict_text (claim_of history.now.initial (operations_of history.now.events) verdict.now)) writer.old writer.new result }
+{
+    write_history(version, history, writer)?;
+    write_verdict(history, verdict, writer)
 }

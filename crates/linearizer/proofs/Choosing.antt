@@ -7,7 +7,7 @@ use Rattle.linearizer.proofs.Common.{Contains-append_cases, Contains-append_left
 use Rattle.linearizer.proofs.Common.{Contains-get_or, Contains-permutation, Contains-push, Contains-push_cases}
 use Rattle.linearizer.proofs.Common.{contains_at, Contents, course_of, dequeue_call, dequeue_return, drop}
 use Rattle.linearizer.proofs.Common.{EachIsChoice, elements_at, enqueue_call, enqueue_gap, enqueue_return, entered_by}
-use Rattle.linearizer.proofs.Common.{false, filter_map, gaps_in, get_or, get_or_append_left, get_or_from_slice_get}
+use Rattle.linearizer.proofs.Common.{false, gaps_in, get_or, get_or_append_left, get_or_from_slice_get}
 use Rattle.linearizer.proofs.Common.{get_or_push, HoldsValues, inl, inr, IsChoice, IsClear, IsDequeuedAt, IsFirstLeft}
 use Rattle.linearizer.proofs.Common.{IsFirstOvertaker, IsInOrder, IsLeastBy, IsLeft, IsLife, IsNamed}
 use Rattle.linearizer.proofs.Common.{IsNonDecreasingBy, IsOrderOf, IsPassedOver, IsPermutation, IsPermutation-cons}
@@ -25,9 +25,10 @@ use Rattle.linearizer.proofs.ValueOrder.{choice_in_other_order, least_at, made, 
 use Rattle.linearizer.proofs.Positions.{at_most_least, least_of_later}
 use Rattle.linearizer.proofs.Times.{HasLifeTimes, history_times}
 use Rattle.std.proofs.lemmas.List.{get_or-take, length-set}
-use Rattle.linearizer.proofs.Elements.{at_place, elements_long, elements_push, from_some_and, lives_are}
+use Rattle.linearizer.proofs.Elements.{elements_long, elements_push, from_some_and, lives_are}
 use Rattle.linearizer.proofs.Elements.{value_order_along}
 use Rattle.std.proofs.Math.Seq.{drop-append_seam}
+use Rattle.history_merge.proofs.Lists.{at_place, some_of}
 
 -- a choice isn't dequeued after a value that remains
 pub no_later : (remaining : List Life) (x y : Life) → IsChoice remaining x → Contains remaining y → dequeue_call x ≤ dequeue_return x
@@ -121,10 +122,6 @@ pub each_has_times : (history : Contents) (values : List MatchedValue) → IsCle
     → All (λ value. HasLifeTimes value.life) values
 each_has_times history values clear holds k d within =
     history_times history clear _ (value_lives history.initial history.operations clear values holds _ (Contains-get_or values k d within))
-
-some_of : {X Y : Type 0} (f : X → Option Y) (xs : List X) → length (filter_map f xs) ≤ length xs
-some_of f [] = omega arith
-some_of f (x ∷ xs) = grind (arith, some_of f xs)
 
 -- there are no more values than places
 pub few_values : (history : Contents) (values : List MatchedValue) → IsClear (course_of history) → HoldsValues history values
@@ -227,7 +224,7 @@ module _ (number : Life → ℕ) (values : List MatchedValue) (i : ℕ) (entries
   }
 
 -- the same entries in another order
-pub moved_so_far : (number : Life → ℕ) (values : List MatchedValue) (n : ℕ) (entries moved : List Timed) → AreTimedSoFar number values n entries
+moved_so_far : (number : Life → ℕ) (values : List MatchedValue) (n : ℕ) (entries moved : List Timed) → AreTimedSoFar number values n entries
     → IsPermutation entries moved → AreTimedSoFar number values n moved
 moved_so_far number values n entries moved are permutes = record {
   are_timed = All-permutation (IsTimeOf number values) entries moved permutes are.are_timed;

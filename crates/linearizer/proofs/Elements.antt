@@ -1,40 +1,33 @@
 -- Elements of lists at their places, and those that stand beside each other in zipped lists.
-use Rattle.linearizer.proofs.Common.{Adds, All, All-contains, All-head, All-map, All-tail, all_zipped_more, AllPairs}
+use Rattle.linearizer.proofs.Common.{Adds, All, All-contains, All-head, All-tail, all_zipped_more, AllPairs}
 use Rattle.linearizer.proofs.Common.{AllPairs-cons, AllZip, AllZip-left, AllZip-right, ap, append-nil, append_assoc}
 use Rattle.linearizer.proofs.Common.{arith, Bool, call_by_return, cases_Bool, cases_eq, clear_course, clear_on, cond}
-use Rattle.linearizer.proofs.Common.{cons_option, Contains, Contains-append_cases, Contains-append_left}
-use Rattle.linearizer.proofs.Common.{Contains-append_right, Contains-get_or, Contains-permutation, contains_at}
-use Rattle.linearizer.proofs.Common.{contains_cons, Contents, Course, course_of, drop, elements_at, Empty, false}
-use Rattle.linearizer.proofs.Common.{filter, filter_map, filter_map-append, flat_map, get_or, get_or-insert_below}
-use Rattle.linearizer.proofs.Common.{get_or-map, get_or_from_slice_get, HoldsPlaces, HoldsValues, inl, inr, insert}
+use Rattle.linearizer.proofs.Common.{cons_option, Contains, Contains-append_cases}
+use Rattle.linearizer.proofs.Common.{Contains-get_or, Contains-permutation, contains_at}
+use Rattle.linearizer.proofs.Common.{contains_cons, Contents, Course, course_of, elements_at, Empty, false}
+use Rattle.linearizer.proofs.Common.{filter, filter_map, filter_map-append, flat_map, get_or}
+use Rattle.linearizer.proofs.Common.{get_or-map, get_or_from_slice_get, HoldsPlaces, HoldsValues, inl, inr}
 use Rattle.linearizer.proofs.Common.{is_empty_answer, is_empty_kind, is_refused, is_refused_kind, IsCalledInRange}
-use Rattle.linearizer.proofs.Common.{IsClear, IsLeastFreeGap, IsNonDecreasingBy, IsNonDecreasingBy-insert, IsNoopAt}
-use Rattle.linearizer.proofs.Common.{IsOperation, IsOrderOf, IsPermutation, IsPermutation-cons, IsPermutation-insert}
+use Rattle.linearizer.proofs.Common.{IsClear, IsLeastFreeGap, IsNoopAt}
+use Rattle.linearizer.proofs.Common.{IsOperation, IsOrderOf, IsPermutation, IsPermutation-cons}
 use Rattle.linearizer.proofs.Common.{IsPermutation-keeps, IsPermutation-refl, IsPermutation-remove, IsPermutation-sym}
 use Rattle.linearizer.proofs.Common.{IsPermutation-trans, IsPositionFor, IsSomeAnd, IsValueOrder, kept, later_by}
-use Rattle.linearizer.proofs.Common.{least_of, length, length-insert, length-map, length-swap, length-take-le, Life}
+use Rattle.linearizer.proofs.Common.{least_of, length, length-map, length-swap, Life}
 use Rattle.linearizer.proofs.Common.{List, lives_in, map, mapped_option, MatchedValue, MatchOption-at_some}
 use Rattle.linearizer.proofs.Common.{MAX_MATCHED, MAX_TIME, None, noop_position, Not, not_in_none, on, one_deeper}
 use Rattle.linearizer.proofs.Common.{one_more, Operation, operation_at, operation_on, OpKind, Option, option_map}
 use Rattle.linearizer.proofs.Common.{ordered_lives, ORIGIN, pairs_at, passed_filter, place_of, PLACES, places_in, refl}
-use Rattle.linearizer.proofs.Common.{remove, return_in_range, set, slice_get, slice_get-get_or, slice_get-map}
+use Rattle.linearizer.proofs.Common.{remove, return_in_range, slice_get, slice_get-map}
 use Rattle.linearizer.proofs.Common.{slice_get_within, Some, subst, suc, swap, Swapped, swapped_from_swap, sym, take}
 use Rattle.linearizer.proofs.Common.{take_all, time_of, Timed, timed, timeline_of, true, zero, ℕ, ⊤, [], ◌++◌, ◌+◌}
 use Rattle.linearizer.proofs.Common.{◌-◌, ◌<◌, ◌∙◌, ◌∷◌, ◌≡◌, ◌≤◌}
-use Rattle.std.proofs.Common.{get_or-take}
 use Rattle.history_merge.specs.declared.packed.TheConstants.{PACKED_LIMIT}
-use Rattle.std.proofs.lemmas.List.{drop_more, set_at}
-use Rattle.std.proofs.lemmas.List.Edits.{insert_end}
+use Rattle.history_merge.proofs.Lists.{at_place, AllPairs-tail}
 
 -- a value of which this holds
 pub from_some_and : {X : Type 0} (o : Option X) (P : X → Type 0) → IsSomeAnd o P → (x : X) × (o ≡ Some x) × P x
 from_some_and None P is = absurd is
 from_some_and (Some x) P is = (x, refl, is)
-
--- each place of a list has its element
-pub at_place : {X : Type 0} (xs : List X) (i : ℕ) → i < length xs → (x : X) × (slice_get xs i ≡ Some x)
-at_place [] i within = absurd (omega arith)
-at_place (x ∷ xs) i within = (_, slice_get-get_or (x ∷ xs) i x within)
 
 -- the element beside one of the first of two zipped lists, and beside one of the second
 module _ {A B : Type 0} (R : A → B → Type 0) (xs : List A) (ys : List B) (i : ℕ) where
@@ -56,17 +49,6 @@ zip_joined R [] xs' [] ys' zip zip' = zip'
 zip_joined R [] xs' (y ∷ ys) ys' zip zip' = absurd zip
 zip_joined R (x ∷ xs) xs' [] ys' zip zip' = absurd zip
 zip_joined R (x ∷ xs) xs' (y ∷ ys) ys' zip zip' = (zip.0, zip_joined R xs xs' ys ys' zip.1 zip')
-
--- what holds of all pairs of a list holds of all of its rest
-pub AllPairs-tail : {X : Type 0} (R : X → X → Type 0) (x : X) (xs : List X) → AllPairs R (x ∷ xs) → AllPairs R xs
-AllPairs-tail R x xs pairs i j d below within = pairs (suc i) (suc j) d (omega arith) (omega arith)
-
--- and of what is made of all of its elements
-pub AllPairs-map : {X Y : Type 0} (f : X → Y) (R : Y → Y → Type 0) (xs : List X) → AllPairs (λ x y. R (f x) (f y)) xs → AllPairs R (map f xs)
-AllPairs-map f R [] pairs = λ i j d below within. absurd (omega arith)
-AllPairs-map f R (x ∷ xs) pairs = AllPairs-cons R (f x) (map f xs)
-    (All-map (R (f x)) f xs (λ k d within. pairs zero (suc k) d (omega arith) (omega arith)))
-    (AllPairs-map f R xs (AllPairs-tail (λ x y. R (f x) (f y)) x xs pairs))
 
 -- ---- operations are added one by one, each at its position
 
@@ -259,89 +241,6 @@ kept_rises {X} {Y} h key key' (x ∷ xs) keeps rises = join (kept_rises h key ke
             let less = pairs_at (λ x y. key x < key y) (x ∷ xs) zero (suc place.0) x from.0 rises (omega arith) refl place.1 in
             omega (arith, keeps x y is, keeps from.0 z from.2)
 
--- ---- the last of a list, put before others
-
--- those from this place on, but the last, stand one place further on
-pub record IsShifted {X : Type 0} (old : List X) (place : ℕ) (now : List X) : Type 0 where
-  pub left_over : X
-  pub is : now ≡ insert (take (length old - 1) old) place left_over
-
--- a list is the last put behind all others
-whole : {X : Type 0} (old : List X) (last : X) → 0 < length old → last ≡ get_or old (length old - 1) last
-    → old ≡ insert (take (length old - 1) old) (length old - 1) last
-whole old last some is_last =
-    let others = take (length old - 1) old in
-    let all : length old - 1 + 1 ≡ length old = omega arith in
-    let few = length-take-le (length old - 1) old (omega arith) in
-    sym (take_all (length old) old (omega arith)) ∙ ap (λ n. take n old) (sym all) ∙ one_more old (length old - 1) last (omega arith) is_last
-    ∙ sym (ap (λ n. insert others n last) (sym few) ∙ insert_end others last)
-
-module _ {X : Type 0} (old now : List X) (place : ℕ) (shifted : IsShifted old place now) (inside : place < length old) where
-  -- all but the last
-  abbrev others : List X
-  others = take (length old - 1) old
-
-  few : length others ≡ length old - 1
-  few = length-take-le (length old - 1) old (omega arith)
-
-  within : place ≤ length others
-  within = omega (arith, few, inside)
-
-  pub long : length now ≡ length old
-  long = omega (arith, ap length shifted.is, length-insert others place shifted.left_over within, few, inside)
-
-  -- those before the place stay
-  pub stays_before : (k : ℕ) (d : X) → k < place → get_or now k d ≡ get_or old k d
-  stays_before k d below = ap (λ xs. get_or xs k d) shifted.is ∙ get_or-insert_below others place shifted.left_over d k below within
-      ∙ get_or-take (length old - 1) old k d (omega (arith, below, inside))
-
-  -- the last is put at the place that is left
-  put_in : (last : X) → set now place last ≡ insert others place last
-  put_in last = ap (λ xs. set xs place last) shifted.is
-      ∙ set_at (take place others) shifted.left_over (drop place others) last place (length-take-le place others within)
-
-  -- one more is shifted
-  pub one_more_shifted : (x : X) → 0 < place → ((d : X) → x ≡ get_or now (place - 1) d) → IsShifted old (place - 1) (set now place x)
-  one_more_shifted x some is = record {
-    left_over = x;
-    is = put_in x ∙ ap (λ n. insert others n x) here ∙ ap (λ xs. xs ++ x ∷ drop (place - 1 + 1) others) (one_more others (place - 1) x inner reads)
-        ∙ append_assoc (take (place - 1) others) (x ∷ []) (x ∷ drop (place - 1 + 1) others)
-        ∙ ap (λ xs. take (place - 1) others ++ x ∷ xs) (sym (drop_more others (place - 1) x inner ∙ ap (λ y. y ∷ drop (place - 1 + 1) others) (sym reads)));
-  }
-    where
-      here : place ≡ place - 1 + 1
-      here = omega (arith, some)
-
-      inner : place - 1 < length others
-      inner = omega (arith, within, some)
-
-      reads : x ≡ get_or others (place - 1) x
-      reads = is x ∙ stays_before (place - 1) x (omega (arith, some)) ∙ sym (get_or-take (length old - 1) old (place - 1) x (omega (arith, inside, some)))
-
-  module _ (last : X) (is_last : last ≡ get_or old (length old - 1) last) where
-    -- then all are there
-    pub put_permutes : IsPermutation old (set now place last)
-    put_permutes = rw (put_in last) (IsPermutation-trans old (last ∷ others) (insert others place last) (IsPermutation-sym (last ∷ others) old
-        (subst (IsPermutation (last ∷ others)) (sym (whole old last (omega (arith, inside)) is_last)) (IsPermutation-insert others (length old - 1) last)))
-        (IsPermutation-insert others place last))
-
-    -- and they rise, if the others do, and the last comes after none that is greater
-    pub put_rises : (number : X → ℕ) → ((k : ℕ) (d : X) → place ≤ k → k < length old - 1 → number last < number (get_or old k d))
-        → ((d : X) → 0 < place → number (get_or now (place - 1) d) ≤ number last)
-        → IsNonDecreasingBy number (take (length old - 1) old) → IsNonDecreasingBy number (set now place last)
-    put_rises number later sooner rises = rw (put_in last) (IsNonDecreasingBy-insert number others place last rises within low high)
-      where
-        low : (k : ℕ) (d : X) → k < place → number (get_or others k d) ≤ number last
-        low k d below =
-            let up = rises k (place - 1) d (omega (arith, below)) (omega (arith, below, within)) in
-            let read = ap number (get_or-take (length old - 1) old (place - 1) d (omega (arith, below, inside))) in
-            omega (arith, ap number (stays_before (place - 1) d (omega (arith, below))), sooner d (omega (arith, below)))
-
-        high : (k : ℕ) (d : X) → place ≤ k → k < length others → number last ≤ number (get_or others k d)
-        high k d from below =
-            let read = ap number (get_or-take (length old - 1) old k d (omega (arith, below, few))) in
-            omega (arith, later k d from (omega (arith, below, few)))
-
 -- ---- lists in which no element stands twice
 
 -- no element stands twice
@@ -416,14 +315,6 @@ from_flat_map f [] y among = absurd (not_in_none y among)
 from_flat_map f (x ∷ xs) y among = elim (Contains-append_cases (f x) (flat_map f xs) y among) [
   | inl here ↦ (x, (zero, omega arith, refl), here)
   | inr there ↦ let more = from_flat_map f xs y there in (more.0, one_deeper x xs more.0 more.1, more.2)
-]
-
--- what is made of an element is made of all
-pub into_flat_map : {X Y : Type 0} (f : X → List Y) (xs : List X) (x : X) (y : Y) → Contains xs x → Contains (f x) y → Contains (flat_map f xs) y
-into_flat_map f [] x y among at = absurd (not_in_none x among)
-into_flat_map f (z ∷ xs) x y among at = elim (contains_cons z xs x among) [
-  | inl same ↦ Contains-append_left (f z) (flat_map f xs) y (subst (λ w. Contains (f w) y) (sym same) at)
-  | inr later ↦ Contains-append_right (f z) (flat_map f xs) y (into_flat_map f xs x y later at)
 ]
 
 -- ---- the values at the places of their order

@@ -21,12 +21,13 @@ use Rattle.linearizer.proofs.Common.{ordered_lives, other_dequeues, pairs_at, Pl
 use Rattle.linearizer.proofs.Common.{PlacesValues, Position, position_of, refl, same_lives, slice_get, slice_get-map}
 use Rattle.linearizer.proofs.Common.{slice_get_within, Some, StandsBefore, subst, sym, take, take_all, Timed}
 use Rattle.linearizer.proofs.Common.{timeline_of, told_of, true, ℕ, [], ◌++◌, ◌+◌, ◌<◌, ◌↔◌, ◌∙◌, ◌∷◌, ◌≡◌, ◌≤◌}
-use Rattle.linearizer.proofs.Elements.{at_place, IsValueAt, lives_long, take_next, value_at, value_order_along}
+use Rattle.linearizer.proofs.Elements.{IsValueAt, lives_long, take_next, value_at, value_order_along}
 use Rattle.linearizer.proofs.ValueOrder.{is_life}
 use Rattle.std.proofs.lemmas.List.Quantifiers.{all_pairs_push}
 use Rattle.linearizer.specs.declared.position.Position.{Position as Stored}
 use Rattle.linearizer.proofs.Positions.{are_gaps}
 use Rattle.linearizer.proofs.Runs.{before_through, dequeues_rise, enqueues_rise, not_both, not_itself, through}
+use Rattle.history_merge.proofs.Lists.{at_place}
 
 -- ---- the values' operations, each at its position
 

@@ -25,14 +25,15 @@ use Rattle.linearizer.proofs.Common.{timeline_of, true, zero, ℕ, [], ◌*◌, 
 use Rattle.linearizer.proofs.Positions.{are_gaps, dequeue_gap_in_window, dequeued_first, enqueue_gap_in_window}
 use Rattle.linearizer.proofs.Positions.{has_position, HoldsValue, IsAround, IsDequeued, items_of, life_of_dequeue}
 use Rattle.linearizer.proofs.Positions.{life_of_enqueue, one_operation, one_position, one_value}
-use Rattle.linearizer.proofs.Elements.{AllPairs-map, AllPairs-tail, at_place, beside_first, beside_second}
-use Rattle.linearizer.proofs.Elements.{from_flat_map, into_flat_map, none_twice-append, none_twice-filter}
+use Rattle.linearizer.proofs.Elements.{beside_first, beside_second}
+use Rattle.linearizer.proofs.Elements.{from_flat_map, none_twice-append, none_twice-filter}
 use Rattle.linearizer.proofs.Elements.{none_twice_from_places, NoneTwice, one_place, same_elements_permute, zip_joined}
 use Rattle.linearizer.proofs.Elements.{called_in_range, from_some_and, read_at, value_order_along, place_fits}
 use Rattle.linearizer.proofs.ValueOrder.{is_life, is_life_at, stands_in_order, values_have_one_order}
 use Rattle.linearizer.proofs.ValueOrder.{values_have_order}
 use Rattle.linearizer.proofs.Runs.{not_both, run_is_accepted, through}
 use Rattle.linearizer.proofs.Times.{IsOf, not_both_kinds, one_life_of_operation, one_place_of_life}
+use Rattle.history_merge.proofs.Lists.{at_place, into_flat_map, AllPairs-tail, pairs_map}
 
 -- ---- the chosen order is legal
 
@@ -223,7 +224,7 @@ chosen_order_exists operations gaps clear none free =
           (subst (λ os. IsPermutation os (map (λ z. z.0) sorted.0)) each.1 (IsPermutation-map (λ z. z.0) each.0 sorted.0 sorted.1))
           (unzipped (λ o p. IsPositionOf (on operations) values.0 o p) sorted.0
           (All-permutation (λ z. IsPositionOf (on operations) values.0 z.0 z.1) each.0 sorted.0 sorted.1 each.2))
-          (AllPairs-map (λ z. z.1) (λ p q. ¬ (StandsBefore q p)) sorted.0 sorted.2),
+          (pairs_map (λ p q. ¬ (StandsBefore q p)) (λ z. z.1) sorted.0 sorted.2),
     )
 
 -- a list of which each element comes before those after it is the only one of its elements, where no two come before each other

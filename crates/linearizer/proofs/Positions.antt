@@ -15,8 +15,9 @@ use Rattle.linearizer.proofs.Common.{zero, ℕ, ◌+◌, ◌<◌, ◌∙◌, ◌
 use Rattle.linearizer.proofs.ValueOrder.{is_life, is_life_at, least_at, made, may_stand_before, stands_in_order}
 use Rattle.linearizer.proofs.ValueOrder.{turn_of}
 use Rattle.linearizer.proofs.Times.{one_place_of_life, returned_in_time, returns_at_no_leave, times_of_life}
-use Rattle.linearizer.proofs.Elements.{at_place, beside_first}
+use Rattle.linearizer.proofs.Elements.{beside_first}
 use Rattle.linearizer.proofs.Runs.{AreGaps, enqueue_is_no_dequeue, IsItem, noop_is_no_dequeue, noop_is_no_enqueue}
+use Rattle.history_merge.proofs.Lists.{at_place}
 
 -- ---- the gaps of the enqueues and dequeues rise along the order of the values, and lie in their windows
 

@@ -4,8 +4,8 @@ use Rattle.linearizer.proofs.Common.{cases_order, Contains, contains_cons, Deq, 
 use Rattle.linearizer.proofs.Common.{eq-eqb, if◌then◌else◌, inl, inr, IsAccepted, length, length_push, List, nat_lt}
 use Rattle.linearizer.proofs.Common.{nat_tests, none-some, noop_answers, Not, OpKind, other_dequeues, Position, refl}
 use Rattle.linearizer.proofs.Common.{slice_get, Some, StandsBefore, subst, suc, sym, zero, ℕ, ◌++◌, ◌+◌, ◌<◌, ◌∙◌, ◌∷◌}
-use Rattle.linearizer.proofs.Common.{◌≡◌, ◌≤◌, ◌⊎◌}
-use Rattle.linearizer.proofs.Elements.{AllPairs-tail}
+use Rattle.linearizer.proofs.Common.{◌≡◌, ◌≤◌}
+use Rattle.history_merge.proofs.Lists.{with_one_more, AllPairs-tail}
 
 -- two positions don't stand before each other
 pub not_both : (p r : Position) → StandsBefore p r → StandsBefore r p → ⊥
@@ -91,12 +91,6 @@ none_sooner x q xs rises among before = elim (contains_cons x xs q among) [
 first_rises : (x : Position) (xs : List Position) → AllPairs StandsBefore (x ∷ xs) → All (StandsBefore x) xs
 first_rises x xs rise k d within = rise zero (suc k) d (omega arith) (omega arith)
 
-at_end : (queue : List ℕ) (v w k : ℕ) → slice_get (queue ++ v ∷ []) k ≡ Some w → (slice_get queue k ≡ Some w) ⊎ ((k ≡ length queue) × (v ≡ w))
-at_end [] v w zero at = let same : v ≡ w = cc in inr (refl, same)
-at_end [] v w (suc k) at = cc
-at_end (x ∷ queue) v w zero at = inl at
-at_end (x ∷ queue) v w (suc k) at = elim (at_end queue v w k at) [ inl before ↦ inl before | inr last ↦ inr (omega (arith, last.0), last.1) ]
-
 module _ (n : ℕ) (enter leave : ℕ → ℕ) (gaps : AreGaps n enter leave) (Holds : ℕ → ℕ → Type 0) (one_value : (i v w : ℕ) → Holds i v → Holds i w → v ≡ w)
     (Leaves : ℕ → Type 0) (leaves_first : (i j : ℕ) → i ≤ j → j < n → Leaves j → Leaves i) where
   -- between two operations of the run: d values have been dequeued, and of e values enqueued the others are in the queue
@@ -159,7 +153,7 @@ module _ (n : ℕ) (enter leave : ℕ → ℕ) (gaps : AreGaps n enter leave) (H
       in_order = omega (arith, state.in_order);
       within = within;
       long = omega (arith, length_push queue v, state.long);
-      queued = λ k w at. elim (at_end queue v w k at) [
+      queued = λ k w at. elim (with_one_more queue v w k at) [
         | inl before ↦ state.queued k w before
         | inr last ↦
             let place : e ≡ d + k = omega (arith, state.long, last.0) in

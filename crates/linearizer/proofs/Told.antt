@@ -1,5 +1,5 @@
 -- What was placed and merged is the chosen order of the history, which is legal.
-use Rattle.linearizer.proofs.Elements.{AllPairs-map, AllPairs-tail, earlier_at, value_order_along}
+use Rattle.linearizer.proofs.Elements.{earlier_at, value_order_along}
 use Rattle.linearizer.proofs.OneOrder.{chosen_order_is_legal, each_once, operations_rise, position_along}
 use Rattle.linearizer.proofs.OneOrder.{sorted_is_chosen}
 use Rattle.value_match.proofs.ToldPlaces.{course_back, earlier, earlier_later, earlier_none, timeline_earlier}
@@ -17,6 +17,7 @@ use Rattle.linearizer.proofs.Common.{later_by, length, Life, List, map, map-appe
 use Rattle.linearizer.proofs.Common.{noops_in, NoOrderViolation, on, Operation, OpKind, Option, ORIGIN, Placed}
 use Rattle.linearizer.proofs.Common.{placed_in, Position, position_of, refl, same_lives, Some, StandsBefore, subst}
 use Rattle.linearizer.proofs.Common.{sym, timed, timeline, timeline_of, ℕ, [], ◌++◌, ◌+◌, ◌-◌, ◌∙◌, ◌∷◌, ◌≡◌, ◌≤◌}
+use Rattle.history_merge.proofs.Lists.{AllPairs-tail, pairs_map}
 
 module _ (initial : List ℕ) (operations : List Operation) (clear : IsClear (course initial operations)) where
   abbrev all : List Operation
@@ -107,7 +108,7 @@ chosen_and_legal history noops places clear none noop (values, held, sorted) =
     (All-append (IsPlaced history lives) values noops held.each_placed (noop.each_placed lives)) in
     let chosen = sorted_is_chosen all order lives (map (λ p. position_of p.position) sorted.sorted) clear_all in_order moved
     (positions_zip history lives sorted.sorted right)
-    (AllPairs-map (λ p. position_of p.position) (λ p q. ¬ (StandsBefore q p)) sorted.sorted sorted.never_falls) in
+    (pairs_map (λ p q. ¬ (StandsBefore q p)) (λ p. position_of p.position) sorted.sorted sorted.never_falls) in
     let none_all = no_order_of (course_of history) (on all) (clear_course initial operations clear) none in
     let legal = all_timeline_orders initial operations few order (chosen_order_is_legal all order clear_all none_all chosen) in (
       legal.0,

@@ -3,4 +3,3 @@ pub mod Merging
 pub mod Placement
 pub mod Sweep
 pub mod Swept
-pub mod TimedLists

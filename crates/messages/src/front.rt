@@ -1,5 +1,5 @@
 ghost use Rattle.std.specs.Prelude.{◌≡◌, ◌≤◌, ◌++◌, [], true, false, IfOk, OnErr, length, take};
-ghost use Rattle.text_lines.specs.Input.{ReadTakes};
+ghost use Rattle.text_lines.specs.Input.{ReadGives};
 
 use std::alloc::Global;
 use std::marker::Model;
@@ -71,7 +71,7 @@ impl<S: TextSource> TextSource for FrontKept<S> {
 
     fn read(&mut self, piece: &mut [u8]) -> Result<usize, ReadFailed>
         ensures bound { IfOk result (λ n. n ≤ length piece.new) }
-        ensures bytes { ReadTakes (S.ahead self.old.source) (S.ahead self.new.source) result piece.new }
+        ensures bytes { ReadGives (S.ahead self.old.source) (S.ahead self.new.source) result piece.new }
         ensures kept { self.new.is_whole ≡ true → IfOk result (λ n. self.new.front ≡ self.old.front ++ take n piece.new) }
         ensures left { self.new.is_whole ≡ false → self.new.front ≡ self.old.front }
         ensures failed { OnErr result (self.new.front ≡ self.old.front) }

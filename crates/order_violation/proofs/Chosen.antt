@@ -2,9 +2,9 @@
 use Rattle.order_violation.proofs.Common.{[], All, All-append, All-contains, All-nil, All-push, arith, call_or_never}
 use Rattle.order_violation.proofs.Common.{Contains, Contains-append_left, Contains-append_right, Contains-push}
 use Rattle.order_violation.proofs.Common.{dequeue_call, dequeue_of, dequeue_return, enqueue_call, EntersBefore, false}
-use Rattle.order_violation.proofs.Common.{FindsFirst, FindsLongest, get_or, inl, inr, is_some, IsFirstFound}
+use Rattle.order_violation.proofs.Common.{FindsFirst, FindsLongest, get_or, is_some, IsFirstFound}
 use Rattle.order_violation.proofs.Common.{IsFirstOvertaking, IsLife, IsLongestOf, IsMaybeAt, IsMaybeOperation, IsNamed}
-use Rattle.order_violation.proofs.Common.{IsOrderAnswer, IsSoonerOf, length, Life, List, MatchedValue, MatchOption}
+use Rattle.order_violation.proofs.Common.{IsOrderAnswer, length, Life, List, MatchedValue, MatchOption}
 use Rattle.order_violation.proofs.Common.{None, NonePasses, Option, Overtakes, refl, return_or_never, Some}
 use Rattle.order_violation.proofs.Common.{StaysAtLeast, subst, sym, take, true, ℕ, ◌++◌, ◌+◌, ◌<◌, ◌∷◌, ◌≡◌, ◌≤◌}
 use Rattle.order_violation.specs.Pairs.{IsChosenPair, IsFirstOvertaker, pair_of}
@@ -188,19 +188,14 @@ first_of values side candidates x is among first = record {
   first = first;
 }
 
--- of the first of some candidates and the first of others, the sooner is the first of both
-pub sooner_is_first : (values low high : List MatchedValue) (a b r : MatchedValue) → IsFirstOvertaking values low a → IsFirstOvertaking values high b
-    → IsSoonerOf a b r → IsFirstOvertaking values (low ++ high) r
-sooner_is_first values low high a b r is_a is_b sooner = elim sooner.is_one [
-  | inl same ↦ one_of low (Contains-append_left low high r) (subst (IsFirstOvertaking values low) (sym same) is_a)
-  | inr same ↦ one_of high (Contains-append_right low high r) (subst (IsFirstOvertaking values high) (sym same) is_b)
-]
-  where
-    one_of : (side : List MatchedValue) → (Contains side r → Contains (low ++ high) r) → IsFirstOvertaking values side r
-        → IsFirstOvertaking values (low ++ high) r
-    one_of side into is = first_of values side (low ++ high) r is (into is.among) (All-append (ComesNoLater values r) low high
-        (λ k d within x among over. omega (arith, sooner.before_first, is_a.first k d within x among over))
-        (λ k d within x among over. omega (arith, sooner.before_second, is_b.first k d within x among over)))
+-- of the first of some candidates and the first of others, one that is dequeued no later than both is the first of both
+pub sooner_is_first : (values low high side : List MatchedValue) (a b r : MatchedValue) → IsFirstOvertaking values low a → IsFirstOvertaking values high b
+    → IsFirstOvertaking values side r → Contains (low ++ high) r → dequeue_return r.life ≤ dequeue_return a.life
+    → dequeue_return r.life ≤ dequeue_return b.life → IsFirstOvertaking values (low ++ high) r
+sooner_is_first values low high side a b r is_a is_b is among before_a before_b =
+    first_of values side (low ++ high) r is among (All-append (ComesNoLater values r) low high
+    (λ k d within x among over. omega (arith, before_a, is_a.first k d within x among over))
+    (λ k d within x among over. omega (arith, before_b, is_b.first k d within x among over)))
 
 -- if none of the others overtakes a value, the first is the first of all
 pub low_is_first : (values low high : List MatchedValue) (a : MatchedValue) → IsFirstOvertaking values low a
@@ -240,20 +235,13 @@ first_stays values candidates i x first within is so_far not =
     go (Some a) is_a = low_is_first values (take i candidates) (x ∷ []) a is_a nobody
 
 -- the next candidate overtakes another
-pub first_changes : (values candidates : List MatchedValue) (i : ℕ) (x a r : MatchedValue) (first : Option MatchedValue) → i < length candidates
-    → x ≡ get_or candidates i x → FindsFirst values (take i candidates) first
-    → Contains values a → Overtakes x.life a.life → MatchOption first (r ≡ x) (λ b. IsSoonerOf b x r) → FindsFirst values (take (i + 1) candidates) (Some r)
-first_changes values candidates i x a r first within is so_far among overtakes sooner =
-    subst (λ seen. IsFirstOvertaking values seen r) (sym (one_more candidates i x within is)) (go first so_far sooner)
-  where
-    alone : IsFirstOvertaking values (x ∷ []) x
-    alone = first_of_one values x a among overtakes
-
-    go : (first : Option MatchedValue) → FindsFirst values (take i candidates) first → MatchOption first (r ≡ x) (λ b. IsSoonerOf b x r)
-        → IsFirstOvertaking values (take i candidates ++ x ∷ []) r
-    go None none same = subst (IsFirstOvertaking values (take i candidates ++ x ∷ [])) (sym same)
-        (high_is_first values (take i candidates) (x ∷ []) (Some x) none alone)
-    go (Some b) is_b sooner = sooner_is_first values (take i candidates) (x ∷ []) b x r is_b alone sooner
+pub first_changes : (values candidates : List MatchedValue) (i : ℕ) (x a : MatchedValue) (first found : Option MatchedValue) → i < length candidates
+    → x ≡ get_or candidates i x → FindsFirst values (take i candidates) first → Contains values a → Overtakes x.life a.life
+    → ((values xs ys : List MatchedValue) → FindsFirst values xs first → FindsFirst values ys (Some x) → FindsFirst values (xs ++ ys) found)
+    → FindsFirst values (take (i + 1) candidates) found
+first_changes values candidates i x a first found within is so_far among overtakes of_both =
+    subst (λ seen. FindsFirst values seen found) (sym (one_more candidates i x within is))
+    (of_both values (take i candidates) (x ∷ []) so_far (first_of_one values x a among overtakes))
 
 -- the values that b overtakes are among those that entered before it, so the longest of these is the longest of those,
 -- unless b overtakes none

@@ -10,6 +10,6 @@ pub use Rattle.value_match.specs.Lives.{enqueue_of, IsLife, IsMaybeAt, return_or
 pub use Rattle.value_match.specs.Fronts.{EntersBefore, FindsLongest, IsLongestOf, NonePasses}
 pub use Rattle.value_match.specs.declared.life.Life.{Life}
 pub use Rattle.value_match.specs.declared.life.MatchedValue.{MatchedValue}
-pub use Rattle.order_violation.specs.Pairs.{FindsFirst, IsFirstFound, IsFirstOvertaking, IsOrderAnswer, IsSoonerOf}
+pub use Rattle.order_violation.specs.Pairs.{FindsFirst, IsFirstFound, IsFirstOvertaking, IsOrderAnswer}
 pub use Rattle.value_match.specs.Violations.{Overtakes}
 pub use Rattle.value_match.specs.Outcome.{IsMaybeOperation, IsNamed}

@@ -1,5 +1,5 @@
 -- A pair of values dequeued against the order of their enqueues.
-use Rattle.std.specs.Prelude.{All, Contains, List, MatchOption, None, Option, option_map, Some, ℕ, ◌≡◌, ◌≤◌, ◌⊎◌}
+use Rattle.std.specs.Prelude.{All, Contains, List, MatchOption, None, Option, option_map, Some, ℕ, ◌≤◌}
 use Rattle.history_merge.specs.declared.operation.Operation.{Operation}
 use Rattle.value_match.specs.declared.life.Life.{Life}
 use Rattle.value_match.specs.declared.life.MatchedValue.{MatchedValue}
@@ -14,12 +14,6 @@ use Rattle.value_match.specs.Choice.{IsChosenOrderViolation}
 use Rattle.order_violation.specs.declared.pair.OrderPair.{OrderPair}
 
 -- ---- values that are dequeued before others which were enqueued before them
-
--- one of the two values, which is dequeued no later than each
-pub record IsSoonerOf (first second sooner : MatchedValue) : Type 0 where
-  pub is_one : (sooner ≡ first) ⊎ (sooner ≡ second)
-  pub before_first : dequeue_return sooner.life ≤ dequeue_return first.life
-  pub before_second : dequeue_return sooner.life ≤ dequeue_return second.life
 
 -- of the candidates that overtake one of the values, the one that is dequeued first
 pub record IsFirstOvertaking (values candidates : List MatchedValue) (b : MatchedValue) : Type 0 where

@@ -5,6 +5,6 @@ mod overtaking;
 mod pair;
 mod search;
 
-pub use overtaking::{first_overtaking, sooner_of};
+pub use overtaking::{first_of, first_overtaking};
 pub use pair::OrderPair;
 pub use search::{chosen_pair, find_order};

@@ -1,30 +1,31 @@
-ghost use Rattle.std.specs.Prelude.{◌≡◌, ◌↔◌, IsTrue, List, MatchOption};
+ghost use Rattle.std.specs.Prelude.{◌++◌, ◌↔◌, IsTrue, List};
 ghost use Rattle.value_match.specs.declared.life.MatchedValue.{MatchedValue};
 ghost use Rattle.value_match.specs.Lives.{enqueue_call};
 ghost use Rattle.value_match.specs.Fronts.{EntersBefore, FindsLongest};
-ghost use Rattle.order_violation.specs.Pairs.{IsSoonerOf, FindsFirst};
+ghost use Rattle.order_violation.specs.Pairs.{FindsFirst};
 ghost use Rattle.value_match.specs.Violations.{Overtakes};
 
 use value_match::{Life, LongestTable, MatchedValue, Values};
 
-/// Returns the one of two values that is dequeued first.
-pub fn sooner_of(first: MatchedValue, second: MatchedValue) -> MatchedValue
-    ensures { IsSoonerOf first second result }
+/// Returns the one of two values, as far as there are any, that is dequeued first.
+///
+/// If each was found among some candidates, this is what is found among all of them.
+pub fn first_of(
+    first: Option<MatchedValue>,
+    second: Option<MatchedValue>,
+) -> Option<MatchedValue>
+    ensures { (values xs ys : List MatchedValue) → FindsFirst values xs first → FindsFirst values ys second → FindsFirst values (xs ++ ys) result }
 {
-    if first.life.dequeue_return() <= second.life.dequeue_return() {
-        first
-    } else {
-        second
-    }
-}
-
-/// Returns the one of the value so far, if there is one, and of another that is dequeued first.
-fn sooner_with(first: Option<MatchedValue>, other: MatchedValue) -> MatchedValue
-    ensures { MatchOption first (result ≡ other) (λ so_far. IsSoonerOf so_far other result) }
-{
-    match first {
-        Some(so_far) => sooner_of(so_far, other),
-        None => other,
+    match (first, second) {
+        (None, found) => found,
+        (Some(first), None) => Some(first),
+        (Some(first), Some(second)) => {
+            if first.life.dequeue_return() <= second.life.dequeue_return() {
+                Some(first)
+            } else {
+                Some(second)
+            }
+        }
     }
 }
 
@@ -62,7 +63,7 @@ pub fn first_overtaking(table: &LongestTable, candidates: &Values) -> Option<Mat
         let b = candidates.get(place);
         let longest = table.longest_before(b.life.enqueue_call());
         if if_overtaken(&b.life, longest).is_some() {
-            first = Some(sooner_with(first, b));
+            first = first_of(first, Some(b));
         }
     }
     first

@@ -15,6 +15,8 @@ use value_match::{Life, LongestTable, MatchedValue, Matching};
 /// Finds the chosen pair of values dequeued against the order of their enqueues, if there is one: of the values
 /// dequeued before another that was enqueued before them the one dequeued first, and of those others the one that
 /// stays longest.
+/// `verdicts::decide` doesn't call it, since it orders the values first: this is for callers who ask for no more.
+///
 /// The kinds of violation are this project's own. Time O(n log n) for n values, and two words of memory for each
 /// while it runs. `AllocError` comes only if there isn't as much.
 pub fn find_order(alloc: Global, matching: &Matching) -> Result<Option<OrderPair>, AllocError>

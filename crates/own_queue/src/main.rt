@@ -12,7 +12,7 @@ mod two_stacks;
 use anyhow::{Result, bail};
 use fifobench_core::{
     History, MAX_OPERATIONS, MAX_THREAD_OPERATIONS, MAX_WORKERS, Plan, Verdict, Version, Watched,
-    decide, run, write_history, write_verdict,
+    decide, run, write_shown,
 };
 use std::alloc::Global;
 use std::process::ExitCode;
@@ -50,9 +50,7 @@ fn show<R: Print>(rt: &R, alloc: Global, history: &History) -> Result<Verdict>
     requires { history.now.initial ≡ [] }
 {
     let verdict = decide(alloc, history)?;
-    let mut output = Watched::new(io::writer(rt));
-    write_history(Version::One, history, &mut output)?;
-    write_verdict(history, &verdict, &mut output)?;
+    write_shown(Version::One, history, &verdict, &mut Watched::new(io::writer(rt)))?;
     Ok(verdict)
 }
 

@@ -53,7 +53,7 @@ impl<R: Wait + Drop + Send + Sync> TestQueue for TwoStacks<R> {
     // Any answer of the question's kind.
     ghost may = { λ _. AnswersInKind };
 
-    ghost may_preload = { λ _. TakesOrRefuses };
+    ghost may_preload = { λ _ _. TakesOrRefuses };
 
     fn enqueue(&self, ask: AskEnq) -> AnsweredEnq {
         if self.stacks.lock(&self.rt).push(ask.value()) {
@@ -70,7 +70,7 @@ impl<R: Wait + Drop + Send + Sync> TestQueue for TwoStacks<R> {
         }
     }
 
-    fn preload(&self, value: u64) -> bool {
+    fn preload(&self, _place: usize, value: u64) -> bool {
         self.stacks.lock(&self.rt).push(value)
     }
 }

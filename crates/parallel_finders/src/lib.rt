@@ -4,11 +4,13 @@
 
 mod order;
 mod overtaking;
+mod search;
 mod sorting;
 mod windows;
 mod witness;
 
 pub use order::{find_order_par, order_in_pieces};
+pub use search::{InPieces, OnePiece, WitnessSearch};
 pub use witness::{find_witness_par, witness_in_pieces};
 
 /// The most pieces of a search.

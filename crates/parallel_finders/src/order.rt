@@ -10,7 +10,8 @@ use std::alloc::{AllocError, Global};
 use std::thread::Threads;
 use value_match::{LongestTable, Matching, Values, fronts_of};
 
-/// Finds what `find_order` finds, by a search in pieces that may run at once.
+/// Finds what `find_order` finds, by a search in pieces that may run at once. Like that it is for callers:
+/// `verdicts::decide_par` doesn't call it.
 ///
 /// Each piece finds its own value that overtakes another and is dequeued first; of these the one dequeued first
 /// counts, whichever piece ends first. Few values are searched in one piece. If no thread can be started, the

@@ -1,9 +1,7 @@
-ghost use Rattle.std.specs.Prelude.{◌++◌, List};
 ghost use Rattle.std.specs.Thread.{IsSync};
-ghost use Rattle.value_match.specs.declared.life.MatchedValue.{MatchedValue};
 ghost use Rattle.order_violation.specs.Pairs.{FindsFirst};
 
-use order_violation::{first_overtaking, sooner_of};
+use order_violation::{first_of, first_overtaking};
 use std::thread::{Threads, join};
 use value_match::{LongestTable, MatchedValue, Values};
 
@@ -32,16 +30,5 @@ pub(crate) fn first_overtaking_par<R: Threads + Sync>(
         ensures { FindsFirst table.entry.now high.entry result }
     { first_overtaking_par(rt, table, &high, others) };
     let (first, second) = join(rt, left, right);
-    first_of_both(first, second)
-}
-
-/// Returns what the candidates of two pieces give together.
-fn first_of_both(low: Option<MatchedValue>, high: Option<MatchedValue>) -> Option<MatchedValue>
-    ensures { (values xs ys : List MatchedValue) → FindsFirst values xs low → FindsFirst values ys high → FindsFirst values (xs ++ ys) result }
-{
-    match (low, high) {
-        (None, found) => found,
-        (Some(low), None) => Some(low),
-        (Some(low), Some(high)) => Some(sooner_of(low, high)),
-    }
+    first_of(first, second)
 }

@@ -43,7 +43,7 @@ impl<R: Wait + Drop + Send + Sync> TestQueue for ArrayBack<R> {
 
     ghost may = { λ _. AnswersInKind };
 
-    ghost may_preload = { λ _. TakesOrRefuses };
+    ghost may_preload = { λ _ _. TakesOrRefuses };
 
     fn enqueue(&self, ask: AskEnq) -> AnsweredEnq {
         let push = self.queue.push(&self.rt, ask.value());
@@ -55,7 +55,7 @@ impl<R: Wait + Drop + Send + Sync> TestQueue for ArrayBack<R> {
         dequeued(ask, got)
     }
 
-    fn preload(&self, value: u64) -> bool {
+    fn preload(&self, _place: usize, value: u64) -> bool {
         self.queue.push(&self.rt, value).is_ok()
     }
 }
@@ -81,7 +81,7 @@ impl<R: Wait + Drop + Send + Sync> TestQueue for SegBack<R> {
 
     ghost may = { λ _. AnswersInKind };
 
-    ghost may_preload = { λ _. TakesOrRefuses };
+    ghost may_preload = { λ _ _. TakesOrRefuses };
 
     fn enqueue(&self, ask: AskEnq) -> AnsweredEnq {
         let push = self.queue.push(&self.rt, ask.value());
@@ -93,7 +93,7 @@ impl<R: Wait + Drop + Send + Sync> TestQueue for SegBack<R> {
         dequeued(ask, got)
     }
 
-    fn preload(&self, value: u64) -> bool {
+    fn preload(&self, _place: usize, value: u64) -> bool {
         self.queue.push(&self.rt, value).is_ok()
     }
 }

@@ -66,7 +66,7 @@ impl TestQueue for GateQueue {
 
     ghost may = { λ _ question answer. answer ≡ refusal question.kind };
 
-    ghost may_preload = { λ _ _ taken. taken ≡ true };
+    ghost may_preload = { λ _ _ _ taken. taken ≡ true };
 
     fn enqueue(&self, ask: AskEnq) -> AnsweredEnq {
         self.pass(ask.number());
@@ -78,7 +78,7 @@ impl TestQueue for GateQueue {
         ask.empty()
     }
 
-    fn preload(&self, _value: u64) -> bool {
+    fn preload(&self, _place: usize, _value: u64) -> bool {
         true
     }
 }

@@ -28,7 +28,7 @@ pub use script::{Entry, ScriptQueue};
 pub use two_lock::TwoLockQueue;
 
 /// A queue that threads share. `may` says which answers it may give to a question, and `may_preload` to a value that
-/// is put in before a run.
+/// is put in before a run, by its place from 0.
 ///
 /// A call uses its question up, and the answered value holds it. So an answer belongs to the very question that was
 /// asked: to its thread, number, kind, call ticket and ticket word. A queue that is out of memory answers
@@ -50,10 +50,10 @@ pub use two_lock::TwoLockQueue;
 ///
 ///     ghost may = { λ _. AnswersInKind };
 ///
-///     ghost may_preload = { λ _. TakesOrRefuses };
+///     ghost may_preload = { λ _ _. TakesOrRefuses };
 ///
 ///     fn enqueue(&self, ask: AskEnq) -> AnsweredEnq {
-///         if self.preload(ask.value()) {
+///         if self.fill(ask.value()) {
 ///             ask.taken()
 ///         } else {
 ///             ask.not_taken()
@@ -68,7 +68,13 @@ pub use two_lock::TwoLockQueue;
 ///         }
 ///     }
 ///
-///     fn preload(&self, value: u64) -> bool {
+///     fn preload(&self, _place: usize, value: u64) -> bool {
+///         self.fill(value)
+///     }
+/// }
+///
+/// impl<R: Wait + Drop> OneSlot<R> {
+///     fn fill(&self, value: u64) -> bool {
 ///         let mut slot = self.slot.lock(&self.rt);
 ///         if slot.is_some() {
 ///             return false;
@@ -81,7 +87,7 @@ pub use two_lock::TwoLockQueue;
 pub trait TestQueue: Drop + Send + Sync {
     ghost may: { Self → Question → Answer → Type 0 };
 
-    ghost may_preload: { Self → ℕ → Bool → Type 0 };
+    ghost may_preload: { Self → ℕ → ℕ → Bool → Type 0 };
 
     /// Answers a question to enqueue.
     fn enqueue(&self, ask: AskEnq) -> AnsweredEnq
@@ -93,11 +99,12 @@ pub trait TestQueue: Drop + Send + Sync {
         ensures question { result.question ≡ ask }
         ensures allowed { may self.now ask result.answer };
 
-    /// Appends a value before a run, and returns whether it did: false if the queue is full or out of memory.
+    /// Appends a value before a run, and returns whether it did: false if the queue is full or out of memory. Values are
+    /// put in one after another, the front one first, each with its place from 0.
     ///
     /// This is no operation: no question asks it, it is recorded nowhere, and it isn't one of the calls by whose
     /// count some built-in queues break the order. It may wait as `enqueue` may. Whether the value is there
     /// afterwards is the queue's own affair, like all that it holds; a queue that holds nothing returns true.
-    fn preload(&self, value: u64) -> bool
-        ensures allowed { may_preload self.now value result };
+    fn preload(&self, place: usize, value: u64) -> bool
+        ensures allowed { may_preload self.now place value result };
 }

@@ -47,7 +47,7 @@ impl<L: ValueList, R: Wait + Drop + Send + Sync> TestQueue for Locked<L, R> {
 
     ghost may = { λ _. AnswersInKind };
 
-    ghost may_preload = { λ _. TakesOrRefuses };
+    ghost may_preload = { λ _ _. TakesOrRefuses };
 
     fn enqueue(&self, ask: AskEnq) -> AnsweredEnq {
         let taken = self.list.lock(&self.rt).put(ask.value());
@@ -59,7 +59,7 @@ impl<L: ValueList, R: Wait + Drop + Send + Sync> TestQueue for Locked<L, R> {
         dequeued(ask, got)
     }
 
-    fn preload(&self, value: u64) -> bool {
+    fn preload(&self, _place: usize, value: u64) -> bool {
         self.list.lock(&self.rt).preload(value)
     }
 }

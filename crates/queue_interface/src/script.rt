@@ -60,7 +60,7 @@ impl TestQueue for ScriptQueue {
 
     ghost may = { λ script question answer. answer ≡ scripted script question };
 
-    ghost may_preload = { λ _ _ taken. taken ≡ true };
+    ghost may_preload = { λ _ _ _ taken. taken ≡ true };
 
     fn enqueue(&self, ask: AskEnq) -> AnsweredEnq {
         match self.entry(ask.thread(), ask.number()) {
@@ -76,7 +76,7 @@ impl TestQueue for ScriptQueue {
         }
     }
 
-    fn preload(&self, _value: u64) -> bool {
+    fn preload(&self, _place: usize, _value: u64) -> bool {
         true
     }
 }

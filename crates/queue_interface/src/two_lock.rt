@@ -33,7 +33,7 @@ impl<R: Wait + Drop + Send + Sync> TestQueue for TwoLockQueue<R> {
 
     ghost may = { λ _. AnswersInKind };
 
-    ghost may_preload = { λ _. TakesOrRefuses };
+    ghost may_preload = { λ _ _. TakesOrRefuses };
 
     fn enqueue(&self, ask: AskEnq) -> AnsweredEnq {
         let taken = self.inbox.lock(&self.rt).push_back(ask.value()).is_ok();
@@ -49,7 +49,7 @@ impl<R: Wait + Drop + Send + Sync> TestQueue for TwoLockQueue<R> {
         dequeued(ask, outbox.pop_front())
     }
 
-    fn preload(&self, value: u64) -> bool {
+    fn preload(&self, _place: usize, value: u64) -> bool {
         self.inbox.lock(&self.rt).push_back(value).is_ok()
     }
 }

@@ -14,7 +14,7 @@ mod sized_apart;
 use anyhow::{Result, bail};
 use fifobench_core::{
     History, MAX_WORKERS, Plan, TestQueue, Verdict, Version, Watched, decide, run, shrink,
-    write_history, write_verdict,
+    write_shown,
 };
 use sized_apart::SizedApart;
 use std::alloc::Global;
@@ -60,10 +60,8 @@ fn shows_violation<R: Print>(rt: &R, alloc: Global, history: &History) -> Result
     let small = shrink(alloc, history, violation)?;
     let small_verdict = decide(alloc, &small)?;
     let mut output = Watched::new(io::writer(rt));
-    write_history(Version::One, history, &mut output)?;
-    write_verdict(history, &verdict, &mut output)?;
-    write_history(Version::One, &small, &mut output)?;
-    write_verdict(&small, &small_verdict, &mut output)?;
+    write_shown(Version::One, history, &verdict, &mut output)?;
+    write_shown(Version::One, &small, &small_verdict, &mut output)?;
     Ok(true)
 }
 

@@ -41,7 +41,7 @@ impl<R: Wait + Drop + Send + Sync> TestQueue for SizedApart<R> {
     // Any answer of the question's kind.
     ghost may = { λ _. AnswersInKind };
 
-    ghost may_preload = { λ _. TakesOrRefuses };
+    ghost may_preload = { λ _ _. TakesOrRefuses };
 
     fn enqueue(&self, ask: AskEnq) -> AnsweredEnq {
         if self.put(ask.value()) {
@@ -65,7 +65,7 @@ impl<R: Wait + Drop + Send + Sync> TestQueue for SizedApart<R> {
         }
     }
 
-    fn preload(&self, value: u64) -> bool {
+    fn preload(&self, _place: usize, value: u64) -> bool {
         self.put(value)
     }
 }

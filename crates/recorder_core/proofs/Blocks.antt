@@ -11,8 +11,8 @@ use Rattle.std.proofs.lemmas.List.FromFn.{map-range_with_len_more}
 use Rattle.std.proofs.lemmas.List.Sorted.{IsPermutation-refl, IsPermutation-trans, IsPermutation-append_left, IsPermutation-append_right}
 use Rattle.std.proofs.lemmas.List.Sorted.{IsPermutation-append_comm, sum_by-IsPermutation}
 use Rattle.std.proofs.lemmas.List.Sums.{sum_by-cons}
-use Rattle.recorder_core.proofs.Members.{none_in_nil, pairs_cons}
-use Rattle.history_merge.proofs.Distinct.{contains_cons}
+use Rattle.recorder_core.proofs.Members.{pairs_cons}
+use Rattle.history_merge.proofs.Distinct.{contains_cons, not_in_none}
 
 -- ---- blocks
 
@@ -103,7 +103,7 @@ abbrev pub Once : {X : Type 0} → (X → ℕ) → List X → Type 0
 Once key xs = (v : ℕ) → count_by (λ x. eqb (key x) v) xs ≤ 1
 
 at_least_one : {X : Type 0} (p : X → Bool) (xs : List X) (x : X) → Contains xs x → p x ≡ true → 1 ≤ count_by p xs
-at_least_one p [] x among passes = absurd (none_in_nil x among)
+at_least_one p [] x among passes = absurd (not_in_none x among)
 at_least_one p (y ∷ xs) x among passes = elim (contains_cons y xs x among) [
   | inl same ↦ let e : ◌≡◌ {A = ℕ} (cond (p y) 1 0) 1 = rw (same, passes) refl in omega (arith, sum_by-cons (λ x. cond (p x) 1 0) y xs, e)
   | inr later ↦ omega (arith, sum_by-cons (λ x. cond (p x) 1 0) y xs, at_least_one p xs x later passes)
@@ -121,7 +121,7 @@ once_later key x xs once v = omega (arith, once v, sum_by-cons (λ z. cond (eqb 
 
 -- two elements with one key, which stands once, are one
 pub once_same : {X : Type 0} (key : X → ℕ) (xs : List X) (x y : X) → Once key xs → Contains xs x → Contains xs y → key x ≡ key y → x ≡ y
-once_same key [] x y once in_x in_y same = absurd (none_in_nil x in_x)
+once_same key [] x y once in_x in_y same = absurd (not_in_none x in_x)
 once_same key (z ∷ xs) x y once in_x in_y same = elim (contains_cons z xs x in_x) [
   | inl here ↦ elim (contains_cons z xs y in_y) [
     | inl here' ↦ sym here ∙ here'

@@ -81,7 +81,8 @@ list_at f n t x at =
     let within : t < n = omega (arith, slice_get_within (map f (range_with_len 0 n)) t x at, length-map-range_with_len f 0 n) in
     (within, sym (get_or_from_slice_get (map f (range_with_len 0 n)) t x x at) ∙ get_or-map-range_with_len f 0 n t t x within (omega arith))
 
-map_blocks : {X Y : Type 0} (h : X → Y) (f : ℕ → List X) (n : ℕ) → map h (blocks f n) ≡ blocks (λ t. map h (f t)) n
+-- what becomes of blocks is blocks of what becomes of each
+pub map_blocks : {X Y : Type 0} (h : X → Y) (f : ℕ → List X) (n : ℕ) → map h (blocks f n) ≡ blocks (λ t. map h (f t)) n
 map_blocks h f zero = refl
 map_blocks {X} {Y} h f (suc n) = map-append h (blocks f n) (f n) ∙ ap (λ (l : List Y). l ++ map h (f n)) (map_blocks h f n)
 

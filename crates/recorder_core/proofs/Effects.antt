@@ -14,7 +14,7 @@ use Rattle.recorder_core.specs.Replay.{kind_told, effect_kinds}
 use Rattle.recorder_core.proofs.Runs.{same_number}
 
 -- one operation more
-accept_more : (start : List ℕ) (kinds : List OpKind) (kind : OpKind) (middle after : List ℕ) → accept_all start kinds ≡ Some middle
+pub accept_more : (start : List ℕ) (kinds : List OpKind) (kind : OpKind) (middle after : List ℕ) → accept_all start kinds ≡ Some middle
     → accept middle kind ≡ Some after → accept_all start (kinds ++ kind ∷ []) ≡ Some after
 accept_more start [] kind middle after h g =
     rw (ap (λ (o : Option (List ℕ)). option_and_then (λ (q : List ℕ). accept q kind) o) h ∙ g) refl

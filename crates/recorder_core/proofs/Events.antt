@@ -1,12 +1,11 @@
 -- The events of one thread, after any schedule.
-use Rattle.std.proofs.Common.{◌≡◌, ℕ, suc, ◌+◌, ◌*◌, ◌<◌, ◌≤◌, ◌⊎◌, Bool, true, false, List, [], ◌∷◌, ◌++◌}
-use Rattle.std.proofs.Common.{length, Option, Some, None, refl, sym}
-use Rattle.std.proofs.Common.{◌∙◌, ap, subst, inl, inr, arith, append_assoc, length-append}
+use Rattle.std.proofs.Common.{◌≡◌, ℕ, suc, ◌+◌, ◌*◌, ◌<◌, ◌≤◌, Bool, true, false, List, [], ◌∷◌, ◌++◌}
+use Rattle.std.proofs.Common.{length, Option, Some, None, refl}
+use Rattle.std.proofs.Common.{◌∙◌, ap, subst, inl, inr, arith, append_assoc}
 use Rattle.std.specs.Prelude.{All, slice_get}
-use Rattle.std.proofs.lemmas.Bool.{cases_eq, cases_lt, ne_eqb}
+use Rattle.std.proofs.lemmas.Bool.{cases_eq, ne_eqb}
 use Rattle.std.proofs.lemmas.List.Elements.{All-nil, All-push, All-weaker}
 use Rattle.std.proofs.lemmas.List.Quantifiers.{all_pairs_push}
-use Rattle.std.proofs.lemmas.Option.{slice_get_past, same_Some}
 use Rattle.event_records.specs.declared.event.Event.{Event}
 use Rattle.event_records.specs.declared.event.What.{What}
 use Rattle.event_records.specs.declared.event.What.TheVariants.{CallEnq}
@@ -27,9 +26,8 @@ use Rattle.recorder_core.specs.Schedule.{Attempt, refusal, accepted, asks, answe
 use Rattle.recorder_core.specs.Schedule.{queue_answer, effect_answer, queue, thread_of}
 use Rattle.recorder_core.proofs.Runs.{same_number, after_each, may_ask, may_effect, may_say, may_return}
 use Rattle.recorder_core.proofs.Counts.{Counted, counts_none, counts_go_on}
-use Rattle.recorder_core.proofs.Starting.{slice_get_front}
-use Rattle.recorder_core.proofs.Threads.{slice_get_at}
 use Rattle.recorder_core.proofs.Members.{Below}
+use Rattle.history_merge.proofs.Lists.{with_one_more}
 
 -- the answer is of the request's kind
 abbrev pub Fits : Option Request → Option Answer → Type 0
@@ -56,20 +54,6 @@ pub record AreEventsOf (t a n r next : ℕ) (asked : Option Request) (told : Opt
   pub busy : r < a → IsBusy asked events
   pub fits : r < n → Fits asked told
   pub few : a ≤ MAX_THREAD_OPERATIONS
-
--- ---- lists with one more item
-
--- a place of a list with one more item is one of the list, or the last
-pub with_one_more : {X : Type 0} (xs : List X) (x y : X) (k : ℕ) → slice_get (xs ++ x ∷ []) k ≡ Some y → (slice_get xs k ≡ Some y) ⊎ ((k ≡ length xs) × (x ≡ y))
-with_one_more xs x y k at = elim (cases_lt k (length xs)) [
-  | inl within ↦ inl (sym (slice_get_front xs x k within) ∙ at)
-  | inr past ↦ elim (cases_eq k (length xs)) [
-    | inl same ↦ inr (same, same_Some x y (sym (slice_get_at xs x k (sym same)) ∙ at))
-    | inr other ↦
-        let none = slice_get_past (xs ++ x ∷ []) k (omega (arith, length-append xs (x ∷ []), past, other)) in
-        cc
-  ]
-]
 
 turns_push : (events : List Event) (call answer : Event) → TakesTurns events → answers_call call.what answer.what ≡ true
     → TakesTurns (events ++ call ∷ answer ∷ [])

@@ -21,10 +21,12 @@ use Rattle.history_merge.specs.Merge.{IsMerged}
 use Rattle.event_records.specs.declared.limits.TheConstants.{MAX_THREADS}
 use Rattle.recorder_core.specs.Initial.{AreInitialNames}
 use Rattle.recorder_core.specs.Replay.{IsListOf, AreRecorded}
-use Rattle.recorder_core.proofs.Members.{Below, contains_filter, filter_contains, contains_joined, joined_contains, contains_map, contains_range}
-use Rattle.recorder_core.proofs.Members.{nil_from_none, pairs_append, pairs_filter, pairs_filter_map, filter_map_contains, rising_unique}
+use Rattle.recorder_core.proofs.Members.{Below, contains_joined, joined_contains, contains_range}
+use Rattle.recorder_core.proofs.Members.{nil_from_none, pairs_filter_map, rising_unique}
 use Rattle.recorder_core.proofs.Blocks.{Once, once_apart, once_permutation, once_map, once_range}
 use Rattle.history_merge.proofs.Turns.{answer_is_return}
+use Rattle.std.proofs.lemmas.List.Kept.{AllPairs-filter}
+use Rattle.history_merge.proofs.Lists.{kept, mapped_to, passes_filter, passed_filter, pairs_append}
 
 -- the number of a member's place, and its place
 pub place_in : {X : Type 0} (xs : List X) (x : X) → Contains xs x → (k : ℕ) × (slice_get xs k ≡ Some x)
@@ -88,7 +90,7 @@ module _ (lists : List (List Event)) (merged : List Event) (fit : AreFit lists) 
   low_ticket : (e : Event) → Contains merged e → e.ticket < 2 * MAX_OPERATIONS
   low_ticket e among =
       let all = flat_map (λ (list : List Event). list) lists in
-      let c = Contains-permutation (map ticket_of all) (range_with_len 0 (length all)) e.ticket fit.tickets (contains_map ticket_of all e (joined e among)) in
+      let c = Contains-permutation (map ticket_of all) (range_with_len 0 (length all)) e.ticket fit.tickets (mapped_to ticket_of all e (joined e among)) in
       omega (arith, contains_range 0 (length all) e.ticket c, fit.not_too_long)
 
   low_thread : (e : Event) → Contains merged e → e.thread < MAX_THREADS
@@ -96,12 +98,12 @@ module _ (lists : List (List Event)) (merged : List Event) (fit : AreFit lists) 
 
   -- the projection to a thread is the list of the thread
   pub projection_is : (t : ℕ) (list : List Event) → slice_get lists t ≡ Some list → projection t merged ≡ list
-  projection_is t list at = rising_unique (projection t merged) list (pairs_filter Below (λ e. eqb e.thread t) merged rises)
+  projection_is t list at = rising_unique (projection t merged) list (AllPairs-filter Below (λ e. eqb e.thread t) merged rises)
       (fit.each t list at).alternates.tickets_rise there back
     where
       there : (e : Event) → Contains (projection t merged) e → Contains list e
       there e among =
-          let f = filter_contains (λ (x : Event). eqb x.thread t) merged e among in
+          let f = passed_filter (λ (x : Event). eqb x.thread t) merged e among in
           let o = owned e f.0 in
           let same : slice_get lists t ≡ Some o.0 = subst (λ (u : ℕ). slice_get lists u ≡ Some o.0) (eqb-true e.thread t f.1) o.1 in
           subst (λ (l : List Event). Contains l e) (same_Some o.0 list (sym same ∙ at)) o.2
@@ -110,13 +112,13 @@ module _ (lists : List (List Event)) (merged : List Event) (fit : AreFit lists) 
       back e among =
           let own = All-contains (λ (x : Event). x.thread ≡ t) list e (fit.each t list at).own among in
           let c = Contains-permutation (flat_map (λ l. l) lists) merged e is.holds_each_once (contains_joined lists t list e at among) in
-          contains_filter (λ (x : Event). eqb x.thread t) merged e c (eq-eqb e.thread t own)
+          passes_filter (λ (x : Event). eqb x.thread t) merged e (eq-eqb e.thread t own) c
 
   takes_turns : (t : ℕ) (o : Option (List Event)) → slice_get lists t ≡ o → TakesTurns (projection t merged)
   takes_turns t (Some list) at = rw (projection_is t list at) (fit.each t list at).alternates.takes_turns
   takes_turns t None at =
       let none = nil_from_none (projection t merged) (λ e among.
-      let f = filter_contains (λ (x : Event). eqb x.thread t) merged e among in
+      let f = passed_filter (λ (x : Event). eqb x.thread t) merged e among in
       let o = owned e f.0 in
       let same : slice_get lists t ≡ Some o.0 = subst (λ (u : ℕ). slice_get lists u ≡ Some o.0) (eqb-true e.thread t f.1) o.1 in
       cc) in
@@ -161,7 +163,7 @@ module _ (lists : List (List Event)) (merged : List Event) (fit : AreFit lists) 
   -- the names of the threads' values lie below those of initial values
   low_name : (v : ℕ) → Contains (called_values merged) v → v < LEAST_INITIAL_NAME
   low_name v called =
-      let m = filter_map_contains (λ (e : Event). called_value e.what) merged v called in
+      let m = kept (λ (e : Event). called_value e.what) merged v called in
       let n = named m.0 v m.1 m.2 in
       omega (arith, low_thread m.0 m.1, n.4, n.5)
 

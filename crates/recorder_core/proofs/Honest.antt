@@ -27,9 +27,10 @@ use Rattle.event_records.specs.Question.{return_what}
 use Rattle.recorder_core.specs.Schedule.{queue, queue_answer, with_last}
 use Rattle.recorder_core.specs.Replay.{is_say, effected, effect_kinds, kind_told}
 use Rattle.recorder_core.proofs.Runs.{same_number, after_each, MayAsk, may_ask, MayAnswer, may_effect, MayReturn, may_return}
-use Rattle.recorder_core.proofs.Events.{CountedAndRecorded, recorded, recorded_goes_on, told_last, asked_last, with_one_more, of_right_answers, queue_is_right}
+use Rattle.recorder_core.proofs.Events.{CountedAndRecorded, recorded, recorded_goes_on, told_last, asked_last, of_right_answers, queue_is_right}
 use Rattle.recorder_core.proofs.Starting.{slice_get_front}
 use Rattle.recorder_core.proofs.Threads.{slice_get_at}
+use Rattle.history_merge.proofs.Lists.{with_one_more}
 
 -- an effect: the operation of this thread and number took it when this many tickets were drawn, and did this
 pub record TakenEffect : Type 0 where

@@ -26,7 +26,7 @@ use Rattle.recorder_core.specs.Schedule.{Attempt, refusal, accepted, asks, answe
 use Rattle.recorder_core.specs.Laws.{IsDone, collected_in, collected_lists}
 use Rattle.recorder_core.specs.Replay.{effected, effects_order, effect_kinds, operation_at, operation_in}
 use Rattle.recorder_core.proofs.Runs.{same_number, after_each, may_effect}
-use Rattle.recorder_core.proofs.Members.{contains_head, contains_tail, pairs_filter_map}
+use Rattle.recorder_core.proofs.Members.{pairs_filter_map}
 use Rattle.recorder_core.proofs.Blocks.{blocks, blocks_same, blocks_grow, no_blocks, range_more, same_permutation}
 use Rattle.recorder_core.proofs.Closing.{all_collected}
 use Rattle.recorder_core.proofs.Effects.{effects_accepted}
@@ -35,6 +35,7 @@ use Rattle.recorder_core.proofs.Fitting.{owned, projection_is}
 use Rattle.recorder_core.proofs.Collecting.{all_returned, collected_is_fit}
 use Rattle.recorder_core.proofs.Operating.{operations_by_thread, operations_in_turn}
 use Rattle.recorder_core.proofs.Honest.{TakenEffect, IsTakenAt, taken, without_says, honestly_taken, effected_are}
+use Rattle.history_merge.proofs.Lists.{contains_head, one_deeper}
 
 -- ---- the effects by thread
 
@@ -85,7 +86,7 @@ kinds_kept : (h : TakenEffect → Option Operation) (xs : List TakenEffect)
 kinds_kept h [] each = refl
 kinds_kept h (x ∷ xs) each =
     let first = each x (contains_head x xs) in
-    let more = kinds_kept h xs (λ y among. each y (contains_tail x xs y among)) in
+    let more = kinds_kept h xs (λ y among. each y (one_deeper x xs y among)) in
     ap (λ (o : Option Operation). map (λ (p : Operation). p.kind) (cons_option o (filter_map h xs))) first.1
     ∙ ap (λ (l : List OpKind). first.0.kind ∷ l) more ∙ ap (λ (k : OpKind). k ∷ map (λ (y : TakenEffect). y.kind) xs) first.2
 

@@ -10,9 +10,9 @@ use Rattle.std.proofs.Math.Seq.{take-suc}
 use Rattle.std.proofs.lemmas.Bool.{eqb-true, eq-eqb}
 use Rattle.std.proofs.lemmas.List.{get_or-take, get_or_default, length-take-le}
 use Rattle.std.proofs.lemmas.List.Folds.{list_any-append}
-use Rattle.recorder_core.proofs.Members.{none_in_nil, contains_head, contains_tail, pairs_append}
-use Rattle.history_merge.proofs.Distinct.{contains_cons}
+use Rattle.history_merge.proofs.Distinct.{contains_cons, not_in_none}
 use Rattle.history_merge.proofs.KnownValues.{is_eq-nat_cmp}
+use Rattle.history_merge.proofs.Lists.{contains_head, one_deeper, pairs_append}
 
 -- whether a value is one of a list
 abbrev pub is_among : List ℕ → ℕ → Bool
@@ -25,11 +25,11 @@ found_among (x ∷ xs) v e = by_head (nat_eq x v) refl (found_among xs v) e
   where
     by_head : (b : Bool) → nat_eq x v ≡ b → (is_among xs v ≡ true → Contains xs v) → (b || is_among xs v) ≡ true → Contains (x ∷ xs) v
     by_head true is later e = subst (λ (z : ℕ). Contains (x ∷ xs) z) (eqb-true x v is) (contains_head x xs)
-    by_head false is later e = contains_tail x xs v (later e)
+    by_head false is later e = one_deeper x xs v (later e)
 
 -- a value that is there is found
 pub among_found : (xs : List ℕ) (v : ℕ) → Contains xs v → is_among xs v ≡ true
-among_found [] v among = absurd (none_in_nil v among)
+among_found [] v among = absurd (not_in_none v among)
 among_found (x ∷ xs) v among = elim (contains_cons x xs v among) [
   | inl same ↦ ap (λ (b : Bool). b || is_among xs v) (eq-eqb x v same)
   | inr later ↦ by_rest (nat_eq x v) (among_found xs v later)
@@ -77,5 +77,5 @@ one_more_apart xs i d within unseen apart =
       | inl is ↦
           let found = among_found (take i xs) v (subst (Contains (take i xs)) (same ∙ sym is) before) in
           cc
-      | inr none ↦ none_in_nil y none
+      | inr none ↦ not_in_none y none
     ]))

@@ -7,21 +7,16 @@ use Rattle.std.proofs.lemmas.Bool.{ne_eqb, eq-eqb}
 use Rattle.std.proofs.lemmas.List.Elements.{All-head, All-tail}
 use Rattle.std.proofs.lemmas.List.Sorted.{IsPermutation-trans, IsPermutation-append_right}
 use Rattle.event_records.specs.declared.event.Event.{Event}
-use Rattle.event_records.specs.declared.event.What.{What}
-use Rattle.event_records.specs.declared.event.What.TheVariants.{CallEnq, CallDeq}
 use Rattle.event_records.specs.Projection.{projection}
-use Rattle.event_records.specs.Turns.{TakesTurns, is_call}
+use Rattle.event_records.specs.Turns.{TakesTurns}
 use Rattle.history_merge.specs.declared.operation.Operation.{Operation}
-use Rattle.history_merge.specs.Operations.{operations_of, operation_of, kind_of}
+use Rattle.history_merge.specs.Operations.{operations_of, operation_of}
 use Rattle.recorder_core.specs.Replay.{operation_in}
 use Rattle.recorder_core.proofs.Runs.{same_number}
-use Rattle.recorder_core.proofs.Members.{contains_head, contains_tail}
 use Rattle.recorder_core.proofs.Blocks.{blocks, no_blocks, blocks_lead, same_permutation}
 use Rattle.history_merge.proofs.Turns.{answer_is_return}
-
-option_cons : {X : Type 0} (o : Option X) (xs : List X) → cons_option o xs ≡ option_to_list o ++ xs
-option_cons None xs = refl
-option_cons (Some x) xs = refl
+use Rattle.history_merge.proofs.Formed.{no_operation}
+use Rattle.history_merge.proofs.Lists.{contains_head, one_deeper, option_cons}
 
 -- the first that passes is among those that pass
 find_filter : {X : Type 0} (p : X → Bool) (xs : List X) → find p (filter p xs) ≡ find p xs
@@ -39,7 +34,7 @@ operations_by_thread [] n low = same_permutation _ _ (no_blocks n)
 operations_by_thread (e ∷ later) n low =
     let p : Event → Bool = λ r. nat_eq r.thread e.thread in
     let made = operation_of e (find p later) in
-    let ih = operations_by_thread later n (λ x among. low x (contains_tail e later x among)) in
+    let ih = operations_by_thread later n (λ x among. low x (one_deeper e later x among)) in
     let here : operations_of (projection e.thread (e ∷ later)) ≡ option_to_list made ++ operations_of (projection e.thread later) =
     rw (same_number e.thread) (ap (λ (o : Option Event). cons_option (operation_of e o) (operations_of (projection e.thread later)))
     (find_filter p later) ∙ option_cons made (operations_of (projection e.thread later))) in
@@ -50,16 +45,6 @@ operations_by_thread (e ∷ later) n low =
     IsPermutation-trans _ _ _ a (IsPermutation-trans _ _ _ b c)
 
 -- ---- the operations of one thread, by their numbers
-
-no_kind : (call answer : What) → is_call call ≡ false → kind_of call answer ≡ None
-no_kind (CallEnq v) answer e = cc
-no_kind CallDeq answer e = cc
-no_kind _ answer e = refl
-
--- a return begins no operation
-pub no_operation : (ret : Event) (next : Option Event) → is_call ret.what ≡ false → operation_of ret next ≡ None
-no_operation ret None e = refl
-no_operation ret (Some r) e = rw (no_kind ret.what r.what e, operation_of) refl
 
 -- the operation of the events at two places
 abbrev operation_between : List Event → ℕ → ℕ → Option Operation

@@ -18,11 +18,12 @@ use Rattle.recorder_core.specs.Setting.{Setting}
 use Rattle.recorder_core.specs.Schedule.{Attempt, asks, returns, pushes, drained, events, is_closed}
 use Rattle.recorder_core.specs.Laws.{collected_in}
 use Rattle.recorder_core.specs.Replay.{Replays, is_effect, setting_for}
-use Rattle.recorder_core.proofs.Members.{contains_joined, contains_map, contains_range, nil_from_none}
+use Rattle.recorder_core.proofs.Members.{contains_joined, contains_range, nil_from_none}
 use Rattle.recorder_core.proofs.Fitting.{AreFit}
 use Rattle.recorder_core.proofs.Granted.{AllGranted, granted_attempt, one_granted, granted_recorded, close_granted}
 use Rattle.recorder_core.proofs.Turns.{turns_from_call}
 use Rattle.recorder_core.proofs.Replaying.{IsReplayed, replayed, without_effects}
+use Rattle.history_merge.proofs.Lists.{mapped_to}
 
 -- the events of t are its list, all of them collected, and it may be closed
 pub record IsCollected (setting : Setting) (t : ℕ) (list : List Event) (steps : List Step) : Type 0 where
@@ -54,7 +55,7 @@ module _ (lists : List (List Event)) (fit : AreFit lists) (ring : ℕ) (initial 
       omega (
         arith,
         contains_range 0 (length all) e.ticket (Contains-permutation (map (λ (x : Event). x.ticket) all)
-            (range_with_len 0 (length all)) e.ticket fit.tickets (contains_map (λ (x : Event). x.ticket) all e (contains_joined lists t list e at among))),
+            (range_with_len 0 (length all)) e.ticket fit.tickets (mapped_to (λ (x : Event). x.ticket) all e (contains_joined lists t list e at among))),
       )
 
   list_collected : (t : ℕ) (list : List Event) → slice_get lists t ≡ Some list → IsCollected on t list whole.steps

@@ -25,14 +25,14 @@ use Rattle.recorder_core.specs.Schedule.{asks, answers, returns, pushes, drained
 use Rattle.recorder_core.specs.Replay.{is_effect, setting_for}
 use Rattle.recorder_core.proofs.Runs.{same_number, MayAsk}
 use Rattle.recorder_core.proofs.Totals.{total, total_doubled_less}
-use Rattle.recorder_core.proofs.Members.{Below, pairs_first, pairs_suffix, contains_joined, joined_contains, map_contains, in_range, all_from_members}
-use Rattle.recorder_core.proofs.Members.{none_in_nil}
+use Rattle.recorder_core.proofs.Members.{Below, contains_joined, joined_contains, in_range}
 use Rattle.recorder_core.proofs.Blocks.{once_same, joined_blocks, blocks}
 use Rattle.recorder_core.proofs.Fitting.{ticket_of, AreFit, once_joined}
 use Rattle.recorder_core.proofs.Granted.{AllGranted, one_granted, granted_recorded, granted_added, ask_granted, say_granted, return_granted, IsOnTurn}
 use Rattle.recorder_core.proofs.Granted.{collect_one, collected_own, collected_other, collected_granted, ask_other, answer_other}
 use Rattle.recorder_core.proofs.Turns.{turns_split, turns_from_call, turns_even, first_is_call, answer_in, pending_is_answered}
-use Rattle.history_merge.proofs.Distinct.{contains_cons}
+use Rattle.history_merge.proofs.Distinct.{contains_cons, not_in_none}
+use Rattle.history_merge.proofs.Lists.{mapped_from, all_members, pairs_first, pairs_back}
 
 -- no step is an effect
 abbrev pub without_effects : List Step → Bool
@@ -54,14 +54,14 @@ next_is setting n t list steps e rise below k among same =
     ]
   where
     first : (rest : List Event) → list ≡ events setting t steps ++ rest → All (λ x. n ≤ x.ticket) rest → Contains rest e → HasNext setting n t list steps e
-    first [] is later here = absurd (none_in_nil e here)
+    first [] is later here = absurd (not_in_none e here)
     first (x ∷ rest) is later here =
-        let up : TicketsRise (x ∷ rest) = pairs_suffix Below (events setting t steps) (x ∷ rest) (subst TicketsRise is rise) in
+        let up : TicketsRise (x ∷ rest) = pairs_back Below (events setting t steps) (x ∷ rest) (subst TicketsRise is rise) in
         elim (contains_cons x rest e here) [
           | inl head ↦ record {
             rest = rest;
             list_is = is ∙ ap (λ (z : Event). events setting t steps ++ z ∷ rest) head;
-            later = all_from_members (λ z. suc n ≤ z.ticket) rest (λ z there. let less = pairs_first Below x rest z up there in
+            later = all_members (λ z. suc n ≤ z.ticket) rest (λ z there. let less = pairs_first Below x rest z up there in
                 omega (arith, less, ap ticket_of head));
           }
           | inr there ↦
@@ -152,7 +152,7 @@ module _ (lists : List (List Event)) (fit : AreFit lists) (ring : ℕ) (initial 
   found n below =
       let c = Contains-permutation (range_with_len 0 (length all)) (map ticket_of all) n (IsPermutation-sym _ _ fit.tickets)
       (in_range 0 (length all) n (omega arith) (omega arith)) in
-      let m = map_contains ticket_of all n c in
+      let m = mapped_from ticket_of all n c in
       let j = joined_contains lists m.0 m.1 in
       let own = All-contains (λ (x : Event). x.thread ≡ j.0) j.1 m.0 (fit.each j.0 j.1 j.2).own j.3 in
       (m.0, j.1, subst (λ (t : ℕ). slice_get lists t ≡ Some j.1) (sym own) j.2, j.3, m.2)
@@ -162,7 +162,7 @@ module _ (lists : List (List Event)) (fit : AreFit lists) (ring : ℕ) (initial 
       → slice_get lists e.thread ≡ Some from → Contains from e → e.ticket ≡ n → (e.thread ≡ t → ⊥) → IsOnTurn on n t 0 list steps
       → IsOnTurn on (suc n) t 0 list steps
   other_later n t list steps e from at at_e among same other k =
-      let l = all_from_members (λ x. suc n ≤ x.ticket) k.rest later in
+      let l = all_members (λ x. suc n ≤ x.ticket) k.rest later in
       record { still_open = k.still_open; pushed = k.pushed; all_drained = k.all_drained; answered = k.answered; rest = k.rest; list_is = k.list_is; later = l }
     where
       later : (x : Event) → Contains k.rest x → suc n ≤ x.ticket

@@ -17,9 +17,10 @@ use Rattle.recorder_core.specs.Setting.{Setting}
 use Rattle.recorder_core.specs.Schedule.{Attempt, accepted, events}
 use Rattle.recorder_core.specs.Laws.{collected_in, collected_lists, operation_call, operation_return, call_of_kind, return_of_kind, ReturnsBeforeAsk}
 use Rattle.recorder_core.proofs.Collecting.{list_at}
-use Rattle.recorder_core.proofs.Members.{contains_head, contains_tail, none_in_nil, joined_contains}
+use Rattle.recorder_core.proofs.Members.{joined_contains}
 use Rattle.recorder_core.proofs.Precedence.{place_of, lower_stands_before, stands_before_is_lower, collected_is_event}
-use Rattle.history_merge.proofs.Distinct.{contains_cons}
+use Rattle.history_merge.proofs.Distinct.{contains_cons, not_in_none}
+use Rattle.history_merge.proofs.Lists.{contains_head, one_deeper}
 
 found_among : {X : Type 0} (p : X → Bool) (xs : List X) (x : X) → find p xs ≡ Some x → Contains xs x × (p x ≡ true)
 found_among p [] x is = cc
@@ -28,7 +29,7 @@ found_among {X} p (y ∷ xs) x is = by_head (p y) refl (found_among p xs x) is
     by_head : (b : Bool) → p y ≡ b → (find p xs ≡ Some x → Contains xs x × (p x ≡ true)) → cond b (Some y) (find p xs) ≡ Some x
         → Contains (y ∷ xs) x × (p x ≡ true)
     by_head true passes more e = let same : y ≡ x = cc in (subst (λ (z : X). Contains (y ∷ xs) z) same (contains_head y xs), ap p (sym same) ∙ passes)
-    by_head false passes more e = let m = more e in (contains_tail y xs x m.0, m.1)
+    by_head false passes more e = let m = more e in (one_deeper y xs x m.0, m.1)
 
 whats_of : (call answer : What) (kind : OpKind) → kind_of call answer ≡ Some kind → (call ≡ call_of_kind kind) × (answer ≡ return_of_kind kind)
 whats_of (CallEnq v) RetEnq kind is = let same : Enq v ≡ kind = same_Some (Enq v) kind is in (ap call_of_kind same, ap return_of_kind same)
@@ -60,7 +61,7 @@ made_by call answer o is threads = by_kind (kind_of call.what answer.what) refl 
 -- both are events of the history
 pub operation_events : (events : List Event) (o : Operation) → Contains (operations_of events) o
     → Contains events (operation_call o) × Contains events (operation_return o)
-operation_events [] o among = absurd (none_in_nil o among)
+operation_events [] o among = absurd (not_in_none o among)
 operation_events (e ∷ later) o among = by_made (operation_of e (find (λ r. nat_eq r.thread e.thread) later)) refl (operation_events later o) among
   where
     first : (found : Option Event) → find (λ r. nat_eq r.thread e.thread) later ≡ found → operation_of e found ≡ Some o
@@ -69,15 +70,15 @@ operation_events (e ∷ later) o among = by_made (operation_of e (find (λ r. na
     first (Some answer) is made =
         let f = found_among (λ (r : Event). nat_eq r.thread e.thread) later answer is in
         let m = made_by e answer o made (eqb-true answer.thread e.thread f.1) in
-        (subst (Contains (e ∷ later)) m.0 (contains_head e later), subst (Contains (e ∷ later)) m.1 (contains_tail e later answer f.0))
+        (subst (Contains (e ∷ later)) m.0 (contains_head e later), subst (Contains (e ∷ later)) m.1 (one_deeper e later answer f.0))
 
     by_made : (made : Option Operation) → operation_of e (find (λ r. nat_eq r.thread e.thread) later) ≡ made
         → (Contains (operations_of later) o → Contains later (operation_call o) × Contains later (operation_return o)) →
         Contains (cons_option made (operations_of later)) o → Contains (e ∷ later) (operation_call o) × Contains (e ∷ later) (operation_return o)
-    by_made None is more there = let m = more there in (contains_tail e later (operation_call o) m.0, contains_tail e later (operation_return o) m.1)
+    by_made None is more there = let m = more there in (one_deeper e later (operation_call o) m.0, one_deeper e later (operation_return o) m.1)
     by_made (Some p) is more there = elim (contains_cons p (operations_of later) o there) [
       | inl same ↦ first (find (λ r. nat_eq r.thread e.thread) later) refl (is ∙ ap (λ (x : Operation). Some x) same)
-      | inr rest ↦ let m = more rest in (contains_tail e later (operation_call o) m.0, contains_tail e later (operation_return o) m.1)
+      | inr rest ↦ let m = more rest in (one_deeper e later (operation_call o) m.0, one_deeper e later (operation_return o) m.1)
     ]
 
 -- ---- in the collected history

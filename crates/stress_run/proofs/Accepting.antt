@@ -1,29 +1,17 @@
 -- A list under a lock, which the log leaves of what was there at first.
-use Rattle.std.proofs.Common.{◌≡◌, ℕ, Bool, true, false, List, [], ◌∷◌, ◌++◌, Option, Some, None, refl, sym, ap, ◌∙◌}
-use Rattle.std.specs.Prelude.{if◌then◌else◌, option_and_then, option_to_list}
+use Rattle.std.proofs.Common.{◌≡◌, ℕ, Bool, true, false, List, [], ◌∷◌, ◌++◌, Option, Some, None, refl, sym, ap, ◌∙◌, subst}
+use Rattle.std.specs.Prelude.{if◌then◌else◌, option_and_then, option_to_list, IsSome}
 use Rattle.std.proofs.lemmas.Bool.{eq-eqb}
 use Rattle.std.proofs.lemmas.List.{map-append}
-use Rattle.std.proofs.lemmas.Option.{same_Some}
 use Rattle.tickets.specs.declared.note.Effect.{Effect}
 use Rattle.tickets.specs.declared.note.Effect.TheVariants as effect
 use Rattle.tickets.specs.declared.note.Note.{Note}
 use Rattle.tickets.specs.Log.{note_at}
 use Rattle.history_merge.specs.declared.operation.OpKind.{OpKind}
-use Rattle.history_merge.specs.Queue.{accept, accept_all}
+use Rattle.tickets.specs.Nodes.{queue_after, queue_after_one}
+use Rattle.history_merge.specs.Queue.{accept, accept_all, IsAccepted}
 use Rattle.stress_run.specs.Noted.{kind_noted, kinds_noted}
-
--- one operation more is accepted
-accept_more : (queue : List ℕ) (kinds : List OpKind) (k : OpKind) (s t : List ℕ) → accept_all queue kinds ≡ Some s → accept s k ≡ Some t
-    → accept_all queue (kinds ++ k ∷ []) ≡ Some t
-accept_more queue [] k s t e f = ap (λ (q : List ℕ). option_and_then (λ next. accept_all next []) (accept q k)) (same_Some queue s e)
-    ∙ ap (option_and_then (λ next. accept_all next [])) f
-accept_more queue (x ∷ kinds) k s t e f = by_first (λ q g. accept_more q kinds k s t g f) (accept queue x) e
-  where
-    by_first : ((q : List ℕ) → accept_all q kinds ≡ Some s → accept_all q (kinds ++ k ∷ []) ≡ Some t) → (o : Option (List ℕ)) →
-        option_and_then (λ next. accept_all next kinds) o ≡ Some s
-        → option_and_then (λ next. accept_all next (kinds ++ k ∷ [])) o ≡ Some t
-    by_first later None g = cc
-    by_first later (Some q) g = later q g
+use Rattle.recorder_core.proofs.Effects.{accept_more}
 
 -- a note more, of an operation that is accepted
 pub legal_more : (initial : List ℕ) (notes : List Note) (call : ℕ) (e : Effect) (look : ℕ) (s t : List ℕ)
@@ -51,3 +39,28 @@ take_accepts old new v is =
 -- nothing is taken out of an empty list
 pub none_accepts : (old new : List ℕ) → old ≡ [] → old ≡ option_to_list None ++ new → accept old (kind_noted effect.Empty) ≡ Some new
 none_accepts old new empty is = ap (λ (q : List ℕ). accept q (kind_noted effect.Empty)) empty ∙ ap (λ (q : List ℕ). Some q) (sym empty ∙ is)
+
+-- ---- nodes
+
+same_step : (queue : List ℕ) (e : Effect) → queue_after_one queue e ≡ accept queue (kind_noted e)
+same_step queue (effect.Enq v) = refl
+same_step queue (effect.Not v) = refl
+same_step [] (effect.Deq v) = refl
+same_step (x ∷ xs) (effect.Deq v) = refl
+same_step [] effect.Empty = refl
+same_step (x ∷ xs) effect.Empty = refl
+
+same_queue : (queue : List ℕ) (notes : List Note) → queue_after queue notes ≡ accept_all queue (kinds_noted notes)
+same_queue queue [] = refl
+same_queue queue (n ∷ notes) =
+    ap (option_and_then (λ next. queue_after next notes)) (same_step queue n.effect)
+    ∙ by_first (λ next. same_queue next notes) (accept queue (kind_noted n.effect))
+  where
+    by_first : ((next : List ℕ) → queue_after next notes ≡ accept_all next (kinds_noted notes)) → (o : Option (List ℕ)) →
+        option_and_then (λ next. queue_after next notes) o ≡ option_and_then (λ next. accept_all next (kinds_noted notes)) o
+    by_first later None = refl
+    by_first later (Some next) = later next
+
+-- notes that leave a queue are of operations that it accepts
+pub noted_accepted : (queue : List ℕ) (notes : List Note) → IsSome (queue_after queue notes) → IsAccepted queue (kinds_noted notes)
+noted_accepted queue notes some_left = subst IsSome (same_queue queue notes) some_left

@@ -1,7 +1,7 @@
 -- What a worker did first and what it did next, as one list of operations.
 use Rattle.std.proofs.Common.{◌≡◌, ℕ, zero, suc, ◌+◌, ◌*◌, List, [], ◌∷◌, ◌++◌, length, map, refl, ap, sym, ◌∙◌, arith, subst, append_assoc}
 use Rattle.std.proofs.Common.{append-nil, length-append, take, drop, take-append-drop, get_or, ◌<◌, ◌≤◌, inl, inr, true, false}
-use Rattle.std.proofs.lemmas.List.{map-append, length-map, get_or_append_left}
+use Rattle.std.proofs.lemmas.List.{map-append, length-map}
 use Rattle.std.proofs.lemmas.Grind.{flat_map-append}
 use Rattle.std.proofs.lemmas.List.Elements.{All-append, All-tail}
 use Rattle.std.specs.List.{range_with_len, All, flat_map}
@@ -13,6 +13,8 @@ use Rattle.std.proofs.Math.Seq.{take-suc, take-length, drop-cons}
 use Rattle.std.proofs.lemmas.Bool.{false≢true}
 use Rattle.std.specs.List.Sorted.{IsStrictlyIncreasing}
 use Rattle.stress_run.specs.Workers.{WorkerView, SameWorker, Works, Stalls, WorksOrStalls, AreAbove}
+use Rattle.stress_run.proofs.Recording.{two_each}
+use Rattle.history_merge.proofs.Lists.{All-left, All-right}
 
 range-append : (a n m : ℕ) → range_with_len a (n + m) ≡ range_with_len a n ++ range_with_len (a + n) m
 range-append a zero m =
@@ -23,17 +25,6 @@ range-append a (suc n) m =
     let e : suc n + m ≡ suc (n + m) = omega arith in
     let f : a + 1 + n ≡ a + suc n = omega arith in
     ap (range_with_len a) e ∙ ap (λ l. a ∷ l) (range-append (a + 1) n m) ∙ ap (λ b. (a ∷ range_with_len (a + 1) n) ++ range_with_len b m) f
-
--- what holds of all of two lists holds of all of the first
-pub All-left : (P : ℕ → Type 0) (xs ys : List ℕ) → All P (xs ++ ys) → All P xs
-All-left P xs ys all k d h =
-    let long = length-append xs ys in
-    subst P (get_or_append_left xs ys d k h) (all k d (omega (arith, h, long)))
-
--- what holds of all of two lists holds of all of the second
-pub All-right : (P : ℕ → Type 0) (xs ys : List ℕ) → All P (xs ++ ys) → All P ys
-All-right P [] ys all = all
-All-right P (x ∷ xs) ys all = All-right P xs ys (All-tail P x (xs ++ ys) all)
 
 later_rise : (x : ℕ) (xs : List ℕ) → IsStrictlyIncreasing (x ∷ xs) → IsStrictlyIncreasing xs
 later_rise x xs r k h =
@@ -183,10 +174,6 @@ module _ (may : Question → Answer → Type 0) where
       let long = ap (λ (l : List Kind). length l) s.kinds_are ∙ length-append s.made (s.next ∷ s.rest) in
       omega (arith, made, last, filled, same, long)
     where
-      two_each : (os : List Completed) → length (flat_map events_of os) ≡ 2 * length os
-      two_each [] = refl
-      two_each (o ∷ os) = let more = two_each os in omega (arith, more)
-
       sent_by : (ks : List Kind) (a b : WorkerView) → Works may ks a b → a.sent ≡ [] → length b.sent ≡ 2 * length ks
       sent_by ks a b p empty =
           let os = p.operates.operations in

@@ -14,7 +14,7 @@ use Rattle.stress_run.specs.Workers.{WorkerView}
 use Rattle.stress_run.specs.Crew.{SizesView, IsNew, IsCrew}
 use Rattle.stress_run.specs.Inner.Crew.{end_of}
 use Rattle.recorder_core.proofs.Blocks.{range_more}
-use Rattle.stress_run.proofs.Places.{zip_push}
+use Rattle.history_merge.proofs.Lists.{one_more_zipped}
 
 -- the workers of the first rows are made, and the pass has the shares of the others
 pub record IsMaking (key : TableId) (sizes : SizesView) (rows : List (List Kind)) (place : ℕ) (rest : PassView) (workers : List WorkerView)
@@ -50,7 +50,7 @@ crew_more key sizes rows workers row w crew new thread = record {
       ∙ ap (λ (n : ℕ). numbers_below (length rows) ++ n ∷ []) thread
       ∙ sym (range_more (length rows))
       ∙ ap numbers_below longer;
-  each = zip_push (IsNew key sizes) rows workers row w crew.each new;
+  each = one_more_zipped (IsNew key sizes) rows workers row w crew.each new;
 }
   where
     longer : suc (length rows) ≡ length (rows ++ row ∷ [])

@@ -5,7 +5,7 @@ use Rattle.std.proofs.Common.{true, false}
 use Rattle.std.proofs.lemmas.List.Elements.{All-push, All-cons, All-head, All-tail, Contains-push}
 use Rattle.std.proofs.lemmas.Bool.{false≢true}
 use Rattle.std.specs.List.Sorted.{IsStrictlyIncreasing}
-use Rattle.stress_run.proofs.Composed.{rising-join, All-left, All-right}
+use Rattle.stress_run.proofs.Composed.{rising-join}
 use Rattle.tickets.specs.Views.{PassView, DrawnView, DrawsOne}
 use Rattle.tickets.specs.Log.{note_at}
 use Rattle.tickets.specs.declared.note.Note.{Note}
@@ -24,6 +24,7 @@ use Rattle.event_records.specs.declared.kind.Answer.TheVariants.{Taken, Not, Got
 use Rattle.queue_interface.specs.Answers.{IsOfKind}
 use Rattle.stress_run.specs.Operations.{Completed, IsAsked, events_of}
 use Rattle.stress_run.specs.Workers.{WorkerView, Works, Stalls}
+use Rattle.history_merge.proofs.Lists.{All-left, All-right}
 
 one_rises : (n : ℕ) → IsStrictlyIncreasing (n ∷ [])
 one_rises n k h = absurd (omega (arith, h))

@@ -1,5 +1,5 @@
 -- Elements at their places, in one list or in several of the same length.
-use Rattle.std.proofs.Common.{◌≡◌, ℕ, zero, suc, ◌+◌, ◌<◌, List, [], ◌∷◌, ◌++◌, length, map, get_or, refl, ap, sym, ◌∙◌, arith}
+use Rattle.std.proofs.Common.{◌≡◌, ℕ, zero, suc, ◌+◌, ◌<◌, List, [], ◌∷◌, length, map, get_or, refl, ap, sym, ◌∙◌, arith}
 use Rattle.std.specs.List.{AllZip}
 use Rattle.std.proofs.lemmas.List.{get_or-map}
 use Rattle.std.proofs.lemmas.List.FromFn.{get_or-range_with_len}
@@ -32,13 +32,6 @@ zip_of R (x ∷ xs) (y ∷ ys) e k = (
   zip_of R xs ys (omega (arith, e))
       (λ i a b h p q. k (suc i) a b (omega (arith, h)) p q),
 )
-
--- one element more in both lists
-pub zip_push : {X Y : Type 0} (R : X → Y → Type 0) (xs : List X) (ys : List Y) (x : X) (y : Y) → AllZip R xs ys → R x y → AllZip R (xs ++ x ∷ []) (ys ++ y ∷ [])
-zip_push R [] [] x y z r = (r, tt)
-zip_push R [] (b ∷ ys) x y z r = absurd z
-zip_push R (a ∷ xs) [] x y z r = absurd z
-zip_push R (a ∷ xs) (b ∷ ys) x y z r = (z.0, zip_push R xs ys x y z.1 r)
 
 -- numbered elements have their places' numbers
 pub numbered_at : {X : Type 0} (f : X → ℕ) (xs : List X) (n i : ℕ) (x : X) → map f xs ≡ numbers_below n → i < n → i < length xs → IsAt xs i x → f x ≡ i

@@ -1,5 +1,7 @@
 -- A run whose queue holds its first values already has no fault about them.
-use Rattle.std.proofs.Common.{◌≡◌, ℕ, List, [], Err, arith, subst, sym}
+use Rattle.std.proofs.Common.{◌≡◌, ◌+◌, ◌≤◌, ℕ, Bool, true, List, [], Err, arith, length, slice_index_or, subst, sym}
+use Rattle.std.proofs.lemmas.Bool.{cases_lt}
+use Rattle.stress_run.specs.Preloaded.{AreTaken, AreTakenBefore}
 use Rattle.std.specs.Prelude.{IfErr}
 use Rattle.std.specs.declared.result.Result.{Result}
 use Rattle.event_records.specs.Question.{Question}
@@ -11,6 +13,16 @@ use Rattle.stress_run.specs.Failed.{IsFaultOfRun}
 use Rattle.stress_run.specs.Faults.{IsWithinLimits}
 use Rattle.stress_run.specs.declared.faults.RunFault.{RunFault}
 use Rattle.stress_run.specs.declared.faults.RunFault.TheVariants.{Limit, Memory, Stalled, CloseLost, Uncertified, Preload}
+
+-- one value more was taken
+pub one_more_taken : (may_preload : ℕ → ℕ → Bool → Type 0) (values : List ℕ) (count : ℕ) → AreTakenBefore may_preload values count
+    → may_preload count (slice_index_or values count 0) true → AreTakenBefore may_preload values (count + 1)
+one_more_taken may_preload values count taken one place below = grind (arith, cases_lt)
+
+-- no value is left
+pub taken_to_end : (may_preload : ℕ → ℕ → Bool → Type 0) (values : List ℕ) (count : ℕ) → length values ≤ count → AreTakenBefore may_preload values count
+    → AreTaken may_preload values
+taken_to_end may_preload values count all taken place below = taken place (omega (arith, all, below))
 
 no_names : AreInitialNames []
 no_names = record {

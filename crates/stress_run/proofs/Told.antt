@@ -1,12 +1,12 @@
 -- A run whose notes are a legal log of its operations is linearizable.
-use Rattle.std.proofs.Common.{◌≡◌, ℕ, zero, suc, ◌+◌, ◌<◌, ◌≤◌, true, List, [], ◌∷◌, ◌++◌}
+use Rattle.std.proofs.Common.{◌≡◌, ℕ, zero, suc, ◌+◌, ◌<◌, ◌≤◌, true, List, [], ◌∷◌}
 use Rattle.std.proofs.Common.{length, map, get_or, set, Option, Some, refl, sym, ap, ◌∙◌, subst, arith}
 use Rattle.std.specs.Prelude.{All, AllPairs, Contains, IsPermutation, find, flat_map, nat_eq}
 use Rattle.std.specs.List.{cons_option, range_with_len, swap}
 use Rattle.std.proofs.Math.ListN.{get_or-map}
 use Rattle.std.specs.List.Sorted.{apply_swaps, SwapsInRange}
 use Rattle.std.proofs.lemmas.Bool.{eq-eqb}
-use Rattle.std.proofs.lemmas.List.{map-append, length-map, map-set}
+use Rattle.std.proofs.lemmas.List.{length-map, map-set}
 use Rattle.std.proofs.lemmas.List.Elements.{All-nil, All-cons, All-head, All-tail, All-append, All-contains}
 use Rattle.std.proofs.lemmas.List.Sorted.{IsPermutation-map, IsPermutation-trans, All-permutation}
 use Rattle.std.proofs.lemmas.Option.{slice_get-get_or, slice_get_within}
@@ -25,8 +25,10 @@ use Rattle.history_merge.proofs.Turns.{answer_is_return}
 use Rattle.recorder_core.proofs.Blocks.{blocks, blocks_same, joined_blocks, same_permutation}
 use Rattle.recorder_core.proofs.Fitting.{AreFit, owned, projection_is}
 use Rattle.recorder_core.proofs.Members.{pairs_cons}
-use Rattle.recorder_core.proofs.Operating.{no_operation, operations_by_thread}
+use Rattle.recorder_core.proofs.Operating.{operations_by_thread}
 use Rattle.stress_run.specs.Noted.{kind_noted, AreNotesOf, AreNotesOfAll}
+use Rattle.history_merge.proofs.Formed.{no_operation}
+use Rattle.recorder_core.proofs.Collecting.{map_blocks}
 
 -- a note, and the operation that it is of
 abbrev Pair : Type 0
@@ -91,10 +93,6 @@ operations_are t (call ∷ ret ∷ rest) (n ∷ ns) turns own h =
     ∙ ap (λ (l : List Operation). (pair_of call ret n).1 ∷ l) more)
 
 -- ---- blocks
-
-map_blocks : {X Y : Type 0} (f : X → Y) (g : ℕ → List X) (n : ℕ) → map f (blocks g n) ≡ blocks (λ t. map f (g t)) n
-map_blocks f g zero = refl
-map_blocks {X} {Y} f g (suc n) = map-append f (blocks g n) (g n) ∙ ap (λ (l : List Y). l ++ map f (g n)) (map_blocks f g n)
 
 all_blocks : {X : Type 0} (P : X → Type 0) (g : ℕ → List X) (n : ℕ) → ((t : ℕ) → t < n → All P (g t)) → All P (blocks g n)
 all_blocks P g zero each = All-nil P

@@ -10,6 +10,7 @@ use crate::start::Start;
 use crate::worker::{Worker, WorkerFault, call_on};
 use event_records::Kind;
 use std::alloc::AllocError;
+use std::sync::atomic::AtomicBool;
 use std::thread;
 use std::thread::Threads;
 use tickets::Tickets;
@@ -21,6 +22,7 @@ fn make_all<Q: Asked>(
     tickets: &Tickets,
     worker: &mut Worker,
     kinds: &[Kind],
+    is_abandoned: &AtomicBool,
 ) -> Result<(), WorkerFault>
     requires ready { IsReady tickets.now.key kinds.now worker.old }
     requires word { Q.of_word queue.now tickets.now.key }
@@ -29,42 +31,57 @@ fn make_all<Q: Asked>(
     ensures told { KeepsNotes (Q.notes queue.now) worker.old worker.new }
 {
     for kind in kinds {
-        call_on(queue, tickets, worker, *kind)?;
+        call_on(queue, tickets, worker, *kind, is_abandoned)?;
     }
     Ok(())
 }
 
 // Runs a worker on its row.
-fn work<Q: Asked>(queue: &Q, tickets: &Tickets, worker: Worker, kinds: &[Kind]) -> Worker
+fn work<Q: Asked>(
+    queue: &Q,
+    tickets: &Tickets,
+    worker: Worker,
+    kinds: &[Kind],
+    is_abandoned: &AtomicBool,
+) -> Worker
     requires ready { IsReady tickets.now.key kinds.now worker }
     requires word { Q.of_word queue.now tickets.now.key }
     ensures works { WorksOrStalls (Q.may queue.now) kinds.now worker result }
     ensures told { KeepsNotes (Q.notes queue.now) worker result }
 {
     let mut worker = worker;
-    let _ = make_all(queue, tickets, &mut worker, kinds);
+    // A worker that has stalled says so itself.
+    let _ = make_all(queue, tickets, &mut worker, kinds, is_abandoned);
     worker
 }
 
 // Runs a worker on its row of a plan.
-fn work_row<Q: Asked>(queue: &Q, tickets: &Tickets, rows: &[Row], worker: Worker) -> Worker
+fn work_row<Q: Asked>(
+    queue: &Q,
+    tickets: &Tickets,
+    rows: &[Row],
+    worker: Worker,
+    is_abandoned: &AtomicBool,
+) -> Worker
     requires ready { IsReadyIn tickets.now.key rows.now worker }
     requires word { Q.of_word queue.now tickets.now.key }
     ensures works { WorksIn (Q.may queue.now) rows.now worker result }
     ensures told { KeepsNotes (Q.notes queue.now) worker result }
 {
     let row = &rows[worker.place()];
-    work(queue, tickets, worker, row.as_slice())
+    work(queue, tickets, worker, row.as_slice(), is_abandoned)
 }
 
 // Runs each worker on its row of a plan, in a thread of its own, or one after another if no thread can be started.
-// They start together, as far as they meet. If memory runs out, the workers are gone.
+// They start together, as far as they meet. Once the flag is set nobody drains their rings, and a worker stalls at the first push
+// that finds no room. If memory runs out, the workers are gone.
 pub(crate) fn work_all<Q: Asked + Sync, R: Threads + Sync>(
     rt: &R,
     queue: &Q,
     tickets: &Tickets,
     rows: &[Row],
     workers: Vec<Worker>,
+    is_abandoned: &AtomicBool,
 ) -> Result<Vec<Worker>, AllocError>
     requires ready { All (IsReadyIn tickets.now.key rows.now) workers.items }
     requires word { Q.of_word queue.now tickets.now.key }
@@ -78,7 +95,7 @@ pub(crate) fn work_all<Q: Asked + Sync, R: Threads + Sync>(
         ensures told { KeepsNotes (Q.notes queue.entry.now) worker result }
     {
         start.meet();
-        work_row(queue, tickets, rows, worker)
+        work_row(queue, tickets, rows, worker, is_abandoned)
     };
     thread::map_vec(rt, workers, &on_row)
 }

@@ -3,7 +3,7 @@
 //!
 //! A worker draws a ticket, asks the queue, draws another ticket, and pushes the call and the return into its ring. A
 //! collector drains the rings meanwhile. A run gives one list of events for each worker: all that it did, in order.
-//! `run_proved` makes its own queue, whose recorded history is linearizable.
+//! `run_proved` makes its own queue, with one lock or two, whose recorded history is linearizable.
 #![tactic(auto)]
 
 mod asked;
@@ -15,11 +15,12 @@ mod proved;
 mod proving;
 mod runs;
 mod start;
+mod two_locks;
 mod worker;
 
 pub use event_records::{MAX_OPERATIONS, MAX_THREAD_OPERATIONS};
 pub use faults::{RunFault, least_fault};
-pub use proving::run_proved;
+pub use proving::{ProvedQueue, run_proved};
 pub use runs::{Recorded, run, run_from};
 pub use start::Start;
 pub use worker::{Worker, WorkerFault, one_call};

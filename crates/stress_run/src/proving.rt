@@ -18,13 +18,26 @@ use crate::faults::RunFault;
 use crate::making::Sizes;
 use crate::proved::{OfRun, Session};
 use crate::runs::{Recorded, admitted, run_on};
+use crate::two_locks::TwoLocks;
 use queue_interface::{Fifo, ValueList};
 use std::alloc::{AllocError, Global};
 use std::marker::Brand;
 use std::sync::Wait;
 use std::thread::Threads;
-use tickets::{Log, Pass, Tickets};
+use tickets::{HeadEnd, Log, Pass, TailEnd, Tickets};
 use workloads::Plan;
+
+/// A queue whose runs are proved linearizable.
+#[derive(Clone, Copy, Debug, PartialEq, Eq)]
+pub enum ProvedQueue {
+    /// A list under one lock.
+    OneLock,
+    /// The queue with two locks of Michael and Scott (1996). An enqueue takes the lock of the tail alone, a dequeue that
+    /// of the head. Both share a row of nodes, one for each initial value and operation, none of which is used twice: a
+    /// value is written into its node and then counted, and a dequeue finds the queue empty if as many were counted as
+    /// were taken.
+    TwoLocks,
+}
 
 // Returns these values as a list.
 fn listed(alloc: Global, values: &[u64]) -> Result<Fifo, AllocError>
@@ -75,15 +88,122 @@ fn run_named<J: OfRun + Send + Sync, R: Threads + Wait + Sync>(
     })
 }
 
-/// Runs a plan on the proved queue, which is made for this run alone: a list under one lock, which holds these values
-/// at first. The recorded history is linearizable from them, whatever order the threads take.
+// Runs a plan on a queue of its own, whose nodes stand beside the ticket word. The caller picks `J` for its run.
+fn run_between<J: OfRun + Send + Sync, R: Threads + Wait + Sync>(
+    rt: &R,
+    alloc: Global,
+    named: (Tickets, Pass, TailEnd, HeadEnd),
+    initial: Vec<u64>,
+    plan: &Plan,
+    sizes: Sizes,
+) -> Result<Recorded, RunFault>
+    requires sizes { IsWithinLimits sizes.ring sizes.tries }
+    requires names { AreInitialNames initial.items }
+    requires run { (named.0.key ≡ J.word) × (initial.items ≡ J.initial) }
+    requires budget { named.0.budget ≡ 2 * sum_by length plan.now }
+    requires pass { named.1 ≡ fresh_pass named.0.key (2 * sum_by length plan.now) }
+    requires tail { named.2 ≡ named.0.key }
+    requires head { named.3 ≡ record { key = named.0.key; initial = initial.items } }
+    ensures recorded { IfOk result (λ r. IsRun AnswersInKind plan.now r.lists r.total) }
+    ensures initial { IfOk result (λ r. r.initial ≡ initial.items) }
+    ensures lists { IfOk result (λ r. AreRecorded r.lists) }
+    ensures replays { IfOk result (λ r. Replays sizes.ring initial.items r.lists) }
+    ensures fits { IfOk result (λ r. (merged : List Event) → IsMerged r.lists merged → IsCompleteFrom initial.items merged) }
+    ensures linearizable { IfOk result (λ r. (merged : List Event) → IsMerged r.lists merged → IsLinearizable initial.items (operations_of merged)) }
+    ensures fault { IfErr result (IsFaultOfRun AnswersInKind [] plan.now sizes) }
+{
+    let (tickets, pass, tail, head) = named;
+    let queue: TwoLocks<'_, J, R> = TwoLocks::new(rt, tail, head);
+    let (lists, pass) = run_on(rt, alloc, &queue, &tickets, pass, plan, sizes)?;
+    let total = tickets.close_with_nodes(pass, queue.into_head());
+    Ok(Recorded {
+        initial,
+        lists,
+        total,
+    })
+}
+
+// Runs a plan on a list under one lock, which holds these values at first.
+fn run_one_lock<R: Threads + Wait + Sync>(
+    rt: &R,
+    alloc: Global,
+    initial: Vec<u64>,
+    plan: &Plan,
+    sizes: Sizes,
+) -> Result<Recorded, RunFault>
+    requires sizes { IsWithinLimits sizes.ring sizes.tries }
+    requires names { AreInitialNames initial.items }
+    ensures recorded { IfOk result (λ r. IsRun AnswersInKind plan.now r.lists r.total) }
+    ensures initial { IfOk result (λ r. r.initial ≡ initial.items) }
+    ensures lists { IfOk result (λ r. AreRecorded r.lists) }
+    ensures replays { IfOk result (λ r. Replays sizes.ring initial.items r.lists) }
+    ensures fits { IfOk result (λ r. (merged : List Event) → IsMerged r.lists merged → IsCompleteFrom initial.items merged) }
+    ensures linearizable { IfOk result (λ r. (merged : List Event) → IsMerged r.lists merged → IsLinearizable initial.items (operations_of merged)) }
+    ensures fault { IfErr result (IsFaultOfRun AnswersInKind [] plan.now sizes) }
+{
+    let named = Tickets::with_log(alloc, 2 * plan.operations())?;
+    run_named::<Brand, R>(rt, alloc, named, initial, plan, sizes)
+}
+
+// Runs a plan on nodes with a lock for each end, which hold these values at first.
+fn run_two_locks<R: Threads + Wait + Sync>(
+    rt: &R,
+    alloc: Global,
+    initial: Vec<u64>,
+    plan: &Plan,
+    sizes: Sizes,
+) -> Result<Recorded, RunFault>
+    requires sizes { IsWithinLimits sizes.ring sizes.tries }
+    requires names { AreInitialNames initial.items }
+    ensures recorded { IfOk result (λ r. IsRun AnswersInKind plan.now r.lists r.total) }
+    ensures initial { IfOk result (λ r. r.initial ≡ initial.items) }
+    ensures lists { IfOk result (λ r. AreRecorded r.lists) }
+    ensures replays { IfOk result (λ r. Replays sizes.ring initial.items r.lists) }
+    ensures fits { IfOk result (λ r. (merged : List Event) → IsMerged r.lists merged → IsCompleteFrom initial.items merged) }
+    ensures linearizable { IfOk result (λ r. (merged : List Event) → IsMerged r.lists merged → IsLinearizable initial.items (operations_of merged)) }
+    ensures fault { IfErr result (IsFaultOfRun AnswersInKind [] plan.now sizes) }
+{
+    let operations = plan.operations();
+    let room = initial.len() + operations as usize;
+    let named = Tickets::with_nodes(alloc, 2 * operations, initial.as_slice(), room)?;
+    run_between::<Brand, R>(rt, alloc, named, initial, plan, sizes)
+}
+
+// Runs a plan on this queue, which holds these values at first.
+fn run_held<R: Threads + Wait + Sync>(
+    rt: &R,
+    alloc: Global,
+    queue: ProvedQueue,
+    initial: Vec<u64>,
+    plan: &Plan,
+    sizes: Sizes,
+) -> Result<Recorded, RunFault>
+    requires sizes { IsWithinLimits sizes.ring sizes.tries }
+    requires names { AreInitialNames initial.items }
+    ensures recorded { IfOk result (λ r. IsRun AnswersInKind plan.now r.lists r.total) }
+    ensures initial { IfOk result (λ r. r.initial ≡ initial.items) }
+    ensures lists { IfOk result (λ r. AreRecorded r.lists) }
+    ensures replays { IfOk result (λ r. Replays sizes.ring initial.items r.lists) }
+    ensures fits { IfOk result (λ r. (merged : List Event) → IsMerged r.lists merged → IsCompleteFrom initial.items merged) }
+    ensures linearizable { IfOk result (λ r. (merged : List Event) → IsMerged r.lists merged → IsLinearizable initial.items (operations_of merged)) }
+    ensures fault { IfErr result (IsFaultOfRun AnswersInKind [] plan.now sizes) }
+{
+    match queue {
+        ProvedQueue::OneLock => run_one_lock(rt, alloc, initial, plan, sizes),
+        ProvedQueue::TwoLocks => run_two_locks(rt, alloc, initial, plan, sizes),
+    }
+}
+
+/// Runs a plan on a proved queue, which is made for this run alone and holds these values at first. The recorded history
+/// is linearizable from them, whatever order the threads take.
 ///
-/// Each answer is noted under the lock, at a look at the ticket word. The notes exist in proofs alone; each costs four
-/// loads of that word. Faults, waiting and memory are as of [`run_from`](crate::run_from), with the list's memory in
-/// place of the queue's; `Preload` never comes.
+/// Each answer is noted by the step that decides it. The notes exist in proofs alone; each costs four to seven loads of
+/// the ticket word. Faults, waiting and memory are as of [`run_from`](crate::run_from), with the memory of the list or
+/// the nodes in place of the queue's; `Preload` never comes.
 pub fn run_proved<R: Threads + Wait + Sync>(
     rt: &R,
     alloc: Global,
+    queue: ProvedQueue,
     initial: &[u64],
     plan: &Plan,
     ring: usize,
@@ -101,6 +221,5 @@ pub fn run_proved<R: Threads + Wait + Sync>(
     ensures fault { IfErr result (IsFaultOfRun AnswersInKind initial.now plan.now (record { ring = ring; tries = tries })) }
 {
     let (sizes, held) = admitted(alloc, initial, ring, tries)?;
-    let named = Tickets::with_log(alloc, 2 * plan.operations())?;
-    run_named::<Brand, R>(rt, alloc, named, held, plan, sizes)
+    run_held(rt, alloc, queue, held, plan, sizes)
 }

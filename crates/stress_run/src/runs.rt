@@ -158,7 +158,7 @@ pub fn run<R: Threads + Sync>(
 /// A fault gives no history, and names a thread of the plan or an initial value. `Limit` and `Preload` come before
 /// any thread is started: `Limit` if a size is out of range, or if the values aren't distinct, each 2^38 or greater
 /// and at most 100,000, unless memory for this test is refused; `Preload` for the first value that the queue refuses.
-/// `Memory` comes if memory runs out; if the collector's does, the workers go on without it until they end or stall.
+/// `Memory` comes if memory runs out; if the collector's does, each worker ends at the first push that finds no room.
 /// `Stalled` comes if a push finds no room in all its tries, between which the thread yields for longer and longer;
 /// it never comes for a row whose events all have room in its ring. `CloseLost` comes if a worker's ring gave no
 /// token after its row, and `Uncertified` never comes. The rings are closed whatever fault stands, unless the workers
@@ -226,7 +226,7 @@ fn preload_all(queue: &dyn TestQueue, initial: &[u64]) -> Result<(), RunFault>
     ensures refused { IfErr result (λ fault. (place : ℕ) × (fault ≡ Preload place) × IsFirstRefused (may_preload queue.now) initial.now place) }
 {
     for (place, value) in initial.iter().enumerate() {
-        if !queue.preload(*value) {
+        if !queue.preload(place, *value) {
             return Err(RunFault::Preload(place));
         }
     }
@@ -340,26 +340,33 @@ fn work_and_collect<Q: Asked + Sync, R: Threads + Sync>(
 {
     let over = AtomicBool::new(false);
     let flag = &over;
+    let abandoned = AtomicBool::new(false);
+    let is_abandoned = &abandoned;
     let working = move || -> Result<Vec<Worker>, AllocError>
         requires { All (IsReadyIn tickets.now.key rows.now) workers.items × Q.of_word queue.now tickets.now.key }
         ensures worked { IfOk result (λ after. AllZip (WorksIn (Q.may queue.entry.now) rows.entry.now) workers.items after.items) }
         ensures told { IfOk result (λ after. AllZip (KeepsNotes (Q.notes queue.entry.now)) workers.items after.items) }
     {
-        let after = work_all(rt, queue, tickets, rows, workers);
+        let after = work_all(rt, queue, tickets, rows, workers, is_abandoned);
         flag.store(true, Ordering::SeqCst);
         after
     };
     let collecting = move || -> Collector
         ensures { rings_of result.rings ≡ rings_of collector.rings }
-    { collect_until(flag, collector, sizes) };
+    { collect_until(flag, is_abandoned, collector, sizes) };
     // The second closure runs in this thread, and first if no other thread can be made: the flag is then set before
     // the collector looks at it.
     let (collector, after) = thread::join(rt, collecting, working);
     Ok((after?, collector))
 }
 
-// Drains round after round until the flag is set, or until a round is refused memory.
-fn collect_until(over: &AtomicBool, collector: Collector, sizes: Sizes) -> Collector
+// Drains round after round until the workers are done, or until a round is refused memory: the rings are abandoned then.
+fn collect_until(
+    over: &AtomicBool,
+    is_abandoned: &AtomicBool,
+    collector: Collector,
+    sizes: Sizes,
+) -> Collector
     ensures { rings_of result.rings ≡ rings_of collector.rings }
 {
     let mut collector = collector;
@@ -370,7 +377,10 @@ fn collect_until(over: &AtomicBool, collector: Collector, sizes: Sizes) -> Colle
         }
         match collector.drain_round(sizes.ring()) {
             Ok(drained) => pause = next_pause(pause, drained, sizes),
-            Err(_) => break,
+            Err(_) => {
+                is_abandoned.store(true, Ordering::SeqCst);
+                break;
+            }
         }
         rest(over, pause);
     }

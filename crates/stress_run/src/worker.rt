@@ -13,6 +13,7 @@ use event_records::{AskDeq, AskEnq, Kind, Namer, Noted};
 use event_rings::{CloseLost, CloseToken, PushEnd};
 use queue_interface::TestQueue;
 use std::marker::Model;
+use std::sync::atomic::{AtomicBool, Ordering};
 use std::thread;
 use thiserror::Error;
 use tickets::{Drawn, Pass, Tickets};
@@ -66,11 +67,11 @@ pub enum WorkerFault {
     Stalled,
 }
 
-// This many tries in vain make a pause longer by one turn, up to the longest. A million of them take ten seconds at
-// least if a turn takes a tenth of a microsecond or more, so that a collector that waits for a processor gets one.
+// This many tries in vain make a pause longer by one turn, up to the longest. A million of them take some seconds on an idle
+// machine, where a turn takes a tenth of a microsecond, and longer on a busy one: a collector that waits for a processor gets one.
 const TRIES_TO_A_TURN: u32 = 512;
 
-const LONGEST_PAUSE: u32 = 128;
+const LONGEST_PAUSE: u32 = 32;
 
 // Pauses after this many tries in vain: yields to other threads, for longer and longer.
 fn pause(tried: u32) {
@@ -80,8 +81,13 @@ fn pause(tried: u32) {
     }
 }
 
-// Pushes an event, and tries so up to `tries` times. Between tries the thread pauses.
-fn push_with_tries(ring: &mut PushEnd, noted: Noted, tries: u32) -> Result<(), WorkerFault>
+// Pushes an event, and tries so up to `tries` times, or until nobody drains the ring any more. Between tries the thread pauses.
+fn push_with_tries(
+    ring: &mut PushEnd,
+    noted: Noted,
+    tries: u32,
+    is_abandoned: &AtomicBool,
+) -> Result<(), WorkerFault>
     requires thread { noted.thread ≡ ring.old.thread }
     requires tries { AreTries tries }
     ensures pushed { OnOk result (ring.new ≡ record ring.old { sent = ring.old.sent ++ noted ∷ []; room = ring.new.room }) }
@@ -93,6 +99,9 @@ fn push_with_tries(ring: &mut PushEnd, noted: Noted, tries: u32) -> Result<(), W
         match ring.push(held) {
             Ok(()) => return Ok(()),
             Err(back) => held = back,
+        }
+        if is_abandoned.load(Ordering::SeqCst) {
+            break;
         }
         pause(tried);
     }
@@ -165,12 +174,12 @@ impl Worker {
     }
 
     // Pushes an event of this worker's thread, or stops.
-    fn record(&mut self, noted: Noted) -> Result<(), WorkerFault>
+    fn record(&mut self, noted: Noted, is_abandoned: &AtomicBool) -> Result<(), WorkerFault>
         requires { noted.thread ≡ self.old.thread }
         ensures sent { OnOk result (self.new ≡ record self.old { sent = self.old.sent ++ noted ∷ [] }) }
         ensures stopped { OnErr result ((self.new ≡ record self.old { stopped = true }) × (self.old.capacity ≤ length self.old.sent)) }
     {
-        let pushed = push_with_tries(&mut self.ring, noted, self.tries);
+        let pushed = push_with_tries(&mut self.ring, noted, self.tries, is_abandoned);
         if pushed.is_err() {
             self.stopped = true;
         }
@@ -183,6 +192,7 @@ impl Worker {
         queue: &Q,
         tickets: &Tickets,
         kind: Kind,
+        is_abandoned: &AtomicBool,
     ) -> Result<(), WorkerFault>
         requires key { self.old.pass.key ≡ tickets.now.key }
         requires left { 2 ≤ self.old.pass.left }
@@ -194,9 +204,9 @@ impl Worker {
         ensures stalls { OnErr result (Stalls kind self.old self.new) }
     {
         let (ask, noted) = ask_next(&mut self.namer, kind, self.pass.draw(tickets));
-        self.record(noted)?;
+        self.record(noted, is_abandoned)?;
         let returned = stamped_answer(queue, ask, &mut self.pass, tickets);
-        self.record(returned)
+        self.record(returned, is_abandoned)
     }
 }
 
@@ -260,7 +270,7 @@ pub fn one_call(
     ensures stalls { OnErr result (Stalls kind worker.old worker.new) }
     ensures running { OnOk result (worker.old.stopped ≡ false) }
 {
-    call_on(&queue, tickets, worker, kind)
+    call_on(&queue, tickets, worker, kind, &AtomicBool::new(false))
 }
 
 // Makes one operation on what the worker asks.
@@ -269,6 +279,7 @@ pub(crate) fn call_on<Q: Asked>(
     tickets: &Tickets,
     worker: &mut Worker,
     kind: Kind,
+    is_abandoned: &AtomicBool,
 ) -> Result<(), WorkerFault>
     requires key { worker.old.pass.key ≡ tickets.now.key }
     requires left { 2 ≤ worker.old.pass.left }
@@ -282,5 +293,5 @@ pub(crate) fn call_on<Q: Asked>(
     if worker.stopped {
         return Err(WorkerFault::Stalled);
     }
-    worker.operate_once(queue, tickets, kind)
+    worker.operate_once(queue, tickets, kind, is_abandoned)
 }

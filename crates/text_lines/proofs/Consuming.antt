@@ -1,29 +1,44 @@
--- Bytes that are taken in turn.
-use Rattle.text_lines.proofs.Common.{◌≡◌, ℕ, List, ◌++◌, Option, Some, None, append_assoc, append-nil, sym, ◌∙◌, ap}
-use Rattle.text_lines.proofs.Common.{subst}
-use Rattle.std.proofs.Common.{IfSome}
-use Rattle.text_lines.specs.Input.{Ahead, Ending, Takes, IsOver}
+-- Bytes that a source gives in turn.
+use Rattle.text_lines.proofs.Common.{◌≡◌, ℕ, List, [], ◌++◌, Option, Some, None, append_assoc, append-nil, sym, ◌∙◌, ap, ap₂}
+use Rattle.text_lines.proofs.Common.{refl, subst}
+use Rattle.std.specs.Io.KnownBytes.{Consumes, IsAtEnd, Keeps}
+use Rattle.text_lines.specs.Input.{after, Ahead, EndOfInput, Ending, Exactly, Failure, Gives, Known, known_of, MayGive, over}
+use Rattle.text_lines.specs.Input.{Unknown, UnlessFailed}
 
--- bytes that are taken in two steps are taken
-pub Takes-append : (a b c : Option Ahead) (xs ys : List ℕ) → Takes a b xs → Takes b c ys → Takes a c (xs ++ ys)
-Takes-append None b c xs ys h k = tt
-Takes-append (Some u) None c xs ys h k = absurd h
-Takes-append (Some u) (Some v) None xs ys h k = absurd k
-Takes-append (Some u) (Some v) (Some w) xs ys h k = (h.0 ∙ ap (λ (r : List ℕ). xs ++ r) k.0 ∙ sym (append_assoc xs ys w.bytes), k.1 ∙ h.1)
+-- whatever is known, some input may come
+pub some_input : (known : Known) → (a : Ahead) × MayGive known a
+some_input Unknown = (over EndOfInput, tt)
+some_input (UnlessFailed bytes) = (record { bytes = bytes; ending = EndOfInput }, ([], sym (append-nil bytes), λ _. refl))
+some_input (Exactly a) = (a, refl)
 
--- what a fact on the bytes ahead says if some were taken
-pub before : (a b : Option Ahead) (xs : List ℕ) (P : Ending → List ℕ → Type 0) → Takes a b xs
-    → ((ending : Ending) (more : List ℕ) → P ending (xs ++ more)) → IfSome a (λ u. P u.ending u.bytes)
-before None b xs P h all = tt
-before (Some u) None xs P h all = absurd h
-before (Some u) (Some v) xs P h all = subst (λ (r : List ℕ). P u.ending r) (sym h.0) (all u.ending v.bytes)
+-- of known bytes some were given
+pub exactly : (x y : Ahead) (given : List ℕ) → x.bytes ≡ given ++ y.bytes → y.ending ≡ x.ending → Gives (Exactly x) (Exactly y) given
+exactly x y given front same = record {
+  before = λ a is. subst (λ (b : Ahead). after given b ≡ x) (sym is) (ap₂ (λ bytes ending. record { bytes = bytes; ending = ending }) (sym front) same);
+}
 
--- what is consumed, if the input ends then
-pub before_end : (a b : Option Ahead) (end : Ending) (xs : List ℕ) (P : Ending → List ℕ → Type 0) → Takes a b xs → IsOver end b → P end xs
-    → IfSome a (λ u. P u.ending u.bytes)
-before_end None b end xs P h over p = tt
-before_end (Some u) None end xs P h over p = absurd h
-before_end (Some u) (Some v) end xs P h over p =
-    let all : u.bytes ≡ xs = h.0 ∙ ap (λ (r : List ℕ). xs ++ r) over.0 ∙ append-nil xs in
-    let same : end ≡ u.ending = sym over.1 ∙ h.1 in
-    subst (λ (r : List ℕ). P u.ending r) (sym all) (subst (λ (e : Ending). P e xs) same p)
+-- what a read of std gives
+pub gives : (old new : Option (List ℕ)) (given : List ℕ) → Consumes old new given → Gives (known_of old) (known_of new) given
+gives None new given took = record { before = λ a may. tt }
+gives (Some xs) None given took = absurd took
+gives (Some xs) (Some ys) given took = record {
+  before = λ a may. (
+    may.0,
+    took ∙ ap (λ (r : List ℕ). given ++ r) may.1 ∙ sym (append_assoc given a.bytes may.0),
+    may.2,
+  );
+}
+
+-- at a failure the known bytes are kept
+pub keeps_give : (old new : Option (List ℕ)) → Keeps old new → Gives (known_of old) (known_of new) []
+keeps_give None new kept = gives None new [] tt
+keeps_give (Some xs) None kept = absurd kept
+keeps_give (Some xs) (Some ys) kept = gives (Some xs) (Some ys) [] (sym kept)
+
+pub ends : (new : Option (List ℕ)) → IsAtEnd new → MayGive (known_of new) (over EndOfInput)
+ends None at = tt
+ends (Some xs) at = (xs, refl, λ _. at)
+
+pub fails : (new : Option (List ℕ)) → MayGive (known_of new) (over Failure)
+fails None = tt
+fails (Some xs) = (xs, refl, λ (other : Failure ≡ EndOfInput). cc)

@@ -1,5 +1,5 @@
 -- What a source has ahead, as contracts see it.
-use Rattle.std.specs.Prelude.{◌≡◌, ℕ, ◌<◌, List, [], ◌++◌, length, take, Option, None, Some, MatchResult}
+use Rattle.std.specs.Prelude.{◌≡◌, ℕ, ◌<◌, List, [], ◌++◌, length, take, ⊤, Option, None, Some, MatchResult}
 use Rattle.std.specs.declared.result.Result.{Result}
 
 -- how what a source gives comes to its end: there is no more, or a read fails
@@ -12,18 +12,42 @@ pub record Ahead : Type 0 where
   pub bytes : List ℕ
   pub ending : Ending
 
--- what is known ahead begins with these bytes, and loses them
-abbrev pub Takes : Option Ahead → Option Ahead → List ℕ → Type 0
-Takes None new given = Unit {0}
-Takes (Some a) None given = ⊥
-Takes (Some a) (Some b) given = (a.bytes ≡ given ++ b.bytes) × (b.ending ≡ a.ending)
+-- what is known of what a source has ahead: nothing; these bytes, unless a read fails before their end; or all of it
+pub data Known : Type 0 where
+  Unknown : Known
+  UnlessFailed : List ℕ → Known
+  Exactly : Ahead → Known
 
--- no known byte is ahead, and the input ends so
-abbrev pub IsOver : Ending → Option Ahead → Type 0
-IsOver ending None = Unit {0}
-IsOver ending (Some a) = (a.bytes ≡ []) × (a.ending ≡ ending)
+-- as far as that is known, reads may give this
+abbrev pub MayGive : Known → Ahead → Type 0
+MayGive Unknown a = ⊤
+MayGive (UnlessFailed bytes) a = (rest : List ℕ) × (bytes ≡ a.bytes ++ rest) × (a.ending ≡ EndOfInput → rest ≡ [])
+MayGive (Exactly known) a = a ≡ known
+
+-- some input that the source may give is so: the one that is known, if it is known
+pub record OfInput (known : Known) (IsSo : Ahead → Type 0) : Type 0 where
+  pub input : Ahead
+  pub may : MayGive known input
+  pub is_so : IsSo input
+
+-- these bytes, and then an input
+abbrev pub after : List ℕ → Ahead → Ahead
+after bytes a = record { bytes = bytes ++ a.bytes; ending = a.ending }
+
+-- no byte, and then this end
+abbrev pub over : Ending → Ahead
+over ending = record { bytes = []; ending = ending }
+
+-- these bytes were given: whatever may come now may have come after them
+pub record Gives (old new : Known) (given : List ℕ) : Type 0 where
+  pub before : (a : Ahead) → MayGive new a → MayGive old (after given a)
 
 -- a read gave the first n bytes of the piece at `Ok(n)`, none only at the end or with no room; at `Err` the bytes were over, by a failure
-abbrev pub ReadTakes : {E : Type 0} → Option Ahead → Option Ahead → Result ℕ E → List ℕ → Type 0
-ReadTakes old new r piece = MatchResult r (λ n. Takes old new (take n piece) × (n ≡ 0 → 0 < length piece → IsOver EndOfInput new))
-    (λ _. Takes old new [] × IsOver Failure new)
+abbrev pub ReadGives : {E : Type 0} → Known → Known → Result ℕ E → List ℕ → Type 0
+ReadGives old new r piece = MatchResult r (λ n. Gives old new (take n piece) × (n ≡ 0 → 0 < length piece → MayGive new (over EndOfInput)))
+    (λ _. Gives old new [] × MayGive new (over Failure))
+
+-- what is known of the bytes that a reader of std has left
+abbrev pub known_of : Option (List ℕ) → Known
+known_of None = Unknown
+known_of (Some bytes) = UnlessFailed bytes

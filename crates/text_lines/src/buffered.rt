@@ -41,6 +41,18 @@ impl<S: TextSink> Buffered<S> {
         }
     }
 
+    /// Returns the inner sink. What is held back is lost.
+    pub fn into_inner(self) -> S
+        ensures { result ≡ self.inner }
+    {
+        let Buffered {
+            inner,
+            kept: _,
+            at: _,
+        } = self;
+        inner
+    }
+
     /// Writes all that is held back.
     fn pass_on(&mut self) -> Result<(), WriteFault>
         ensures empty { OnOk result (self.new.kept ≡ []) }

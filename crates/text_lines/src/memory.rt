@@ -1,5 +1,5 @@
-ghost use Rattle.std.specs.Prelude.{◌≡◌, ◌<◌, ◌≤◌, Some, IfOk, length};
-ghost use Rattle.text_lines.specs.Input.{EndOfInput, Failure, ReadTakes};
+ghost use Rattle.std.specs.Prelude.{◌≡◌, ◌<◌, ◌≤◌, IfOk, length};
+ghost use Rattle.text_lines.specs.Input.{EndOfInput, Exactly, Failure, ReadGives};
 
 use crate::source::{ReadFailed, TextSource};
 use std::marker::Model;
@@ -59,11 +59,12 @@ impl<'a> MemorySource<'a> {
 }
 
 impl<'a> TextSource for MemorySource<'a> {
-    ghost ahead = { λ s. Some s.ahead };
+    ghost ahead = { λ s. Exactly s.ahead };
 
+    #[tactic(auto, using(crate::proofs::Consuming::exactly))]
     fn read(&mut self, piece: &mut [u8]) -> Result<usize, ReadFailed>
         ensures bound { IfOk result (λ n. n ≤ length piece.new) }
-        ensures bytes { ReadTakes (Some self.old.ahead) (Some self.new.ahead) result piece.new }
+        ensures bytes { ReadGives (Exactly self.old.ahead) (Exactly self.new.ahead) result piece.new }
         ensures few { IfOk result (λ n. n ≤ self.old.most) }
         ensures most { self.new.most ≡ self.old.most }
     {

@@ -1,6 +1,5 @@
-ghost use Rattle.std.specs.Prelude.{◌≡◌, ◌≤◌, false, Option, None, IfOk, length};
-ghost use Rattle.std.specs.Io.KnownBytes.{ReadConsumes};
-ghost use Rattle.text_lines.specs.Input.{Ahead, ReadTakes};
+ghost use Rattle.std.specs.Prelude.{◌≡◌, ◌≤◌, false, IfOk, length};
+ghost use Rattle.text_lines.specs.Input.{Known, ReadGives, known_of};
 
 use std::io::Read;
 use std::marker::Model;
@@ -16,21 +15,21 @@ pub struct ReadFailed;
 /// Beside what std's `Read` has, contracts see how its bytes end. If they saw the bytes alone, a body that always
 /// returns a failed read would meet every contract of a reader.
 pub trait TextSource {
-    /// The bytes that reads will give from here on and how they end, if this is known.
-    ghost ahead: { Self → Option Ahead };
+    /// What is known of the bytes that reads will give from here on, and of how they end.
+    ghost ahead: { Self → Known };
 
     /// Puts bytes at the front of the piece, and returns how many. It gives none only if the piece is empty or the
     /// bytes have ended.
     fn read(&mut self, piece: &mut [u8]) -> Result<usize, ReadFailed>
         ensures bound { IfOk result (λ n. n ≤ length piece.new) }
-        ensures bytes { ReadTakes (ahead self.old) (ahead self.new) result piece.new };
+        ensures bytes { ReadGives (ahead self.old) (ahead self.new) result piece.new };
 }
 
 /// A reader or a writer of std as a source or a sink of texts, and whether a write or a flush has failed.
 ///
 /// Each call makes one call of the reader or writer, and fails if that fails: an interrupted call isn't tried again.
-/// std's traits say nothing of failures to contracts, so tests show this. Contracts know nothing of how a reader's
-/// bytes end, since nothing in std says it; `MemorySource` does.
+/// std's traits say nothing of failures to contracts, so tests show this. Contracts know a reader's bytes if std's `Read`
+/// does, but not whether a read fails before their end; of a `MemorySource` they know both.
 #[derive(Drop)]
 pub struct Watched<T> {
     pub(crate) inner: T,
@@ -70,13 +69,9 @@ impl<T> Watched<T> {
 }
 
 impl<R: Read> TextSource for Watched<R> {
-    ghost ahead = { λ _. None };
+    ghost ahead = { λ w. known_of (R.remaining w.inner) };
 
-    fn read(&mut self, piece: &mut [u8]) -> Result<usize, ReadFailed>
-        ensures bound { IfOk result (λ n. n ≤ length piece.new) }
-        ensures bytes { ReadTakes None None result piece.new }
-        ensures inner { ReadConsumes (R.remaining self.old.inner) (R.remaining self.new.inner) result piece.new }
-    {
+    fn read(&mut self, piece: &mut [u8]) -> Result<usize, ReadFailed> {
         match self.inner.read(piece) {
             Ok(count) => Ok(count),
             Err(_) => Err(ReadFailed),

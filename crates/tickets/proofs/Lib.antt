@@ -7,3 +7,5 @@ pub mod Rising
 mod Steps
 mod Apart
 mod Logged
+mod Rows
+mod Ends

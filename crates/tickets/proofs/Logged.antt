@@ -104,9 +104,9 @@ knower h knows = ap knowers knows
 -- ---- the steps
 
 -- a later ticket, and a pass with the same notes
-pub logged_same : (next more : ℕ) (views : List Holding) (i : ℕ) (v w : Holding) → next ≤ more → IsLogged next views → get_elem? views i ≡ some v
-    → w.noted ≡ v.noted → w.log ≡ v.log → (w.drawn ≡ [] → v.drawn ≡ []) → IsLogged more (set views i w)
-logged_same next more views i v w later l at noted log drawn =
+pub logged_same : (next more : ℕ) (whole : List Note) (views : List Holding) (i : ℕ) (v w : Holding) → next ≤ more → IsLogged next whole views → get_elem? views i ≡ some v
+    → w.noted ≡ v.noted → w.log ≡ v.log → (w.drawn ≡ [] → v.drawn ≡ []) → IsLogged more whole (set views i w)
+logged_same next more whole views i v w later l at noted log drawn =
     let apart = one_apart noted_of views i v at in
     let all = flat_map noted_of views in
     let after = flat_map noted_of (set views i w) in
@@ -115,38 +115,36 @@ logged_same next more views i v w later l at noted log drawn =
     let ones = ap knowers log in
     let one = l.one in
     record {
-      log = l.log;
-      once = IsPermutation-trans after all l.log
+      once = IsPermutation-trans after all whole
           (IsPermutation-trans after (v.noted ++ apart.others) all same (IsPermutation-sym all (v.noted ++ apart.others) apart.before)) l.once;
-      known = All-set (λ (h : Holding). Knows l.log h.log) views i w
-          (subst (Knows l.log) (sym log) (at_place (λ h. Knows l.log h.log) views i v at l.known)) l.known;
+      known = All-set (λ (h : Holding). Knows whole h.log) views i w
+          (subst (Knows whole) (sym log) (at_place (λ h. Knows whole h.log) views i v at l.known)) l.known;
       one = omega arith;
       idle = All-set IsIdle views i w (λ e. noted ∙ at_place IsIdle views i v at l.idle (drawn e)) l.idle;
-      rise = looks_later 0 l.log next more later l.rise;
+      rise = looks_later 0 whole next more later l.rise;
     }
 
 -- one more pass, which has noted nothing and knows no log
-pub logged_push : (next : ℕ) (views : List Holding) (new : Holding) → IsLogged next views → new.noted ≡ []
-    → new.log ≡ None → IsLogged next (views ++ new ∷ [])
-logged_push next views new l noted none =
+pub logged_push : (next : ℕ) (whole : List Note) (views : List Holding) (new : Holding) → IsLogged next whole views → new.noted ≡ []
+    → new.log ≡ None → IsLogged next whole (views ++ new ∷ [])
+logged_push next whole views new l noted none =
     let longer : flat_map noted_of views ≡ flat_map noted_of (views ++ new ∷ []) =
     sym (flat_map-append noted_of views (new ∷ []) ∙ ap (λ (ns : List Note). flat_map noted_of views ++ (ns ++ [])) noted ∙ append-nil (flat_map noted_of views)) in
     let pushed = sum_by_push knowers_of views new in
     let zero_is = ap knowers none in
     let one = l.one in
     record {
-      log = l.log;
-      once = subst (λ (ns : List Note). IsPermutation ns l.log) longer l.once;
-      known = All-push (λ (h : Holding). Knows l.log h.log) views new l.known (subst (Knows l.log) (sym none) tt);
+      once = subst (λ (ns : List Note). IsPermutation ns whole) longer l.once;
+      known = All-push (λ (h : Holding). Knows whole h.log) views new l.known (subst (Knows whole) (sym none) tt);
       one = omega arith;
       idle = All-push IsIdle views new l.idle (λ _. noted);
       rise = l.rise;
     }
 
 -- the log goes from a pass to a seat of its own
-pub logged_lent : (next : ℕ) (views : List Holding) (i : ℕ) (v : Holding) → IsLogged next views → get_elem? views i ≡ some v → knows_log v
-    → IsLogged next (set views i (without_log v) ++ logging (known_log v.log) ∷ [])
-logged_lent next views i v l at knows =
+pub logged_lent : (next : ℕ) (whole : List Note) (views : List Holding) (i : ℕ) (v : Holding) → IsLogged next whole views → get_elem? views i ≡ some v → knows_log v
+    → IsLogged next whole (set views i (without_log v) ++ logging (known_log v.log) ∷ [])
+logged_lent next whole views i v l at knows =
     let w = without_log v in
     let new = logging (known_log v.log) in
     let set_views = set views i w in
@@ -154,27 +152,26 @@ logged_lent next views i v l at knows =
     let all = flat_map noted_of views in
     let longer : flat_map noted_of set_views ≡ flat_map noted_of (set_views ++ new ∷ []) =
     sym (flat_map-append noted_of set_views (new ∷ []) ∙ append-nil (flat_map noted_of set_views)) in
-    let same = IsPermutation-trans (flat_map noted_of set_views) all l.log
+    let same = IsPermutation-trans (flat_map noted_of set_views) all whole
     (IsPermutation-trans (flat_map noted_of set_views) (v.noted ++ apart.others) all (apart.after w) (IsPermutation-sym all (v.noted ++ apart.others) apart.before)) l.once in
     let pushed = sum_by_push knowers_of set_views new in
     let sums = knowers-set views i v w at in
     let mine = knower v knows in
     let one = l.one in
     record {
-      log = l.log;
-      once = subst (λ (ns : List Note). IsPermutation ns l.log) longer same;
-      known = All-push (λ (h : Holding). Knows l.log h.log) set_views new (one_knows l.log views i v w l.one at mine tt)
-          (known_is l.log v knows (at_place (λ h. Knows l.log h.log) views i v at l.known));
+      once = subst (λ (ns : List Note). IsPermutation ns whole) longer same;
+      known = All-push (λ (h : Holding). Knows whole h.log) set_views new (one_knows whole views i v w l.one at mine tt)
+          (known_is whole v knows (at_place (λ h. Knows whole h.log) views i v at l.known));
       one = omega arith;
       idle = All-push IsIdle set_views new (All-set IsIdle views i w (at_place IsIdle views i v at l.idle) l.idle) (λ _. refl);
       rise = l.rise;
     }
 
 -- a pass takes the log of a seat that holds nothing else
-pub logged_taken : (next : ℕ) (views : List Holding) (i j : ℕ) (v : Holding) (log : List Note) → IsLogged next views → get_elem? views i ≡ some v
+pub logged_taken : (next : ℕ) (whole : List Note) (views : List Holding) (i j : ℕ) (v : Holding) (log : List Note) → IsLogged next whole views → get_elem? views i ≡ some v
     → get_elem? views j ≡ some (logging log) → j ≢ i → v.log ≡ None
-    → IsLogged next (set (set views i (with_log v (logging log))) j (holding 0 [] []))
-logged_taken next views i j v log l at there apart none =
+    → IsLogged next whole (set (set views i (with_log v (logging log))) j (holding 0 [] []))
+logged_taken next whole views i j v log l at there apart none =
     let w = logging log in
     let m = with_log v w in
     let spent = holding 0 [] [] in
@@ -185,22 +182,21 @@ logged_taken next views i j v log l at there apart none =
     let second = knowers-set (set views i m) j w spent (set_else views i j m apart ∙ there) in
     let zero_is = ap knowers none in
     let one = l.one in
-    let theirs : log ≡ l.log = at_place (λ h. Knows l.log h.log) views j w there l.known in
+    let theirs : log ≡ whole = at_place (λ h. Knows whole h.log) views j w there l.known in
     record {
-      log = l.log;
-      once = IsPermutation-trans (flat_map noted_of after) all l.log
+      once = IsPermutation-trans (flat_map noted_of after) all whole
           (IsPermutation-trans (flat_map noted_of after) (v.noted ++ two.others) all (two.after m spent) (IsPermutation-sym all (v.noted ++ two.others) two.before)) l.once;
-      known = All-set (λ (h : Holding). Knows l.log h.log) (set views i m) j spent tt (All-set (λ (h : Holding). Knows l.log h.log) views i m theirs l.known);
+      known = All-set (λ (h : Holding). Knows whole h.log) (set views i m) j spent tt (All-set (λ (h : Holding). Knows whole h.log) views i m theirs l.known);
       one = omega arith;
       idle = All-set IsIdle (set views i m) j spent (λ _. refl) (All-set IsIdle views i m (at_place IsIdle views i v at l.idle) l.idle);
       rise = l.rise;
     }
 
 -- a pass takes in another
-pub logged_joined : (next : ℕ) (views : List Holding) (i j : ℕ) (v w : Holding) → IsLogged next views → get_elem? views i ≡ some v
+pub logged_joined : (next : ℕ) (whole : List Note) (views : List Holding) (i j : ℕ) (v w : Holding) → IsLogged next whole views → get_elem? views i ≡ some v
     → get_elem? views j ≡ some w → j ≢ i → v.log ≡ None → w.log ≡ None → (merged v.drawn w.drawn ≡ [] → (v.drawn ≡ []) × (w.drawn ≡ []))
-    → IsLogged next (set (set views i (put_together v w)) j (holding 0 [] []))
-logged_joined next views i j v w l at there apart none none' empty =
+    → IsLogged next whole (set (set views i (put_together v w)) j (holding 0 [] []))
+logged_joined next whole views i j v w l at there apart none none' empty =
     let m = put_together v w in
     let spent = holding 0 [] [] in
     let after = set (set views i m) j spent in
@@ -215,12 +211,11 @@ logged_joined next views i j v w l at there apart none none' empty =
     let one = l.one in
     let parts = subst (λ (ns : List Note). IsPermutation (flat_map noted_of after) ns) (append_assoc v.noted w.noted two.others) (two.after m spent) in
     record {
-      log = l.log;
-      once = IsPermutation-trans (flat_map noted_of after) all l.log
+      once = IsPermutation-trans (flat_map noted_of after) all whole
           (IsPermutation-trans (flat_map noted_of after) (v.noted ++ (w.noted ++ two.others)) all parts
           (IsPermutation-sym all (v.noted ++ (w.noted ++ two.others)) two.before)) l.once;
-      known = All-set (λ (h : Holding). Knows l.log h.log) (set views i m) j spent tt
-          (All-set (λ (h : Holding). Knows l.log h.log) views i m (subst (Knows l.log) (sym both) tt) l.known);
+      known = All-set (λ (h : Holding). Knows whole h.log) (set views i m) j spent tt
+          (All-set (λ (h : Holding). Knows whole h.log) views i m (subst (Knows whole) (sym both) tt) l.known);
       one = omega arith;
       idle = All-set IsIdle (set views i m) j spent (λ _. refl)
           (All-set IsIdle views i m
@@ -229,9 +224,9 @@ logged_joined next views i j v w l at there apart none none' empty =
     }
 
 -- the pass that knows the log adds a note
-pub logged_noted : (next : ℕ) (views : List Holding) (i : ℕ) (v : Holding) (call : ℕ) (effect : Effect) → IsLogged next views → get_elem? views i ≡ some v
-    → knows_log v → v.drawn ≢ [] → call < next → IsLogged next (set views i (noting call effect next v))
-logged_noted next views i v call effect l at knows drew above =
+pub logged_noted : (next : ℕ) (whole : List Note) (views : List Holding) (i : ℕ) (v : Holding) (call : ℕ) (effect : Effect) → IsLogged next whole views → get_elem? views i ≡ some v
+    → knows_log v → v.drawn ≢ [] → call < next → IsLogged next (whole ++ note_at call effect next ∷ []) (set views i (noting call effect next v))
+logged_noted next whole views i v call effect l at knows drew above =
     let w = noting call effect next v in
     let note = note_at call effect next in
     let apart = one_apart noted_of views i v at in
@@ -240,52 +235,82 @@ logged_noted next views i v call effect l at knows drew above =
     let sums = knowers-set views i v w at in
     let mine = knower v knows in
     let one = l.one in
-    let is = known_is l.log v knows (at_place (λ h. Knows l.log h.log) views i v at l.known) in
+    let is = known_is whole v knows (at_place (λ h. Knows whole h.log) views i v at l.known) in
     let moved = subst (IsPermutation after) (append_assoc v.noted (note ∷ []) apart.others) (apart.after w) in
     let first = IsPermutation-trans after (v.noted ++ note ∷ apart.others) (note ∷ (v.noted ++ apart.others)) moved (IsPermutation-middle v.noted note apart.others) in
-    let old = IsPermutation-trans (v.noted ++ apart.others) all l.log (IsPermutation-sym all (v.noted ++ apart.others) apart.before) l.once in
-    let second = IsPermutation-trans after (note ∷ (v.noted ++ apart.others)) (note ∷ l.log) first (IsPermutation-cons note (v.noted ++ apart.others) l.log old) in
+    let old = IsPermutation-trans (v.noted ++ apart.others) all whole (IsPermutation-sym all (v.noted ++ apart.others) apart.before) l.once in
+    let second = IsPermutation-trans after (note ∷ (v.noted ++ apart.others)) (note ∷ whole) first (IsPermutation-cons note (v.noted ++ apart.others) whole old) in
     record {
-      log = l.log ++ note ∷ [];
-      once = IsPermutation-trans after (note ∷ l.log) (l.log ++ note ∷ []) second
-          (IsPermutation-sym (l.log ++ note ∷ []) (note ∷ l.log) (IsPermutation-to_front l.log note));
-      known = one_knows (l.log ++ note ∷ []) views i v w l.one at mine (ap (λ (ns : List Note). ns ++ note ∷ []) is);
+      once = IsPermutation-trans after (note ∷ whole) (whole ++ note ∷ []) second
+          (IsPermutation-sym (whole ++ note ∷ []) (note ∷ whole) (IsPermutation-to_front whole note));
+      known = one_knows (whole ++ note ∷ []) views i v w l.one at mine (ap (λ (ns : List Note). ns ++ note ∷ []) is);
       one = omega arith;
       idle = All-set IsIdle views i w (λ e. absurd (drew e)) l.idle;
-      rise = looks_push 0 l.log next call effect above l.rise;
+      rise = looks_push 0 whole next call effect above l.rise;
     }
 
 -- what a pass has noted has no look above the next ticket
-pub noted_within : (next : ℕ) (views : List Holding) (i : ℕ) (v : Holding) → IsLogged next views → get_elem? views i ≡ some v
+pub noted_within : (next : ℕ) (whole : List Note) (views : List Holding) (i : ℕ) (v : Holding) → IsLogged next whole views → get_elem? views i ≡ some v
     → All (λ n. n.look ≤ next) v.noted
-noted_within next views i v l at =
+noted_within next whole views i v l at =
     let apart = one_apart noted_of views i v at in
     let all = flat_map noted_of views in
     let P : Note → Type 0 = λ n. n.look ≤ next in
-    all_left P v.noted apart.others (All-permutation P l.log (v.noted ++ apart.others)
-    (IsPermutation-trans l.log all (v.noted ++ apart.others) (IsPermutation-sym all l.log l.once) apart.before) (looks_within 0 l.log next l.rise))
+    all_left P v.noted apart.others (All-permutation P whole (v.noted ++ apart.others)
+    (IsPermutation-trans whole all (v.noted ++ apart.others) (IsPermutation-sym all whole l.once) apart.before) (looks_within 0 whole next l.rise))
 
--- where all others have noted nothing, a pass that knows the log has noted all of it
-pub logged_whole : (next : ℕ) (views : List Holding) (i : ℕ) (v : Holding) (l : IsLogged next views) → get_elem? views i ≡ some v → knows_log v
-    → All (λ h. h.drawn ≡ []) (set views i (holding 0 [] [])) → IsPermutation v.noted (known_log v.log) × LooksRise 0 (known_log v.log) next
-logged_whole next views i v l at knows idle =
+-- where nobody knows the log, any pass adds a note
+pub logged_more : (next : ℕ) (whole : List Note) (views : List Holding) (i : ℕ) (v w : Holding) (call : ℕ) (effect : Effect) → IsLogged next whole views → get_elem? views i ≡ some v
+    → sum_by knowers_of views ≡ 0 → w.noted ≡ v.noted ++ note_at call effect next ∷ [] → w.log ≡ v.log → w.drawn ≡ v.drawn → v.drawn ≢ []
+    → call < next → IsLogged next (whole ++ note_at call effect next ∷ []) (set views i w)
+logged_more next whole views i v w call effect l at unknown noted same_log same_drawn drew above =
+    let note = note_at call effect next in
+    let apart = one_apart noted_of views i v at in
+    let all = flat_map noted_of views in
+    let after = flat_map noted_of (set views i w) in
+    let sums = knowers-set views i v w at in
+    let theirs = ap knowers same_log in
+    let one = l.one in
+    let now = subst (λ (ns : List Note). IsPermutation after (ns ++ apart.others)) noted (apart.after w) in
+    let moved = subst (IsPermutation after) (append_assoc v.noted (note ∷ []) apart.others) now in
+    let first = IsPermutation-trans after (v.noted ++ note ∷ apart.others) (note ∷ (v.noted ++ apart.others)) moved (IsPermutation-middle v.noted note apart.others) in
+    let old = IsPermutation-trans (v.noted ++ apart.others) all whole (IsPermutation-sym all (v.noted ++ apart.others) apart.before) l.once in
+    let second = IsPermutation-trans after (note ∷ (v.noted ++ apart.others)) (note ∷ whole) first (IsPermutation-cons note (v.noted ++ apart.others) whole old) in
+    record {
+      once = IsPermutation-trans after (note ∷ whole) (whole ++ note ∷ []) second
+          (IsPermutation-sym (whole ++ note ∷ []) (note ∷ whole) (IsPermutation-to_front whole note));
+      known = none_know (whole ++ note ∷ []) (set views i w) (omega arith);
+      one = omega arith;
+      idle = All-set IsIdle views i w (λ e. absurd (drew (sym same_drawn ∙ e))) l.idle;
+      rise = looks_push 0 whole next call effect above l.rise;
+    }
+
+none_noted : (hs : List Holding) → All (λ h. h.drawn ≡ []) hs → All IsIdle hs → flat_map noted_of hs ≡ []
+none_noted [] _ _ = refl
+none_noted (h ∷ hs) none idle_all = λ k.
+    (All-head IsIdle h hs idle_all (All-head (λ (g : Holding). g.drawn ≡ []) h hs none) k)
+    ++ none_noted hs (All-tail (λ (g : Holding). g.drawn ≡ []) h hs none) (All-tail IsIdle h hs idle_all) k
+
+-- where all others have noted nothing, a pass has noted the whole log
+pub logged_all : (next : ℕ) (whole : List Note) (views : List Holding) (i : ℕ) (v : Holding) (l : IsLogged next whole views) → get_elem? views i ≡ some v
+    → All (λ h. h.drawn ≡ []) (set views i (holding 0 [] [])) → IsPermutation v.noted whole
+logged_all next whole views i v l at idle =
     let none = holding 0 [] [] in
     let apart = one_apart noted_of views i v at in
     let all = flat_map noted_of views in
-    let is = known_is l.log v knows (at_place (λ h. Knows l.log h.log) views i v at l.known) in
     let nothing_else : flat_map noted_of (set views i none) ≡ [] =
     none_noted (set views i none) idle (All-set IsIdle views i none (λ _. refl) l.idle) in
     let long = length_permutation (flat_map noted_of (set views i none)) apart.others (apart.after none) in
     let zero_long = ap length nothing_else in
     let empty = nothing apart.others (omega arith) in
     let alone = subst (λ (ns : List Note). IsPermutation all ns) (ap (λ (ns : List Note). v.noted ++ ns) empty ∙ append-nil v.noted) apart.before in
-    let mine = IsPermutation-trans v.noted all l.log (IsPermutation-sym all v.noted alone) l.once in (
-      subst (IsPermutation v.noted) (sym is) mine,
+    IsPermutation-trans v.noted all whole (IsPermutation-sym all v.noted alone) l.once
+
+-- and so does one that knows the log
+pub logged_whole : (next : ℕ) (whole : List Note) (views : List Holding) (i : ℕ) (v : Holding) (l : IsLogged next whole views) → get_elem? views i ≡ some v → knows_log v
+    → All (λ h. h.drawn ≡ []) (set views i (holding 0 [] [])) → IsPermutation v.noted (known_log v.log) × LooksRise 0 (known_log v.log) next
+logged_whole next whole views i v l at knows idle =
+    let is = known_is whole v knows (at_place (λ h. Knows whole h.log) views i v at l.known) in (
+      subst (IsPermutation v.noted) (sym is) (logged_all next whole views i v l at idle),
       subst (λ (ns : List Note). LooksRise 0 ns next) (sym is) l.rise,
     )
-  where
-    none_noted : (hs : List Holding) → All (λ h. h.drawn ≡ []) hs → All IsIdle hs → flat_map noted_of hs ≡ []
-    none_noted [] _ _ = refl
-    none_noted (h ∷ hs) none idle_all = λ k.
-        (All-head IsIdle h hs idle_all (All-head (λ (g : Holding). g.drawn ≡ []) h hs none) k)
-        ++ none_noted hs (All-tail (λ (g : Holding). g.drawn ≡ []) h hs none) (All-tail IsIdle h hs idle_all) k

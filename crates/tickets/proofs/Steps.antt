@@ -1,11 +1,11 @@
 -- Each step keeps the account.
 use Rattle.std.proofs.Common.{◌≡◌, ◌≢◌, ℕ, suc, ◌+◌, ◌-◌, ◌%◌, ◌^◌, ◌<◌, ◌≤◌, List, [], ◌∷◌, ◌++◌, length, get_or}
 use Rattle.std.proofs.Common.{set, All, sum_by, flat_map}
-use Rattle.std.proofs.Common.{IsPermutation, refl, sym, ap, ◌∙◌, subst, arith, length-append, length-set, get_or-set_same, append_assoc}
+use Rattle.std.proofs.Common.{IsPermutation, refl, sym, ap, ◌∙◌, subst, arith, length-append, length-set, get_or-set_same, get_or-set_other, append_assoc}
 use mathlib.Core.Option.{some, some-injective, some-ne-none}
 use lib.ListN.{get_elem?}
 use Rattle.std.specs.List.Sorted.{IsStrictlyIncreasing}
-use Rattle.std.proofs.lemmas.List.{append-nil}
+use Rattle.std.proofs.lemmas.List.{append-nil, drop-set-lt, drop-set-add, set-get_or}
 use Rattle.std.proofs.lemmas.List.Concat.{flat_map-append, length-flat_map}
 use Rattle.std.proofs.lemmas.List.Elements.{All-nil, All-cons, All-head, All-tail, All-get_or, All-set, All-push, All-contains}
 use Rattle.std.proofs.lemmas.List.FromFn.{length-range_with_len}
@@ -18,11 +18,15 @@ use Rattle.atomic_table.proofs.Lists.{set_again, set_else}
 use Rattle.tickets.specs.declared.account.Holding.{Holding}
 use Rattle.tickets.specs.Account.{whole_of, IsAccount}
 use Rattle.tickets.specs.Inner.Account.{first_of, holding, logging, known_log, knows_log, without_log, with_log}
+use Rattle.tickets.specs.Inner.Account.{AreBooked, initial_of, either_log, with_both, with_known}
+use Rattle.tickets.specs.Inner.Nodes.{holders, AreNodes}
+use Rattle.tickets.specs.declared.account.Setup.{Setup}
+use Rattle.tickets.proofs.Rows.{nodes_same, nodes_split, nodes_join, nodes_known}
 use Rattle.tickets.specs.Inner.Account.{noting, KeepsAccount, DrawsNext, NotesAt, LooksAtShare, merged, put_together}
-use Rattle.tickets.specs.Log.{IsLogged, Knows, LooksRise}
+use Rattle.tickets.specs.Log.{IsLogged, Knows, LooksRise, knowers, note_at}
 use Rattle.tickets.specs.declared.note.Effect.{Effect}
 use Rattle.tickets.specs.declared.note.Note.{Note}
-use Rattle.std.specs.Prelude.{None, Contains}
+use Rattle.std.specs.Prelude.{None, Contains, Bool, false, drop, if◌then◌else◌}
 use Rattle.tickets.specs.Views.{numbers_below}
 use Rattle.tickets.proofs.Logged.{logged_same, logged_push, logged_lent, logged_taken, logged_joined, logged_noted, logged_whole, noted_within, looks_within, known_is, at_place}
 use Rattle.tickets.proofs.Apart.{place_in, one_apart, two_apart}
@@ -62,7 +66,7 @@ rising_at : (views : List Holding) (i : ℕ) (v : Holding) → get_elem? views i
 rising_at views i v at all = let p = place_in views i v at in
     subst (λ (h : Holding). IsStrictlyIncreasing h.drawn) (p.1 v) (All-get_or (λ (h : Holding). IsStrictlyIncreasing h.drawn) views i v p.0 all)
 
-none_rise : IsStrictlyIncreasing []
+pub none_rise : IsStrictlyIncreasing []
 none_rise k l = absurd (omega arith)
 
 -- what holds of all of two lists holds of all of the first
@@ -74,7 +78,7 @@ nothing : (xs : List ℕ) → length xs ≡ 0 → xs ≡ []
 nothing [] e = refl
 nothing (x ∷ xs) e = absurd (omega arith)
 
-contains_some : (xs : List ℕ) (x : ℕ) → Contains xs x → xs ≢ []
+pub contains_some : (xs : List ℕ) (x : ℕ) → Contains xs x → xs ≢ []
 contains_some xs x c e = let long = ap length e in let inside = c.1 in absurd (omega arith)
 
 not_empty : (xs : List ℕ) (n : ℕ) → xs ++ n ∷ [] ≢ []
@@ -84,37 +88,72 @@ not_empty xs n e = let long = ap length e in let sum = length-append xs (n ∷ [
 pub below_all : (n : ℕ) → All (λ t. t < n) (numbers_below n)
 below_all n = subst (λ (m : ℕ). All (λ t. t < m) (numbers_below n)) (omega arith) (range-below 0 n)
 
+-- the first of some words
+pub first_word : (words : List ℕ) (n : ℕ) → get_elem? words 0 ≡ some n → get_or words 0 0 ≡ n
+first_word [] n e = absurd (some-ne-none n (sym e))
+first_word (x ∷ xs) n e = some-injective x n e
+
 -- ---- the account, and its table
 
-module _ (budget : ℕ) where
-  -- all passes together have drawn as many tickets as the next number says
-  pub total : (next : ℕ) (views : List Holding) → IsAccount budget next views → sum_by count_of views ≡ next
-  total next views a = sym (length-flat_map drawn_of views) ∙ sym (length_permutation (flat_map drawn_of views) (numbers_below next) a.complete)
-      ∙ length-range_with_len 0 next
+-- the pass has neither end of the nodes
+abbrev pub HasNoEnd : Holding → Type 0
+HasNoEnd h = (h.tail ≡ None) × (h.head ≡ None)
 
+-- all passes together have drawn as many tickets as the next number says
+pub total : (budget next : ℕ) (views : List Holding) → IsAccount budget next views → sum_by count_of views ≡ next
+total budget next views a = sym (length-flat_map drawn_of views) ∙ sym (length_permutation (flat_map drawn_of views) (numbers_below next) a.complete)
+    ∙ length-range_with_len 0 next
+
+module _ (setup : Setup) where
   -- a pass that may still draw keeps the next number below the budget
-  room : (next : ℕ) (views : List Holding) (i : ℕ) (v : Holding) → IsAccount budget next views → get_elem? views i ≡ some v → 0 < v.left → next < budget
+  room : (next : ℕ) (views : List Holding) (i : ℕ) (v : Holding) → IsAccount setup.budget next views → get_elem? views i ≡ some v → 0 < v.left → next < setup.budget
   room next views i v a at some_left =
       let none = holding 0 [] [] in
-      let all = total next views a in
+      let all = total setup.budget next views a in
       let counts = counts-set views i v none at in
       let shares = shares-set views i v none at in
       let within = counts_within (set views i none) in
       let is = a.shared_out in
       omega arith
 
-  -- the table after the word became x
-  kept : (words : List ℕ) (x : ℕ) (views : List Holding) → length words ≡ 1 → IsAccount budget x views → IsLogged x views
-      → ((length (set words 0 x) ≡ 1) × IsAccount budget (get_or (set words 0 x) 0 0) views) × IsLogged (get_or (set words 0 x) 0 0) views
-  kept words x views wide a l =
-      let same = sym (get_or-set_same words 0 x 0 (omega arith)) in (
-        (length-set words 0 x ∙ wide, subst (λ (z : ℕ). IsAccount budget z views) same a),
-        subst (λ (z : ℕ). IsLogged z views) same l,
+  -- the table after its first word became x
+  pub kept : (words : List ℕ) (x : ℕ) (views : List Holding) → 0 < length words → IsAccount setup.budget x views → AreBooked (initial_of setup) x words views
+      → ((0 < length (set words 0 x)) × IsAccount setup.budget (get_or (set words 0 x) 0 0) views)
+      × AreBooked (initial_of setup) (get_or (set words 0 x) 0 0) (set words 0 x) views
+  kept words x views wide a b =
+      let same = sym (get_or-set_same words 0 x 0 wide) in
+      let row = drop-set-lt 1 words 0 x (omega arith) in (
+        (subst (λ (n : ℕ). 0 < n) (sym (length-set words 0 x)) wide, subst (λ (z : ℕ). IsAccount setup.budget z views) same a),
+        subst (λ (z : ℕ). AreBooked (initial_of setup) z (set words 0 x) views) same
+            (record { log = b.log; logged = b.logged; nodes = subst (λ (r : List ℕ). AreNodes (initial_of setup) r b.log views) (sym row) b.nodes }),
       )
 
-  account_drawn : (n : ℕ) (views : List Holding) (i : ℕ) (v : Holding) → IsAccount budget n views → get_elem? views i ≡ some v → 0 < v.left
+  -- the table after a further word became y
+  pub kept_else : (words : List ℕ) (i j y : ℕ) (log : List Note) (views : List Holding) → i ≡ 1 + j → 0 < length words
+      → IsAccount setup.budget (get_or words 0 0) views → IsLogged (get_or words 0 0) log views
+      → AreNodes (initial_of setup) (set (drop 1 words) j y) log views
+      → ((0 < length (set words i y)) × IsAccount setup.budget (get_or (set words i y) 0 0) views)
+      × AreBooked (initial_of setup) (get_or (set words i y) 0 0) (set words i y) views
+  kept_else words i j y log views is wide a l nodes =
+      let same = sym (get_or-set_other words i 0 y 0 (λ e. absurd (omega arith))) in
+      let row : drop 1 (set words i y) ≡ set (drop 1 words) j y = ap (λ (k : ℕ). drop 1 (set words k y)) is ∙ drop-set-add 1 words j y in (
+        (subst (λ (n : ℕ). 0 < n) (sym (length-set words i y)) wide, subst (λ (z : ℕ). IsAccount setup.budget z views) same a),
+        subst (λ (z : ℕ). AreBooked (initial_of setup) z (set words i y) views) same
+            (record { log = log; logged = l; nodes = subst (λ (r : List ℕ). AreNodes (initial_of setup) r log views) (sym row) nodes }),
+      )
+
+  -- the table after a look at a word
+  pub kept_seen : (words : List ℕ) (i : ℕ) (views : List Holding) → 0 < length words → IsAccount setup.budget (get_or words 0 0) views
+      → AreBooked (initial_of setup) (get_or words 0 0) words views
+      → ((0 < length (set words i (get_or words i 0))) × IsAccount setup.budget (get_or (set words i (get_or words i 0)) 0 0) views)
+      × AreBooked (initial_of setup) (get_or (set words i (get_or words i 0)) 0 0) (set words i (get_or words i 0)) views
+  kept_seen words i views wide a b =
+      subst (λ (ws : List ℕ). ((0 < length ws) × IsAccount setup.budget (get_or ws 0 0) views) × AreBooked (initial_of setup) (get_or ws 0 0) ws views)
+      (sym (set-get_or words i 0)) ((wide, a), b)
+
+  account_drawn : (n : ℕ) (views : List Holding) (i : ℕ) (v : Holding) → IsAccount setup.budget n views → get_elem? views i ≡ some v → 0 < v.left
       → All (λ t. t < n) v.drawn
-      → IsAccount budget (suc n) (set views i (record v { left = v.left - 1; drawn = v.drawn ++ n ∷ [] }))
+      → IsAccount setup.budget (suc n) (set views i (record v { left = v.left - 1; drawn = v.drawn ++ n ∷ [] }))
   account_drawn n views i v a at some_left below =
       let w = record v { left = v.left - 1; drawn = v.drawn ++ n ∷ [] } in
       let apart = one_apart drawn_of views i v at in
@@ -139,14 +178,24 @@ module _ (budget : ℕ) where
         complete = subst (IsPermutation (flat_map drawn_of (set views i w))) pushed third;
       }
 
+  -- what a pass has drawn is below the next number
+  pub drawn_below : (n : ℕ) (views : List Holding) (i : ℕ) (v : Holding) (t : ℕ) → IsAccount setup.budget n views → get_elem? views i ≡ some v
+      → Contains v.drawn t → t < n
+  drawn_below n views i v t a at drew =
+      let apart = one_apart drawn_of views i v at in
+      let all = flat_map drawn_of views in
+      let same = IsPermutation-trans (numbers_below n) all (v.drawn ++ apart.others) (IsPermutation-sym all (numbers_below n) a.complete) apart.before in
+      let below = all_left (λ k. k < n) v.drawn apart.others (All-permutation (λ k. k < n) (numbers_below n) (v.drawn ++ apart.others) same (below_all n)) in
+      All-contains (λ k. k < n) v.drawn t below drew
+
   -- a draw is a step that keeps the account: the pass draws the word's number
   pub draws : (slots id : ℕ) (me : Me (Unit {0}) Holding) → 0 < me.0.left
-      → Allows (KeepsAccount budget) slots id me 0 (λ n. (n + 1) % 2 ^ 64) (λ found after. DrawsNext me.0 found after.0 × (after.1 ≡ me.1))
+      → Allows (KeepsAccount setup) slots id me 0 (λ n. (n + 1) % 2 ^ 64) (λ found after. DrawsNext me.0 found after.0 × (after.1 ≡ me.1))
   draws slots id me some_left s r _ at small =
       let v = me.0 in
       let n : ℕ = get_or s.words 0 0 in
       let a = r.0.1 in
-      let inside : n < budget = room n s.views id v a at some_left in
+      let inside : n < setup.budget = room n s.views id v a at some_left in
       let limit = a.limited in
       let apart = one_apart drawn_of s.views id v at in
       let all = flat_map drawn_of s.views in
@@ -157,15 +206,19 @@ module _ (budget : ℕ) where
         w,
         keeps,
         tt,
-        subst (λ (z : ℕ). KeepsAccount budget (stepped s 0 z id me.1 w keeps)) next
+        subst (λ (z : ℕ). KeepsAccount setup (stepped s 0 z id me.1 w keeps)) next
             (kept s.words (suc n) (set s.views id w) r.0.0 (account_drawn n s.views id v a at some_left below)
-            (logged_same n (suc n) s.views id v w (omega arith) r.1 at refl refl (λ e. absurd (not_empty v.drawn n e)))),
-        ((omega arith, refl, below, omega arith, refl, refl, noted_within n s.views id v r.1 at), refl),
+            (record {
+              log = r.1.log;
+              logged = logged_same n (suc n) r.1.log s.views id v w (omega arith) r.1.logged at refl refl (λ e. absurd (not_empty v.drawn n e));
+              nodes = nodes_same _ _ _ s.views r.1.nodes id v w at refl refl refl;
+            })),
+        ((omega arith, refl, below, omega arith, refl, refl, refl, refl, noted_within n r.1.log s.views id v r.1.logged at), refl),
       )
 
   -- a split keeps the account: the new pass has its share, and has drawn nothing
   pub splits : (id : ℕ) (v : Holding) (n : ℕ) → n ≤ v.left
-      → Splits (KeepsAccount budget) id v (record v { left = v.left - n }) (holding n [] [])
+      → Splits (KeepsAccount setup) id v (record v { left = v.left - n }) (holding n [] [])
   splits id v n fits s r at =
       let a = r.0.1 in
       let w = record v { left = v.left - n } in
@@ -190,14 +243,18 @@ module _ (budget : ℕ) where
             complete = subst (λ (l : List ℕ). IsPermutation l (numbers_below (get_or s.words 0 0))) longer done;
           },
         ),
-        logged_push (get_or s.words 0 0) (set s.views id w) new
-            (logged_same (get_or s.words 0 0) (get_or s.words 0 0) s.views id v w (omega arith) r.1 at refl refl (λ e. e)) refl refl,
+        record {
+          log = r.1.log;
+          logged = logged_push (get_or s.words 0 0) r.1.log (set s.views id w) new
+              (logged_same (get_or s.words 0 0) (get_or s.words 0 0) r.1.log s.views id v w (omega arith) r.1.logged at refl refl (λ e. e)) refl refl;
+          nodes = nodes_split _ _ _ s.views r.1.nodes id v w new at (omega arith) (omega arith) (omega arith) (λ fits. (fits, tt)) (λ _ fits. (fits, tt));
+        },
       )
 
   -- a join keeps the account: share, rest and tickets of both are put together
-  pub joins : (id : ℕ) (v : Holding) (other : ℕ) (w : Holding) → v.log ≡ None → w.log ≡ None
-      → Joins (KeepsAccount budget) id v other w (put_together v w) (holding 0 [] [])
-  joins id v other w none none' s r at apart there =
+  pub joins : (id : ℕ) (v : Holding) (other : ℕ) (w : Holding) → v.log ≡ None → w.log ≡ None → HasNoEnd v → HasNoEnd w
+      → Joins (KeepsAccount setup) id v other w (put_together v w) (holding 0 [] [])
+  joins id v other w none none' no_end no_end' s r at apart there =
       let a = r.0.1 in
       let views = s.views in
       let next : ℕ = get_or s.words 0 0 in
@@ -234,12 +291,25 @@ module _ (budget : ℕ) where
             complete = IsPermutation-trans after all (numbers_below next) to_old a.complete;
           },
         ),
-        logged_joined next views id other v w r.1 at here apart none none'
-            (λ e. let zero_long = ap length e in (nothing v.drawn (omega arith), nothing w.drawn (omega arith))),
+        record {
+          log = r.1.log;
+          logged = logged_joined next r.1.log views id other v w r.1.logged at here apart none none'
+              (λ e. let zero_long = ap length e in (nothing v.drawn (omega arith), nothing w.drawn (omega arith)));
+          nodes =
+              let a = ap knowers none in
+              let b = ap knowers none' in
+              let ab : knowers (either_log v.log w.log) ≡ 0 = λ i. knowers (either_log (none i) (none' i)) in
+              let c = ap holders no_end.0 in
+              let d = ap holders no_end.1 in
+              let c' = ap holders no_end'.0 in
+              let d' = ap holders no_end'.1 in
+              nodes_join _ _ _ views r.1.nodes id other v w m spent at there here (omega arith) (omega arith) (omega arith)
+              (λ _ _. (tt, tt)) (λ _ _ _. (tt, tt));
+        },
       )
 
   -- a look at a pass keeps the account and changes nothing
-  pub looks : (slots id : ℕ) (me : Me (Unit {0}) Holding) → Allows (KeepsAccount budget) slots id me 0 (λ n. n)
+  pub looks : (slots id : ℕ) (me : Me (Unit {0}) Holding) → Allows (KeepsAccount setup) slots id me 0 (λ n. n)
       (λ found after. LooksAtShare me.0 × (after ≡ me))
   looks slots id me s r _ at _ =
       let a = r.0.1 in
@@ -250,19 +320,19 @@ module _ (budget : ℕ) where
         me.0,
         keeps,
         tt,
-        kept s.words n (set s.views id me.0) r.0.0 (subst (IsAccount budget n) (sym (set_again s.views id me.0 at)) a)
-            (subst (IsLogged n) (sym (set_again s.views id me.0 at)) r.1),
+        kept s.words n (set s.views id me.0) r.0.0 (subst (IsAccount setup.budget n) (sym (set_again s.views id me.0 at)) a)
+            (subst (AreBooked (initial_of setup) n s.words) (sym (set_again s.views id me.0 at)) r.1),
         ((omega arith, rising_at s.views id me.0 at a.rising), refl),
       )
 
   -- the pass that has the whole budget holds each number below the word once
-  pub closes : (id : ℕ) (v : Holding) (words : List ℕ) (slots : List (Unit {0})) (next : ℕ) → whole_of v ≡ budget
-      → Final (Seen (KeepsAccount budget) id v) words slots → get_elem? words 0 ≡ some next → v.drawn ≡ numbers_below next
+  pub closes : (id : ℕ) (v : Holding) (words : List ℕ) (slots : List (Unit {0})) (next : ℕ) → whole_of v ≡ setup.budget
+      → Final (Seen (KeepsAccount setup) id v) words slots → get_elem? words 0 ≡ some next → v.drawn ≡ numbers_below next
   closes id v words slots next whole f found =
       let s = f.0 in
       let a = f.1.0.0.1 in
       let at = f.1.1 in
-      let last : get_or s.words 0 0 ≡ next = ap (λ (l : List ℕ). get_or l 0 0) f.2 ∙ word_at words next found in
+      let last : get_or s.words 0 0 ≡ next = ap (λ (l : List ℕ). get_or l 0 0) f.2 ∙ first_word words next found in
       let none = holding 0 [] [] in
       let apart = one_apart drawn_of s.views id v at in
       let shares = shares-set s.views id v none at in
@@ -276,14 +346,10 @@ module _ (budget : ℕ) where
       let mine = IsPermutation-trans v.drawn (flat_map drawn_of s.views) (numbers_below (get_or s.words 0 0))
       (IsPermutation-sym (flat_map drawn_of s.views) v.drawn alone) a.complete in
       all_below (get_or s.words 0 0) v.drawn (rising_at s.views id v at a.rising) mine ∙ ap numbers_below last
-    where
-      word_at : (l : List ℕ) (n : ℕ) → get_elem? l 0 ≡ some n → get_or l 0 0 ≡ n
-      word_at [] n e = absurd (some-ne-none n (sym e))
-      word_at (x ∷ xs) n e = some-injective x n e
 
   -- a pass that draws as before
-  account_same : (next : ℕ) (views : List Holding) (i : ℕ) (v w : Holding) → IsAccount budget next views → get_elem? views i ≡ some v
-      → w.left ≡ v.left → w.drawn ≡ v.drawn → IsAccount budget next (set views i w)
+  pub account_same : (next : ℕ) (views : List Holding) (i : ℕ) (v w : Holding) → IsAccount setup.budget next views → get_elem? views i ≡ some v
+      → w.left ≡ v.left → w.drawn ≡ v.drawn → IsAccount setup.budget next (set views i w)
   account_same next views i v w a at left drawn =
       let apart = one_apart drawn_of views i v at in
       let shares = shares-set views i v w at in
@@ -302,87 +368,103 @@ module _ (budget : ℕ) where
       }
 
   -- one more pass with no share
-  account_push : (next : ℕ) (views : List Holding) (log : List Note) → IsAccount budget next views → IsAccount budget next (views ++ logging log ∷ [])
-  account_push next views log a =
-      let new = logging log in
+  pub account_push : (next : ℕ) (views : List Holding) (new : Holding) → new.left ≡ 0 → new.drawn ≡ [] → IsAccount setup.budget next views
+      → IsAccount setup.budget next (views ++ new ∷ [])
+  account_push next views new none_left none_drawn a =
       let pushed = sum_by_push whole_of views new in
       let is = a.shared_out in
+      let zero_long = ap length none_drawn in
       let longer : flat_map drawn_of views ≡ flat_map drawn_of (views ++ new ∷ []) =
-      sym (flat_map-append drawn_of views (new ∷ []) ∙ append-nil (flat_map drawn_of views)) in
+      sym (flat_map-append drawn_of views (new ∷ []) ∙ ap (λ (l : List ℕ). flat_map drawn_of views ++ (l ++ [])) none_drawn ∙ append-nil (flat_map drawn_of views)) in
       record {
         limited = a.limited;
         shared_out = omega arith;
-        rising = All-push (λ (h : Holding). IsStrictlyIncreasing h.drawn) views new a.rising none_rise;
+        rising = All-push (λ (h : Holding). IsStrictlyIncreasing h.drawn) views new a.rising (subst IsStrictlyIncreasing (sym none_drawn) none_rise);
         complete = subst (λ (l : List ℕ). IsPermutation l (numbers_below next)) longer a.complete;
       }
 
   -- the log goes to a seat of its own
-  pub lends : (id : ℕ) (v : Holding) → knows_log v → Splits (KeepsAccount budget) id v (without_log v) (logging (known_log v.log))
+  pub lends : (id : ℕ) (v : Holding) → knows_log v → Splits (KeepsAccount setup) id v (without_log v) (logging (known_log v.log))
   lends id v knows s r at =
       let n : ℕ = get_or s.words 0 0 in
       let w = without_log v in (
-        (r.0.0, account_push n (set s.views id w) (known_log v.log) (account_same n s.views id v w r.0.1 at refl refl)),
-        logged_lent n s.views id v r.1 at knows,
+        (r.0.0, account_push n (set s.views id w) (logging (known_log v.log)) refl refl (account_same n s.views id v w r.0.1 at refl refl)),
+        record {
+          log = r.1.log;
+          logged = logged_lent n r.1.log s.views id v r.1.logged at knows;
+          nodes = nodes_split _ _ _ s.views r.1.nodes id v w (logging (known_log v.log)) at (sym (ap knowers knows)) (omega arith) (omega arith)
+              (λ fits. (fits, tt)) (λ _ fits. (fits, tt));
+        },
       )
 
   -- a pass takes the log
   pub takes : (id : ℕ) (v : Holding) (other : ℕ) (log : List Note) → v.log ≡ None
-      → Joins (KeepsAccount budget) id v other (logging log) (with_log v (logging log)) (holding 0 [] [])
+      → Joins (KeepsAccount setup) id v other (logging log) (with_log v (logging log)) (holding 0 [] [])
   takes id v other log none s r at apart there =
       let n : ℕ = get_or s.words 0 0 in
       let w = logging log in
       let m = with_log v w in
       let here = sym (set_else s.views id other m apart) ∙ there in (
         (r.0.0, account_same n (set s.views id m) other w (holding 0 [] []) (account_same n s.views id v m r.0.1 at refl refl) there refl refl),
-        logged_taken n s.views id other v log r.1 at here apart none,
+        record {
+          log = r.1.log;
+          logged = logged_taken n r.1.log s.views id other v log r.1.logged at here apart none;
+          nodes =
+              let a = ap knowers none in
+              nodes_join _ _ _ s.views r.1.nodes id other v w m (holding 0 [] []) at there here (omega arith) (omega arith) (omega arith)
+              (λ fits _. (fits, tt)) (λ _ fits _. (fits, tt));
+        },
       )
 
   -- a note at a look
   pub notes : (slots id : ℕ) (me : Me (Unit {0}) Holding) (call : ℕ) (effect : Effect) → knows_log me.0 → Contains me.0.drawn call
-      → Allows (KeepsAccount budget) slots id me 0 (λ n. n) (λ found after. NotesAt call effect me.0 found after.0 × (after.1 ≡ me.1))
+      → Allows (KeepsAccount setup) slots id me 0 (λ n. n) (λ found after. NotesAt call effect me.0 found after.0 × (after.1 ≡ me.1))
   notes slots id me call effect knows drew s r _ at _ =
       let v = me.0 in
       let a = r.0.1 in
       let n : ℕ = get_or s.words 0 0 in
       let w = noting call effect n v in
-      let apart = one_apart drawn_of s.views id v at in
-      let all = flat_map drawn_of s.views in
-      let same = IsPermutation-trans (numbers_below n) all (v.drawn ++ apart.others) (IsPermutation-sym all (numbers_below n) a.complete) apart.before in
-      let below = all_left (λ t. t < n) v.drawn apart.others (All-permutation (λ t. t < n) (numbers_below n) (v.drawn ++ apart.others) same (below_all n)) in
-      let above : call < n = All-contains (λ t. t < n) v.drawn call below drew in
-      let is = known_is r.1.log v knows (at_place (λ h. Knows r.1.log h.log) s.views id v at r.1.known) in (
+      let above : call < n = drawn_below n s.views id v call a at drew in
+      let l = r.1.logged in
+      let log = r.1.log in
+      let is = known_is log v knows (at_place (λ h. Knows log h.log) s.views id v at l.known) in (
         w,
         keeps,
         tt,
         kept s.words n (set s.views id w) r.0.0 (account_same n s.views id v w a at refl refl)
-            (logged_noted n s.views id v call effect r.1 at knows (contains_some v.drawn call drew) above),
-        ((refl, above, subst (All (λ (m : Note). m.look ≤ n)) (sym is) (looks_within 0 r.1.log n r.1.rise)), refl),
+            (record {
+              log = log ++ note_at call effect n ∷ [];
+              logged = logged_noted n log s.views id v call effect l at knows (contains_some v.drawn call drew) above;
+              nodes = nodes_known _ _ _ s.views r.1.nodes id v w (log ++ note_at call effect n ∷ []) at (ap knowers knows) refl refl refl;
+            }),
+        ((refl, above, subst (All (λ (m : Note). m.look ≤ n)) (sym is) (looks_within 0 log n l.rise)), refl),
       )
 
-  -- the pass that has the whole budget, and knows the log, has noted all of it
-  pub settles : (id : ℕ) (v : Holding) (words : List ℕ) (slots : List (Unit {0})) (next : ℕ) → whole_of v ≡ budget → knows_log v
-      → Final (Seen (KeepsAccount budget) id v) words slots → get_elem? words 0 ≡ some next
-      → IsPermutation v.noted (known_log v.log) × LooksRise 0 (known_log v.log) next
-  settles id v words slots next whole knows f found =
-      let s = f.0 in
-      let a = f.1.0.0.1 in
-      let at = f.1.1 in
-      let n : ℕ = get_or s.words 0 0 in
-      let last : n ≡ next = ap (λ (l : List ℕ). get_or l 0 0) f.2 ∙ word_is words next found in
+  -- beside a pass that has the whole budget nobody has drawn
+  pub others_idle : (next : ℕ) (views : List Holding) (i : ℕ) (v : Holding) → IsAccount setup.budget next views → get_elem? views i ≡ some v
+      → whole_of v ≡ setup.budget → All (λ h. h.drawn ≡ []) (set views i (holding 0 [] []))
+  others_idle next views i v a at whole =
       let none = holding 0 [] [] in
-      let shares = shares-set s.views id v none at in
+      let shares = shares-set views i v none at in
       let is = a.shared_out in
-      subst (λ (m : ℕ). IsPermutation v.noted (known_log v.log) × LooksRise 0 (known_log v.log) m) last
-      (logged_whole n s.views id v f.1.0.1 at knows (none_drawn (set s.views id none) (omega arith)))
+      none_drawn (set views i none) (omega arith)
     where
-      word_is : (l : List ℕ) (n : ℕ) → get_elem? l 0 ≡ some n → get_or l 0 0 ≡ n
-      word_is [] n e = absurd (some-ne-none n (sym e))
-      word_is (x ∷ xs) n e = some-injective x n e
-
       none_drawn : (hs : List Holding) → sum_by whole_of hs ≡ 0 → All (λ h. h.drawn ≡ []) hs
       none_drawn [] e = All-nil (λ (h : Holding). h.drawn ≡ [])
       none_drawn (h ∷ hs) e = let split = sum_by-cons whole_of h hs in
           All-cons (λ (g : Holding). g.drawn ≡ []) h hs (nothing h.drawn (omega arith)) (none_drawn hs (omega arith))
+
+  -- the pass that has the whole budget, and knows the log, has noted all of it
+  pub settles : (id : ℕ) (v : Holding) (words : List ℕ) (slots : List (Unit {0})) (next : ℕ) → whole_of v ≡ setup.budget → knows_log v
+      → Final (Seen (KeepsAccount setup) id v) words slots → get_elem? words 0 ≡ some next
+      → IsPermutation v.noted (known_log v.log) × LooksRise 0 (known_log v.log) next
+  settles id v words slots next whole knows f found =
+      let s = f.0 in
+      let at = f.1.1 in
+      let n : ℕ = get_or s.words 0 0 in
+      let last : n ≡ next = ap (λ (l : List ℕ). get_or l 0 0) f.2 ∙ first_word words next found in
+      subst (λ (m : ℕ). IsPermutation v.noted (known_log v.log) × LooksRise 0 (known_log v.log) m) last
+      (logged_whole n f.1.0.1.log s.views id v f.1.0.1.logged at knows (others_idle n s.views id v f.1.0.0.1 at whole))
 
 -- the whole of two passes put together is the sum of their wholes
 pub whole_of-put_together : (v w : Holding) → whole_of (put_together v w) ≡ whole_of v + whole_of w
@@ -392,8 +474,8 @@ whole_of-put_together v w =
     omega arith
 
 -- the first pass knows the log
-pub first_knows : (v : Holding) (budget : ℕ) → v ≡ first_of budget → knows_log v
-first_knows v budget is = subst knows_log (sym is) refl
+pub first_knows : (v : Holding) (setup : Setup) → setup.has_nodes ≡ false → v ≡ first_of setup → knows_log v
+first_knows v setup none is = subst knows_log (sym is) (subst (λ (b : Bool). knows_log (if b then with_both setup else with_known setup)) (sym none) refl)
 
 -- a pass that noted knows the log
 pub noted_knows : (v w : Holding) (call : ℕ) (effect : Effect) (look : ℕ) → w ≡ noting call effect look v → knows_log w

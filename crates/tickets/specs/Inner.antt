@@ -1,2 +1,3 @@
 -- Relations that serve the contracts of private functions: no public promise names one.
 pub mod Account
+pub mod Nodes

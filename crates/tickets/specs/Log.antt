@@ -24,8 +24,7 @@ knowers None = 0
 knowers (Some known) = 1
 
 -- all that the passes noted stands in the log, each note once; one at most knows the log; and who drew no ticket noted nothing
-pub record IsLogged (next : ℕ) (passes : List Holding) : Type 0 where
-  pub log : List Note
+pub record IsLogged (next : ℕ) (log : List Note) (passes : List Holding) : Type 0 where
   pub once : IsPermutation (flat_map (λ h. h.noted) passes) log
   pub known : All (λ h. Knows log h.log) passes
   pub one : sum_by (λ h. knowers h.log) passes ≤ 1

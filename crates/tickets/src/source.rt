@@ -1,10 +1,17 @@
 // The word that all passes draw from.
-use crate::account::{Account, Holding, LogApart, TakesLog};
+ghost use Rattle.std.specs.Prelude.{◌≡◌, ◌+◌, ◌≤◌, IfOk, length, take, drop, slice_index_or};
+ghost use Rattle.tickets.specs.declared.TheConstants.{TICKET_LIMIT};
+
+use crate::account::{
+    Account, EndsApart, HeadApart, Holding, LogApart, Setup, TakesEnds, TakesLog,
+};
 use crate::log::Log;
+use crate::nodes::{HeadEnd, TailEnd};
 use crate::pass::Pass;
 use atomic_table::Table;
 use std::alloc::{AllocError, Global};
 use std::marker::Model;
+use std::snapshot::Snapshot;
 
 /// The word that tickets are drawn from: the next number, from 0.
 ///
@@ -12,7 +19,7 @@ use std::marker::Model;
 /// drawn in all.
 #[derive(Drop)]
 pub struct Tickets {
-    pub(crate) table: Table<(), Holding, u64, Account, Global>,
+    pub(crate) table: Table<(), Holding, Setup, Account, Global>,
 }
 
 impl Model for Tickets {
@@ -20,15 +27,17 @@ impl Model for Tickets {
 
     ghost Value = { TicketsView };
 
-    ghost use Rattle.std.specs.Prelude.{◌≡◌};
+    ghost use Rattle.std.specs.Prelude.{◌≡◌, ◌<◌};
 
-    ghost view = { λ t. record { key = t.table.shared.table_id; budget = t.table.shared.key } };
+    ghost view = { λ t. record { key = t.table.shared.table_id; budget = t.table.shared.key.budget } };
 
-    ghost invariant = { λ t. (t.table.shared.table_id.words ≡ 1) × (t.table.shared.table_id.slots ≡ 0) };
+    ghost invariant = { λ t. (0 < t.table.shared.table_id.words) × (t.table.shared.table_id.slots ≡ 0) };
 }
 
 impl Tickets {
-    ghost use Rattle.std.specs.Prelude.{◌≡◌, ◌≤◌, [], IfOk, IsPermutation};
+    ghost use Rattle.std.specs.Prelude.{◌≡◌, ◌≤◌, [], IfOk, IsPermutation, List, IsSome, length};
+    ghost use Rattle.tickets.specs.declared.note.Note.{Note};
+    ghost use Rattle.tickets.specs.Nodes.{queue_after};
     ghost use Rattle.tickets.specs.declared.TheConstants.{TICKET_LIMIT};
     ghost use Rattle.tickets.specs.Log.{LooksRise};
     ghost use Rattle.tickets.specs.Views.{fresh_pass, share_of, numbers_below};
@@ -56,7 +65,13 @@ impl Tickets {
         ensures pass { IfOk result (λ t. t.1 ≡ fresh_pass t.0.key budget) }
         ensures log { IfOk result (λ t. t.2 ≡ record { key = t.0.key; notes = [] }) }
     {
-        let (table, mut seat) = Table::of_words(alloc, &[0], &budget)?;
+        let setup = Setup {
+            budget,
+            has_nodes: false,
+            filled: 0,
+            words: Snapshot::of(&Vec::new(alloc)),
+        };
+        let (table, mut seat) = Table::of_words(alloc, &[0], &setup)?;
         let log = table.shared.split_seat::<LogApart>(&mut seat);
         Ok((
             Tickets { table },
@@ -66,6 +81,46 @@ impl Tickets {
                 left: budget,
             },
             Log::of_seat(log),
+        ))
+    }
+
+    /// Makes a new word with a row of nodes beside it, which hold these values first and have room for `room` in all.
+    /// Returns a pass that has the whole budget as its share, and the two ends of the row.
+    ///
+    /// It takes memory for each node, and fails only if that is refused.
+    pub fn with_nodes(
+        alloc: Global,
+        budget: u64,
+        initial: &[u64],
+        room: usize,
+    ) -> Result<(Tickets, Pass, TailEnd, HeadEnd), AllocError>
+        requires budget { budget ≤ TICKET_LIMIT }
+        requires fits { length initial.now ≤ room }
+        requires room { room ≤ TICKET_LIMIT }
+        ensures budget { IfOk result (λ t. t.0.budget ≡ budget) }
+        ensures pass { IfOk result (λ t. t.1 ≡ fresh_pass t.0.key budget) }
+        ensures tail { IfOk result (λ t. t.2 ≡ t.0.key) }
+        ensures head { IfOk result (λ t. t.3 ≡ record { key = t.0.key; initial = initial.now }) }
+    {
+        let words = words_of(alloc, initial, room)?;
+        let setup = Setup {
+            budget,
+            has_nodes: true,
+            filled: initial.len(),
+            words: Snapshot::of(&words),
+        };
+        let (table, mut seat) = Table::of_words(alloc, words.as_slice(), &setup)?;
+        let mut ends = table.shared.split_seat::<EndsApart>(&mut seat);
+        let head = table.shared.split_seat::<HeadApart>(&mut ends);
+        Ok((
+            Tickets { table },
+            Pass {
+                seat,
+                share: budget,
+                left: budget,
+            },
+            TailEnd::of_seat(ends, initial.len(), room),
+            HeadEnd::of_seat(head, room),
         ))
     }
 
@@ -105,4 +160,39 @@ impl Tickets {
         closed.free();
         total
     }
+    /// Returns how many tickets were drawn, as `close` does. The pass has the whole budget as its share, so it noted all
+    /// that was done at both ends of the nodes: there is a log of these notes, in which the looks rise, and a queue that
+    /// held the values of the nodes first accepts it. It takes no memory.
+    pub fn close_with_nodes(self, pass: Pass, head: HeadEnd) -> u64
+        requires key { pass.key ≡ self.key }
+        requires head_key { head.key ≡ self.key }
+        requires whole { share_of pass ≡ self.budget }
+        ensures drawn { pass.drawn ≡ numbers_below result }
+        ensures log { (log : List Note) × IsPermutation pass.noted log × LooksRise 0 log result × IsSome (queue_after head.initial log) }
+    {
+        let Tickets { table } = self;
+        let (mut seat, _, _) = pass.into_parts();
+        table
+            .shared
+            .join_seat::<TakesEnds>(&mut seat, head.into_seat());
+        let closed = table.close_with(seat);
+        let total = closed.word(0);
+        closed.free();
+        total
+    }
+}
+
+// Returns the words of a table with nodes: the next ticket, the count of the values that went in, and the nodes.
+fn words_of(alloc: Global, initial: &[u64], room: usize) -> Result<Vec<u64>, AllocError>
+    requires fits { length initial.now ≤ room }
+    requires room { room ≤ TICKET_LIMIT }
+    ensures long { IfOk result (λ words. length words.items ≡ room + 2) }
+    ensures first { IfOk result (λ words. slice_index_or words.items 0 0 ≡ 0) }
+    ensures count { IfOk result (λ words. slice_index_or words.items 1 0 ≡ length initial.now) }
+    ensures values { IfOk result (λ words. take (length initial.now) (drop 2 words.items) ≡ initial.now) }
+{
+    let mut words = vec![in alloc; 0, initial.len() as u64]?;
+    words.extend_from_slice(initial)?;
+    words.resize(room + 2, 0)?;
+    Ok(words)
 }

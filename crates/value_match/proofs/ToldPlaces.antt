@@ -22,6 +22,7 @@ use Rattle.std.proofs.lemmas.List.Elements.{Contains-get_or}
 use Rattle.value_match.proofs.Lists.{mapped_from, mapped_to}
 use Rattle.value_match.specs.Lives.{ComesIn, initial_lives, IsOfHistory, ListsItsLives}
 use Rattle.value_match.specs.declared.life.Source.{Source}
+use Rattle.history_merge.proofs.Lists.{slice_get-append_left}
 use Rattle.value_match.specs.declared.life.Source.TheVariants as source
 use Rattle.value_match.specs.declared.violation.Violation.TheVariants as violation
 
@@ -115,12 +116,6 @@ called_late initial operations o x few late is = (
 
 -- ---- what stands at a place of the timeline
 
--- a place within the first list is one of the first list
-pub get_before : {X : Type 0} (xs ys : List X) (p : ℕ) → p < length xs → slice_get (xs ++ ys) p ≡ slice_get xs p
-get_before [] ys p within = absurd (omega arith)
-get_before (x ∷ xs) ys zero within = refl
-get_before (x ∷ xs) ys (suc p) within = get_before xs ys p (omega arith)
-
 -- a place behind the first list is one of the second
 pub get_behind : {X : Type 0} (xs ys : List X) (n p : ℕ) → n ≡ length xs → n ≤ p → slice_get (xs ++ ys) p ≡ slice_get ys (p - n)
 get_behind [] ys n p is within = ap (slice_get ys) (omega arith)
@@ -135,7 +130,7 @@ pub at_timeline : (initial : List ℕ) (operations : List Operation) (p : ℕ)
 at_timeline initial operations p = elim (cases_lt p (length initial)) [
   | inl early ↦
       let many = length_enqueues (ORIGIN - length initial) initial in
-      inl (early, get_before (initial_enqueues initial) (map (later_by ORIGIN) operations) p (omega arith) ∙ at_enqueue initial p)
+      inl (early, slice_get-append_left (initial_enqueues initial) (map (later_by ORIGIN) operations) p (omega arith) ∙ at_enqueue initial p)
   | inr late ↦
       let many = length_enqueues (ORIGIN - length initial) initial in
       inr (
@@ -261,7 +256,7 @@ module _ (initial : List ℕ) (operations : List Operation) where
   -- the enqueue of an initial value stands at its place
   early_at : (p : ℕ) → p < k → slice_get all p ≡ option_map (initial_enqueue k p) (slice_get initial p)
   early_at p within = let many = length_enqueues (ORIGIN - k) initial in
-      get_before (initial_enqueues initial) (timed operations) p (omega (arith, many)) ∙ at_enqueue initial p
+      slice_get-append_left (initial_enqueues initial) (timed operations) p (omega (arith, many)) ∙ at_enqueue initial p
 
   -- the place of a source
   abbrev pub source_place : Source → ℕ

@@ -56,6 +56,7 @@ pub use Rattle.history_merge.proofs.Distinct.{operations_are_complete, pairs_at,
 pub use Rattle.history_merge.proofs.Distinct.{return_in_range, returns_at_call, returns_at_no_call, same_call}
 pub use Rattle.history_merge.proofs.Distinct.{same_enqueue, same_event, same_return, same_value_call}
 pub use Rattle.history_merge.proofs.Distinct.{traced}
+pub use Rattle.history_merge.proofs.Lists.{AllPairs-tail}
 pub use Rattle.history_merge.proofs.Timelines.{later_injective, linearizable_from_exactly, map_map}
 pub use Rattle.history_merge.proofs.Timelines.{timeline_is_complete}
 pub use Rattle.value_match.specs.Choice.{IsChosenCover, IsChosenCoverFrom, IsChosenFresh, IsChosenFullViolation}
@@ -90,7 +91,7 @@ pub use Rattle.order_violation.specs.declared.pair.OrderPair.{OrderPair}
 pub use Rattle.empty_witness.specs.Answers.{IsGapAnswer, IsWitnessAnswer}
 pub use Rattle.empty_witness.proofs.Covers.{chosen_cover, chosen_cover_is_shortest, chosen_cover_violates}
 pub use Rattle.empty_witness.proofs.Covers.{violation_covers}
-pub use Rattle.linearizer.proofs.Elements.{AllPairs-tail, one_place}
+pub use Rattle.linearizer.proofs.Elements.{one_place}
 pub use Rattle.linearizer.proofs.OneOrder.{chosen_order_exists, operations_rise}
 pub use Rattle.verdicts.specs.Claiming.{is_operation, IsPlaceWithin, line_at, lines_at, lines_of_history}
 pub use Rattle.verdicts.specs.Claiming.{operations_at, operations_named, verdict_places, violation_kind}

@@ -8,11 +8,11 @@ ghost use Rattle.parallel_finders.specs.declared.TheConstants.{MAX_PIECES};
 ghost use Rattle.verdicts.specs.Decided.{IsDecided};
 
 use crate::verdict::{Order, Verdict};
-use empty_witness::{WitnessAnswer, find_witness};
+use empty_witness::WitnessAnswer;
 use history_merge::History;
 use linearizer::{OrderFound, OrderedValues, linearize, order_values};
 use order_violation::{OrderPair, chosen_pair};
-use parallel_finders::find_witness_par;
+use parallel_finders::{InPieces, OnePiece, WitnessSearch};
 use std::alloc::{AllocError, Global};
 use std::thread::Threads;
 use value_match::{Matched, Matching, Violation, match_values};
@@ -34,10 +34,7 @@ use value_match::{Matched, Matching, Violation, match_values};
 pub fn decide(alloc: Global, history: &History) -> Result<Verdict, AllocError>
     ensures { IfOk result (IsDecided history.now.initial (operations_of history.now.events)) }
 {
-    match match_values(alloc, history)? {
-        Matched::Clear(matching) => decide_matching(alloc, &matching),
-        Matched::Fresh(violation) | Matched::Repeat(violation) => Ok(Verdict::No(violation)),
-    }
+    decide_by(&OnePiece, alloc, history)
 }
 
 /// What `decide` answers, where the search for a cover runs in pieces that may run at once.
@@ -54,44 +51,41 @@ pub fn decide_par<R: Threads + Sync>(
     requires { (1 ≤ pieces) × (pieces ≤ MAX_PIECES) }
     ensures { IfOk result (IsDecided history.now.initial (operations_of history.now.events)) }
 {
+    decide_by(&InPieces { rt, pieces }, alloc, history)
+}
+
+/// What `decide` answers, by this search for a cover.
+pub fn decide_by<S: WitnessSearch>(
+    search: &S,
+    alloc: Global,
+    history: &History,
+) -> Result<Verdict, AllocError>
+    requires { S.is_ready search.now }
+    ensures { IfOk result (IsDecided history.now.initial (operations_of history.now.events)) }
+{
     match match_values(alloc, history)? {
-        Matched::Clear(matching) => decide_matching_par(rt, alloc, &matching, pieces),
+        Matched::Clear(matching) => decide_matching(search, alloc, &matching),
         Matched::Fresh(violation) | Matched::Repeat(violation) => Ok(Verdict::No(violation)),
     }
 }
 
 /// The verdict where each dequeue is of a value that was there, and no value is dequeued twice. Ordering the values finds the one
 /// that is dequeued first against the order of the enqueues, if there is one.
-fn decide_matching(alloc: Global, matching: &Matching) -> Result<Verdict, AllocError>
-    requires { IsClear (course_of matching.now) }
+fn decide_matching<S: WitnessSearch>(
+    search: &S,
+    alloc: Global,
+    matching: &Matching,
+) -> Result<Verdict, AllocError>
+    requires search { S.is_ready search.now }
+    requires clear { IsClear (course_of matching.now) }
     ensures { IfOk result (IsDecided matching.now.initial matching.now.operations) }
 {
     match order_values(alloc, matching)? {
         OrderFound::InOrder(values) => {
-            let answer = find_witness(alloc, matching)?;
+            let answer = search.find(alloc, matching)?;
             decide_in_order(alloc, matching, &values, answer)
         }
         OrderFound::Overtaker(value) => Ok(overtaken(matching, chosen_pair(matching, Some(value)))),
-    }
-}
-
-/// The same by a search for a cover in pieces.
-fn decide_matching_par<R: Threads + Sync>(
-    rt: &R,
-    alloc: Global,
-    matching: &Matching,
-    pieces: usize,
-) -> Result<Verdict, AllocError>
-    requires clear { IsClear (course_of matching.now) }
-    requires pieces { (1 ≤ pieces) × (pieces ≤ MAX_PIECES) }
-    ensures { IfOk result (IsDecided matching.now.initial matching.now.operations) }
-{
-    match order_values(alloc, matching)? {
-        OrderFound::InOrder(values) => {
-            let answer = find_witness_par(rt, alloc, matching, pieces)?;
-            decide_in_order(alloc, matching, &values, answer)
-        }
-        OrderFound::Overtaker(first) => Ok(overtaken(matching, chosen_pair(matching, Some(first)))),
     }
 }
 

@@ -14,7 +14,7 @@ mod verdict;
 mod verifying;
 
 pub use claiming::claim;
-pub use decision::{decide, decide_par};
+pub use decision::{decide, decide_by, decide_par};
 pub use history_merge::{History, HistoryFault, OpId, OpKind, Operation, history};
 pub use laws::{
     a_true_claim_decides, a_verdict_has_few_lines, evidence_is_a_true_claim,

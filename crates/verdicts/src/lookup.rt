@@ -1,14 +1,12 @@
 //! Lines of a claim, looked up in a history: operations by their calls, and initial values.
-ghost use Rattle.std.specs.Prelude.{◌≡◌, ◌≤◌, ◌<◌, ◌↔◌, IsTrue, Contains, length, slice_index_or};
+ghost use Rattle.std.specs.Prelude.{◌≡◌, ◌<◌, ◌↔◌, IsTrue, Contains, length, slice_index_or};
 ghost use Rattle.history_merge.specs.declared.operation.Operation.{Operation};
-ghost use Rattle.event_records.specs.declared.limits.TheConstants.{MAX_TICKET, ORIGIN};
-ghost use Rattle.history_merge.specs.Initial.{later_by};
 ghost use Rattle.history_merge.specs.Operations.{NoneDid, operations_of};
 ghost use Rattle.verdicts.specs.Inner.Claims.{CallsRise};
 ghost use Rattle.verdicts.specs.Showing.{LineDid, LinePrecedes, NoLineDid, ReturnsFirst, ComesBefore};
 
 use crate::verifying::ClaimLine;
-use event_records::{MAX_TICKET, ORIGIN};
+use event_records::MAX_TICKET;
 use history_merge::{History, OpKind, Operation, PackedOperation};
 
 /// Whether the line is an operation that did this, or an initial value that this enqueues.
@@ -79,21 +77,7 @@ fn is_operation(history: &History, operation: Operation) -> bool
     if operation.call > MAX_TICKET || operation.ret > MAX_TICKET {
         return false;
     }
-    has_operation(by_time, later(operation))
-}
-
-/// The operation by the times of its tickets.
-fn later(operation: Operation) -> Operation
-    requires call { operation.call ≤ MAX_TICKET }
-    requires ret { operation.ret ≤ MAX_TICKET }
-    ensures { result ≡ later_by ORIGIN operation }
-{
-    Operation {
-        call: operation.call + ORIGIN,
-        ret: operation.ret + ORIGIN,
-        thread: operation.thread,
-        kind: operation.kind,
-    }
+    has_operation(by_time, operation.timed())
 }
 
 /// Whether this is one of the operations, found by its call.

@@ -1,7 +1,8 @@
 // A good queue and some that are wrong on purpose, recorded and judged.
 //
 //     queue QUEUE [--runs R] [--threads T] [--producers N] [--ops N] [--pattern P] [--percent K] [--seed S]
-//                 [--initial N] [--condition C] [--folder F] [--keep 0|1] [--timeout SECONDS]
+//                 [--initial N] [--condition C] [--overtaken-at-most N] [--folder F] [--keep 0|1]
+//                 [--timeout SECONDS]
 //     queue QUEUE THREADS OPERATIONS [PATTERN [SEED [INITIAL]]] > history
 //
 // The first makes runs until one shows a violation: status 0 none does, 1 one does, 2 something is wrong. The second
@@ -178,9 +179,10 @@ static size_t place_of(const char *word, const char *const *words, size_t count)
 static bool set(struct recorder_settings *settings, const char *option, const char *word)
 {
     static const char *const options[] = {"--runs", "--threads", "--ops",       "--percent",
-                                          "--seed", "--timeout", "--producers", "--keep", "--initial"};
-    static const uint64_t least[] = {1, 1, 1, 0, 0, 1, 0, 0, 0};
-    static const uint64_t most[] = {1000000, 64, 1000000, 100, UINT32_MAX, 86400, 63, 1, RECORDER_MAX_INITIAL};
+                                          "--seed", "--timeout", "--producers", "--keep", "--initial",
+                                          "--overtaken-at-most"};
+    static const uint64_t least[] = {1, 1, 1, 0, 0, 1, 0, 0, 0, 0};
+    static const uint64_t most[] = {1000000, 64, 1000000, 100, UINT32_MAX, 86400, 63, 1, RECORDER_MAX_INITIAL, 1000000};
     uint64_t value = 0;
     if (strcmp(option, "--pattern") == 0) {
         return pattern(word, &settings->pattern);
@@ -192,8 +194,8 @@ static bool set(struct recorder_settings *settings, const char *option, const ch
         settings->folder = word;
         return true;
     }
-    size_t place = place_of(option, options, 9);
-    if (place == 9) {
+    size_t place = place_of(option, options, 10);
+    if (place == 10) {
         fprintf(stderr, "queue: no option '%s'\n", option);
         return false;
     }
@@ -209,7 +211,8 @@ static bool set(struct recorder_settings *settings, const char *option, const ch
     case 5: settings->timeout = (unsigned)value; break;
     case 6: settings->producers = (unsigned)value; break;
     case 7: settings->keep = value == 1; break;
-    default: settings->initial = value; break;
+    case 8: settings->initial = value; break;
+    default: settings->overtaken_at_most = value; break;
     }
     return true;
 }

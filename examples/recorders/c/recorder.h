@@ -81,6 +81,7 @@ struct recorder_settings {
     bool journal;         // with recorder_crash.h: events reach a file while the run goes on
     bool keep;            // a search keeps the histories without a violation too
     enum recorder_condition condition;
+    uint64_t overtaken_at_most; // more values that one dequeue overtakes are a violation; UINT64_MAX: by the condition
     const char *program, *folder; // that judges, or NULL; of the files
     // The value of the n-th operation of a thread, and that of initial value n with the thread 64. All have to
     // differ. If it is NULL, values are thread * 2^32 + first + n, and the initial ones 2^38 + n.
@@ -91,7 +92,7 @@ static inline struct recorder_settings recorder_defaults(void)
 {
     return (struct recorder_settings){
         .threads = 4, .pattern = RECORDER_BY_SEED, .percent = 50, .seed = 1,
-        .timeout = 30, .drain = true, .choose = true, .folder = "fifobench-runs"};
+        .timeout = 30, .drain = true, .choose = true, .overtaken_at_most = UINT64_MAX, .folder = "fifobench-runs"};
 }
 
 // The calls of a queue. The first three are needed, the others may be NULL.

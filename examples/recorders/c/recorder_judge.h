@@ -105,12 +105,17 @@ static inline const char *recorder_program(const struct recorder_settings *setti
     return settings->program != NULL ? settings->program : named != NULL && *named != '\0' ? named : "fifobench";
 }
 
-// The condition of a search, as its answer has it; empty if it is the default.
+// The condition of a search and its bound, as its answer has them; empty if they are the default.
 static inline void recorder_told_condition(const struct recorder_settings *settings, char told[RECORDER_LINE_BYTES])
 {
     bool is_default = settings->condition == RECORDER_LINEARIZABLE;
-    snprintf(told, RECORDER_LINE_BYTES, "%s%s", is_default ? "" : ", condition ",
-             is_default ? "" : recorder_condition_names[settings->condition]);
+    bool is_bounded = settings->overtaken_at_most != UINT64_MAX;
+    int length = snprintf(told, RECORDER_LINE_BYTES, "%s%s", is_default ? "" : ", condition ",
+                          is_default ? "" : recorder_condition_names[settings->condition]);
+    if (is_bounded) {
+        snprintf(told + length, (size_t)(RECORDER_LINE_BYTES - length), ", overtaken-at-most %" PRIu64,
+                 settings->overtaken_at_most);
+    }
 }
 
 // The flags of a command that are the condition of the settings.
@@ -155,19 +160,77 @@ static inline void recorder_tell_drawn_in(const struct recorder_settings *one, c
     }
 }
 
-// What `check` says of a history, by the condition of the settings. Returns 0 for `YES`; 1 for `NO`, with its line; 2
-// for neither, which is said.
+// Of `stats` in a file, the number after this name. Returns whether there is one.
+static inline bool recorder_stat(const char *path, const char *name, uint64_t *number)
+{
+    char line[RECORDER_LINE_BYTES];
+    FILE *stats = fopen(path, "r");
+    size_t length = strlen(name);
+    bool is_found = false;
+    while (stats != NULL && !is_found && fgets(line, sizeof line, stats) != NULL) {
+        is_found = strncmp(line, name, length) == 0 && sscanf(line + length, " %" SCNu64, number) == 1;
+    }
+    if (stats != NULL) {
+        fclose(stats);
+    }
+    return is_found;
+}
+
+// Prints the dequeue that overtakes most, and the command that prints all that do.
+static inline void recorder_tell_overtaking(const struct recorder_settings *one, const char *history, const char *to)
+{
+    char line[RECORDER_LINE_BYTES] = "", more;
+    uint64_t most = 0, count = 0, called = 0, ticket = 0, given = 0, value = 0;
+    int status = recorder_ask(one, "stats --overtakes", history, to, line);
+    FILE *stats = status == 0 ? fopen(to, "r") : NULL;
+    while (stats != NULL && fgets(line, sizeof line, stats) != NULL) {
+        int fields = sscanf(line, "%" SCNu64 " %" SCNu64 " %" SCNu64 " %c", &count, &ticket, &value, &more);
+        if (fields == 3 && count > most) {
+            most = count, called = ticket, given = value;
+        }
+    }
+    if (stats != NULL) {
+        fclose(stats);
+    }
+    remove(to);
+    if (most > 0) {
+        printf("  dequeue: that of %" PRIu64 ", called at ticket %" PRIu64 ", overtakes %" PRIu64 " values\n", given,
+               called, most);
+    } else {
+        printf("  dequeue: not named by %s\n", recorder_program(one));
+    }
+    printf("  see it:  %s stats --overtakes < %s\n", recorder_program(one), history);
+}
+
+// What `check` says of a history, by the condition of the settings, and unless it completes pending calls by their
+// bound on overtaking. A bound judges the order of values in place of `check`, but for that of each producer's own.
+// Returns 0 for `YES`; 1 for `NO`, with its line; 2 for neither, which is said.
 static inline int recorder_verdict(const struct recorder_settings *one, const char *history, const char *report,
-                                   char verdict[RECORDER_LINE_BYTES])
+                                   bool is_completed, char verdict[RECORDER_LINE_BYTES])
 {
     int status = recorder_ask(one, "check", history, report, verdict);
     bool is_yes = status == 0 && strcmp(verdict, "YES") == 0, is_no = status == 1 && strncmp(verdict, "NO ", 3) == 0;
+    bool is_local = one->condition == RECORDER_LOCAL || one->condition == RECORDER_BOTH;
+    bool is_bounded = one->overtaken_at_most != UINT64_MAX && !is_completed;
+    char ignored[RECORDER_LINE_BYTES];
+    uint64_t most = 0;
     if (!is_yes && !is_no) {
         recorder_erase_progress();
         fprintf(stderr, "fifobench: %s says '%s' of %s\n", recorder_program(one), verdict, history);
         return 2;
     }
-    return status;
+    if (!is_bounded || (is_no && (is_local || strcmp(verdict, "NO VOrd") != 0))) {
+        return status;
+    }
+    recorder_ask(one, "stats", history, report, ignored);
+    if (!recorder_stat(report, "overtaken-at-most", &most)) {
+        recorder_erase_progress();
+        fprintf(stderr, "fifobench: %s has no overtaken-at-most in stats, which a later version has\n",
+                recorder_program(one));
+        return 2;
+    }
+    snprintf(verdict, RECORDER_LINE_BYTES, "NO overtaken-at-most %" PRIu64, one->overtaken_at_most);
+    return most > one->overtaken_at_most ? 1 : 0;
 }
 
 // Judges the history in a file, which may be a completion of pending calls. Returns 0, 1 or 2.
@@ -177,7 +240,7 @@ static inline int recorder_judge_file(const struct recorder_settings *one, const
     const char *program = recorder_program(one), *pattern = recorder_pattern_names[recorder_pattern_of(one)];
     recorder_path(one, "report", report);
     recorder_told_condition(one, told);
-    int answer = recorder_verdict(one, history, report, verdict);
+    int answer = recorder_verdict(one, history, report, is_completed, verdict);
     bool is_undecided = answer == 1 && is_completed && told[0] != '\0';
     if ((answer == 0 || is_undecided) && (!one->keep || is_completed)) {
         remove(history);
@@ -195,9 +258,14 @@ static inline int recorder_judge_file(const struct recorder_settings *one, const
     recorder_erase_progress();
     printf("%s: seed %" PRIu64 ", %s%s\n  history: %s\n", verdict, one->seed, pattern,
            is_completed ? ": the queue is wrong, whatever the pending calls do" : "", history);
-    recorder_ask(one, "shrink", history, report, told);
-    printf("  report:  %s\n  see it:  %s draw --text%s < %s\n", report, program, recorder_flags(one, "draw"), report);
-    recorder_tell_drawn_in(one, history);
+    if (strncmp(verdict, "NO overtaken-at-most ", 21) == 0) {
+        recorder_tell_overtaking(one, history, report);
+    } else {
+        recorder_ask(one, "shrink", history, report, told);
+        printf("  report:  %s\n  see it:  %s draw --text%s < %s\n", report, program, recorder_flags(one, "draw"),
+               report);
+        recorder_tell_drawn_in(one, history);
+    }
     printf("  again:   seed %" PRIu64 ", pattern %s: the same plan, though threads may meet in another way\n",
            one->seed, pattern);
     return 1;

@@ -1,7 +1,8 @@
 // A good queue and some that are wrong on purpose, recorded and judged.
 //
 //     queue QUEUE [--runs R] [--threads T] [--producers N] [--ops N] [--pattern P] [--percent K] [--seed S]
-//                 [--initial N] [--condition C] [--folder F] [--keep 0|1] [--timeout SECONDS]
+//                 [--initial N] [--condition C] [--overtaken-at-most N] [--folder F] [--keep 0|1]
+//                 [--timeout SECONDS]
 //     queue QUEUE THREADS OPERATIONS [PATTERN [SEED [INITIAL]]] > history
 //
 // The first makes runs until one shows a violation: status 0 none does, 1 one does, 2 something is wrong. The second
@@ -188,6 +189,7 @@ void set(fifobench::Settings& settings, const std::string& option, const std::st
     else if (option == "--seed") settings.seed = number(word, 0, 4'294'967'295);
     else if (option == "--initial") settings.initial = number(word, 0, 100'000);
     else if (option == "--condition") settings.condition = condition(word);
+    else if (option == "--overtaken-at-most") settings.overtaken_at_most = number(word, 0, 1'000'000);
     else if (option == "--folder") settings.folder = word;
     else if (option == "--producers") settings.producers = static_cast<unsigned>(number(word, 0, 63));
     else if (option == "--keep") settings.keep = number(word, 0, 1) == 1;

@@ -102,6 +102,7 @@ struct Settings {
     bool journal = false;                // with recorder_crash.hpp: events reach a file while the run goes on
     bool keep = false;                   // a search keeps the histories without a violation too
     Condition condition = Condition::Linearizable;
+    std::optional<std::uint64_t> overtaken_at_most;    // more values that one dequeue overtakes are a violation
     std::string program, folder = "fifobench-runs";    // that judges; of the files
 
     // The value of the n-th operation of a thread, and that of initial value n with the thread 64. All have to

@@ -48,10 +48,12 @@ private:
     std::chrono::steady_clock::time_point next_ = std::chrono::steady_clock::now() + std::chrono::seconds(2);
 };
 
-// The condition of a search, as its answer has it, if it isn't the default.
+// The condition of a search and its bound, as its answer has them, if they aren't the default.
 inline std::string told_condition(const Settings& settings) {
     const bool is_default = settings.condition == Condition::Linearizable;
-    return is_default ? "" : std::string(", condition ") + condition_names[static_cast<unsigned>(settings.condition)];
+    const std::string name = condition_names[static_cast<unsigned>(settings.condition)];
+    return (is_default ? "" : ", condition " + name) +
+           (settings.overtaken_at_most ? ", overtaken-at-most " + std::to_string(*settings.overtaken_at_most) : "");
 }
 
 // The program, and the files of a run that it judges.
@@ -96,7 +98,7 @@ public:
     // Judges the history that is kept, which may be a completion of pending calls. Returns 0, 1 or 2.
     int check(bool is_completed) const {
         const std::string history = path(".history"), report = path(".report");
-        const auto [answer, verdict] = checked(history, report);
+        const auto [answer, verdict] = is_completed ? checked(history, report) : bounded(history, report);
         const bool is_undecided = answer == 1 && is_completed && !told_condition(settings_).empty();
         if (answer == 0 || is_undecided) {
             if (!settings_.keep || is_completed) std::filesystem::remove(history);
@@ -121,12 +123,19 @@ public:
     void tell_violation(const std::string& verdict, const std::string& history, const std::string& report,
                         bool is_completed) const {
         const std::string seed = std::to_string(settings_.seed), pattern = name_of(settings_.pattern_of_seed());
-        ask("shrink", history, report);
         std::cout << verdict << ": seed " << seed << ", " << pattern
                   << (is_completed ? ": the queue is wrong, whatever the pending calls do" : "")
-                  << "\n  history: " << history << "\n  report:  " << report << "\n  see it:  " << program_ << ' '
-                  << with_flags("draw --text") << " < " << report << drawn_in(history) << "\n  again:   seed " << seed
-                  << ", pattern " << pattern << ": the same plan, though threads may meet in another way" << std::endl;
+                  << "\n  history: " << history;
+        if (verdict.rfind("NO overtaken-at-most ", 0) == 0) {
+            std::cout << "\n  dequeue: " << overtaking(history, report) << "\n  see it:  " << program_
+                      << " stats --overtakes < " << history;
+        } else {
+            ask("shrink", history, report);
+            std::cout << "\n  report:  " << report << "\n  see it:  " << program_ << ' '
+                      << with_flags("draw --text") << " < " << report << drawn_in(history);
+        }
+        std::cout << "\n  again:   seed " << seed << ", pattern " << pattern
+                  << ": the same plan, though threads may meet in another way" << std::endl;
     }
 
     // The second command of `see it:`, which draws the violation with what runs beside it: the report leaves that out.
@@ -179,6 +188,46 @@ private:
             return {status, line};
         }
         return {2, " says '" + line + "' of " + history};
+    }
+
+    // The same, and by the bound of the settings on overtaking. A bound judges the order of values in place of `check`,
+    // but for that of each producer's own.
+    Verdict bounded(const std::string& history, const std::string& to) const {
+        const Verdict verdict = checked(history, to);
+        const bool is_local = settings_.condition == Condition::Local || settings_.condition == Condition::Both;
+        if (!settings_.overtaken_at_most || verdict.first == 2 ||
+            (verdict.first == 1 && (is_local || verdict.second != "NO VOrd"))) {
+            return verdict;
+        }
+        ask("stats", history, to);
+        std::ifstream stats(to);
+        std::string name;
+        for (std::uint64_t most; stats >> name;) {
+            if (name == "overtaken-at-most" && stats >> most) {
+                const std::string bound = std::to_string(*settings_.overtaken_at_most);
+                const bool is_met = most <= *settings_.overtaken_at_most;
+                return is_met ? Verdict{0, "YES"} : Verdict{1, "NO overtaken-at-most " + bound};
+            }
+        }
+        return {2, " has no overtaken-at-most in stats, which a later version has"};
+    }
+
+    // The dequeue that overtakes most.
+    std::string overtaking(const std::string& history, const std::string& to) const {
+        ask("stats --overtakes", history, to);
+        std::ifstream stats(to);
+        std::string line, more, told = "not named by " + program_;
+        std::uint64_t most = 0, count = 0, ticket = 0, value = 0;
+        while (std::getline(stats, line)) {
+            std::istringstream words(line);
+            if (words >> count >> ticket >> value && !(words >> more) && count > most) {
+                most = count;
+                told = "that of " + std::to_string(value) + ", called at ticket " + std::to_string(ticket) +
+                       ", overtakes " + std::to_string(count) + " values";
+            }
+        }
+        std::filesystem::remove(to);
+        return told;
     }
 
     // A command, with the flags that are the condition of the settings.

@@ -11,6 +11,8 @@ import (
 	"os"
 	"os/exec"
 	"path/filepath"
+	"regexp"
+	"strconv"
 	"strings"
 	"sync/atomic"
 	"time"
@@ -136,12 +138,16 @@ func (options *Options) isFound() bool {
 	return false
 }
 
-// The condition of a search, as its answer has it; empty if it is the default.
+// The condition of a search and its bound, as its answer has them; empty if they are the default.
 func (options *Options) toldCondition() string {
-	if options.Condition == Linearizable {
-		return ""
+	told := ""
+	if options.Condition != Linearizable {
+		told = fmt.Sprintf(", condition %s", options.Condition)
 	}
-	return fmt.Sprintf(", condition %s", options.Condition)
+	if options.OvertakenAtMost >= 0 {
+		told += fmt.Sprintf(", overtaken-at-most %d", options.OvertakenAtMost)
+	}
+	return told
 }
 
 // Returns a command, with the flags that are the condition of the options.
@@ -170,20 +176,38 @@ func firstLine(text []byte) string {
 	return line
 }
 
-// Returns what `check` says of a history, by the condition of the options: YES, or NO and what is violated. An error is
-// that the program says something else.
-func (options *Options) verdict(text []byte) (string, error) {
+// Returns what `check` says of a history, by the condition of the options, and unless it completes pending calls by
+// their bound on overtaking: YES, or NO and what is violated. A bound judges the order of values in place of `check`,
+// but for that of each producer's own. An error is that the program says something else.
+func (options *Options) verdict(text []byte, isCompleted bool) (string, error) {
 	said, status, err := options.ask("check", text)
 	verdict := firstLine(said)
 	if err == nil && status != 0 && status != 1 {
 		err = fmt.Errorf("%s says '%s' of %s", options.program(), verdict, options.path("history"))
 	}
-	return verdict, err
+	isLocal := options.Condition == Local || options.Condition == Both
+	isOrdered := status == 1 && (isLocal || verdict != "NO VOrd")
+	if err != nil || options.OvertakenAtMost < 0 || isCompleted || isOrdered {
+		return verdict, err
+	}
+	stats, _, err := options.ask("stats", text)
+	if err != nil {
+		return "", err
+	}
+	_, after, isThere := strings.Cut("\n"+string(stats), "\novertaken-at-most ")
+	most, err := strconv.ParseInt(firstLine([]byte(after)), 10, 64)
+	if !isThere || err != nil {
+		return "", fmt.Errorf("%s has no overtaken-at-most in stats, which a later version has", options.program())
+	}
+	if most > options.OvertakenAtMost {
+		return fmt.Sprintf("NO overtaken-at-most %d", options.OvertakenAtMost), nil
+	}
+	return "YES", nil
 }
 
 // Judges a history, which may be a completion of pending calls, and says of a violation where it is kept.
 func (options *Options) judge(text []byte, isCompleted bool) (Answer, error) {
-	verdict, err := options.verdict(text)
+	verdict, err := options.verdict(text, isCompleted)
 	if err == nil && verdict == "YES" {
 		return NoViolation, nil
 	}
@@ -197,7 +221,7 @@ func (options *Options) judge(text []byte, isCompleted bool) (Answer, error) {
 	if err != nil {
 		return Wrong, err
 	}
-	seen, err := options.toldViolation(text, kept)
+	seen, err := options.toldViolation(text, verdict, kept)
 	if err != nil {
 		return Wrong, err
 	}
@@ -215,15 +239,33 @@ func (options *Options) judge(text []byte, isCompleted bool) (Answer, error) {
 	return Violation, nil
 }
 
-// Returns the lines of a violation after its history: the report and pictures.
-func (options *Options) toldViolation(text []byte, kept string) (string, error) {
+// Returns the lines of a violation after its history: the report and pictures, or the dequeue that overtakes most.
+func (options *Options) toldViolation(text []byte, verdict, kept string) (string, error) {
+	program := options.program()
+	if strings.HasPrefix(verdict, "NO overtaken-at-most ") {
+		stats, _, err := options.ask("stats --overtakes", text)
+		return fmt.Sprintf("  dequeue: %s\n  see it:  %s stats --overtakes < %s\n", toldOvertaking(stats, program), program,
+			kept), err
+	}
 	shrunk, _, err := options.ask("shrink", text)
 	if err != nil {
 		return "", err
 	}
 	report, err := options.keep("report", shrunk)
-	return fmt.Sprintf("  report:  %s\n  see it:  %s %s < %s\n%s", report, options.program(),
-		options.withFlags("draw --text"), report, options.drawnIn(text, kept)), err
+	return fmt.Sprintf("  report:  %s\n  see it:  %s %s < %s\n%s", report, program, options.withFlags("draw --text"),
+		report, options.drawnIn(text, kept)), err
+}
+
+// Returns the dequeue that overtakes most, of the lines of `stats --overtakes`.
+func toldOvertaking(stats []byte, program string) string {
+	told, most := "not named by "+program, uint64(0)
+	for _, row := range regexp.MustCompile(`(?m)^([0-9]+) ([0-9]+) ([0-9]+)$`).FindAllSubmatch(stats, -1) {
+		if count, err := strconv.ParseUint(string(row[1]), 10, 64); err == nil && count > most {
+			told = fmt.Sprintf("that of %s, called at ticket %s, overtakes %s values", row[3], row[2], row[1])
+			most = count
+		}
+	}
+	return told
 }
 
 // Returns the second command of `see it:`, which draws the violation with what runs beside it: the report leaves that

@@ -109,8 +109,10 @@ type Options struct {
 	Journal    bool                              // events reach Folder/SEED.pending while the run goes on
 	Keep       bool                              // a search keeps the histories without a violation too
 	Condition  Condition                         // what a history has to meet
-	isQuiet    bool                              // what was said once isn't said again
-	tellAgain  func(kind string)                 // the last lines of a verdict, with chosen schedules
+	// More values that one dequeue overtakes are a violation; below 0 by the condition alone.
+	OvertakenAtMost int64
+	isQuiet         bool              // what was said once isn't said again
+	tellAgain       func(kind string) // the last lines of a verdict, with chosen schedules
 }
 
 // Makes a search, if chosen schedules are asked for. Set by schedule.go, if that is beside this file.
@@ -129,7 +131,8 @@ func Defaults() Options {
 		Drain:   true,
 		Folder:  "fifobench-runs",
 
-		Condition: Linearizable,
+		Condition:       Linearizable,
+		OvertakenAtMost: -1,
 	}
 }
 

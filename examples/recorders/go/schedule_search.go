@@ -280,7 +280,7 @@ func (made *made) kind() (string, error) {
 	case len(made.history.failures) > 0:
 		return "a panic", nil
 	}
-	return made.options.verdict(made.history.text())
+	return made.options.verdict(made.history.text(), false)
 }
 
 // Makes the run again, leaves out operations and switches, and prints what is left.

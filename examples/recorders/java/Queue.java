@@ -12,7 +12,7 @@ import java.util.concurrent.atomic.AtomicInteger;
  * <pre>
  * Queue QUEUE                                        searches for a violation, status 0, 1 or 2
  * Queue QUEUE [--runs R] [--threads T] [--producers N] [--ops N] [--pattern P] [--percent K] [--seed S]
- *     [--initial N] [--condition C] [--folder F] [--keep 0|1] [--timeout SECONDS]
+ *     [--initial N] [--condition C] [--overtaken-at-most N] [--folder F] [--keep 0|1] [--timeout SECONDS]
  *                                                                the same with settings
  * Queue QUEUE THREADS OPERATIONS [PATTERN [SEED [INITIAL]]]      one run, written to standard output
  * </pre>
@@ -156,6 +156,7 @@ final class Queue {
             case "--seed" -> recorder.seed(number(name, word, 0, 4_294_967_295L));
             case "--initial" -> recorder.initial((int) number(name, word, 0, Recorder.MAX_INITIAL));
             case "--condition" -> recorder.condition(condition(word));
+            case "--overtaken-at-most" -> recorder.overtakenAtMost(number(name, word, 0, 1_000_000));
             case "--folder" -> recorder.folder(Path.of(word));
             case "--producers" -> recorder.producers((int) number(name, word, 0, 63));
             case "--keep" -> recorder.keep(number(name, word, 0, 1) == 1);

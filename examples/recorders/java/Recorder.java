@@ -137,6 +137,7 @@ public final class Recorder implements AutoCloseable {
     boolean hasJournal;
     boolean keepsAll;
     Condition condition = Condition.LINEARIZABLE;
+    long overtakenAtMost = -1;
     Path folder = Path.of("fifobench-runs");
     String program;
     private Chooser chooser;
@@ -231,6 +232,12 @@ public final class Recorder implements AutoCloseable {
     /** What a history has to meet; unless set, linearizability. */
     public Recorder condition(Condition condition) {
         this.condition = condition;
+        return this;
+    }
+
+    /** More values that one dequeue overtakes are a violation; unless set, or below 0, by the condition alone. */
+    public Recorder overtakenAtMost(long overtakenAtMost) {
+        this.overtakenAtMost = overtakenAtMost;
         return this;
     }
 

@@ -93,10 +93,11 @@ final class RecorderJudge {
         }
     }
 
-    // The condition of a search, as its answer has it; empty if it is the default.
+    // The condition of a search and its bound, as its answer has them; empty if they are the default.
     private String toldCondition() {
         boolean isDefault = recorder.condition == Recorder.Condition.LINEARIZABLE;
-        return isDefault ? "" : ", condition " + recorder.condition;
+        return (isDefault ? "" : ", condition " + recorder.condition)
+                + (recorder.overtakenAtMost < 0 ? "" : ", overtaken-at-most " + recorder.overtakenAtMost);
     }
 
     // A command, with the flags that are the condition of the settings.
@@ -214,19 +215,34 @@ final class RecorderJudge {
         }
     }
 
-    // Returns what `check` says of a history, by the condition of the settings: YES, or NO and what is violated.
-    String verdict(long seed, byte[] text) throws IOException {
+    // Returns what `check` says of a history, by the condition of the settings, and unless it completes pending calls
+    // by their bound on overtaking: YES, or NO and what is violated. A bound judges the order of values in place of
+    // `check`, but for that of each producer's own.
+    String verdict(long seed, byte[] text, boolean isCompleted) throws IOException {
         Told check = ask("check", text);
+        String verdict = check.firstLine();
         if (check.status != 0 && check.status != 1) {
             keep(seed, "history", text);
-            throw new IOException(program() + " says '" + check.firstLine() + "' of " + path(seed, "history"));
+            throw new IOException(program() + " says '" + verdict + "' of " + path(seed, "history"));
         }
-        return check.firstLine();
+        Recorder.Condition condition = recorder.condition;
+        boolean isLocal = condition == Recorder.Condition.LOCAL || condition == Recorder.Condition.BOTH;
+        boolean isOrdered = check.status == 1 && (isLocal || !verdict.equals("NO VOrd"));
+        if (recorder.overtakenAtMost < 0 || isCompleted || isOrdered) {
+            return verdict;
+        }
+        for (String line : ask("stats", text).lines()) {
+            if (line.matches("overtaken-at-most [0-9]+")) {
+                boolean isMet = Long.parseLong(line.split(" ")[1]) <= recorder.overtakenAtMost;
+                return isMet ? "YES" : "NO overtaken-at-most " + recorder.overtakenAtMost;
+            }
+        }
+        throw new IOException(program() + " has no overtaken-at-most in stats, which a later version has");
     }
 
     // Judges a history, which may be a completion of pending calls, and says of a violation where it is kept.
     private Recorder.Answer judge(long seed, byte[] text, boolean isCompleted) throws IOException {
-        String verdict = verdict(seed, text);
+        String verdict = verdict(seed, text, isCompleted);
         if (verdict.equals("YES")) {
             return Recorder.Answer.NO_VIOLATION;
         }
@@ -234,7 +250,7 @@ final class RecorderJudge {
             throw new IOException(verdict + " of one completion" + toldCondition() + ": another one may be a YES");
         }
         Path kept = keep(seed, "history", text);
-        String seen = toldViolation(seed, text, kept);
+        String seen = toldViolation(seed, text, verdict, kept);
         Recorder.Pattern pattern = recorder.patternOf(seed);
         String why = isCompleted ? ": the queue is wrong, whatever the pending calls do" : "";
         Progress.erase();
@@ -248,8 +264,22 @@ final class RecorderJudge {
         return Recorder.Answer.VIOLATION;
     }
 
-    // The lines of a violation after its history: the report and its pictures.
-    private String toldViolation(long seed, byte[] text, Path kept) throws IOException {
+    // The lines of a violation after its history: the report and its pictures, or the dequeue that overtakes most.
+    private String toldViolation(long seed, byte[] text, String verdict, Path kept) throws IOException {
+        if (verdict.startsWith("NO overtaken-at-most ")) {
+            String told = "not named by " + program();
+            long most = 0;
+            for (String line : ask("stats --overtakes", text).lines()) {
+                if (line.matches("[0-9]+ [0-9]+ [0-9]+")) {
+                    String[] row = line.split(" ");
+                    if (Long.parseLong(row[0]) > most) {
+                        most = Long.parseLong(row[0]);
+                        told = String.format("that of %s, called at ticket %s, overtakes %s values", row[2], row[1], row[0]);
+                    }
+                }
+            }
+            return String.format("  dequeue: %s%n  see it:  %s stats --overtakes < %s%n", told, program(), kept);
+        }
         Path report = keep(seed, "report", ask("shrink", text).text);
         return String.format("  report:  %s%n  see it:  %s %s < %s%n%s", report, program(), withFlags("draw --text"),
                 report, drawnIn(text, kept));

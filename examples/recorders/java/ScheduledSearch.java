@@ -185,7 +185,7 @@ final class ScheduledSearch {
         if (made.history.ending != null) {
             return made.history.isGivenUp() ? "a hang" : "an exception";
         }
-        return recorder.judge.verdict(made.history.seed, made.history.text());
+        return recorder.judge.verdict(made.history.seed, made.history.text(), false);
     }
 
     // Makes the run again, leaves out operations and switches, and prints what is left.

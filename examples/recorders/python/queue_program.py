@@ -2,7 +2,7 @@
 
     queue_program.py QUEUE                                        searches for a violation, status 0, 1 or 2
     queue_program.py QUEUE [--runs R] [--threads T] [--producers N] [--ops N] [--pattern P] [--percent K] [--seed S]
-        [--initial N] [--condition C] [--folder F] [--keep 0|1] [--timeout SECONDS]
+        [--initial N] [--condition C] [--overtaken-at-most N] [--folder F] [--keep 0|1] [--timeout SECONDS]
                                                                             the same with settings
     queue_program.py QUEUE THREADS OPERATIONS [PATTERN [SEED [INITIAL]]]    one run, written to standard output
 
@@ -105,6 +105,7 @@ NUMBERS = {
     "--producers": ("producers", 0, 63),
     "--keep": ("keep", 0, 1),
     "--initial": ("initial", 0, recorder.MAX_INITIAL),
+    "--overtaken-at-most": ("overtaken_at_most", 0, 1_000_000),
 }
 
 

@@ -82,6 +82,7 @@ class Options:
     # What a history has to meet: linearizable; local: the values of each producer alone are in order; weak-empty: an
     # empty dequeue promises nothing; both.
     condition: str = "linearizable"
+    overtaken_at_most: int = None    # more values that one dequeue overtakes are a violation; None: by the condition
     folder: str = "fifobench-runs"    # where histories and reports are kept
     program: str = None    # else that of the environment variable FIFOBENCH, else fifobench on the PATH
     # Whether the seed chooses how threads interleave, by schedule.py beside this file: True, False, or a dict of its

@@ -7,6 +7,7 @@ Beside `recorder.py`, which loads it.
 
 import enum
 import os
+import re
 import subprocess
 import sys
 import time
@@ -173,8 +174,9 @@ def is_found(options):
 
 
 def _told_condition(options):
-    """The condition of a search, as its answer has it; empty if it is the default."""
-    return "" if options.condition == "linearizable" else f", condition {options.condition}"
+    """The condition of a search and its bound, as its answer has them; empty if they are the default."""
+    told = "" if options.condition == "linearizable" else f", condition {options.condition}"
+    return told if options.overtaken_at_most is None else f"{told}, overtaken-at-most {options.overtaken_at_most}"
 
 
 def _with_flags(options, command):
@@ -202,17 +204,26 @@ def _tell_judge(options, command, path):
     print(f"  judge:   {program} {command} < {path} | {program} {check}", file=sys.stderr, flush=True)
 
 
-def verdict_on(options, text):
-    """What `check` says of a history, by the condition of the options: YES, or NO and what is violated.
+def verdict_on(options, text, is_completed=False):
+    """What `check` says of a history: YES, or NO and what is violated.
 
-    OSError is raised if the program says something else.
+    It says so by the condition of the options, and unless it completes pending calls by their bound on overtaking. A
+    bound judges the order of values in place of `check`, but for that of each producer's own. OSError is raised if the
+    program says something else.
     """
     said, status = ask(options, "check", text)
     verdict = said.partition("\n")[0]
     if status not in (0, 1):
         kept = keep(options, "history", text)
         raise OSError(f"{program_of(options)} says '{verdict}' of {kept}")
-    return verdict
+    is_ordered = status == 1 and (options.condition in ("local", "both") or verdict != "NO VOrd")
+    if options.overtaken_at_most is None or is_completed or is_ordered:
+        return verdict
+    found = re.search(r"^overtaken-at-most (\d+)$", ask(options, "stats", text)[0], re.M)
+    if found is None:
+        raise OSError(f"{program_of(options)} has no overtaken-at-most in stats, which a later version has")
+    is_met = int(found[1]) <= options.overtaken_at_most
+    return "YES" if is_met else f"NO overtaken-at-most {options.overtaken_at_most}"
 
 
 def _drawn_in(options, text, kept):
@@ -228,14 +239,14 @@ def _drawn_in(options, text, kept):
 
 def judge_text(options, text, tell_again=None, is_completed=False):
     """Judges a history, which may be a completion of pending calls, and says of a violation where it is kept."""
-    verdict = verdict_on(options, text)
+    verdict = verdict_on(options, text, is_completed)
     if verdict == "YES":
         return Answer.NO_VIOLATION
     if is_completed and _told_condition(options):
         say(f"{verdict} of one completion{_told_condition(options)}: another one may be a YES")
         return Answer.WRONG
     kept = keep(options, "history", text)
-    seen = _told_violation(options, text, kept)
+    seen = _told_violation(options, text, verdict, kept)
     why = ": the queue is wrong, whatever the pending calls do" if is_completed else ""
     Progress.erase()
     print(f"{verdict}: seed {options.seed}, {options.pattern_of(options.seed)}{why}\n  history: {kept}\n{seen}")
@@ -247,9 +258,16 @@ def judge_text(options, text, tell_again=None, is_completed=False):
     return Answer.VIOLATION
 
 
-def _told_violation(options, text, kept):
-    """The lines of a violation after its history: the report and its pictures."""
+def _told_violation(options, text, verdict, kept):
+    """The lines of a violation after its history: the report and pictures, or the dequeue that overtakes most."""
     program = program_of(options)
+    if verdict.startswith("NO overtaken-at-most "):
+        rows = re.findall(r"^(\d+) (\d+) (\d+)$", ask(options, "stats --overtakes", text)[0], re.M)
+        told = f"not named by {program}"
+        if rows:
+            count, ticket, value = max(rows, key=lambda row: int(row[0]))
+            told = f"that of {value}, called at ticket {ticket}, overtakes {count} values"
+        return f"  dequeue: {told}\n  see it:  {program} stats --overtakes < {kept}"
     report = keep(options, "report", ask(options, "shrink", text)[0])
     drawn = _with_flags(options, "draw --text")
     return f"  report:  {report}\n  see it:  {program} {drawn} < {report}{_drawn_in(options, text, kept)}"

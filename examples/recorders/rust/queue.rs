@@ -2,7 +2,7 @@
 //!
 //!     queue QUEUE                                        searches for a violation, status 0, 1 or 2
 //!     queue QUEUE [--runs R] [--threads T] [--producers N] [--ops N] [--pattern P] [--percent K] [--seed S]
-//!         [--initial N] [--condition C] [--folder F] [--keep 0|1] [--timeout SECONDS]
+//!         [--initial N] [--condition C] [--overtaken-at-most N] [--folder F] [--keep 0|1] [--timeout SECONDS]
 //!                                                                        the same with settings
 //!     queue QUEUE THREADS OPERATIONS [PATTERN [SEED [INITIAL]]]          one run, written to standard output
 //!
@@ -172,6 +172,7 @@ fn set(options: &mut Options, name: &str, word: &str) -> Result<(), String> {
         "--seed" => options.seed = number(name, word, 0, u32::MAX.into())?,
         "--initial" => options.initial = number(name, word, 0, recorder::MAX_INITIAL as u64)? as usize,
         "--condition" => options.condition = word.parse()?,
+        "--overtaken-at-most" => options.overtaken_at_most = Some(number(name, word, 0, 1_000_000)?),
         "--folder" => options.folder = PathBuf::from(word),
         "--producers" => options.producers = number(name, word, 0, 63)? as usize,
         "--keep" => options.keep = number(name, word, 0, 1)? == 1,

@@ -179,6 +179,8 @@ pub struct Options {
     pub keep: bool,
     /// What a history has to meet.
     pub condition: Condition,
+    /// More values that one dequeue overtakes are a violation.
+    pub overtaken_at_most: Option<u64>,
     /// Where histories and reports are kept.
     pub folder: PathBuf,
     /// The program `fifobench`; else that of the environment variable FIFOBENCH, else that on the PATH.
@@ -203,6 +205,7 @@ impl Default for Options {
             journal: false,
             keep: false,
             condition: Condition::Linearizable,
+            overtaken_at_most: None,
             folder: PathBuf::from("fifobench-runs"),
             program: None,
         }

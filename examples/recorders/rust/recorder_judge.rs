@@ -164,10 +164,11 @@ fn is_found(options: &Options) -> bool {
     is_found
 }
 
-// The condition of a search, as its answer has it; empty if it is the default.
+// The condition of a search and its bound, as its answer has them; empty if they are the default.
 fn told_condition(options: &Options) -> String {
     let is_default = options.condition == Condition::Linearizable;
-    if is_default { String::new() } else { format!(", condition {}", options.condition) }
+    let condition = if is_default { String::new() } else { format!(", condition {}", options.condition) };
+    condition + &options.overtaken_at_most.map_or(String::new(), |most| format!(", overtaken-at-most {most}"))
 }
 
 // A command, with the flags that are the condition of the settings. The C code of chosen schedules has the same flags.
@@ -204,30 +205,52 @@ fn drawn_in(options: &Options, text: &[u8], history: &str) -> String {
     command.map_or(String::new(), told)
 }
 
-// The lines of a violation after its history: the report and its pictures.
-fn told_violation(options: &Options, text: &[u8], history: &str) -> Result<String, String> {
+// The lines of a violation after its history: the report and its pictures, or the dequeue that overtakes most.
+fn told_violation(options: &Options, text: &[u8], verdict: &str, history: &str) -> Result<String, String> {
     let program = program(options).display().to_string();
-    let (report, _) = ask(options, "shrink", text).map_err(|error| format!("{program}: {error}"))?;
-    let report = keep(options, "report", report.as_bytes())?.display().to_string();
-    let seen = format!("{program} {} < {report}", with_flags(options, "draw --text"));
-    Ok(format!("  report:  {report}\n  see it:  {seen}\n{}", drawn_in(options, text, history)))
+    let unasked = |error: io::Error| format!("{program}: {error}");
+    if !verdict.starts_with("NO overtaken-at-most ") {
+        let (report, _) = ask(options, "shrink", text).map_err(unasked)?;
+        let report = keep(options, "report", report.as_bytes())?.display().to_string();
+        let seen = format!("{program} {} < {report}", with_flags(options, "draw --text"));
+        return Ok(format!("  report:  {report}\n  see it:  {seen}\n{}", drawn_in(options, text, history)));
+    }
+    let (stats, _) = ask(options, "stats --overtakes", text).map_err(unasked)?;
+    let row = |line: &str| line.split(' ').map(|word| word.parse().ok()).collect::<Option<Vec<u64>>>();
+    let told = match stats.lines().rev().filter_map(row).max_by_key(|row| row[0]).as_deref() {
+        Some([count, ticket, value]) => {
+            format!("that of {value}, called at ticket {ticket}, overtakes {count} values")
+        }
+        _ => format!("not named by {program}"),
+    };
+    Ok(format!("  dequeue: {told}\n  see it:  {program} stats --overtakes < {history}\n"))
 }
 
-// What `check` says of a history, by the condition of the settings: YES, or NO and what is violated. An error if the
-// program says something else.
-fn verdict_on(options: &Options, text: &[u8]) -> Result<String, String> {
+// What `check` says of a history, by the condition of the settings, and unless it completes pending calls by their
+// bound on overtaking: YES, or NO and what is violated. A bound judges the order of values in place of `check`, but for
+// that of each producer's own. An error if the program says something else.
+fn verdict_on(options: &Options, text: &[u8], is_completed: bool) -> Result<String, String> {
     let program = program(options).display().to_string();
-    let (verdict, status) = ask(options, "check", text).map_err(|error| format!("{program}: {error}"))?;
+    let unasked = |error: io::Error| format!("{program}: {error}");
+    let (verdict, status) = ask(options, "check", text).map_err(unasked)?;
     let verdict = verdict.lines().next().unwrap_or_default().to_string();
     if status != Some(0) && status != Some(1) {
         return Err(format!("{program} says '{verdict}' of {}", path(options, "history").display()));
     }
-    Ok(verdict)
+    let is_local = matches!(options.condition, Condition::Local | Condition::Both);
+    let is_ordered = status == Some(1) && (is_local || verdict != "NO VOrd");
+    let Some(bound) = options.overtaken_at_most.filter(|_| !is_completed && !is_ordered) else {
+        return Ok(verdict);
+    };
+    let (stats, _) = ask(options, "stats", text).map_err(unasked)?;
+    let most = stats.lines().find_map(|line| line.strip_prefix("overtaken-at-most ")?.parse::<u64>().ok());
+    let most = most.ok_or(format!("{program} has no overtaken-at-most in stats, which a later version has"))?;
+    Ok(if most > bound { format!("NO overtaken-at-most {bound}") } else { "YES".to_string() })
 }
 
 // Judges a history, which may be a completion of pending calls.
 fn judge(options: &Options, text: &[u8], is_completed: bool) -> Result<Answer, String> {
-    let (verdict, condition) = (verdict_on(options, text), told_condition(options));
+    let (verdict, condition) = (verdict_on(options, text, is_completed), told_condition(options));
     if verdict.as_deref() == Ok("YES") {
         return Ok(Answer::NoViolation);
     }
@@ -237,7 +260,7 @@ fn judge(options: &Options, text: &[u8], is_completed: bool) -> Result<Answer, S
     let history = keep(options, "history", text)?.display().to_string();
     let (seed, pattern, verdict) = (options.seed, options.pattern_of(options.seed), verdict?);
     let why = if is_completed { ": the queue is wrong, whatever the pending calls do" } else { "" };
-    let seen = told_violation(options, text, &history)?;
+    let seen = told_violation(options, text, &verdict, &history)?;
     let told = format!("{verdict}: seed {seed}, {pattern}{why}\n  history: {history}\n{seen}");
     let again = format!("  again:   seed {seed}, pattern {pattern}");
     Progress::erase();

@@ -52,6 +52,8 @@ struct RawSearch {
     pattern: extern "C" fn(*mut c_void, u64) -> *const c_char,
     context: *mut c_void,
     flags: *const c_char,
+    is_bounded: c_int,
+    overtaken_at_most: u64,
 }
 
 extern "C" {
@@ -166,6 +168,8 @@ pub(super) fn search<Q: Queue>(options: &Options, make_queue: impl Fn() -> Q) ->
         pattern: name_pattern,
         context: ptr::from_ref(&context).cast_mut().cast(),
         flags: flags.as_ptr(),
+        is_bounded: c_int::from(options.overtaken_at_most.is_some()),
+        overtaken_at_most: options.overtaken_at_most.unwrap_or_default(),
     };
     match unsafe { fifobench_search_runs(&raw) } {
         0 => Answer::NoViolation,

@@ -121,7 +121,8 @@ static inline bool recorder_points_search(const struct recorder_settings *settin
         .program = settings->program, .folder = settings->folder, .seed = settings->seed, .runs = settings->runs,
         .threads = settings->threads, .seconds = settings->timeout, .keep = settings->keep, .run = recorder_points_run,
         .pattern = recorder_points_pattern, .context = &context,
-        .operations = settings->operations, .flags = flags[settings->condition]};
+        .operations = settings->operations, .flags = flags[settings->condition],
+        .is_bounded = settings->overtaken_at_most != UINT64_MAX, .overtaken_at_most = settings->overtaken_at_most};
     *answer = fifobench_search_runs(&chosen);
     return true;
 }

@@ -110,6 +110,8 @@ void search(const Settings& settings, RunOne& run_one, std::optional<int>& answe
     chosen.keep = settings.keep ? 1 : 0;
     chosen.context = &context;
     chosen.flags = condition_flags[static_cast<unsigned>(settings.condition)];
+    chosen.is_bounded = settings.overtaken_at_most ? 1 : 0;
+    chosen.overtaken_at_most = settings.overtaken_at_most.value_or(0);
     chosen.run = [](void* of, std::uint64_t seed, std::size_t operations) {
         const auto& [all, run] = *static_cast<Context*>(of);
         try {

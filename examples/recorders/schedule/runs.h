@@ -127,6 +127,35 @@ static struct outcome make_run(const struct fifobench_search *search, uint64_t s
     return outcome;
 }
 
+// Whether a dequeue of the run in a file overtakes more values than the settings allow; no outcome if `stats` doesn't
+// say. A bound judges the order of values in place of `check`, but for that of each producer's own.
+static void judge_overtaking(const struct searching *of, const char *history, const char *report,
+                             struct outcome *outcome)
+{
+    bool is_local = strstr(condition_flags, "--local") != NULL, is_found = false;
+    bool is_ordered = strcmp(outcome->verdict, "YES") != 0 && (is_local || strcmp(outcome->verdict, "NO VOrd") != 0);
+    char line[MAX_LINE_BYTES];
+    uint64_t most = 0;
+    if (!of->settings->is_bounded || is_ordered || outcome->is_wrong) {
+        return;
+    }
+    FILE *stats = ask(of->program, "stats", history, report) == 0 ? fopen(report, "r") : NULL;
+    while (stats != NULL && !is_found && fgets(line, sizeof line, stats) != NULL) {
+        is_found = sscanf(line, "overtaken-at-most %" SCNu64, &most) == 1;
+    }
+    if (stats != NULL) {
+        fclose(stats);
+    }
+    outcome->is_wrong = !is_found;
+    snprintf(outcome->verdict, sizeof outcome->verdict, "YES");
+    if (!is_found) {
+        snprintf(outcome->verdict, sizeof outcome->verdict, "no overtaken-at-most");
+    } else if (most > of->settings->overtaken_at_most) {
+        snprintf(outcome->verdict, sizeof outcome->verdict, "NO overtaken-at-most %" PRIu64,
+                 of->settings->overtaken_at_most);
+    }
+}
+
 // Has a complete run judged.
 static void judge(const struct searching *of, const char *history, const char *report, struct outcome *outcome)
 {
@@ -138,6 +167,7 @@ static void judge(const struct searching *of, const char *history, const char *r
     read_first_line(report, outcome->verdict, sizeof outcome->verdict);
     bool is_yes = status == 0 && strcmp(outcome->verdict, "YES") == 0;
     outcome->is_wrong = !is_yes && (status != 1 || strncmp(outcome->verdict, "NO ", 3) != 0);
+    judge_overtaking(of, history, report, outcome);
 }
 
 static bool is_complete(const struct outcome *outcome)

@@ -143,6 +143,8 @@ struct fifobench_search {
     const char *(*pattern)(void *context, uint64_t seed);
     void *context;
     const char *flags;      // of `check`, `shrink` and `draw`, as " --local --weak-empty"; or NULL
+    int is_bounded;         // a run in which one dequeue overtakes more values than these is a violation
+    uint64_t overtaken_at_most;
 };
 
 // Makes runs until one shows a violation, prints what is found, and keeps SEED.history, SEED.report and SEED.trace.

@@ -140,15 +140,19 @@ static bool tell_early(const char *folder, uint64_t seed, const struct outcome *
     return is_written;
 }
 
-// The condition of the search, as its answer has it; empty if it is the default.
+// The condition of the search and its bound, as its answer has them; empty if they are the default.
 static char told_condition[MAX_LINE_BYTES];
 
-static void tell_condition(void)
+static void tell_condition(const struct fifobench_search *settings)
 {
     bool is_local = strstr(condition_flags, "--local") != NULL, is_weak = strstr(condition_flags, "--weak") != NULL;
     const char *name = is_local && is_weak ? "both" : is_local ? "local" : is_weak ? "weak-empty" : NULL;
-    snprintf(told_condition, sizeof told_condition, "%s%s", name != NULL ? ", condition " : "",
-             name != NULL ? name : "");
+    int length = snprintf(told_condition, sizeof told_condition, "%s%s", name != NULL ? ", condition " : "",
+                          name != NULL ? name : "");
+    if (settings->is_bounded) {
+        snprintf(told_condition + length, sizeof told_condition - (size_t)length, ", overtaken-at-most %" PRIu64,
+                 settings->overtaken_at_most);
+    }
 }
 
 // Judges the completion of a pending text. Returns 0 or 1, and the verdict; or 2 if there is none, and prints the
@@ -316,20 +320,48 @@ static void tell_drawn_in(const char *program, const char *history)
     }
 }
 
+// Prints the dequeue that overtakes most, and the command that prints all that do.
+static void tell_overtaking(const char *program, const char *history, const char *report)
+{
+    char line[MAX_LINE_BYTES] = "", more;
+    uint64_t count = 0, ticket = 0, value = 0;
+    bool is_found = false;
+    FILE *stats = ask(program, "stats --overtakes", history, report) == 0 ? fopen(report, "r") : NULL;
+    while (stats != NULL && !is_found && fgets(line, sizeof line, stats) != NULL) {
+        is_found = sscanf(line, "%" SCNu64 " %" SCNu64 " %" SCNu64 " %c", &count, &ticket, &value, &more) == 3;
+    }
+    if (stats != NULL) {
+        fclose(stats);
+    }
+    remove(report);
+    if (is_found) {
+        printf("  dequeue: that of %" PRIu64 ", which returns at ticket %" PRIu64 ", overtakes %" PRIu64 " values\n",
+               value, ticket, count);
+    } else {
+        printf("  dequeue: not named by %s\n", program);
+    }
+    printf("  see it:  %s stats --overtakes < %s\n", program, history);
+}
+
 // `why` stands after the verdict.
 static int tell_violation(const struct searching *of, uint64_t seed, const struct outcome *outcome, const char *verdict,
                           const char *why, const char *history, const char *report)
 {
     const struct fifobench_search *settings = of->settings;
-    int status = ask(of->program, "shrink", history, report);
+    bool is_bound = strncmp(verdict, "NO overtaken-at-most ", 21) == 0;
+    int status = is_bound ? 1 : ask(of->program, "shrink", history, report);
     erase_progress();
     printf("%s: seed %" PRIu64 ", ", verdict, seed);
     if (settings->pattern != NULL) {
         printf("%s, ", settings->pattern(settings->context, seed));
     }
-    printf("with chosen schedules%s\n  history: %s\n  report:  %s\n", why, history, report);
-    printf("  see it:  %s draw --text%s < %s\n", of->program, flags_of("draw"), report);
-    tell_drawn_in(of->program, history);
+    printf("with chosen schedules%s\n  history: %s\n", why, history);
+    if (is_bound) {
+        tell_overtaking(of->program, history, report);
+    } else {
+        printf("  report:  %s\n  see it:  %s draw --text%s < %s\n", report, of->program, flags_of("draw"), report);
+        tell_drawn_in(of->program, history);
+    }
     tell_again(of, seed, outcome, stdout);
     if (status != 1) {
         fprintf(stderr, "fifobench: '%s' can't shrink %s\n", of->program, history);
@@ -393,7 +425,9 @@ static int search_one(struct searching *of, uint64_t seed)
     judge(of, history, report, &outcome);
     if (outcome.is_wrong) {
         erase_progress();
-        fprintf(stderr, "fifobench: %s says '%s' of %s\n", of->program, outcome.verdict, history);
+        bool has_stats = strcmp(outcome.verdict, "no overtaken-at-most") != 0;
+        fprintf(stderr, has_stats ? "fifobench: %s says '%s' of %s\n" : "fifobench: %s has %s in stats, which a later "
+                "version has\n", of->program, outcome.verdict, history);
         return 2;
     }
     if (strncmp(outcome.verdict, "NO ", 3) == 0) {
@@ -438,7 +472,7 @@ int fifobench_search_runs(const struct fifobench_search *settings)
 {
     struct searching of = {.settings = settings, .program = program_of(settings)};
     condition_flags = settings->flags != NULL ? settings->flags : "";
-    tell_condition();
+    tell_condition(settings);
     unsigned runs = settings->runs != 0 ? settings->runs : DEFAULT_RUNS;
     uint64_t seed = first_seed(settings->seed);
     size_t operations = settings->operations != 0 ? settings->operations : 100;

@@ -2,7 +2,7 @@
 use Rattle.std.specs.Prelude.{codes}
 use Rattle.clap.specs.Simple.{App, new_shape, with_rule, with_subcommand}
 use Rattle.event_records.specs.declared.limits.TheConstants.{MAX_RING, MAX_SEED, MAX_STRESS_INITIAL, MAX_THREAD_OPERATIONS, MAX_WORKERS, MIN_RING}
-use Rattle.command_words.specs.Options.{flag_rule, number_rule, queue_rule, quiet_rule, the_complete, the_deciding, the_draw, the_judging, the_stress, the_verify}
+use Rattle.command_words.specs.Options.{flag_rule, number_rule, queue_rule, quiet_rule, the_complete, the_deciding, the_draw, the_judging, the_stats, the_stress, the_verify}
 
 -- the program with the first four of its subcommands
 abbrev pub with_first_four : App → App
@@ -14,7 +14,7 @@ with_first_four app =
 abbrev pub with_last_five : App → App
 with_last_five app =
     with_subcommand (with_subcommand (with_subcommand (with_subcommand (with_subcommand app (new_shape (codes "convert"))) the_complete)
-    (new_shape (codes "stats"))) (the_judging (codes "sim"))) the_stress
+    the_stats) (the_judging (codes "sim"))) the_stress
 
 -- `stress` with the first four of its options
 abbrev pub with_plan : App → App

@@ -4,7 +4,7 @@ ghost use Rattle.std.specs.Prelude.{◌≤◌, length, vec_len};
 use super::small_histories::{HIDDEN, OF_THREE, OF_TWO, OVERLAPPING, Row, are_rows, at, events_of};
 use event_records::{Event, Lists, MAX_EVENTS, MAX_INITIAL, What};
 use history_merge::OpKind::{Empty, Not};
-use history_merge::{History, HistoryBuilder, HistoryFault, history, history_from, merge};
+use history_merge::{Clash, History, HistoryBuilder, HistoryFault, history, history_from, merge};
 use std::alloc::{AllocError, Global};
 use std::test::Fail;
 
@@ -128,6 +128,45 @@ fn has_fault(alloc: Global, initial: &[u64], marks: [Mark; 2], fault: (&str, Opt
 fn names_the_first_fault(rt: HostRuntime) {
     for (initial, marks, fault) in &FAULTS {
         assert!(rt; has_fault(rt.alloc(), initial, *marks, *fault), "{fault:?}");
+    }
+}
+
+/// Two events, and the tickets that contradict each other in them, if any do: one above the greatest contradicts none.
+static TICKETS: [([Mark; 2], Option<(u64, u64)>); 4] = [
+    ([(4, 0, What::CallDeq), (5, 0, What::RetEmpty)], None),
+    (
+        [(5, 0, What::CallDeq), (5, 0, What::RetEmpty)],
+        Some((5, 5)),
+    ),
+    (
+        [(5, 0, What::CallDeq), (4, 0, What::RetEmpty)],
+        Some((5, 4)),
+    ),
+    (
+        [
+            (5, 0, What::CallDeq),
+            (1_000_000_000_000, 0, What::RetEmpty),
+        ],
+        None,
+    ),
+];
+
+/// The tickets that contradict each other.
+fn clashing_tickets(alloc: Global, marks: [Mark; 2]) -> Option<(u64, u64)> {
+    let mut builder = HistoryBuilder::new(alloc, Vec::new(alloc));
+    for (ticket, thread, what) in marks {
+        builder.add(at(ticket, thread, what));
+    }
+    match builder.clash()? {
+        Clash::Tickets(earlier, later) => Some((earlier.event.ticket, later.event.ticket)),
+        _ => None,
+    }
+}
+
+#[test]
+fn tickets_clash_that_do_not_rise(rt: HostRuntime) {
+    for (marks, wanted) in TICKETS {
+        assert!(rt; clashing_tickets(rt.alloc(), marks) == wanted, "{wanted:?}");
     }
 }
 

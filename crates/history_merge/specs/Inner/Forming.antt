@@ -1,12 +1,12 @@
 -- What a history builder judges the next event by.
-use Rattle.std.specs.Prelude.{◌≡◌, ℕ, ◌<◌, Bool, true, false, MatchOption, List, Option, None, nat_eq, ⊤}
+use Rattle.std.specs.Prelude.{◌≡◌, ℕ, ◌<◌, Bool, true, false, MatchOption, List, Option, None, Some, nat_eq, ⊤}
 use Rattle.std.specs.Option.{option_map_or}
 use Rattle.std.specs.List.{last_or, list_any}
 use Rattle.event_records.specs.declared.event.Event.{Event}
 use Rattle.event_records.specs.Turns.{is_call, answers}
 use Rattle.history_merge.specs.declared.operation.Operation.{Operation}
 use Rattle.history_merge.specs.Events.{events_of}
-use Rattle.history_merge.specs.Faults.{pending_call}
+use Rattle.history_merge.specs.Faults.{pending_call, IsLeastPending}
 use Rattle.history_merge.specs.Gathering.{is_among}
 use Rattle.history_merge.specs.Operations.{enqueued_value, operations_of}
 
@@ -22,6 +22,10 @@ pub record Follows (events : List Event) (e : Event) : Type 0 where
 -- no call of any thread is without return
 abbrev pub NothingPending : List Event → Type 0
 NothingPending events = (thread : ℕ) → pending_call thread events ≡ None
+
+-- the call has the least ticket of the calls without return
+abbrev pub IsLeastPendingCall : List Event → Event → Type 0
+IsLeastPendingCall events call = (pending_call call.thread events ≡ Some call) × IsLeastPending events call.ticket
 
 -- the operations are those of the events, and tell them
 pub record IsFormedOf (events : List Event) (operations : List Operation) : Type 0 where

@@ -4,7 +4,7 @@ use Rattle.event_records.specs.declared.event.Event.{Event}
 use Rattle.event_records.specs.declared.limits.TheConstants.{MAX_EVENTS, MAX_THREADS}
 use Rattle.text_lines.specs.declared.fault.TextFault.{TextFault}
 use Rattle.text_lines.specs.Faults.{MemoryOr}
-use Rattle.text_lines.specs.Input.{Ahead, Ending, Takes}
+use Rattle.text_lines.specs.Input.{Ending}
 use Rattle.text_lines.specs.Lines.{line}
 use Rattle.history_text.specs.declared.pending_line.EventLine.{EventLine}
 use Rattle.history_text.specs.declared.pending_line.EventLine.TheVariants.{OneEvent, Stop}
@@ -13,7 +13,7 @@ use Rattle.history_text.specs.declared.version.Version.TheVariants.{One, Two}
 use Rattle.history_text.specs.Items.{Format, HaveLines, line_of, lines_of, NoRoom, NoRoomAmong}
 use Rattle.history_text.specs.Histories.{event_format, HasEventLine}
 use Rattle.history_text.specs.Pending.{FaultAfterEvents, open_fields, open_in, stop_line}
-use Rattle.history_text.specs.Reading.{HasFirstFault}
+use Rattle.history_text.specs.Reading.{HasFirstFault, Left, Takes}
 use Rattle.history_text.specs.Versions.{InitialFault, AfterCount, value_format}
 
 -- the line that counts pending calls, as an item that stands once
@@ -31,18 +31,18 @@ IsEventLine is_pending k bytes (OneEvent e) = (line bytes ≡ line_of event_form
 IsEventLine is_pending k bytes (Stop calls) = (line bytes ≡ stop_line calls k) × IsStop is_pending calls
 
 -- what such a line takes
-abbrev pub TakesEventLine : Bool → Option Ahead → Option Ahead → ℕ → EventLine → Type 0
+abbrev pub TakesEventLine : Bool → Left → Left → ℕ → EventLine → Type 0
 TakesEventLine is_pending old new k (OneEvent e) = Takes old new (line_of event_format e) × HasEventLine e × (k < MAX_EVENTS)
 TakesEventLine is_pending old new k (Stop calls) = Takes old new (stop_line calls k) × IsStop is_pending calls
 
 -- what the lines of events take, and the line at which they stop
-abbrev pub TakesEvents : Bool → Option Ahead → Option Ahead → List Event → Option ℕ → Type 0
+abbrev pub TakesEvents : Bool → Left → Left → List Event → Option ℕ → Type 0
 TakesEvents is_pending old new events calls =
-    (after : Option Ahead) × HaveLines event_format events × Takes old after (lines_of event_format events)
-    × Takes after new (stop_line calls (length events)) × IsStop is_pending calls
+    (mid : Left) × HaveLines event_format events × Takes old mid (lines_of event_format events)
+    × Takes mid new (stop_line calls (length events)) × IsStop is_pending calls
 
 -- the first fault of the lines of events from line n on, or of those after them, which comes after these events and this count
-abbrev pub HasEventsFault : Bool → ℕ → Option Ahead → List Event → Option ℕ → TextFault → Type 0
+abbrev pub HasEventsFault : Bool → ℕ → Left → List Event → Option ℕ → TextFault → Type 0
 HasEventsFault is_pending n old events calls fault =
     HasFirstFault (λ ending bytes f. FaultAfterEvents is_pending n ending f bytes events calls) (NoRoom event_format) old fault
 

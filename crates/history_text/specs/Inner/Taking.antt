@@ -5,26 +5,26 @@ use Rattle.text_lines.specs.declared.fault.TextFault.TheVariants.{Memory, Read}
 use Rattle.event_records.specs.declared.limits.TheConstants.{MAX_INITIAL}
 use Rattle.history_text.specs.declared.source_end.SourceEnd.{SourceEnd}
 use Rattle.history_text.specs.declared.source_end.SourceEnd.TheVariants as end
-use Rattle.text_lines.specs.Input.{Ahead, Ending, EndOfInput, Failure, Takes, IsOver}
+use Rattle.text_lines.specs.Input.{Ending, EndOfInput, Exactly, Failure, Known, over}
 use Rattle.text_lines.specs.Lines.{line, end_line, front_of, fault_at, Front, Whole, TooLong, Unfinished, Nothing}
 use Rattle.text_lines.specs.Inner.Lines.{IsPartOfLine}
 use Rattle.history_text.specs.Items.{Format, line_of, lines_of, ItemFault, NoRoom, FaultAmong, NoRoomAmong}
 use Rattle.history_text.specs.Versions.{count_fields, count_in}
 use Rattle.history_text.specs.Schedules.{setting_fields, setting_in, IsSetting}
-use Rattle.history_text.specs.Reading.{HasFirstFault}
+use Rattle.history_text.specs.Reading.{HasFirstFault, IsOver, Left, OfLeft, Takes}
 
--- nothing is ahead, and it ends so, if the end of the source was seen
-abbrev pub IsSeen : SourceEnd → Option Ahead → Type 0
-IsSeen end.NotSeen ahead = ⊤
-IsSeen end.Over ahead = IsOver EndOfInput ahead
-IsSeen end.Failed ahead = IsOver Failure ahead
+-- what is known of what comes behind the bytes that were read: no byte does once the end of the source was seen
+abbrev pub behind : SourceEnd → Known → Known
+behind end.NotSeen known = known
+behind end.Over known = Exactly (over EndOfInput)
+behind end.Failed known = Exactly (over Failure)
 
 -- what is ahead begins so that it has this fault
-abbrev pub FaultAtFront : (Ending → TextFault → Front → Type 0) → Option Ahead → TextFault → Type 0
-FaultAtFront IsFault old fault = IfSome old (λ a. IsFault a.ending fault (front_of a.bytes))
+abbrev pub FaultAtFront : (Ending → TextFault → Front → Type 0) → Left → TextFault → Type 0
+FaultAtFront IsFault old fault = OfLeft old (λ a. IsFault a.ending fault (front_of a.bytes))
 
 -- the bytes that a line took, or none at the end of the input
-abbrev pub TakesLine : Option Ahead → Option Ahead → Option (List ℕ) → Type 0
+abbrev pub TakesLine : Left → Left → Option (List ℕ) → Type 0
 TakesLine old new (Some bytes) = Takes old new (line bytes) × IsPartOfLine bytes
 TakesLine old new None = Takes old new [] × IsOver EndOfInput new
 
@@ -69,25 +69,25 @@ IsItemLine format k bytes (Some item) = (line bytes ≡ line_of format item) × 
 IsItemLine format k bytes None = (line bytes ≡ end_line k) × (format.is_counted ≡ true)
 
 -- what comes after k items: the last line, or the end of the input
-abbrev pub TakesEnd : Bool → Option Ahead → Option Ahead → ℕ → Type 0
+abbrev pub TakesEnd : Bool → Left → Left → ℕ → Type 0
 TakesEnd true old new k = Takes old new (end_line k)
 TakesEnd false old new k = Takes old new [] × IsOver EndOfInput new
 
 -- what the line of an item takes, after k others
-abbrev pub TakesItem : {A : Type 0} → Format A → Option Ahead → Option Ahead → ℕ → Option A → Type 0
+abbrev pub TakesItem : {A : Type 0} → Format A → Left → Left → ℕ → Option A → Type 0
 TakesItem format old new k (Some item) = Takes old new (line_of format item) × format.HasLine item × (k < format.most)
 TakesItem format old new k None = TakesEnd format.is_counted old new k
 
 -- what the lines of items take, and what comes after them
-abbrev pub TakesItems : {A : Type 0} → Format A → Option Ahead → Option Ahead → List A → Type 0
-TakesItems format old new items = (after : Option Ahead) × Takes old after (lines_of format items) × TakesEnd format.is_counted after new (length items)
+abbrev pub TakesItems : {A : Type 0} → Format A → Left → Left → List A → Type 0
+TakesItems format old new items = (mid : Left) × Takes old mid (lines_of format items) × TakesEnd format.is_counted mid new (length items)
 
 -- the first fault of the lines of items from line n on
-abbrev pub HasItemsFault : {A : Type 0} → Format A → ℕ → Option Ahead → TextFault → Type 0
+abbrev pub HasItemsFault : {A : Type 0} → Format A → ℕ → Left → TextFault → Type 0
 HasItemsFault format n old fault = HasFirstFault (λ ending bytes f. ItemFault format n ending f bytes) (NoRoom format) old fault
 
 -- the first fault of the lines of this many items from line n on
-abbrev pub HasFaultAmong : {A : Type 0} → Format A → ℕ → ℕ → Option Ahead → TextFault → Type 0
+abbrev pub HasFaultAmong : {A : Type 0} → Format A → ℕ → ℕ → Left → TextFault → Type 0
 HasFaultAmong format k n old fault = HasFirstFault (λ ending bytes f. FaultAmong format k n ending f bytes) (NoRoomAmong format k) old fault
 
 -- a fault of the input, and not of the reader's memory

@@ -1,6 +1,6 @@
 //! How the text of a history is read whose calls may be pending.
 ghost use Rattle.std.specs.Prelude.{◌≡◌, ◌≢◌, ◌+◌, ◌++◌, ◌<◌, ◌^◌, ◌≤◌, [], true, false, None, Some, Err, IfOk, IfErr, OnOk, is_err, length};
-ghost use Rattle.text_lines.specs.Input.{Takes};
+ghost use Rattle.history_text.specs.Reading.{Takes};
 ghost use Rattle.text_lines.specs.Lines.{end_line, line};
 ghost use Rattle.history_text.specs.Inner.Pending.{HasEventsFault, IsStop, TakesEventLine, TakesEvents};
 ghost use Rattle.history_text.specs.Inner.Taking.{FaultAtFront, IsOfInput};

@@ -50,6 +50,8 @@ overlapping 0
 overlapping-percent 0.0
 most-pending 1
 most-in-queue 2
+overtakes 1
+overtaken-at-most 1
 ";
 
 /// 80 bytes, the most that a line may have.

@@ -76,7 +76,7 @@ fn checked<R: AllocGlobal + Threads + Wait + Sync>(
     };
     let input = OVERTAKEN.as_bytes();
     let errors = io::sink();
-    let status = run_over(rt, words, input, &mut writer, errors, Terminals::NONE, &[]);
+    let status = run_over(rt, words, input, &mut writer, errors, Terminals::NONE, &[]).status;
     let is_prefix = writer.bytes.get(..writer.count) == VERDICT.as_bytes().get(..most);
     (status, writer.writes, writer.flushes, is_prefix)
 }

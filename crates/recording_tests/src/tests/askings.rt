@@ -44,14 +44,14 @@ impl TestQueue for CountingQueue {
 
     ghost may = { λ _. AnswersInKind };
 
-    ghost may_preload = { λ _. TakesOrRefuses };
+    ghost may_preload = { λ _ _. TakesOrRefuses };
 
     fn enqueue(&self, ask: AskEnq) -> AnsweredEnq {
         self.count(ask.number());
         ask.taken()
     }
 
-    fn preload(&self, _value: u64) -> bool {
+    fn preload(&self, _place: usize, _value: u64) -> bool {
         true
     }
 

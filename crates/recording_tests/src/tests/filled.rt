@@ -64,7 +64,7 @@ fn holds(alloc: Global, queue: &dyn TestQueue, values: u64, asked: u64) -> Resul
 
 // What two dequeues answer of a queue into which two values were put beforehand.
 fn preloaded(alloc: Global, queue: &dyn TestQueue) -> Result<(What, What), Fail> {
-    if !queue.preload(FIRST) || !queue.preload(SECOND) {
+    if !queue.preload(0, FIRST) || !queue.preload(1, SECOND) {
         return Err("no room".into());
     }
     Ok((take(alloc, queue)?, take(alloc, queue)?))

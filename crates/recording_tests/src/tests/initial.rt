@@ -9,7 +9,7 @@ use std::alloc::{AllocError, Global};
 use std::sync::Wait;
 use std::test::Fail;
 use std::thread::Threads;
-use stress_run::{RunFault, run_from, run_proved};
+use stress_run::{ProvedQueue, RunFault, run_from, run_proved};
 use workloads::Plan;
 
 // The least name that an initial value may have: 2^38.
@@ -51,7 +51,7 @@ fn a_hundred_thousand_initial_values_are_the_most(rt: HostRuntime) -> Result<(),
 }
 
 // Initial values, a ring's size and the tries of a push; why a run of one dequeue fails on a queue for one value, and
-// why on the proved queue.
+// why on a proved queue.
 type Case<'a> = (&'a [u64], usize, u32, Option<RunFault>, Option<RunFault>);
 
 const LIMIT: Option<RunFault> = Some(RunFault::Limit);
@@ -77,7 +77,25 @@ fn end_so<R: Threads + Wait + Sync>(
     let (initial, ring, tries, fault, proved) = *case;
     let plan = Plan::from_text(alloc, "D\n")?;
     let found = run_from(rt, alloc, queue, initial, &plan, ring, tries).err();
-    Ok(found == fault && run_proved(rt, alloc, initial, &plan, ring, tries).err() == proved)
+    let one_lock = run_proved(
+        rt,
+        alloc,
+        ProvedQueue::OneLock,
+        initial,
+        &plan,
+        ring,
+        tries,
+    );
+    let two_locks = run_proved(
+        rt,
+        alloc,
+        ProvedQueue::TwoLocks,
+        initial,
+        &plan,
+        ring,
+        tries,
+    );
+    Ok(found == fault && one_lock.err() == proved && two_locks.err() == proved)
 }
 
 #[test]

@@ -1,11 +1,11 @@
-// Runs over the proved queue.
+// Runs over the proved queues.
 use event_records::What::{CallDeq, CallEnq, RetDeq, RetEmpty, RetEnq};
 use event_records::{Event, LEAST_INITIAL_NAME, Lists, What};
 use std::alloc::Global;
 use std::sync::Wait;
 use std::test::Fail;
 use std::thread::Threads;
-use stress_run::run_proved;
+use stress_run::{ProvedQueue, run_proved};
 use workloads::Plan;
 
 // The events of a worker's plan `EDEDDD` on a queue that holds one value.
@@ -36,9 +36,13 @@ fn are_wanted(list: &[Event]) -> bool {
 
 // Whether the one list of a run of that plan has these events, whether it begins with that value, and how many tickets
 // it drew.
-fn run_alone<R: Threads + Wait + Sync>(rt: &R, alloc: Global) -> Result<(bool, bool, u64), Fail> {
+fn run_alone<R: Threads + Wait + Sync>(
+    rt: &R,
+    alloc: Global,
+    queue: ProvedQueue,
+) -> Result<(bool, bool, u64), Fail> {
     let plan = Plan::from_text(alloc, "EDEDDD\n")?;
-    let recorded = run_proved(rt, alloc, &[LEAST_INITIAL_NAME], &plan, 64, 1_000)?;
+    let recorded = run_proved(rt, alloc, queue, &[LEAST_INITIAL_NAME], &plan, 64, 1_000)?;
     let is_wanted = match recorded.lists().as_slice() {
         [list] => are_wanted(list.as_slice()),
         _ => false,
@@ -48,8 +52,14 @@ fn run_alone<R: Threads + Wait + Sync>(rt: &R, alloc: Global) -> Result<(bool, b
 }
 
 #[test]
-fn the_proved_queue_gives_the_first_value(rt: HostRuntime) -> Result<(), Fail> {
-    assert!(rt; run_alone(&rt, rt.alloc())? == (true, true, 12));
+fn a_list_under_one_lock_gives_the_first_value(rt: HostRuntime) -> Result<(), Fail> {
+    assert!(rt; run_alone(&rt, rt.alloc(), ProvedQueue::OneLock)? == (true, true, 12));
+    Ok(())
+}
+
+#[test]
+fn nodes_with_two_locks_give_the_first_value(rt: HostRuntime) -> Result<(), Fail> {
+    assert!(rt; run_alone(&rt, rt.alloc(), ProvedQueue::TwoLocks)? == (true, true, 12));
     Ok(())
 }
 
@@ -74,14 +84,24 @@ fn is_any_dequeued(lists: &Lists) -> bool {
 }
 
 // Whether a dequeue of four workers got a value, and how many tickets they drew.
-fn run_four<R: Threads + Wait + Sync>(rt: &R, alloc: Global) -> Result<(bool, u64), Fail> {
+fn run_four<R: Threads + Wait + Sync>(
+    rt: &R,
+    alloc: Global,
+    queue: ProvedQueue,
+) -> Result<(bool, u64), Fail> {
     let plan = Plan::from_seed(alloc, 7, 4, 2_000, 50)?;
-    let recorded = run_proved(rt, alloc, &[], &plan, 1024, 10_000_000)?;
+    let recorded = run_proved(rt, alloc, queue, &[], &plan, 1024, 10_000_000)?;
     Ok((is_any_dequeued(recorded.lists()), recorded.total()))
 }
 
 #[test]
-fn values_of_the_proved_queue_are_dequeued(rt: HostRuntime) -> Result<(), Fail> {
-    assert!(rt; run_four(&rt, rt.alloc())? == (true, 16_000));
+fn values_of_a_list_under_one_lock_are_dequeued(rt: HostRuntime) -> Result<(), Fail> {
+    assert!(rt; run_four(&rt, rt.alloc(), ProvedQueue::OneLock)? == (true, 16_000));
+    Ok(())
+}
+
+#[test]
+fn values_of_nodes_with_two_locks_are_dequeued(rt: HostRuntime) -> Result<(), Fail> {
+    assert!(rt; run_four(&rt, rt.alloc(), ProvedQueue::TwoLocks)? == (true, 16_000));
     Ok(())
 }

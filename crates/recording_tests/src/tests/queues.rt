@@ -166,7 +166,7 @@ fn lists_keep_the_order_or_break_it_as_they_are_called(rt: HostRuntime) -> Resul
 
 // Whether a queue takes a value beforehand, and answers empty then.
 fn ignores_a_value(alloc: Global, queue: &dyn TestQueue) -> Result<bool, Fail> {
-    Ok(queue.preload(LEAST_INITIAL_NAME) && take(alloc, queue)? == What::RetEmpty)
+    Ok(queue.preload(0, LEAST_INITIAL_NAME) && take(alloc, queue)? == What::RetEmpty)
 }
 
 #[test]

@@ -76,7 +76,12 @@ fn words_name_tasks(rt: HostRuntime) -> Result<(), Fail> {
             Task::Complete { takes_cut: true },
             false,
         ),
-        ("fifobench stats", Task::Stats, false),
+        ("fifobench stats", Task::Stats { overtakes: false }, false),
+        (
+            "fifobench stats --overtakes",
+            Task::Stats { overtakes: true },
+            false,
+        ),
         ("fifobench sim", Task::Sim, false),
         ("fifobench draw", svg, false),
         (

@@ -1,37 +1,70 @@
 -- What the steps of the account keep.
 use Rattle.std.specs.Prelude.{◌≡◌, ℕ, ◌+◌, ◌<◌, ◌≤◌, List, [], ◌∷◌, ◌++◌, length, All, slice_index}
-use Rattle.std.specs.Prelude.{cond, nat_lt, Option, Some, None}
+use Rattle.std.specs.Prelude.{cond, nat_lt, ◌-◌, take, drop, if◌then◌else◌, false, Option, Some, None}
 use Rattle.std.specs.List.Sorted.{IsStrictlyIncreasing}
 use Rattle.atomic_table.specs.Table.{State}
 use Rattle.tickets.specs.declared.TheConstants.{TICKET_LIMIT}
 use Rattle.tickets.specs.declared.account.Holding.{Holding}
+use Rattle.tickets.specs.declared.account.Setup.{Setup}
 use Rattle.tickets.specs.declared.note.Effect.{Effect}
 use Rattle.tickets.specs.declared.note.Note.{Note}
 use Rattle.tickets.specs.Account.{whole_of, IsAccount}
 use Rattle.tickets.specs.Log.{IsLogged, note_at}
+use Rattle.tickets.specs.Inner.Nodes.{AreNodes, head_at, tail_at}
 
 -- a pass that may still draw this many tickets, has drawn these, and has noted these operations
 abbrev pub holding : ℕ → List ℕ → List Note → Holding
-holding left drawn noted = record { left = left; drawn = drawn; noted = noted; log = None }
+holding left drawn noted = record { left = left; drawn = drawn; noted = noted; log = None; tail = None; head = None }
 
 -- the log, by which nothing is drawn
 abbrev pub logging : List Note → Holding
-logging log = record { left = 0; drawn = []; noted = []; log = Some log }
+logging log = record { left = 0; drawn = []; noted = []; log = Some log; tail = None; head = None }
 
--- the first pass, which has the whole budget, and knows the log
-abbrev pub first_of : ℕ → Holding
-first_of budget = record { left = budget; drawn = []; noted = []; log = Some [] }
+-- the values that the nodes hold first
+abbrev pub initial_of : Setup → List ℕ
+initial_of setup = take setup.filled (drop 2 setup.words.value.items)
 
--- the word is the next ticket
-abbrev pub KeepsAccount : ℕ → State (Unit {0}) Holding → Type 0
-KeepsAccount budget s =
-    ((length s.words ≡ 1) × IsAccount budget (slice_index s.words 0) s.views) × IsLogged (slice_index s.words 0) s.views
+-- for how many values there are nodes
+abbrev pub room_of : Setup → ℕ
+room_of setup = length setup.words.value.items - 2
+
+-- the first pass, which has the whole budget and both ends of the nodes
+abbrev pub with_both : Setup → Holding
+with_both setup = record {
+  left = setup.budget;
+  drawn = [];
+  noted = [];
+  log = None;
+  tail = Some (tail_at setup.filled (room_of setup) None);
+  head = Some (head_at 0 (room_of setup) (initial_of setup) false);
+}
+
+-- the first pass, which has the whole budget and knows the log
+abbrev pub with_known : Setup → Holding
+with_known setup = record { left = setup.budget; drawn = []; noted = []; log = Some []; tail = None; head = None }
+
+-- the first pass
+abbrev pub first_of : Setup → Holding
+first_of setup = if setup.has_nodes then with_both setup else with_known setup
+
+-- all notes are logged, and the nodes hold what the log says
+pub record AreBooked (initial : List ℕ) (next : ℕ) (words : List ℕ) (views : List Holding) : Type 0 where
+  pub log : List Note
+  pub logged : IsLogged next log views
+  pub nodes : AreNodes initial (drop 1 words) log views
+
+-- the first word is the next ticket
+abbrev pub KeepsAccount : Setup → State (Unit {0}) Holding → Type 0
+KeepsAccount setup s =
+    ((0 < length s.words) × IsAccount setup.budget (slice_index s.words 0) s.views)
+    × AreBooked (initial_of setup) (slice_index s.words 0) s.words s.views
 
 -- the ticket is above all that the pass had drawn, and not below its looks; it goes last into what the pass has drawn
 abbrev pub DrawsNext : Holding → ℕ → Holding → Type 0
 DrawsNext before ticket after =
     (after.left + 1 ≡ before.left) × (after.drawn ≡ before.drawn ++ ticket ∷ []) × All (λ t. t < ticket) before.drawn × (ticket < TICKET_LIMIT)
-    × (after.noted ≡ before.noted) × (after.log ≡ before.log) × All (λ n. n.look ≤ ticket) before.noted
+    × (after.noted ≡ before.noted) × (after.log ≡ before.log) × (after.tail ≡ before.tail) × (after.head ≡ before.head)
+    × All (λ n. n.look ≤ ticket) before.noted
 
 -- the notes that are known, if any are
 abbrev pub known_log : Option (List Note) → List Note
@@ -81,4 +114,4 @@ either_log (Some log) other = Some log
 
 -- what a pass is that took in another: the rests added, and the tickets and the notes of both
 abbrev pub put_together : Holding → Holding → Holding
-put_together g h = record { left = g.left + h.left; drawn = merged g.drawn h.drawn; noted = g.noted ++ h.noted; log = either_log g.log h.log }
+put_together g h = record { left = g.left + h.left; drawn = merged g.drawn h.drawn; noted = g.noted ++ h.noted; log = either_log g.log h.log; tail = None; head = None }

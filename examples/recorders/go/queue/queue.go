@@ -2,7 +2,7 @@
 //
 //	queue QUEUE                                        searches for a violation, status 0, 1 or 2
 //	queue QUEUE [--runs R] [--threads T] [--producers N] [--ops N] [--pattern P] [--percent K] [--seed S]
-//	    [--initial N] [--condition C] [--folder F] [--keep 0|1] [--timeout SECONDS]
+//	    [--initial N] [--condition C] [--overtaken-at-most N] [--folder F] [--keep 0|1] [--timeout SECONDS]
 //	                                                               the same with settings
 //	queue QUEUE THREADS OPERATIONS [PATTERN [SEED [INITIAL]]]      one run, written to standard output
 //
@@ -176,6 +176,9 @@ func set(options *fifobench.Options, name, word string) error {
 		options.Initial = int(found)
 	case "--condition":
 		options.Condition = fifobench.Condition(word)
+	case "--overtaken-at-most":
+		found, err = number(name, word, 0, 1_000_000)
+		options.OvertakenAtMost = int64(found)
 	case "--folder":
 		options.Folder = word
 	case "--producers":

@@ -1,5 +1,9 @@
-use Rattle.commands.proofs.Common.{arith, carries, sym, ◌∙◌}
-use Rattle.commands.proofs.Inputs.{drawable_end_fault, drawable_read_fault, drawable_text_fault, drawable_verdict_fault, read_whole}
+use Rattle.commands.proofs.Common.{alone, ap, arith, carries, claim_on, IsClaimOf, IsDrawableOf, List, refl, sym, verdict_text, ℕ, ◌++◌, ◌∙◌}
+use Rattle.commands.proofs.Inputs.{drawable_end_fault, drawable_read_fault, drawable_text_fault, drawable_verdict_fault, over_input}
+use Rattle.commands.proofs.Inputs.{plain_text, read_whole, whole_input}
+use Rattle.commands.specs.Inputs.{history_in}
+use Rattle.history_text.proofs.Consuming.{taken_through, Takes-append}
+use Rattle.history_text.specs.Pending.{pending_text}
 use Rattle.commands.proofs.input.drawable_of.Goals as goal
 
 pub returns-in_err-text-clause-fault : goal.returns-in_err-text-clause-fault
@@ -28,3 +32,33 @@ returns-in_err-is_at_end-clause-fault g c =
     rw (carries c.from_residual-in_err-is_at_end.result _ c.from_residual-in_err-is_at_end.ensures.1)
     (drawable_read_fault (g.S.TextSource.ahead c.args.reader) _ _ _ (sym c.is_some.ensures ∙ c.if-is_some.false) whole.1 whole.2
     c.in_err-is_at_end.ensures.fault)
+
+pub returns-then-is_some-clause-drawable : goal.returns-then-is_some-clause-drawable
+returns-then-is_some-clause-drawable g c =
+    let text = c.in_ok-text.text in
+    let whole = read_whole _ _ _ _ _ (rw c.new-texts.ensures at c.in_ok-text.ensures.text) in
+    let end = c.in_ok-at_end.ensures.left in
+    whole_input (g.S.TextSource.ahead c.args.reader) _ _ (pending_text text) (λ input. IsDrawableOf input (alone text)) whole.2 end.0 end.1
+    (whole.1, record { bytes = refl; ending = refl })
+
+pub returns-then-branch-clause-drawable : goal.returns-then-branch-clause-drawable
+returns-then-branch-clause-drawable g c =
+    let text = c.in_ok-text.text in
+    let whole = read_whole _ _ _ _ _ (rw c.new-texts.ensures at c.in_ok-text.ensures.text) in
+    whole_input (g.S.TextSource.ahead c.args.reader) _ _ (pending_text text) (λ input. IsDrawableOf input (alone text)) whole.2
+    c.in_ok-is_at_end.ensures.left (rw c.if-branch.true at c.in_ok-is_at_end.ensures.over) (whole.1, record { bytes = refl; ending = refl })
+
+pub returns-clause-drawable : goal.returns-clause-drawable
+returns-clause-drawable g c =
+    let text = c.in_ok-text.text in
+    let whole = read_whole _ _ _ _ _ (rw c.new-texts.ensures at c.in_ok-text.ensures.text) in
+    let claimed = c.in_ok-claimed.ensures.claim in
+    let plain = plain_text text (sym c.is_some.ensures ∙ c.if-is_some.false) whole.1 in
+    over_input (g.S.TextSource.ahead c.args.reader) _ (pending_text text ++ verdict_text c.in_ok-claimed.claimed)
+    (λ input. IsClaimOf input (claim_on (history_in text) c.in_ok-claimed.claimed))
+    (Takes-append _ _ _ _ _ (taken_through _ _ _ _ whole.2 c.in_ok-is_at_end.ensures.left) claimed.1) claimed.2
+    (record {
+      history = plain.0;
+      verdict = claimed.0;
+      whole = record { bytes = ap (λ (t : List ℕ). t ++ verdict_text c.in_ok-claimed.claimed) plain.1; ending = refl };
+    })

@@ -8,4 +8,4 @@ returns-in-Err-clause-fault c = λ text has read.
 
 pub returns-in-Err-clause-clash : goal.returns-in-Err-clause-clash
 returns-in-Err-clause-clash c = λ text has read.
-    c.incomplete.ensures.clash text.initial text.events (c.clash-clash.ensures text.initial text.events read.gathered)
+    c.incomplete.ensures.clash text.initial text.events (c.clash-clash.ensures.clash text.initial text.events read.gathered)

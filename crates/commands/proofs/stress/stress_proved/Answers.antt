@@ -8,7 +8,7 @@ returns-clause-found g c = inl (
   omega arith,
   recorded_run _ _ (settings_of c.args.options.now) c.in_ok-plan.plan
       c.in_ok-plan.ensures.seeded c.in_ok-recorded.recorded c.in_ok-recorded.ensures.recorded c.in_ok-recorded.ensures.lists
-      c.deref.result.now (c.deref.ensures.value ∙ c.in_ok-plan.ensures.first) c.in_ok-recorded.ensures.replays (λ k d h. tt) _
+      c.deref.result.now (c.deref.ensures.value ∙ c.in_ok-plan.ensures.first) c.in_ok-recorded.ensures.replays (λ place below. tt) _
       c.judge_run.ensures.found,
 )
 

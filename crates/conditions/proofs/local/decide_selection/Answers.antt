@@ -6,7 +6,7 @@ use Rattle.conditions.proofs.Places.{decided_at}
 use Rattle.conditions.proofs.local.decide_selection.Goals as goal
 
 pub returns : goal.returns
-returns c =
+returns g c =
     let whole = c.args.history.now in
     let p = c.args.producer in
     IfOk-weaker c.moved_verdict.result _ _ (λ moved is. λ emptiness at.

@@ -8,7 +8,7 @@ use Rattle.conditions.proofs.local.decide_selections.Goals.{then-selections-rank
 use Rattle.conditions.proofs.local.decide_selections.Goals as goal
 
 pub returns-in-No : goal.returns-in-No
-returns-in-No c = λ emptiness shared.
+returns-in-No g c = λ emptiness shared.
     let history = c.args.history.now in
     let whole = contents_of history in
     let rank = c.loop-rank.rank in
@@ -20,7 +20,7 @@ returns-in-No c = λ emptiness shared.
     (c.loop-rank.invariant emptiness shared)
 
 pub loop-rank-preserved : goal.loop-rank-preserved
-loop-rank-preserved c = λ emptiness shared.
+loop-rank-preserved g c = λ emptiness shared.
     let history = c.args.history.now in
     let whole = contents_of history in
     let rank = c.loop-rank.rank in
@@ -41,7 +41,7 @@ loop-rank-preserved c = λ emptiness shared.
     ]
 
 pub returns : goal.returns
-returns c = λ emptiness shared.
+returns g c = λ emptiness shared.
     let history = c.args.history.now in
     subst (AreLocalOrders emptiness (contents_of history)) (sym c.from_vec.ensures)
     (all_judged history c.requires.complete c.requires.few emptiness c.loop-rank.rank c.loop-rank.orders.items (omega (arith, c.loop-rank-test.false))

@@ -5,5 +5,5 @@ use Rattle.conditions.specs.Inner.Sharing.{AreSharedOut}
 use Rattle.conditions.proofs.local.decide_selections.Given as goal
 
 abbrev pub invariant-loop-rank : goal.invariant-loop-rank
-invariant-loop-rank l = (emptiness : Emptiness) → AreSharedOut emptiness (contents_of l.history) l.selections.used l.selections.buckets.items
+invariant-loop-rank g l = (emptiness : Emptiness) → AreSharedOut emptiness (contents_of l.history) l.selections.used l.selections.buckets.items
     → AreJudged emptiness (contents_of l.history) l.rank l.orders.items

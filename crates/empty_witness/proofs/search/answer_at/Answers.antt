@@ -13,14 +13,14 @@ answer c =
     ap (λ os. slice_get os c.args.empty) (sym c.operations.ensures.operations) ∙ sym c.get.ensures ∙ c.unwrap-operation.ensures in
     answer_timed matching c.args.empty c.unwrap-operation.result c.operations.ensures.clear c.requires stands
 
-pub overflow_add-result : goal.overflow_add-result
-overflow_add-result c = let is = answer ((goal.at.overflow_add-result c).After-unwrap-operation) in omega (arith, is.2, is.3)
+pub timed-requires-clause-call : goal.timed-requires-clause-call
+timed-requires-clause-call c = let is = answer ((goal.at.timed-requires-clause-call c).After-unwrap-operation) in omega (arith, is.2, is.3)
 
-pub overflow_add-result-2 : goal.overflow_add-result-2
-overflow_add-result-2 c = let is = answer ((goal.at.overflow_add-result-2 c).After-unwrap-operation) in omega (arith, is.3)
+pub timed-requires-clause-ret : goal.timed-requires-clause-ret
+timed-requires-clause-ret c = let is = answer ((goal.at.timed-requires-clause-ret c).After-unwrap-operation) in omega (arith, is.3)
 
 pub returns-clause-at : goal.returns-clause-at
-returns-clause-at c = (answer ((goal.at.returns-clause-at c).After-unwrap-operation)).0
+returns-clause-at c = rw c.timed.ensures (answer ((goal.at.returns-clause-at c).After-unwrap-operation)).0
 
 pub returns-clause-is_empty : goal.returns-clause-is_empty
-returns-clause-is_empty c = (answer ((goal.at.returns-clause-is_empty c).After-unwrap-operation)).1
+returns-clause-is_empty c = rw c.timed.ensures (answer ((goal.at.returns-clause-is_empty c).After-unwrap-operation)).1

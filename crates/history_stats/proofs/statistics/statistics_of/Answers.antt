@@ -1,13 +1,20 @@
+use Rattle.std.specs.Prelude.{MatchOption, map}
 use Rattle.std.proofs.Common.{arith, ◌++◌, ◌∙◌, List, ap, length, subst}
 use Rattle.history_merge.proofs.Distinct.{calls_before_returns}
 use Rattle.history_merge.proofs.Distinct.{calls_rise}
 use Rattle.history_merge.specs.declared.operation.Operation.{Operation}
 use Rattle.history_stats.specs.AtOnce.{IsMost, stay_count, values_put_before}
+use Rattle.history_stats.specs.Overtaking.{greatest}
+use Rattle.history_stats.specs.Refusing.{IsRefusedAt, NoRefusal, left_count, values_called_before}
 use Rattle.history_stats.specs.Counts.{change_count, is_dequeued, is_empty, is_enqueued, is_refused, kind_count, overlapping_count, tenths_of_percent, thread_count}
 use Rattle.history_stats.proofs.statistics.statistics_of.Goals as goal
 
 pub most_pending-requires-clause-forward : goal.most_pending-requires-clause-forward
 most_pending-requires-clause-forward c = rw c.operations-operations.ensures.operations
+    (calls_before_returns c.args.history.now.events c.in_ok-events.ensures.complete.tickets_rise)
+
+pub refused_at-requires-clause-forward : goal.refused_at-requires-clause-forward
+refused_at-requires-clause-forward c = rw c.operations-operations.ensures.operations
     (calls_before_returns c.args.history.now.events c.in_ok-events.ensures.complete.tickets_rise)
 
 pub overlapping_count-overlapping-requires-clause-calls_rise : goal.overlapping_count-overlapping-requires-clause-calls_rise
@@ -23,6 +30,8 @@ returns c =
     let operations = c.operations-operations.ensures.operations in
     let initial = c.initial-initial.ensures.initial in
     let overlapping = c.overlapping_count-overlapping.ensures.exact ∙ ap overlapping_count operations in
+    let refused = subst (λ (os : List Operation). MatchOption c.in_ok-refused_at.refused_at (NoRefusal os)
+    (IsRefusedAt os (λ gap. left_count gap os (c.initial-initial.result.now ++ values_called_before gap os)))) operations c.in_ok-refused_at.ensures in
     let queued = subst (λ (os : List Operation). IsMost (λ gap. stay_count gap os (c.initial-initial.result.now ++ values_put_before gap os))
     c.in_ok-most_queued.most_queued) operations c.in_ok-most_queued.ensures in
     record {
@@ -39,4 +48,7 @@ returns c =
       overlapping_tenths = c.tenths_of_percent.ensures ∙ (λ i. tenths_of_percent (overlapping i) ((c.len-3.ensures.exact ∙ ap length operations) i));
       most_pending = rw (← operations) c.in_ok-most_pending.ensures;
       most_queued = rw (← initial) queued;
+      overtakes = omega (arith, c.len-4.ensures, c.in_ok-overtakings.overtakings.ok.0, ap length c.in_ok-overtakings.ensures);
+      overtaken_at_most = c.greatest_count.ensures ∙ ap (λ os. greatest (map (λ o. o.count) os)) (c.as_slice-3.ensures.value ∙ c.in_ok-overtakings.ensures);
+      refused_at = rw (← initial) refused;
     }

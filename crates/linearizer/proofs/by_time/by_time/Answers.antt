@@ -1,35 +1,30 @@
 use Rattle.linearizer.proofs.Common.{All-contains, arith, contains_at, dequeue_return, entered_by, NEVER, refl}
 use Rattle.linearizer.proofs.Common.{slice_get_read, ◌<◌}
-use Rattle.linearizer.proofs.Choosing.{moved_so_far, none_more_timed, one_more_timed, sorted_by_time}
+use Rattle.linearizer.proofs.Choosing.{none_more_timed, one_more_timed, sorted_by_time}
 use Rattle.linearizer.proofs.by_time.by_time.Goals as goal
-use Rattle.linearizer.proofs.by_time.by_time.Goals.{then-time-lt-NEVER+in_ok-add-2, else-time-lt-NEVER}
+use Rattle.linearizer.proofs.by_time.by_time.Goals.{then-time-lt-NEVER+in_ok-push-2, else-time-lt-NEVER}
 
 pub loop-place-preserved : goal.loop-place-preserved
 loop-place-preserved c =
     let values = c.args.values.now in
     let known = c.loop-place.invariant in
     let at = slice_get_read values _ _ _ refl (omega (arith, c.loop-place-test.true, c.len-place-end.ensures)) c.get.ensures in
-    let more = one_more_timed entered_by values c.loop-place.place c.loop-place.entries.timed.items c.get.result known.entries at
+    let entries = one_more_timed entered_by values c.loop-place.place c.loop-place.entries.items c.get.result known.entries at
     c.entered_by-time.result c.entered_by-time.ensures
     (All-contains (λ value. entered_by value.life < NEVER) values _ c.requires.entries (contains_at values c.loop-place.place c.get.result at)) in
-    let entries = moved_so_far _ values _ _ _ more (rw (← c.new.ensures) c.in_ok-add.ensures.added) in
     elim c.if-time-lt-NEVER.branch [
-      | then-time-lt-NEVER+in_ok-add-2 w ↦
+      | then-time-lt-NEVER+in_ok-push-2 w ↦
           let passed : dequeue_return c.get.result.life < NEVER = omega (arith, c.dequeue_return-time.ensures, w.if-time-lt-NEVER.true) in
-          let one = one_more_timed dequeue_return values c.loop-place.place c.loop-place.dequeues.timed.items c.get.result known.dequeues at
+          let dequeues = one_more_timed dequeue_return values c.loop-place.place c.loop-place.dequeues.items c.get.result known.dequeues at
           c.dequeue_return-time.result c.dequeue_return-time.ensures passed in
           rw w.dequeues-is (record {
-            entries = entries;
-            dequeues = moved_so_far _ values _ _ _ one (rw (← w.new-then-time-lt-NEVER.ensures) w.in_ok-add-2.ensures.added);
-            entries_sorted = c.in_ok-add.ensures.sorted known.entries_sorted;
-            dequeues_sorted = w.in_ok-add-2.ensures.sorted known.dequeues_sorted;
+            entries = rw (c.in_ok-push.ensures.items, c.new.ensures) entries;
+            dequeues = rw (w.in_ok-push-2.ensures.items, w.new-then-time-lt-NEVER.ensures) dequeues;
           })
       | else-time-lt-NEVER w ↦ rw w.dequeues-is (record {
-        entries = entries;
-        dequeues = none_more_timed dequeue_return values c.loop-place.place c.loop-place.dequeues.timed.items c.get.result known.dequeues at
+        entries = rw (c.in_ok-push.ensures.items, c.new.ensures) entries;
+        dequeues = none_more_timed dequeue_return values c.loop-place.place c.loop-place.dequeues.items c.get.result known.dequeues at
             (omega (arith, c.dequeue_return-time.ensures, w.if-time-lt-NEVER.false));
-        entries_sorted = c.in_ok-add.ensures.sorted known.entries_sorted;
-        dequeues_sorted = known.dequeues_sorted;
       })
     ]
 

@@ -16,8 +16,8 @@ loop-place-preserved c =
     elim c.if-is_some.branch [
       | then-is_some w ↦
           let one = overtaken_one values b.life longest finds (sym c.is_some.ensures ∙ w.if-is_some.true) in
-          subst (FindsFirst values _) (sym w.first-is) (first_changes values candidates _ b one.0 w.sooner_with.result first
-          (omega (arith, c.loop-place-test.true, c.len-place-end.ensures)) c.get-b.ensures c.loop-place.invariant one.1 one.2 w.sooner_with.ensures)
+          subst (FindsFirst values _) (sym w.first-is) (first_changes values candidates _ b one.0 first _
+          (omega (arith, c.loop-place-test.true, c.len-place-end.ensures)) c.get-b.ensures c.loop-place.invariant one.1 one.2 w.first_of-first.ensures)
       | else-is_some w ↦
           let none = overtaken_none values b.life longest finds (sym c.is_some.ensures ∙ w.if-is_some.false) in
           subst (FindsFirst values _) (sym w.first-is) (first_stays values candidates _ b first

@@ -7,6 +7,6 @@ returns g t c =
     let values = c.args.table.now in
     let low = c.split_at-low.result.0 in
     let high = c.split_at-low.result.1 in
-    subst (λ xs. FindsFirst values xs c.first_of_both.result) (whole c.args.candidates.now low high _ c.split_at-low.ensures.before
+    subst (λ xs. FindsFirst values xs c.first_of.result) (whole c.args.candidates.now low high _ c.split_at-low.ensures.before
     c.split_at-low.ensures.others)
-    (c.first_of_both.ensures values low high c.join-first.ensures.first c.join-first.ensures.second)
+    (c.first_of.ensures values low high c.join-first.ensures.first c.join-first.ensures.second)

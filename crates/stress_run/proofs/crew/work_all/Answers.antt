@@ -1,7 +1,8 @@
 use Rattle.std.proofs.Common.{arith, sym, subst, get_or, rules}
 use Rattle.stress_run.specs.Noted.{KeepsNotes}
 use Rattle.stress_run.specs.Workers.{WorksIn, WorkerView}
-use Rattle.stress_run.proofs.Zipped.{zip_each, IfOk-both}
+use Rattle.stress_run.proofs.Zipped.{IfOk-both}
+use Rattle.collector.proofs.Draining.{zip_each}
 use Rattle.stress_run.proofs.crew.work_all.Goals as goal
 
 pub returns-clause-worked : goal.returns-clause-worked

@@ -12,28 +12,28 @@ use Rattle.stress_run.proofs.proving.run_proved.Goals as goal
 
 pub returns-clause-linearizable : goal.returns-clause-linearizable
 returns-clause-linearizable g c =
-    subst (λ (values : List ℕ). IfOk c.run_named.result (λ r. (merged : List Event) → IsMerged r.lists merged
-    → IsLinearizable values (operations_of merged))) c.in_ok-sizes.ensures.held.0 c.run_named.ensures.linearizable
+    subst (λ (values : List ℕ). IfOk c.run_held.result (λ r. (merged : List Event) → IsMerged r.lists merged
+    → IsLinearizable values (operations_of merged))) c.in_ok-sizes.ensures.held.0 c.run_held.ensures.linearizable
 
 pub returns-clause-fits : goal.returns-clause-fits
 returns-clause-fits g c =
-    subst (λ (values : List ℕ). IfOk c.run_named.result (λ r. (merged : List Event) → IsMerged r.lists merged → IsCompleteFrom values merged))
-    c.in_ok-sizes.ensures.held.0 c.run_named.ensures.fits
+    subst (λ (values : List ℕ). IfOk c.run_held.result (λ r. (merged : List Event) → IsMerged r.lists merged → IsCompleteFrom values merged))
+    c.in_ok-sizes.ensures.held.0 c.run_held.ensures.fits
 
 pub returns-clause-replays : goal.returns-clause-replays
 returns-clause-replays g c =
     let ring = ap (λ (s : SizesView). s.ring) c.in_ok-sizes.ensures.sizes.0 in
-    IfOk-weaker c.run_named.result _ _ (λ r h.
+    IfOk-weaker c.run_held.result _ _ (λ r h.
     subst (λ (n : ℕ). Replays n c.args.initial.now r.lists) ring
-    (subst (λ (values : List ℕ). Replays c.in_ok-sizes.sizes.ring values r.lists) c.in_ok-sizes.ensures.held.0 h)) c.run_named.ensures.replays
+    (subst (λ (values : List ℕ). Replays c.in_ok-sizes.sizes.ring values r.lists) c.in_ok-sizes.ensures.held.0 h)) c.run_held.ensures.replays
 
 pub returns-clause-fault : goal.returns-clause-fault
 returns-clause-fault g c =
-    IfErr-weaker c.run_named.result _ _ (λ fault is. fault_from _ c.args.initial.now c.args.plan.now c.in_ok-sizes.sizes
-    (record { ring = c.args.ring; tries = c.args.tries }) fault c.in_ok-sizes.ensures.sizes.0 c.in_ok-sizes.ensures.sizes.1 is) c.run_named.ensures.fault
+    IfErr-weaker c.run_held.result _ _ (λ fault is. fault_from _ c.args.initial.now c.args.plan.now c.in_ok-sizes.sizes
+    (record { ring = c.args.ring; tries = c.args.tries }) fault c.in_ok-sizes.ensures.sizes.0 c.in_ok-sizes.ensures.sizes.1 is) c.run_held.ensures.fault
 
 pub returns-clause-preloads : goal.returns-clause-preloads
-returns-clause-preloads g c = λ place is. names_no_value _ c.args.plan.now _ c.run_named.result place is c.run_named.ensures.fault
+returns-clause-preloads g c = λ place is. names_no_value _ c.args.plan.now _ c.run_held.result place is c.run_held.ensures.fault
 
 pub returns-clause-sizes : goal.returns-clause-sizes
 returns-clause-sizes g c = λ not_within. absurd (not_within c.in_ok-sizes.ensures.sizes.1)
@@ -42,16 +42,10 @@ pub returns-clause-names : goal.returns-clause-names
 returns-clause-names g c = λ not_names. absurd (not_names c.in_ok-sizes.ensures.held.1)
 
 pub returns-clause-recorded : goal.returns-clause-recorded
-returns-clause-recorded g c = c.run_named.ensures.recorded
+returns-clause-recorded g c = c.run_held.ensures.recorded
 
 pub returns-clause-lists : goal.returns-clause-lists
-returns-clause-lists g c = c.run_named.ensures.lists
+returns-clause-lists g c = c.run_held.ensures.lists
 
 pub returns-clause-initial : goal.returns-clause-initial
-returns-clause-initial g c = IfOk-weaker c.run_named.result _ _ (λ r same. same ∙ c.in_ok-sizes.ensures.held.0) c.run_named.ensures.initial
-
-pub returns-in_err-named-clause-names : goal.returns-in_err-named-clause-names
-returns-in_err-named-clause-names g c = λ not_names. absurd (not_names c.in_ok-sizes.ensures.held.1)
-
-pub returns-in_err-named-clause-sizes : goal.returns-in_err-named-clause-sizes
-returns-in_err-named-clause-sizes g c = λ not_within. absurd (not_within c.in_ok-sizes.ensures.sizes.1)
+returns-clause-initial g c = IfOk-weaker c.run_held.result _ _ (λ r same. same ∙ c.in_ok-sizes.ensures.held.0) c.run_held.ensures.initial

@@ -10,7 +10,7 @@ load-requires g c = (
   search rules,
   λ s r long at small.
       let n = slice_index s.words 0 in
-      let x = notes _ _ _ c.args.seat.now.me c.args.call c.args.effect c.requires.knows c.requires.drew s r long at small in
+      let x = notes c.tickets.inside.table.shared.key _ _ c.args.seat.now.me c.args.call c.args.effect c.requires.knows c.requires.drew s r long at small in
       let the_step = step c.tickets.inside.table.shared.table_id.slots 0 0 0 none in (
         x.0,
         x.1,

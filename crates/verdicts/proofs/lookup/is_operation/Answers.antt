@@ -18,4 +18,4 @@ returns c =
     let by_time = c.by_time-by_time.ensures in
     let few = few_initial history.initial operations (rw by_time.by_time at by_time.complete) in
     let there = called_late history.initial operations (later_by ORIGIN c.args.operation) c.args.operation few (omega arith) refl in
-    through (rw (by_time.by_time, c.later.ensures) at c.has_operation.ensures) (there.1, there.0)
+    through (rw (by_time.by_time, c.timed.ensures) at c.has_operation.ensures) (there.1, there.0)

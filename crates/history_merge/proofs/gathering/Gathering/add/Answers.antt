@@ -6,7 +6,7 @@ use Rattle.history_merge.proofs.gathering.Gathering.add.Goals as goal
 pub returns-then-is_some-clause-added : goal.returns-then-is_some-clause-added
 returns-then-is_some-clause-added c = λ initial events gathered few.
     gathered_after_fault initial events c.args.event c.args.self.now c.if-is_some.ensures few
-    (kept-append initial events (c.args.event ∷ []) c.args.self.now.clash gathered.clash) gathered
+    (kept-append initial events (c.args.event ∷ []) c.args.self.now gathered) gathered
 
 pub keep-requires : goal.keep-requires
 keep-requires c =
@@ -28,5 +28,5 @@ pub returns-in_default-clause-added : goal.returns-in_default-clause-added
 returns-in_default-clause-added c = λ initial events gathered few.
     let known = none_met initial events c.args.self.now c.if-is_some.ensures gathered in
     let followed = c.in_default.ensures.followed initial events known few in
-    let clash = kept-append initial events (c.args.event ∷ []) c.args.self.now.clash gathered.clash in
+    let clash = kept-append initial events (c.args.event ∷ []) c.args.self.now gathered in
     grind (arith, nat_tests, length-append)

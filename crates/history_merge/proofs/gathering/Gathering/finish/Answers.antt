@@ -8,6 +8,12 @@ use Rattle.history_merge.proofs.gathering.Gathering.finish.Goals as goal
 pub returns-in-Some-clause-outcome : goal.returns-in-Some-clause-outcome
 returns-in-Some-clause-outcome c = grind (arith, met_fault_is_first, kept_is_met)
 
+pub returns-in-Some-least_pending-clause-outcome : goal.returns-in-Some-least_pending-clause-outcome
+returns-in-Some-least_pending-clause-outcome c = λ initial events gathered.
+    let known = still_forming initial events c.args.self c.in_default.is gathered in
+    let least = c.in-Some-least_pending.ensures events known.formed in
+    (known.distinct, known.no_fault, least.1)
+
 -- nothing is pending
 whole : (c : After-into_timeline) (initial : List ℕ) (events : List Event) → HasGathered initial events c.args.self → IsCompleteFrom initial events
 whole c initial events gathered = grind (arith, still_forming, complete_without_fault)

@@ -1,6 +1,7 @@
-use Rattle.history_text.proofs.Common.{arith, err_from_is_err_and, refl, Takes-append}
+use Rattle.history_text.proofs.Common.{arith, err_from_is_err_and, refl}
 use Rattle.history_text.proofs.FirstFaults.{event_is_first}
 use Rattle.history_text.proofs.reader.TextReader.history.Goals as goal
+use Rattle.history_text.proofs.Consuming.{Takes-append}
 
 pub returns-in_err-collect_items-clause-fault : goal.returns-in_err-collect_items-clause-fault
 returns-in_err-collect_items-clause-fault g c = grind (arith, err_from_is_err_and, event_is_first)

@@ -1,5 +1,6 @@
 use Rattle.history_text.proofs.Common.{arith, claim_line_format, first_line, inr, IsVerdictTextFault, ItemFault, line}
 use Rattle.history_text.proofs.Common.{None, NoRoom, NoRoomForVerdict, operation_format, refl, Some, ◌+◌}
+use Rattle.history_text.proofs.Consuming.{taken_through, Takes-append}
 use Rattle.history_text.proofs.FirstFaults.{carries, later_fault}
 use Rattle.history_text.proofs.reader.TextReader.lines_of_claim.Goals as goal
 
@@ -19,3 +20,23 @@ returns-in_err-items-in-Some-clause-fault g c =
     NoRoomForVerdict (c.args.self.now.lines + 2) _ _ _ (line (first_line answer)) _ (omega (arith, c.in_ok-answer.ensures.lines))
     (rw c.in-Some.is at c.in_ok-answer.ensures.ok) (λ e r f k. inr (answer, (r, refl, k))) (λ r k. (answer, (r, refl, k)))
     c.in_err-items-in-Some.ensures.fault)
+
+pub returns-in-None-clause-claim : goal.returns-in-None-clause-claim
+returns-in-None-clause-claim g c =
+    let first = rw c.in-None.is at c.in_ok-answer.ensures.ok in
+    let read = c.in_ok-items-in-None.ensures.taken in
+    rw c.from_vec-operations.ensures (
+      c.in_ok-items-in-None.ensures.each,
+      Takes-append _ _ _ _ _ first (taken_through _ _ _ _ read.1 read.2.0),
+      read.2.1,
+    )
+
+pub returns-in-Some-clause-claim : goal.returns-in-Some-clause-claim
+returns-in-Some-clause-claim g c =
+    let first = rw c.in-Some.is at c.in_ok-answer.ensures.ok in
+    let read = c.in_ok-items-in-Some.ensures.taken in
+    rw c.from_vec-lines.ensures (
+      c.in_ok-items-in-Some.ensures.each,
+      Takes-append _ _ _ _ _ first (taken_through _ _ _ _ read.1 read.2.0),
+      read.2.1,
+    )

@@ -1,9 +1,10 @@
-use Rattle.history_text.proofs.Common.{arith, refl, Takes-append}
+use Rattle.history_text.proofs.Common.{arith, refl}
 use Rattle.history_text.proofs.FirstFaults.{carries}
 use Rattle.history_text.proofs.PendingFaults.{cut_read, events_first, values_first, whole_read}
 use Rattle.history_text.specs.declared.pending_text.PendingText.{PendingText}
 use Rattle.history_text.proofs.reader.TextReader.pending.Goals as goal
 use Rattle.history_text.proofs.reader.TextReader.pending.Goals.{in-Err+else-not-is_allowed, in-Ok}
+use Rattle.history_text.proofs.Consuming.{Takes-append}
 
 pub returns-in_err-initial-clause-fault : goal.returns-in_err-initial-clause-fault
 returns-in_err-initial-clause-fault g c =

@@ -1,9 +1,11 @@
-use Rattle.history_text.proofs.Common.{◌∙◌, ap, Input, arith}
+use Rattle.history_text.proofs.Common.{◌∙◌, ap, Input}
 use Rattle.history_text.proofs.FirstFaults.{required_taken, next_line_faulty}
 use Rattle.history_text.proofs.reader.TextReader.required_item.Goals as goal
 
 pub returns-clause-ok : goal.returns-clause-ok
-returns-clause-ok g c = grind (arith, required_taken)
+returns-clause-ok g c =
+    rw (rw c.in_default.is at c.item_in_buffer.ensures.none) at
+    (required_taken g.T.Item.format _ _ c.in_ok-line.line c.from_line.result c.in_ok-line.ensures.ok.0 (rw c.as_slice.ensures at c.from_line.ensures.spelled))
 
 pub returns-clause-fault : goal.returns-clause-fault
 returns-clause-fault g c =

@@ -14,12 +14,14 @@ join_seat-requires c = (
   search rules,
   search rules,
   search rules,
-  joins _ _ _ _ _ (ap (λ m. m.0.log) c.into_parts-seat.ensures.seat)
-      (ap (λ m. m.0.log) c.into_parts-other_seat.ensures.seat),
+  joins c.tickets.inside.table.shared.key _ _ _ _ (ap (λ m. m.0.log) c.into_parts-seat.ensures.seat)
+      (ap (λ m. m.0.log) c.into_parts-other_seat.ensures.seat)
+      (ap (λ m. m.0.tail) c.into_parts-seat.ensures.seat, ap (λ m. m.0.head) c.into_parts-seat.ensures.seat)
+      (ap (λ m. m.0.tail) c.into_parts-other_seat.ensures.seat, ap (λ m. m.0.head) c.into_parts-other_seat.ensures.seat),
 )
 
 pub load-requires : goal.load-requires
-load-requires c = (search rules, search rules, looks _ _ _ _)
+load-requires c = (search rules, search rules, looks c.tickets.inside.table.shared.key _ _ _)
 
 -- what the joined seat knows
 joined : (c : After-load) → c.load.new.seat.me.0 ≡ put_together (holding c.args.self.left c.args.self.drawn c.args.self.noted)
@@ -48,6 +50,8 @@ invariant_of-result c =
       ap (λ m. m.1) (c.load.ensures.2.1 ∙ c.join_seat.ensures.2
           ∙ ap (λ m. (put_together m.0 c.into_parts-other_seat.result.0.me.0, m.1)) c.into_parts-seat.ensures.seat),
       ap (λ (h : Holding). h.log) (joined c),
+      ap (λ (h : Holding). h.tail) (joined c),
+      ap (λ (h : Holding). h.head) (joined c),
     )
 
 pub returns-clause-drawn : goal.returns-clause-drawn

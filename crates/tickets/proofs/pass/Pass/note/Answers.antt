@@ -6,7 +6,7 @@ use Rattle.tickets.proofs.Steps.{lends, takes, noted_knows}
 use Rattle.tickets.proofs.pass.Pass.note.Goals as goal
 
 pub split_seat-known-requires : goal.split_seat-known-requires
-split_seat-known-requires c = (search rules, search rules, lends _ _ _ (ap (λ m. m.0.log) c.log.invariant))
+split_seat-known-requires c = (search rules, search rules, lends c.tickets.inside.table.shared.key _ _ (ap (λ m. m.0.log) c.log.invariant))
 
 pub join_seat-requires : goal.join_seat-requires
 join_seat-requires c =
@@ -23,4 +23,4 @@ join_seat-requires c =
     )
 
 pub split_seat-requires : goal.split_seat-requires
-split_seat-requires c = (search rules, search rules, lends _ _ c.note_by-look.new.seat.me.0 (noted_knows c.join_seat.new.seat.me.0 _ _ _ _ c.note_by-look.ensures.told.1.0.0))
+split_seat-requires c = (search rules, search rules, lends c.tickets.inside.table.shared.key _ c.note_by-look.new.seat.me.0 (noted_knows c.join_seat.new.seat.me.0 _ _ _ _ c.note_by-look.ensures.told.1.0.0))

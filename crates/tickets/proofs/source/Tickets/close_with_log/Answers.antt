@@ -26,7 +26,7 @@ joined : (c : After-free) → c.join_seat.new.seat.me.0 ≡ with_log (holding c.
 joined c = ap (λ m. m.0) c.join_seat.ensures.2
     ∙ (λ i. with_log (c.into_parts-seat.ensures.seat i).0 (c.into_seat.ensures.seat i).0)
 
-whole : (c : After-free) → whole_of c.join_seat.new.seat.me.0 ≡ c.self.inside.table.shared.key
+whole : (c : After-free) → whole_of c.join_seat.new.seat.me.0 ≡ c.self.inside.table.shared.key.budget
 whole c =
     let shown = ap whole_of (joined c) in
     let budget = ap (λ (t : TicketsView). t.budget) c.self.view_is in

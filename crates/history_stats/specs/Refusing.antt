@@ -1,0 +1,50 @@
+-- How full the queue may have been while it refused a value.
+use Rattle.std.specs.Prelude.{◌≡◌, ℕ, ◌<◌, ◌≤◌, Bool, List, ◌++◌, not, ◌&&◌, nat_lt, count_by, filter_map, Contains, Option, None, true, if◌then◌else◌}
+use Rattle.std.specs.List.{list_any}
+use Rattle.history_merge.specs.Initial.{HistoryView}
+use Rattle.history_merge.specs.Operations.{operations_of}
+use Rattle.history_merge.specs.declared.operation.Operation.{Operation}
+use Rattle.history_stats.specs.AtOnce.{gave, put_value}
+use Rattle.history_stats.specs.Counts.{is_refused}
+
+-- the value that the operation put into the queue, if it was called before the gap
+abbrev pub value_called_before : ℕ → Operation → Option ℕ
+value_called_before gap o = if nat_lt o.call gap then put_value o.kind else None
+
+-- the values whose enqueues were called before the gap
+abbrev pub values_called_before : ℕ → List Operation → List ℕ
+values_called_before gap operations = filter_map (value_called_before gap) operations
+
+-- a dequeue that gave the value returned before the gap
+abbrev pub is_gone_before : ℕ → List Operation → ℕ → Bool
+is_gone_before gap operations v = list_any (λ o. gave v o.kind && nat_lt o.ret gap) operations
+
+-- how many of the values may have been in the queue at the gap, each of them called for before: no dequeue had returned that gave it
+abbrev pub left_count : ℕ → List Operation → List ℕ → ℕ
+left_count gap operations values = count_by (λ v. not (is_gone_before gap operations v)) values
+
+-- how many values may have been in the queue at the gap: initial ones, and those whose enqueues were called before
+abbrev pub maybe_queued_at : HistoryView → ℕ → ℕ
+maybe_queued_at history gap =
+    let operations = operations_of history.events in
+    left_count gap operations (history.initial ++ values_called_before gap operations)
+
+-- one of the operations, an enqueue that the queue refused
+abbrev pub IsRefusal : List Operation → Operation → Type 0
+IsRefusal operations o = Contains operations o × (is_refused o.kind ≡ true)
+
+-- a gap between the call and the return of the operation
+abbrev pub IsDuring : Operation → ℕ → Type 0
+IsDuring o gap = (o.call < gap) × (gap ≤ o.ret)
+
+-- of the refusals, the least of the most values that may have been in the queue at a gap of the call: at one refusal there
+-- were never more than that, and at each there were as many at some gap
+pub record IsRefusedAt (operations : List Operation) (number_at : ℕ → ℕ) (least : ℕ) : Type 0 where
+  pub refusal : Operation
+  pub is_refusal : IsRefusal operations refusal
+  pub at_most : (gap : ℕ) → IsDuring refusal gap → number_at gap ≤ least
+  pub at_each : (other : Operation) → IsRefusal operations other → (gap : ℕ) × IsDuring other gap × (least ≤ number_at gap)
+
+-- no enqueue was refused
+abbrev pub NoRefusal : List Operation → Type 0
+NoRefusal operations = (o : Operation) → ¬ (IsRefusal operations o)

@@ -1,0 +1,259 @@
+//! How full the queue may have been while it refused a value.
+ghost use Rattle.std.specs.Prelude.{◌≡◌, ◌+◌, ◌-◌, ◌<◌, ◌≤◌, ◌++◌, ◌∷◌, ◌^◌, [], ℕ, All, IfOk, List, MatchOption, OnOk, count_by, false, filter_map, length};
+ghost use Rattle.std.specs.Prelude.{nat_lt, not, slice_index_or, take, true, vec_len};
+ghost use Rattle.std.specs.List.{list_any};
+ghost use Rattle.std.specs.List.Sorted.{IsNonDecreasing};
+ghost use Rattle.event_records.specs.declared.limits.TheConstants.{MAX_EVENTS, MAX_INITIAL};
+ghost use Rattle.history_stats.specs.Refusing.{IsRefusedAt, NoRefusal, is_gone_before, left_count, values_called_before};
+ghost use Rattle.history_stats.specs.Inner.AtOnce.{count_before, is_kept_before};
+ghost use Rattle.history_stats.specs.Inner.Refusing.{AreHeights, count_above, stays_within, there_at, window_of, windows_of};
+
+use crate::at_once::{count_before, count_by};
+use crate::counting::is_refused;
+use crate::queued::{add_initial, add_stay, keep_least, ticket_for};
+use crate::tally::zeros;
+use history_merge::{OpKind, Operation, Operations};
+use std::alloc::{AllocError, Global};
+use std::collections::BTreeMap;
+
+/// How many values may be in the queue just after the call of a failed enqueue, and the arrivals during it, by their
+/// places.
+#[derive(Clone, Copy)]
+pub(crate) struct Window {
+    start: usize,
+    from: usize,
+    to: usize,
+}
+
+/// Returns, of the failed enqueues, the least of the most values that may have been in the queue at one gap of the call.
+///
+/// Takes time O(n log n) for n operations and initial values, and memory in proportion to them.
+pub(crate) fn refused_at(
+    alloc: Global,
+    initial: &[u64],
+    operations: &Operations<'_>,
+) -> Result<Option<usize>, AllocError>
+    requires forward { All (λ o. o.call < o.ret) operations.now }
+    requires few_initial { length initial.now ≤ MAX_INITIAL }
+    requires few { length operations.now ≤ MAX_EVENTS }
+    ensures { IfOk result (λ least. MatchOption least (NoRefusal operations.now)
+        (IsRefusedAt operations.now (λ gap. left_count gap operations.now (initial.now ++ values_called_before gap operations.now)))) }
+{
+    let gone = first_gone(alloc, operations)?;
+    let mut arrivals = Vec::new(alloc);
+    let mut departures = Vec::new(alloc);
+    add_initial(&mut departures, initial, &gone)?;
+    add_called(&mut arrivals, &mut departures, operations, &gone)?;
+    refused_among(alloc, initial.len(), arrivals, departures, operations)
+}
+
+/// Returns for each value that a dequeue gave the ticket at which the first such dequeue returned.
+fn first_gone(alloc: Global, operations: &Operations<'_>) -> Result<BTreeMap<u64, u64>, AllocError>
+    ensures { IfOk result (λ gone. (gap v : ℕ) → is_kept_before gap gone v ≡ is_gone_before gap operations.now v) }
+{
+    let mut gone = BTreeMap::new(alloc);
+    for operation in operations.iter() {
+        if let OpKind::Deq(value) = operation.kind {
+            keep_least(&mut gone, value, operation.ret)?;
+        }
+    }
+    Ok(gone)
+}
+
+/// Adds the tickets at which the values of enqueues may come, and are gone.
+fn add_called(
+    arrivals: &mut Vec<u64>,
+    departures: &mut Vec<u64>,
+    operations: &Operations<'_>,
+    gone: &BTreeMap<u64, u64>,
+) -> Result<(), AllocError>
+    ensures stays { OnOk result ((gap : ℕ) → count_by (λ v. not (is_kept_before gap gone.now v)) (values_called_before gap operations.now)
+        + count_before gap departures.new.items + count_before gap arrivals.old.items ≡ count_before gap arrivals.new.items + count_before gap departures.old.items) }
+    ensures few { OnOk result (vec_len arrivals.new ≤ vec_len arrivals.old + length operations.now) }
+{
+    for operation in operations.iter() {
+        add_one(arrivals, departures, operation, gone)?;
+    }
+    Ok(())
+}
+
+/// Adds the tickets at which the value of one operation may come, and is gone, if it is an enqueue.
+fn add_one(
+    arrivals: &mut Vec<u64>,
+    departures: &mut Vec<u64>,
+    operation: Operation,
+    gone: &BTreeMap<u64, u64>,
+) -> Result<(), AllocError>
+    ensures stays { OnOk result ((gap : ℕ) → count_by (λ v. not (is_kept_before gap gone.now v)) (values_called_before gap (operation ∷ []))
+        + count_before gap departures.new.items + count_before gap arrivals.old.items ≡ count_before gap arrivals.new.items + count_before gap departures.old.items) }
+    ensures few { OnOk result (vec_len arrivals.new ≤ vec_len arrivals.old + 1) }
+{
+    match operation.kind {
+        OpKind::Enq(value) => add_stay(
+            arrivals,
+            departures,
+            operation.call,
+            ticket_for(gone, value),
+        ),
+        _ => Ok(()),
+    }
+}
+
+/// Returns, of the failed enqueues, the least of the most that are there at one gap of the call: `first` are there from
+/// the beginning, one more comes at each of the first tickets, and one goes at each of the second.
+fn refused_among(
+    alloc: Global,
+    first: usize,
+    mut arrivals: Vec<u64>,
+    mut departures: Vec<u64>,
+    operations: &Operations<'_>,
+) -> Result<Option<usize>, AllocError>
+    requires forward { All (λ o. o.call < o.ret) operations.now }
+    requires few { first + vec_len arrivals < 2 ^ 62 }
+    ensures { IfOk result (λ least. MatchOption least (NoRefusal operations.now) (IsRefusedAt operations.now (there_at first arrivals.items departures.items))) }
+{
+    arrivals.sort_unstable();
+    departures.sort_unstable();
+    refused_in_order(alloc, first, &arrivals, &departures, operations)
+}
+
+/// Does so for tickets that lie in order.
+fn refused_in_order(
+    alloc: Global,
+    first: usize,
+    arrivals: &[u64],
+    departures: &[u64],
+    operations: &Operations<'_>,
+) -> Result<Option<usize>, AllocError>
+    requires forward { All (λ o. o.call < o.ret) operations.now }
+    requires arrivals { IsNonDecreasing arrivals.now }
+    requires departures { IsNonDecreasing departures.now }
+    requires few { first + length arrivals.now < 2 ^ 62 }
+    ensures { IfOk result (λ least. MatchOption least (NoRefusal operations.now) (IsRefusedAt operations.now (there_at first arrivals.now departures.now))) }
+{
+    let windows = windows_of(alloc, first, arrivals, departures, operations)?;
+    if windows.is_empty() {
+        return Ok(None);
+    }
+    let heights = heights_of(alloc, first, arrivals, departures)?;
+    let mut above = zeros(alloc, heights.len() + 1)?;
+    let last = first + arrivals.len();
+    Ok(Some(least_within(&heights, &windows, &mut above, last)))
+}
+
+/// Returns the windows of the failed enqueues.
+fn windows_of(
+    alloc: Global,
+    first: usize,
+    arrivals: &[u64],
+    departures: &[u64],
+    operations: &Operations<'_>,
+) -> Result<Vec<Window>, AllocError>
+    requires arrivals { IsNonDecreasing arrivals.now }
+    requires departures { IsNonDecreasing departures.now }
+    requires few { first + length arrivals.now < 2 ^ 62 }
+    ensures { IfOk result (λ windows. windows.items ≡ windows_of first arrivals.now departures.now operations.now) }
+{
+    let mut windows = Vec::new(alloc);
+    for operation in operations.iter() {
+        if is_refused(operation.kind) {
+            windows.push(window_of(first, arrivals, departures, operation))?;
+        }
+    }
+    Ok(windows)
+}
+
+/// Returns the window of an operation.
+fn window_of(first: usize, arrivals: &[u64], departures: &[u64], operation: Operation) -> Window
+    requires arrivals { IsNonDecreasing arrivals.now }
+    requires departures { IsNonDecreasing departures.now }
+    requires few { first + length arrivals.now < 2 ^ 62 }
+    ensures { result ≡ window_of first arrivals.now departures.now operation }
+{
+    let from = count_by(arrivals, operation.call);
+    Window {
+        start: (first + from).saturating_sub(count_by(departures, operation.call)),
+        from,
+        to: count_before(arrivals, operation.ret),
+    }
+}
+
+/// Returns for each arrival how many are there just after it.
+fn heights_of(
+    alloc: Global,
+    first: usize,
+    arrivals: &[u64],
+    departures: &[u64],
+) -> Result<Vec<usize>, AllocError>
+    requires departures { IsNonDecreasing departures.now }
+    requires few { first + length arrivals.now < 2 ^ 62 }
+    ensures { IfOk result (λ heights. AreHeights first arrivals.now departures.now heights.items) }
+{
+    let mut heights = Vec::with_capacity(alloc, arrivals.len())?;
+    for place in 0..arrivals.len() {
+        let gone = count_by(departures, arrivals[place]);
+        heights.push((first + (place + 1)).saturating_sub(gone))?;
+    }
+    Ok(heights)
+}
+
+/// Returns the least number that one of the windows stays within, by halving; all stay within the last number.
+///
+/// Takes time O(n log n) for n heights and windows.
+fn least_within(heights: &[usize], windows: &[Window], above: &mut [usize], last: usize) -> usize
+    requires room { length above.old ≡ length heights.now + 1 }
+    requires last { list_any (stays_within heights.now last) windows.now ≡ true }
+    requires ends { All (λ w. (w.from ≤ length heights.now) × (w.to ≤ length heights.now)) windows.now }
+    ensures within { list_any (stays_within heights.now result) windows.now ≡ true }
+    ensures least { 0 < result → list_any (stays_within heights.now (result - 1)) windows.now ≡ false }
+{
+    let mut least = 0;
+    let mut enough = last;
+    while least < enough {
+        let middle = least + (enough - least) / 2;
+        if one_stays_within(heights, windows, above, middle) {
+            enough = middle;
+        } else {
+            least = middle + 1;
+        }
+    }
+    least
+}
+
+/// Returns whether one of the windows stays within a number.
+fn one_stays_within(heights: &[usize], windows: &[Window], above: &mut [usize], most: usize) -> bool
+    requires room { length above.old ≡ length heights.now + 1 }
+    requires ends { All (λ w. (w.from ≤ length heights.now) × (w.to ≤ length heights.now)) windows.now }
+    ensures some { result ≡ list_any (stays_within heights.now most) windows.now }
+    ensures room { length above.new ≡ length heights.now + 1 }
+{
+    count_above(heights, above, most);
+    for window in windows {
+        if stays_within(above, *window, most) {
+            return true;
+        }
+    }
+    false
+}
+
+/// Returns whether in a window there are never more than a number, by how many of the heights before each place are above
+/// it.
+fn stays_within(above: &[usize], window: Window, most: usize) -> bool
+    requires { (window.from < length above.now) × (window.to < length above.now) }
+    ensures { (heights : List ℕ) → window.from ≤ length heights → window.to ≤ length heights
+        → ((k : ℕ) → k ≤ length heights → slice_index_or above.now k 0 ≡ count_above most (take k heights)) → result ≡ stays_within heights most window }
+{
+    window.start <= most && above[window.from] == above[window.to]
+}
+
+/// Counts for each place, and for the end, how many of the heights before it are above a number.
+fn count_above(heights: &[usize], above: &mut [usize], most: usize)
+    requires { length above.old ≡ length heights.now + 1 }
+    ensures room { length above.new ≡ length heights.now + 1 }
+    ensures counts { (k : ℕ) → k ≤ length heights.now → slice_index_or above.new k 0 ≡ count_above most (take k heights.now) }
+{
+    above[0] = 0;
+    for place in 0..heights.len() {
+        above[place + 1] = above[place] + usize::from(heights[place] > most);
+    }
+}
