@@ -675,7 +675,7 @@ simulated_is_written input rejected events claimed has (inl read) = of_answer re
     of_answer : AnswersOrNoMemory Simulates read.value (played rejected events claimed) → IsWritten (plain events) claimed
     of_answer (inl (inl (done, is))) =
         let e : played rejected events claimed
-                ≡ played (rejections setting (schedule_of read.value.steps)) is.events (claim_of [] (operations_of is.events) is.answered.verdict) = is.answered.is in
+        ≡ played (rejections setting (schedule_of read.value.steps)) is.events (claim_of [] (operations_of is.events) is.answered.verdict) = is.answered.is in
         let same_events : is.events ≡ events = cc in
         subst (λ es. IsWritten (plain es) claimed) same_events (record {
           complete = from_nothing is.events is.complete;

@@ -10,10 +10,7 @@ use value_match::{Life, LongestTable, MatchedValue, Values};
 /// Returns the one of two values, as far as there are any, that is dequeued first.
 ///
 /// If each was found among some candidates, this is what is found among all of them.
-pub fn first_of(
-    first: Option<MatchedValue>,
-    second: Option<MatchedValue>,
-) -> Option<MatchedValue>
+pub fn first_of(first: Option<MatchedValue>, second: Option<MatchedValue>) -> Option<MatchedValue>
     ensures { (values xs ys : List MatchedValue) → FindsFirst values xs first → FindsFirst values ys second → FindsFirst values (xs ++ ys) result }
 {
     match (first, second) {

@@ -50,7 +50,12 @@ fn show<R: Print>(rt: &R, alloc: Global, history: &History) -> Result<Verdict>
     requires { history.now.initial ≡ [] }
 {
     let verdict = decide(alloc, history)?;
-    write_shown(Version::One, history, &verdict, &mut Watched::new(io::writer(rt)))?;
+    write_shown(
+        Version::One,
+        history,
+        &verdict,
+        &mut Watched::new(io::writer(rt)),
+    )?;
     Ok(verdict)
 }
 

@@ -77,15 +77,7 @@ fn end_so<R: Threads + Wait + Sync>(
     let (initial, ring, tries, fault, proved) = *case;
     let plan = Plan::from_text(alloc, "D\n")?;
     let found = run_from(rt, alloc, queue, initial, &plan, ring, tries).err();
-    let one_lock = run_proved(
-        rt,
-        alloc,
-        ProvedQueue::OneLock,
-        initial,
-        &plan,
-        ring,
-        tries,
-    );
+    let one_lock = run_proved(rt, alloc, ProvedQueue::OneLock, initial, &plan, ring, tries);
     let two_locks = run_proved(
         rt,
         alloc,

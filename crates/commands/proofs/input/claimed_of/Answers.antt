@@ -20,6 +20,6 @@ returns-clause-claim g c =
       read.1,
       read.3.1,
       over_input (g.S.TextSource.ahead c.args.reader) _ (text_of read.0 ++ verdict_text c.in_ok-claimed.claimed)
-      (λ input. IsClaimOf input (claim_on read.0 c.in_ok-claimed.claimed)) (Takes-append _ _ _ _ _ read.2 claimed.1) claimed.2
-      (record { history = read.1; verdict = claimed.0; whole = record { bytes = refl; ending = refl } }),
+          (λ input. IsClaimOf input (claim_on read.0 c.in_ok-claimed.claimed)) (Takes-append _ _ _ _ _ read.2 claimed.1) claimed.2
+          (record { history = read.1; verdict = claimed.0; whole = record { bytes = refl; ending = refl } }),
     )

@@ -21,5 +21,5 @@ returns-clause-text g c =
       read.1,
       read.3.1,
       whole_input (g.S.TextSource.ahead c.args.reader) _ _ (text_of read.0) (λ input. IsHistoryOf input read.0) read.2 end.0 end.1
-      (read.1, record { bytes = refl; ending = refl }),
+          (read.1, record { bytes = refl; ending = refl }),
     )

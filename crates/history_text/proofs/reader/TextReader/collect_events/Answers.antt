@@ -42,7 +42,7 @@ loop-event-preserved g c =
     let events = c.loop-event.into.items in
     let event = c.match-item_in_buffer.event in
     let Taken : Event → Type 0 = λ e. Takes c.loop-event.self.left c.match-item_in_buffer.self.left (line_of event_format e) × HasEventLine e
-            × (c.loop-event.count < MAX_EVENTS) × (c.match-item_in_buffer.self.lines ≡ c.loop-event.self.lines + 1) in
+    × (c.loop-event.count < MAX_EVENTS) × (c.match-item_in_buffer.self.lines ≡ c.loop-event.self.lines + 1) in
     let took : Taken event =
     elim c.match-item_in_buffer.branch [
       | in-Some w ↦

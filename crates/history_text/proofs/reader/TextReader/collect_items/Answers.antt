@@ -42,7 +42,7 @@ loop-item-preserved g c =
     let format = g.T.Item.format in
     let item = c.match-item_in_buffer.item in
     let took : Takes c.loop-item.self.left c.match-item_in_buffer.self.left (line_of format item) × format.HasLine item
-            × (c.loop-item.count < format.most) × (c.match-item_in_buffer.self.lines ≡ c.loop-item.self.lines + 1) =
+    × (c.loop-item.count < format.most) × (c.match-item_in_buffer.self.lines ≡ c.loop-item.self.lines + 1) =
     elim c.match-item_in_buffer.branch [
       | in-Some w ↦
           let taken = w.in-Some.ensures.item in rw (w.self-is, w.item-is) (taken.0, taken.1, taken.2, w.in-Some.ensures.lines)

@@ -26,5 +26,5 @@ returns-clause-schedule g c =
     let read = c.in_ok-items.ensures in (
       record { setting = set.1; steps = rw c.from_vec-steps.ensures read.each },
       rw c.from_vec-steps.ensures (Takes-append _ _ _ _ _ (Takes-append _ _ _ _ _ c.in_ok-header_line.ensures.ok set.0)
-      (Takes-append _ _ _ _ _ read.taken.1 read.taken.2)),
+          (Takes-append _ _ _ _ _ read.taken.1 read.taken.2)),
     )
