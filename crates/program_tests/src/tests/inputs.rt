@@ -1,5 +1,5 @@
 //! Inputs that come byte by byte, inputs whose reader fails at their end, and inputs that aren't read.
-ghost use Rattle.std.specs.Prelude.{None};
+ghost use Rattle.text_lines.specs.Input.{Unknown};
 
 use super::{answers, run};
 use history_text::{MemorySource, ReadFailed, TextSource};
@@ -134,7 +134,7 @@ struct Counted<'a> {
 }
 
 impl TextSource for Counted<'_> {
-    ghost ahead = { λ _. None };
+    ghost ahead = { λ _. Unknown };
 
     fn read(&mut self, _piece: &mut [u8]) -> Result<usize, ReadFailed> {
         self.reads.fetch_add(1, Ordering::SeqCst);

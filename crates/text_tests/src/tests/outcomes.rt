@@ -1,5 +1,6 @@
 //! What the tests of the readers share.
-ghost use Rattle.std.specs.Prelude.{◌≡◌, ◌<◌, IfOk, Some};
+ghost use Rattle.std.specs.Prelude.{◌≡◌, ◌<◌, IfOk};
+ghost use Rattle.text_lines.specs.Input.{Exactly};
 
 use history_text::{MemorySource, ReadFailed, TextFault, TextSource};
 use std::alloc::{AllocError, Global};
@@ -15,7 +16,7 @@ pub(crate) struct Counted<'a> {
 }
 
 impl TextSource for Counted<'_> {
-    ghost ahead = { λ s. Some s.source.ahead };
+    ghost ahead = { λ s. Exactly s.source.ahead };
 
     fn read(&mut self, piece: &mut [u8]) -> Result<usize, ReadFailed> {
         self.reads.fetch_add(1, Ordering::SeqCst);
