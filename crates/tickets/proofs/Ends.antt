@@ -167,7 +167,8 @@ module _ (setup : Setup) where
         keeps,
         tt,
         kept setup s.words n (set s.views id w) r.0.0 (account_same setup n s.views id v w r.0.1 here refl refl)
-            (booked n s.words log' (set s.views id w) (logged_more n r.1.log s.views id v w call (effect.Not x) b.logged here (nodes_unknown _ row b.log s.views b.nodes id v here (ap holders has)) refl refl refl
+            (booked n s.words log' (set s.views id w) (logged_more n r.1.log s.views id v w call (effect.Not x) b.logged here
+            (nodes_unknown _ row b.log s.views b.nodes id v here (ap holders has)) refl refl refl
             (contains_some v.drawn call drew) (drawn_below setup n s.views id v call r.0.1 here drew)) nodes),
         ((n, refl), refl),
       )
@@ -224,7 +225,8 @@ module _ (setup : Setup) where
           let within = laid.within in
           let here_at = fits.0 in
           let wide = fits.2 in
-          let below : at < get_or row 0 0 = more_left (get_or row 0 0) at (laid.queue) (λ e. some_left (sym first ∙ e)) (laid.count ∙ ap (λ (k : ℕ). k + length laid.queue) (sym fits.0)) in
+          let below : at < get_or row 0 0 = more_left (get_or row 0 0) at (laid.queue) (λ e. some_left (sym first ∙ e))
+          (laid.count ∙ ap (λ (k : ℕ). k + length laid.queue) (sym fits.0)) in
           let nodes = nodes_at_head _ row b.log s.views b.nodes id v w b.nodes.at b.log here (ap holders has) refl refl refl
           (fits.0, fits.1, fits.2, λ _. below) (λ l. l) in (
             w,
@@ -261,7 +263,8 @@ module _ (setup : Setup) where
         keeps,
         tt,
         kept_seen setup s.words (at + 2) (set s.views id w) r.0.0 (account_same setup n s.views id v w r.0.1 here refl refl)
-            (booked n s.words log' (set s.views id w) (logged_more n r.1.log s.views id v w call (effect.Deq x) b.logged here (nodes_unknown_at_head _ row b.log s.views b.nodes id v here (ap holders has)) refl refl refl
+            (booked n s.words log' (set s.views id w) (logged_more n r.1.log s.views id v w call (effect.Deq x) b.logged here
+            (nodes_unknown_at_head _ row b.log s.views b.nodes id v here (ap holders has)) refl refl refl
             (contains_some v.drawn call drew) (drawn_below setup n s.views id v call r.0.1 here drew)) nodes),
         ((n, refl), refl),
       )

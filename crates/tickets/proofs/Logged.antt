@@ -104,7 +104,8 @@ knower h knows = ap knowers knows
 -- ---- the steps
 
 -- a later ticket, and a pass with the same notes
-pub logged_same : (next more : ℕ) (whole : List Note) (views : List Holding) (i : ℕ) (v w : Holding) → next ≤ more → IsLogged next whole views → get_elem? views i ≡ some v
+pub logged_same : (next more : ℕ) (whole : List Note) (views : List Holding) (i : ℕ) (v w : Holding)
+    → next ≤ more → IsLogged next whole views → get_elem? views i ≡ some v
     → w.noted ≡ v.noted → w.log ≡ v.log → (w.drawn ≡ [] → v.drawn ≡ []) → IsLogged more whole (set views i w)
 logged_same next more whole views i v w later l at noted log drawn =
     let apart = one_apart noted_of views i v at in
@@ -168,7 +169,8 @@ logged_lent next whole views i v l at knows =
     }
 
 -- a pass takes the log of a seat that holds nothing else
-pub logged_taken : (next : ℕ) (whole : List Note) (views : List Holding) (i j : ℕ) (v : Holding) (log : List Note) → IsLogged next whole views → get_elem? views i ≡ some v
+pub logged_taken : (next : ℕ) (whole : List Note) (views : List Holding) (i j : ℕ) (v : Holding) (log : List Note)
+    → IsLogged next whole views → get_elem? views i ≡ some v
     → get_elem? views j ≡ some (logging log) → j ≢ i → v.log ≡ None
     → IsLogged next whole (set (set views i (with_log v (logging log))) j (holding 0 [] []))
 logged_taken next whole views i j v log l at there apart none =
@@ -224,7 +226,8 @@ logged_joined next whole views i j v w l at there apart none none' empty =
     }
 
 -- the pass that knows the log adds a note
-pub logged_noted : (next : ℕ) (whole : List Note) (views : List Holding) (i : ℕ) (v : Holding) (call : ℕ) (effect : Effect) → IsLogged next whole views → get_elem? views i ≡ some v
+pub logged_noted : (next : ℕ) (whole : List Note) (views : List Holding) (i : ℕ) (v : Holding) (call : ℕ) (effect : Effect)
+    → IsLogged next whole views → get_elem? views i ≡ some v
     → knows_log v → v.drawn ≢ [] → call < next → IsLogged next (whole ++ note_at call effect next ∷ []) (set views i (noting call effect next v))
 logged_noted next whole views i v call effect l at knows drew above =
     let w = noting call effect next v in
@@ -260,7 +263,8 @@ noted_within next whole views i v l at =
     (IsPermutation-trans whole all (v.noted ++ apart.others) (IsPermutation-sym all whole l.once) apart.before) (looks_within 0 whole next l.rise))
 
 -- where nobody knows the log, any pass adds a note
-pub logged_more : (next : ℕ) (whole : List Note) (views : List Holding) (i : ℕ) (v w : Holding) (call : ℕ) (effect : Effect) → IsLogged next whole views → get_elem? views i ≡ some v
+pub logged_more : (next : ℕ) (whole : List Note) (views : List Holding) (i : ℕ) (v w : Holding) (call : ℕ) (effect : Effect)
+    → IsLogged next whole views → get_elem? views i ≡ some v
     → sum_by knowers_of views ≡ 0 → w.noted ≡ v.noted ++ note_at call effect next ∷ [] → w.log ≡ v.log → w.drawn ≡ v.drawn → v.drawn ≢ []
     → call < next → IsLogged next (whole ++ note_at call effect next ∷ []) (set views i w)
 logged_more next whole views i v w call effect l at unknown noted same_log same_drawn drew above =

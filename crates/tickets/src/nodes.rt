@@ -35,7 +35,8 @@ impl Model for TailEnd {
 
     ghost view = { λ t. t.seat.table_id };
 
-    ghost invariant = { λ t. (t.seat.me ≡ (ends (Some (tail_at t.at t.room None)) None, [])) × (t.seat.table_id.words ≡ t.room + 2) × (t.room ≤ TICKET_LIMIT) × (t.at ≤ t.room) };
+    ghost invariant = { λ t. (t.seat.me ≡ (ends (Some (tail_at t.at t.room None)) None, [])) × (t.seat.table_id.words ≡ t.room + 2)
+        × (t.room ≤ TICKET_LIMIT) × (t.at ≤ t.room) };
 }
 
 /// The right to take values out of the nodes that stand beside a ticket word, at the head.
@@ -58,7 +59,8 @@ impl Model for HeadEnd {
 
     ghost view = { λ h. record { key = h.seat.table_id; initial = first_held h.seat.me.0.head } };
 
-    ghost invariant = { λ h. (h.seat.me ≡ (ends None (Some (head_at h.at h.room (first_held h.seat.me.0.head) false)), [])) × (h.seat.table_id.words ≡ h.room + 2) × (h.room ≤ TICKET_LIMIT) × (h.at ≤ h.room) };
+    ghost invariant = { λ h. (h.seat.me ≡ (ends None (Some (head_at h.at h.room (first_held h.seat.me.0.head) false)), []))
+        × (h.seat.table_id.words ≡ h.room + 2) × (h.room ≤ TICKET_LIMIT) × (h.at ≤ h.room) };
 }
 
 impl TailEnd {
@@ -118,7 +120,8 @@ fn publish_by<M: Play<(), Holding>>(
     requires drew { Contains seat.old.me.0.drawn call }
     requires staged { seat.old.me.0.tail ≡ Some (tail_at tail.0 tail.1 (Some value)) }
     requires room { tail.0 < tail.1 }
-    requires tells { (s : Step (Unit {0})) (found : ℕ) (after : Holding) → Publishes call value tail.0 tail.1 seat.old.me.0 after → M.then s seat.old.me found (after, seat.old.me.1) }
+    requires tells { (s : Step (Unit {0})) (found : ℕ) (after : Holding) → Publishes call value tail.0 tail.1 seat.old.me.0 after
+        → M.then s seat.old.me found (after, seat.old.me.1) }
     ensures key { seat.new.table_id ≡ tickets.now.key }
     ensures told { (s : Step (Unit {0})) × (found : ℕ) × M.then s seat.old.me found seat.new.me }
 {
@@ -158,7 +161,8 @@ fn find_by<M: Play<(), Holding>>(
     requires key { (seat.old.table_id ≡ tickets.now.key) × (tickets.now.key.words ≡ head.1 + 2) }
     requires drew { Contains seat.old.me.0.drawn call }
     requires asks { seat.old.me.0.head ≡ Some (head_at head.0 head.1 (first_held seat.old.me.0.head) false) }
-    requires tells { (s : Step (Unit {0})) (found : ℕ) (after : Holding) → FindsOne call head.0 head.1 (first_held seat.old.me.0.head) seat.old.me.0 found after → M.then s seat.old.me found (after, seat.old.me.1) }
+    requires tells { (s : Step (Unit {0})) (found : ℕ) (after : Holding)
+        → FindsOne call head.0 head.1 (first_held seat.old.me.0.head) seat.old.me.0 found after → M.then s seat.old.me found (after, seat.old.me.1) }
     ensures key { seat.new.table_id ≡ tickets.now.key }
     ensures told { (s : Step (Unit {0})) × M.then s seat.old.me result seat.new.me }
 {
@@ -177,7 +181,8 @@ fn read_by<M: Play<(), Holding>>(
     requires drew { Contains seat.old.me.0.drawn call }
     requires ready { seat.old.me.0.head ≡ Some (head_at head.0 head.1 (first_held seat.old.me.0.head) true) }
     requires inside { head.0 < head.1 }
-    requires tells { (s : Step (Unit {0})) (found : ℕ) (after : Holding) → Reads call head.0 head.1 (first_held seat.old.me.0.head) seat.old.me.0 found after → M.then s seat.old.me found (after, seat.old.me.1) }
+    requires tells { (s : Step (Unit {0})) (found : ℕ) (after : Holding)
+        → Reads call head.0 head.1 (first_held seat.old.me.0.head) seat.old.me.0 found after → M.then s seat.old.me found (after, seat.old.me.1) }
     ensures key { seat.new.table_id ≡ tickets.now.key }
     ensures told { (s : Step (Unit {0})) × M.then s seat.old.me result seat.new.me }
 {

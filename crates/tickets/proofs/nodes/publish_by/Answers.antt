@@ -11,7 +11,8 @@ store-requires g c = (
   λ s r long at small.
       let n = c.args.tail.0 + 1 in
       let me = c.args.seat.now.me in
-      let x = publishes c.tickets.inside.table.shared.key _ _ me c.args.call c.args.tail.0 c.args.tail.1 c.args.value c.requires.staged c.requires.room c.requires.drew s r long at small in
+      let x = publishes c.tickets.inside.table.shared.key _ _ me c.args.call c.args.tail.0 c.args.tail.1 c.args.value
+      c.requires.staged c.requires.room c.requires.drew s r long at small in
       let the_step = step c.tickets.inside.table.shared.table_id.slots 1 n 0 none in (
         x.0,
         x.1,

@@ -23,4 +23,9 @@ join_seat-requires c =
     )
 
 pub split_seat-requires : goal.split_seat-requires
-split_seat-requires c = (search rules, search rules, lends c.tickets.inside.table.shared.key _ c.note_by-look.new.seat.me.0 (noted_knows c.join_seat.new.seat.me.0 _ _ _ _ c.note_by-look.ensures.told.1.0.0))
+split_seat-requires c = (
+  search rules,
+  search rules,
+  lends c.tickets.inside.table.shared.key _ c.note_by-look.new.seat.me.0
+      (noted_knows c.join_seat.new.seat.me.0 _ _ _ _ c.note_by-look.ensures.told.1.0.0),
+)

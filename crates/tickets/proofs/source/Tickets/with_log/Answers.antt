@@ -13,5 +13,6 @@ split_seat-log-requires c = (
   search rules,
   search rules,
   lends c.in_ok-table.table.shared.key _ c.in_ok-table.seat.me.0
-      (first_knows c.in_ok-table.seat.me.0 (record { budget = c.args.budget; has_nodes = false; filled = 0; words = c.of.result }) refl (ap {A = Me (Unit {0}) Holding} (λ m. m.0) c.in_ok-table.ensures.4)),
+      (first_knows c.in_ok-table.seat.me.0 (record { budget = c.args.budget; has_nodes = false; filled = 0; words = c.of.result })
+      refl (ap {A = Me (Unit {0}) Holding} (λ m. m.0) c.in_ok-table.ensures.4)),
 )
