@@ -4,7 +4,7 @@ use Rattle.std.proofs.Common.{Option, Some, None, refl, ap, sym, subst, ◌∙�
 use Rattle.std.specs.Prelude.{All, AllPairs, Contains, filter, filter_map, flat_map, slice_get}
 use Rattle.std.specs.List.{AllZip, cons_option}
 use Rattle.std.specs.Option.{option_to_list}
-use Rattle.std.proofs.lemmas.List.{get_or-map, get_or_append_left, length-map}
+use Rattle.std.proofs.lemmas.List.{append-nil, get_or-map, get_or_append_left, length-map, take_more}
 use Rattle.std.proofs.lemmas.List.Elements.{All-append, All-contains, All-contains_itself, All-filter, All-map, All-tail, All-weaker}
 use Rattle.std.proofs.lemmas.List.Elements.{Contains-append_left, Contains-append_right, Contains-get_or}
 use Rattle.std.proofs.lemmas.List.Elements.{filter-append, filter_map-append, filter_passes}
@@ -153,3 +153,20 @@ pairs_map R f [] pairs = λ i j d below inside. absurd (omega arith)
 pairs_map R f (x ∷ xs) pairs =
     AllPairs-cons R (f x) (map f xs) (All-map (R (f x)) f xs (λ k d inside. pairs zero (suc k) d (omega arith) (omega arith)))
     (pairs_map R f xs (AllPairs-tail (λ x y. R (f x) (f y)) x xs pairs))
+
+-- ---- what is found of a list
+
+module _ {X Y : Type 0} (find : X → Option Y) (xs : List X) (i : ℕ) (d : X) (before : List Y) (within : i < length xs)
+    (was : before ≡ filter_map find (take i xs)) where
+  one_more : filter_map find (take (i + 1) xs) ≡ before ++ cons_option (find (get_or xs i d)) []
+  one_more =
+      ap (filter_map find) (take_more xs i d within) ∙ filter_map-append find (take i xs) (get_or xs i d ∷ [])
+      ∙ ap (λ (ys : List Y). ys ++ cons_option (find (get_or xs i d)) []) (sym was)
+
+  -- something is found at the next place
+  pub found_one : (y : Y) (now : List Y) → find (get_or xs i d) ≡ Some y → now ≡ before ++ y ∷ [] → now ≡ filter_map find (take (i + 1) xs)
+  found_one y now is pushed = pushed ∙ sym (one_more ∙ ap (λ (r : Option Y). before ++ cons_option r []) is)
+
+  -- nothing is found there
+  pub found_none : find (get_or xs i d) ≡ None → before ≡ filter_map find (take (i + 1) xs)
+  found_none is = sym (one_more ∙ ap (λ (r : Option Y). before ++ cons_option r []) is ∙ append-nil before)

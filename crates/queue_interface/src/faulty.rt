@@ -1,10 +1,10 @@
 // Queues that break the order now and then: each is another list under the one lock of `Locked`.
-ghost use Rattle.std.specs.Prelude.{◌≡◌, ◌+◌, ◌%◌, ◌^◌, ◌↔◌, IsTrue};
+ghost use Rattle.std.specs.Prelude.{◌≡◌, ◌+◌, ◌%◌, ◌^◌, ◌↔◌, Bool, IsTrue, List, Option, ℕ};
+ghost use Rattle.queue_interface.specs.Faulty.{CountedView};
 
 use crate::locked::{Fifo, Locked, ValueList};
 use std::alloc::Global;
-use std::collections::VecDeque;
-use std::marker::Model;
+use std::marker::{Model, PhantomData};
 
 // Counts from 1, and says which counts are fourth ones.
 #[derive(Drop)]
@@ -32,37 +32,36 @@ impl Fourths {
 /// Values of which the last comes out first. Contracts see them as a list.
 #[derive(Drop)]
 pub struct Stack {
-    values: VecDeque<u64>,
+    values: Fifo,
 }
 
 impl Model for Stack {
-    ghost use Rattle.std.specs.Prelude.{List, ℕ};
-
     ghost Value = { List ℕ };
 
-    ghost view = { λ s. s.values.items };
+    ghost view = { λ s. s.values };
 }
 
 impl ValueList for Stack {
-    ghost use Rattle.std.specs.Prelude.{◌≡◌, ◌++◌, ◌∷◌, [], if◌then◌else◌, IfNone};
+    ghost use Rattle.std.specs.Prelude.{◌≡◌, ◌++◌, [], IfNone};
     ghost use Rattle.std.specs.Option.{option_to_list};
+    ghost use Rattle.queue_interface.specs.Faulty.{PutsLast};
 
     fn empty(alloc: Global) -> Stack
         ensures { result ≡ [] }
     {
         Stack {
-            values: VecDeque::new(alloc),
+            values: Fifo::empty(alloc),
         }
     }
 
     fn put(&mut self, value: u64) -> bool
-        ensures { self.new ≡ (if result then self.old ++ value ∷ [] else self.old) }
+        ensures last { PutsLast self.old value result self.new }
     {
-        self.values.push_back(value).is_ok()
+        self.values.put(value)
     }
 
     fn preload(&mut self, value: u64) -> bool
-        ensures { self.new ≡ (if result then self.old ++ value ∷ [] else self.old) }
+        ensures last { PutsLast self.old value result self.new }
     {
         self.put(value)
     }
@@ -71,74 +70,189 @@ impl ValueList for Stack {
         ensures last { self.old ≡ self.new ++ option_to_list result }
         ensures none { IfNone result (self.old ≡ []) }
     {
-        self.values.pop_back()
+        self.values.take_last()
     }
 }
 
 /// A queue that returns the last value first.
 pub type Lifo<R> = Locked<Stack, R>;
 
-/// Values of which each 4th that comes out also stays in its place, and so comes out again.
+/// Values of which the first comes out first, and a count of calls.
 #[derive(Drop)]
-pub struct DoublingList {
+pub struct CountedList {
     fifo: Fifo,
-    finds: Fourths,
+    calls: Fourths,
 }
 
-impl Model for DoublingList {
-    ghost use Rattle.queue_interface.specs.Faulty.{CountedView};
-
+impl Model for CountedList {
     ghost Value = { CountedView };
 
-    ghost view = { λ l. record { values = l.fifo; count = l.finds.count } };
+    ghost view = { λ l. record { values = l.fifo; count = l.calls.count } };
 }
 
-impl ValueList for DoublingList {
-    ghost use Rattle.std.specs.Prelude.{◌≡◌, ◌≢◌, [], None, Some, true, slice_get};
-    ghost use Rattle.queue_interface.specs.Faulty.{CountsCall, IsFourth, PutsLast, TakesFirst};
+impl CountedList {
+    ghost use Rattle.std.specs.Prelude.{◌≡◌, []};
 
-    fn empty(alloc: Global) -> DoublingList
+    fn empty(alloc: Global) -> CountedList
         ensures values { result.values ≡ [] }
         ensures count { result.count ≡ 0 }
     {
-        DoublingList {
+        CountedList {
             fifo: Fifo::empty(alloc),
-            finds: Fourths::new(),
+            calls: Fourths::new(),
+        }
+    }
+}
+
+/// What goes wrong in each fourth call of a list that is a queue otherwise.
+pub trait Misstep: Send {
+    ghost puts: { CountedView → ℕ → Bool → CountedView → Type 0 };
+
+    ghost takes: { CountedView → Option ℕ → CountedView → Type 0 };
+
+    /// Puts a value in as [`ValueList::put`] does, or claims so.
+    fn put(list: &mut CountedList, value: u64) -> bool
+        ensures put { puts list.old value result list.new };
+
+    /// Takes a value out as [`ValueList::take`] does, or claims so.
+    fn take(list: &mut CountedList) -> Option<u64>
+        ensures taken { takes list.old result list.new };
+}
+
+/// Values of which the first comes out first, but for a misstep in each fourth call.
+#[derive(Drop)]
+pub struct FaultyList<M: Misstep> {
+    list: CountedList,
+    misstep: PhantomData<M>,
+}
+
+impl<M: Misstep> Model for FaultyList<M> {
+    ghost Value = { CountedView };
+
+    ghost view = { λ l. l.list };
+}
+
+impl<M: Misstep> ValueList for FaultyList<M> {
+    ghost use Rattle.std.specs.Prelude.{◌≡◌, []};
+    ghost use Rattle.queue_interface.specs.Faulty.{PutsLast};
+
+    fn empty(alloc: Global) -> FaultyList<M>
+        ensures values { result.values ≡ [] }
+        ensures count { result.count ≡ 0 }
+    {
+        FaultyList {
+            list: CountedList::empty(alloc),
+            misstep: PhantomData,
         }
     }
 
     fn put(&mut self, value: u64) -> bool
-        ensures last { PutsLast self.old.values value result self.new.values }
-        ensures uncounted { self.new.count ≡ self.old.count }
+        ensures put { M.puts self.old value result self.new }
     {
-        self.fifo.put(value)
+        M::put(&mut self.list, value)
     }
 
     fn preload(&mut self, value: u64) -> bool
         ensures last { PutsLast self.old.values value result self.new.values }
         ensures uncounted { self.new.count ≡ self.old.count }
     {
-        // No dequeue finds a value here.
-        self.put(value)
+        // This is none of the calls that are counted.
+        self.list.fifo.put(value)
     }
 
     fn take(&mut self) -> Option<u64>
-        ensures nothing { self.old.values ≡ [] → (result ≡ None) × (self.new ≡ self.old) }
-        ensures counted { self.old.values ≢ [] → CountsCall self.old self.new }
-        ensures doubled { self.old.values ≢ [] → IsFourth self.new → (result ≡ slice_get self.old.values 0) × (self.new.values ≡ self.old.values) }
-        ensures first { self.old.values ≢ [] → ¬ (IsFourth self.new) → TakesFirst self.old.values result self.new.values }
+        ensures taken { M.takes self.old result self.new }
     {
-        let first = self.fifo.first()?;
-        if self.finds.is_next_fourth() {
+        M::take(&mut self.list)
+    }
+}
+
+/// Each 4th value that is found comes out and also stays in its place, and so comes out again.
+#[derive(Drop)]
+pub struct Doubles;
+
+impl Misstep for Doubles {
+    ghost use Rattle.queue_interface.specs.Faulty.{PutsUncounted, TakesOrDoubles};
+
+    ghost puts = { PutsUncounted };
+
+    ghost takes = { TakesOrDoubles };
+
+    fn put(list: &mut CountedList, value: u64) -> bool {
+        list.fifo.put(value)
+    }
+
+    fn take(list: &mut CountedList) -> Option<u64> {
+        let first = list.fifo.first()?;
+        if list.calls.is_next_fourth() {
             Some(first)
         } else {
-            self.fifo.take()
+            list.fifo.take()
         }
     }
 }
 
+/// Values of which each 4th that a dequeue finds stays in its place.
+pub type DoublingList = FaultyList<Doubles>;
+
 /// A queue that leaves each 4th value that a dequeue finds in its place.
 pub type Doubling<R> = Locked<DoublingList, R>;
+
+/// Each 4th dequeue returns none, without looking.
+#[derive(Drop)]
+pub struct Shies;
+
+impl Misstep for Shies {
+    ghost use Rattle.queue_interface.specs.Faulty.{PutsUncounted, TakesOrShies};
+
+    ghost puts = { PutsUncounted };
+
+    ghost takes = { TakesOrShies };
+
+    fn put(list: &mut CountedList, value: u64) -> bool {
+        list.fifo.put(value)
+    }
+
+    fn take(list: &mut CountedList) -> Option<u64> {
+        if list.calls.is_next_fourth() {
+            None
+        } else {
+            list.fifo.take()
+        }
+    }
+}
+
+/// Values with a dequeue that returns none at each 4th call.
+pub type ShyList = FaultyList<Shies>;
+
+/// A queue whose every 4th dequeue answers empty.
+pub type Shy<R> = Locked<ShyList, R>;
+
+/// Each 4th value is taken and lost.
+#[derive(Drop)]
+pub struct Loses;
+
+impl Misstep for Loses {
+    ghost use Rattle.queue_interface.specs.Faulty.{PutsOrLoses, TakesUncounted};
+
+    ghost puts = { PutsOrLoses };
+
+    ghost takes = { TakesUncounted };
+
+    fn put(list: &mut CountedList, value: u64) -> bool {
+        list.calls.is_next_fourth() || list.fifo.put(value)
+    }
+
+    fn take(list: &mut CountedList) -> Option<u64> {
+        list.fifo.take()
+    }
+}
+
+/// Values of which each 4th is taken and lost.
+pub type LosingList = FaultyList<Loses>;
+
+/// A queue that loses the value of each 4th enqueue, and answers that it took it.
+pub type Losing<R> = Locked<LosingList, R>;
 
 // The first value that an `InventingList` makes up.
 const FIRST_INVENTION: u64 = 1 << 63;
@@ -146,8 +260,7 @@ const FIRST_INVENTION: u64 = 1 << 63;
 /// Values with a dequeue that makes one up at each 4th call: 2^63 and the number of those made up before.
 #[derive(Drop)]
 pub struct InventingList {
-    fifo: Fifo,
-    calls: Fourths,
+    list: CountedList,
     inventions: u64,
 }
 
@@ -156,12 +269,12 @@ impl Model for InventingList {
 
     ghost Value = { InventingView };
 
-    ghost view = { λ l. record { list = record { values = l.fifo; count = l.calls.count }; invented = l.inventions } };
+    ghost view = { λ l. record { list = l.list; invented = l.inventions } };
 }
 
 impl ValueList for InventingList {
     ghost use Rattle.std.specs.Prelude.{◌≡◌, [], Some};
-    ghost use Rattle.queue_interface.specs.Faulty.{CountsCall, IsFourth, PutsLast, TakesFirst, invention, next};
+    ghost use Rattle.queue_interface.specs.Faulty.{CountsCall, IsFourth, PutsUncounted, TakesFirst, invention, next};
 
     fn empty(alloc: Global) -> InventingList
         ensures values { result.list.values ≡ [] }
@@ -169,23 +282,20 @@ impl ValueList for InventingList {
         ensures invented { result.invented ≡ 0 }
     {
         InventingList {
-            fifo: Fifo::empty(alloc),
-            calls: Fourths::new(),
+            list: CountedList::empty(alloc),
             inventions: 0,
         }
     }
 
     fn put(&mut self, value: u64) -> bool
-        ensures last { PutsLast self.old.list.values value result self.new.list.values }
-        ensures uncounted { self.new.list.count ≡ self.old.list.count }
+        ensures last { PutsUncounted self.old.list value result self.new.list }
         ensures none { self.new.invented ≡ self.old.invented }
     {
-        self.fifo.put(value)
+        self.list.fifo.put(value)
     }
 
     fn preload(&mut self, value: u64) -> bool
-        ensures last { PutsLast self.old.list.values value result self.new.list.values }
-        ensures uncounted { self.new.list.count ≡ self.old.list.count }
+        ensures last { PutsUncounted self.old.list value result self.new.list }
         ensures none { self.new.invented ≡ self.old.invented }
     {
         // Nothing comes out, and nothing is made up.
@@ -198,8 +308,8 @@ impl ValueList for InventingList {
         ensures kept { IsFourth self.new.list → self.new.list.values ≡ self.old.list.values }
         ensures first { ¬ (IsFourth self.new.list) → TakesFirst self.old.list.values result self.new.list.values }
     {
-        if !self.calls.is_next_fourth() {
-            return self.fifo.take();
+        if !self.list.calls.is_next_fourth() {
+            return self.list.fifo.take();
         }
         let invention = FIRST_INVENTION.wrapping_add(self.inventions);
         self.inventions = self.inventions.wrapping_add(1);
@@ -209,118 +319,3 @@ impl ValueList for InventingList {
 
 /// A queue whose every 4th dequeue returns a value that nobody enqueued.
 pub type Inventing<R> = Locked<InventingList, R>;
-
-/// Values with a dequeue that returns none at each 4th call, without looking.
-#[derive(Drop)]
-pub struct ShyList {
-    fifo: Fifo,
-    calls: Fourths,
-}
-
-impl Model for ShyList {
-    ghost use Rattle.queue_interface.specs.Faulty.{CountedView};
-
-    ghost Value = { CountedView };
-
-    ghost view = { λ l. record { values = l.fifo; count = l.calls.count } };
-}
-
-impl ValueList for ShyList {
-    ghost use Rattle.std.specs.Prelude.{◌≡◌, ◌≢◌, [], None, Some, true, slice_get};
-    ghost use Rattle.queue_interface.specs.Faulty.{CountsCall, IsFourth, PutsLast, TakesFirst};
-
-    fn empty(alloc: Global) -> ShyList
-        ensures values { result.values ≡ [] }
-        ensures count { result.count ≡ 0 }
-    {
-        ShyList {
-            fifo: Fifo::empty(alloc),
-            calls: Fourths::new(),
-        }
-    }
-
-    fn put(&mut self, value: u64) -> bool
-        ensures last { PutsLast self.old.values value result self.new.values }
-        ensures uncounted { self.new.count ≡ self.old.count }
-    {
-        self.fifo.put(value)
-    }
-
-    fn preload(&mut self, value: u64) -> bool
-        ensures last { PutsLast self.old.values value result self.new.values }
-        ensures uncounted { self.new.count ≡ self.old.count }
-    {
-        // Nothing comes out.
-        self.put(value)
-    }
-
-    fn take(&mut self) -> Option<u64>
-        ensures counted { CountsCall self.old self.new }
-        ensures shy { IsFourth self.new → (result ≡ None) × (self.new.values ≡ self.old.values) }
-        ensures first { ¬ (IsFourth self.new) → TakesFirst self.old.values result self.new.values }
-    {
-        if self.calls.is_next_fourth() {
-            None
-        } else {
-            self.fifo.take()
-        }
-    }
-}
-
-/// A queue whose every 4th dequeue answers empty.
-pub type Shy<R> = Locked<ShyList, R>;
-
-/// Values of which each 4th is taken and lost.
-#[derive(Drop)]
-pub struct LosingList {
-    values: Fifo,
-    calls: Fourths,
-}
-
-impl Model for LosingList {
-    ghost use Rattle.queue_interface.specs.Faulty.{CountedView};
-
-    ghost Value = { CountedView };
-
-    ghost view = { λ l. record { values = l.values; count = l.calls.count } };
-}
-
-impl ValueList for LosingList {
-    ghost use Rattle.std.specs.Prelude.{◌≡◌, ◌≢◌, [], None, Some, true, slice_get};
-    ghost use Rattle.queue_interface.specs.Faulty.{CountsCall, IsFourth, PutsLast, TakesFirst};
-
-    fn empty(alloc: Global) -> LosingList
-        ensures values { result.values ≡ [] }
-        ensures count { result.count ≡ 0 }
-    {
-        LosingList {
-            values: Fifo::empty(alloc),
-            calls: Fourths::new(),
-        }
-    }
-
-    fn put(&mut self, value: u64) -> bool
-        ensures counted { CountsCall self.old self.new }
-        ensures lost { IsFourth self.new → (result ≡ true) × (self.new.values ≡ self.old.values) }
-        ensures last { ¬ (IsFourth self.new) → PutsLast self.old.values value result self.new.values }
-    {
-        self.calls.is_next_fourth() || self.values.put(value)
-    }
-
-    fn preload(&mut self, value: u64) -> bool
-        ensures last { PutsLast self.old.values value result self.new.values }
-        ensures uncounted { self.new.count ≡ self.old.count }
-    {
-        self.values.put(value)
-    }
-
-    fn take(&mut self) -> Option<u64>
-        ensures first { TakesFirst self.old.values result self.new.values }
-        ensures uncounted { self.new.count ≡ self.old.count }
-    {
-        self.values.take()
-    }
-}
-
-/// A queue that loses the value of each 4th enqueue, and answers that it took it.
-pub type Losing<R> = Locked<LosingList, R>;

@@ -79,13 +79,22 @@ impl Model for Fifo {
 }
 
 impl Fifo {
-    ghost use Rattle.std.specs.Prelude.{◌≡◌, slice_get};
+    ghost use Rattle.std.specs.Prelude.{◌≡◌, ◌++◌, [], IfNone, slice_get};
+    ghost use Rattle.std.specs.Option.{option_to_list};
 
     // Returns the value that the next `take` returns.
     pub(crate) fn first(&self) -> Option<u64>
         ensures { result ≡ slice_get self.now 0 }
     {
         self.values.front().copied()
+    }
+
+    // Takes the last value out.
+    pub(crate) fn take_last(&mut self) -> Option<u64>
+        ensures last { self.old ≡ self.new ++ option_to_list result }
+        ensures none { IfNone result (self.old ≡ []) }
+    {
+        self.values.pop_back()
     }
 }
 

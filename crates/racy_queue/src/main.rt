@@ -1,10 +1,9 @@
 //! A queue that breaks the order only if threads overlap. This program judges runs of it, one seed after another,
 //! until a verdict is a `NO`.
 //!
-//! `racy_queue [WORKERS [SEEDS]]`: how many workers run, each in a thread of its own, and how many seeds it tries,
-//! from 1 on. It writes the history of the first run whose verdict is a `NO`, with the verdict, and then a history of
-//! the violation's operations alone, with its verdict: texts that `fifobench` reads. Then the status is 1; if no run
-//! shows a violation, it is 0.
+//! `racy_queue [WORKERS]`: the number of workers, each of which runs in a thread of its own. The program writes the
+//! history of the first run whose verdict is a `NO`, with the verdict, and then a history of the violation's operations
+//! alone, with its verdict: texts that `fifobench` reads. Then the status is 1; if no run shows a violation, it is 0.
 #![tactic(auto)]
 
 ghost use Rattle.std.specs.Prelude.{◌≡◌, []};
@@ -25,26 +24,27 @@ use std::{env, io};
 /// The number of workers, if no other is given.
 const WORKERS: u64 = 4;
 
-/// The number of seeds, if no other is given.
+/// The number of seeds, from 1 on.
 const SEEDS: u64 = 100;
 
-/// How many operations each worker makes.
+/// The number of operations of each worker.
 const OPERATIONS: usize = 4000;
-
-/// How many of a hundred operations are enqueues: fewer than half, so that the queue is often empty or nearly so.
-const PERCENT: u8 = 40;
 
 /// The capacity of each worker's ring, in events.
 const RING: usize = 1024;
 
+/// The share of enqueues among the operations, in percent: less than half, so that the queue is often empty or nearly
+/// so.
+const PERCENT: u8 = 40;
+
 /// How often a push into a full ring is tried.
 const TRIES: u32 = 1_000_000;
 
-/// Returns the number that a word says, or another one if there is no word.
-fn number_or(word: Option<String>, other: u64) -> Result<u64> {
-    match word {
+/// Returns the number of workers that the arguments name, or the usual one.
+fn asked_workers(rt: HostRuntime) -> Result<u64> {
+    match env::args(&rt)?.nth(1) {
         Some(word) => Ok(word.parse::<u64>()?),
-        None => Ok(other),
+        None => Ok(WORKERS),
     }
 }
 
@@ -84,17 +84,15 @@ where
 }
 
 fn main(rt: HostRuntime) -> Result<ExitCode> {
-    let mut words = env::args(&rt)?.skip(1);
-    let workers = number_or(words.next(), WORKERS)?;
-    let seeds = number_or(words.next(), SEEDS)?;
-    for seed in 1..=seeds {
+    let workers = asked_workers(rt)?;
+    for seed in 1..=SEEDS {
         let plan = plan_of(rt.alloc(), workers, seed)?;
         let queue = SizedApart::new(rt.alloc(), rt);
         if shows_in_run(&rt, &queue, &plan)? {
-            eprintln!(&rt; "seed {seed} of {seeds} shows a violation")?;
+            eprintln!(&rt; "seed {seed} of {SEEDS} shows a violation")?;
             return Ok(ExitCode::FAILURE);
         }
     }
-    println!(&rt; "no violation in {seeds} runs")?;
+    println!(&rt; "no violation in {SEEDS} runs")?;
     Ok(ExitCode::SUCCESS)
 }

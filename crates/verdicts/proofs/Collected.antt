@@ -1,29 +1,12 @@
--- What loops and `collect` gather: what is found at places, a set of numbers, the tickets of selected operations.
-use Rattle.verdicts.proofs.Common.{[], ap, append-nil, arith, Bool, BTreeSet, cond, cons_option, Contains, contains}
-use Rattle.verdicts.proofs.Common.{false, filter, filter_map, filter_map-append, get_or, holds_ticket, IfOk}
-use Rattle.verdicts.proofs.Common.{IfOk-weaker, is_eq, IsFromIterResult, IsTrue, length, List, list_any-append}
-use Rattle.verdicts.proofs.Common.{nat_cmp, nat_eq, None, Operation, Option, Result, Some, sym, take, take_more, true}
-use Rattle.verdicts.proofs.Common.{ℕ, ◌++◌, ◌+◌, ◌<◌, ◌||◌, ◌↔◌, ◌∙◌, ◌∷◌, ◌≡◌}
+-- What loops and `collect` gather: a set of numbers, and the tickets of selected operations.
+use Rattle.verdicts.proofs.Common.{[], ap, arith, Bool, BTreeSet, cond, Contains, contains, false, filter, holds_ticket, IfOk}
+use Rattle.verdicts.proofs.Common.{IfOk-weaker, is_eq, IsFromIterResult, IsTrue, List, list_any-append, nat_cmp, nat_eq}
+use Rattle.verdicts.proofs.Common.{Operation, Result, true, ℕ, ◌++◌, ◌||◌, ◌↔◌, ◌∙◌, ◌∷◌, ◌≡◌}
 use Rattle.std.proofs.lemmas.Cmp.{nat_cmp_total}
 use Rattle.std.proofs.lemmas.Map.Lookups.{exact_unsigned}
 use Rattle.std.proofs.lemmas.Map.Views.{btree_set_contains_from_list}
 use Rattle.std.proofs.lemmas.List.Elements.{filter-append}
 use Rattle.history_merge.proofs.KnownValues.{is_eq-nat_cmp}
-
-module _ {X Y : Type 0} (find : X → Option Y) (xs : List X) (i : ℕ) (d : X) (before : List Y) (within : i < length xs)
-    (was : before ≡ filter_map find (take i xs)) where
-  one_more : filter_map find (take (i + 1) xs) ≡ before ++ cons_option (find (get_or xs i d)) []
-  one_more =
-      ap (filter_map find) (take_more xs i d within) ∙ filter_map-append find (take i xs) (get_or xs i d ∷ [])
-      ∙ ap (λ (ys : List Y). ys ++ cons_option (find (get_or xs i d)) []) (sym was)
-
-  -- something is found at the next place
-  pub found_one : (y : Y) (now : List Y) → find (get_or xs i d) ≡ Some y → now ≡ before ++ y ∷ [] → now ≡ filter_map find (take (i + 1) xs)
-  found_one y now is pushed = pushed ∙ sym (one_more ∙ ap (λ (r : Option Y). before ++ cons_option r []) is)
-
-  -- nothing is found there
-  pub found_none : find (get_or xs i d) ≡ None → before ≡ filter_map find (take (i + 1) xs)
-  found_none is = sym (one_more ∙ ap (λ (r : Option Y). before ++ cons_option r []) is ∙ append-nil before)
 
 -- it holds the numbers of the list and no others
 pub holds_found : {E : Type 0} (result : Result (BTreeSet ℕ) E) (found : List ℕ) → IfOk result (IsFromIterResult nat_cmp found)

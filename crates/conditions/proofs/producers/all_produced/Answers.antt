@@ -1,5 +1,5 @@
 use Rattle.std.proofs.Common.{◌∙◌, ap, sym}
-use Rattle.verdicts.proofs.Collected.{found_none, found_one}
+use Rattle.history_merge.proofs.Lists.{found_none, found_one}
 use Rattle.conditions.specs.Inner.Producers.{produced_by}
 use Rattle.conditions.proofs.producers.all_produced.Goals.{in-Some+in_ok-push, in_default}
 use Rattle.conditions.proofs.producers.all_produced.Goals as goal

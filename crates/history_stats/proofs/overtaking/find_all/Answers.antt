@@ -4,7 +4,7 @@ use Rattle.std.proofs.lemmas.List.Sums.{count_by-le-length}
 use Rattle.std.specs.Prelude.{nat_lt}
 use Rattle.history_stats.specs.declared.takings.Taking.{Taking}
 use Rattle.history_stats.specs.Inner.Overtaking.{overtaking_among}
-use Rattle.history_stats.proofs.Taken.{found_none, found_one}
+use Rattle.history_merge.proofs.Lists.{found_none, found_one}
 use Rattle.history_stats.proofs.Tallied.{few_next}
 use Rattle.history_stats.proofs.overtaking.find_all.Goals.{in-Some+in_ok-push, in_default}
 use Rattle.history_stats.proofs.overtaking.find_all.Goals as goal

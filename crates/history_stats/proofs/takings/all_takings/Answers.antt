@@ -2,7 +2,7 @@ use Rattle.std.proofs.Common.{◌∙◌, ap, sym}
 use Rattle.history_merge.specs.declared.operation.Operation.{Operation}
 use Rattle.history_stats.specs.Inner.Overtaking.{taking_by}
 use Rattle.history_stats.proofs.Staying.{is_at}
-use Rattle.history_stats.proofs.Taken.{found_none, found_one}
+use Rattle.history_merge.proofs.Lists.{found_none, found_one}
 use Rattle.history_stats.proofs.takings.all_takings.Goals.{in-Some+in_ok-push, in_default}
 use Rattle.history_stats.proofs.takings.all_takings.Goals as goal
 

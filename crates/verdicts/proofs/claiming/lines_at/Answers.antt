@@ -1,5 +1,5 @@
 use Rattle.verdicts.proofs.Common.{ap, line_at, sym, ◌∙◌}
-use Rattle.verdicts.proofs.Collected.{found_none, found_one}
+use Rattle.history_merge.proofs.Lists.{found_none, found_one}
 use Rattle.verdicts.proofs.claiming.lines_at.Goals.{in-Some+in_ok-push, in_default}
 use Rattle.verdicts.proofs.claiming.lines_at.Goals as goal
 
