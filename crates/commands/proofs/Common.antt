@@ -41,12 +41,12 @@ pub use Rattle.text_lines.proofs.Putting.{longer_front, one_more_written, refuse
 pub use Rattle.history_text.specs.Reading.{Takes}
 pub use Rattle.text_lines.specs.Input.{Ahead, Ending, EndOfInput, Known, OfInput}
 pub use Rattle.text_lines.specs.declared.fault.TextFault.{TextFault}
-pub use Rattle.verdicts.specs.Claiming.{claim_of, operations_at}
+pub use Rattle.claims.specs.Claiming.{claim_of, operations_at}
 pub use Rattle.verdicts.specs.Decided.{IsDecided}
 pub use Rattle.verdicts.specs.Verdicts.{IsExact}
-pub use Rattle.verdicts.specs.declared.verdict.Verdict.{Verdict}
-pub use Rattle.verdicts.specs.declared.verdict.Verdict.TheVariants.{No, Yes}
-pub use Rattle.verdicts.specs.declared.verifying.Claimed.{Claimed}
+pub use Rattle.claims.specs.declared.verdict.Verdict.{Verdict}
+pub use Rattle.claims.specs.declared.verdict.Verdict.TheVariants.{No, Yes}
+pub use Rattle.claims.specs.declared.claimed.Claimed.{Claimed}
 pub use Rattle.std.specs.Cmp.Lexicographic.{pointwise}
 pub use Rattle.text_lines.specs.Lines.{line}
 pub use Rattle.history_text.proofs.FirstFaults.{carries}

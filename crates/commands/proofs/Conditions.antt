@@ -19,15 +19,15 @@ use Rattle.conditions.proofs.Weaker.{conditions_are_weaker}
 use Rattle.event_records.specs.declared.limits.TheConstants.{MAX_INITIAL}
 use Rattle.history_merge.specs.Initial.{Contents, HistoryView, IsCompleteFrom}
 use Rattle.value_match.specs.declared.violation.Violation.{Violation}
-use Rattle.verdicts.specs.Claiming.{IsPlaceWithin, IsWithin}
-use Rattle.verdicts.specs.declared.shown.LinePlace.TheVariants.{Op}
+use Rattle.claims.specs.Claiming.{IsPlaceWithin, IsWithin}
+use Rattle.claims.specs.declared.shown.LinePlace.TheVariants.{Op}
 use Rattle.verdicts.specs.Selection.{AreLinearizable, contents_of}
-use Rattle.verdicts.specs.declared.verdict.Verdict.{Verdict}
-use Rattle.verdicts.specs.declared.verdict.Verdict.TheVariants.{No, Yes}
-use Rattle.verdicts.specs.declared.verifying.ClaimLine.{ClaimLine}
-use Rattle.verdicts.specs.declared.verifying.Claimed.{Claimed}
-use Rattle.verdicts.specs.declared.verifying.Claimed.TheVariants as claim
-use Rattle.verdicts.specs.declared.verifying.ViolationKind.{ViolationKind}
+use Rattle.claims.specs.declared.verdict.Verdict.{Verdict}
+use Rattle.claims.specs.declared.verdict.Verdict.TheVariants.{No, Yes}
+use Rattle.claims.specs.declared.claimed.ClaimLine.{ClaimLine}
+use Rattle.claims.specs.declared.claimed.Claimed.{Claimed}
+use Rattle.claims.specs.declared.claimed.Claimed.TheVariants as claim
+use Rattle.claims.specs.declared.claimed.ViolationKind.{ViolationKind}
 use Rattle.verdicts.proofs.OneVerdict.{verdict_is_one}
 use Rattle.verdicts.proofs.TrueClaims.{evidence_is_true}
 

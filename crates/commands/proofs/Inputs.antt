@@ -14,7 +14,7 @@ use Rattle.history_text.specs.Reading.{Left, MayBeLeft, OfLeft}
 use Rattle.history_text.proofs.Consuming.{before_end, taken_through}
 use Rattle.text_lines.proofs.MemoryOrNot.{follows, is_memory, known_fault}
 use Rattle.text_lines.specs.declared.fault.TextFault.TheVariants.{Read}
-use Rattle.verdicts.specs.declared.verifying.Claimed.TheVariants.{No, Yes}
+use Rattle.claims.specs.declared.claimed.Claimed.TheVariants.{No, Yes}
 use Rattle.history_text.proofs.FirstFaults.{Anything, IsJudged, moved, one_first_fault, text_has_no_fault, texts_agree}
 use Rattle.std.specs.declared.result.Result.{Result}
 use Rattle.history_text.proofs.OneHistory as histories

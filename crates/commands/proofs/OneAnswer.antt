@@ -78,13 +78,13 @@ use Rattle.std.proofs.lemmas.List.Sorted.{Contains-permutation, IsPermutation-sy
 use Rattle.verdicts.proofs.NamedPlaces.{part_is_one, verdict_has_few_lines}
 use Rattle.verdicts.proofs.ShrunkHistories.{IsWhole, selection_is_one}
 use Rattle.verdicts.proofs.OneVerdict.{chosen_violation_is_one, same_lists, verdict_is_one}
-use Rattle.verdicts.proofs.Selections.{no_longer}
+use Rattle.history_merge.proofs.Lists.{no_longer}
 use Rattle.verdicts.proofs.TrueClaims.{evidence_is_true}
-use Rattle.verdicts.specs.Claims.{IsTrueClaim}
+use Rattle.claims.specs.Claims.{IsTrueClaim}
 use Rattle.verdicts.specs.Selection.{ArePartOf, KeepsViolation, StaysChosen}
 use Rattle.commands.proofs.Inputs.{alike, answered_of, claim_after, one_answer, one_claim, one_history}
 use Rattle.commands.proofs.Inputs.{one_schedule}
-use Rattle.verdicts.specs.declared.verifying.Claimed.TheVariants as claim
+use Rattle.claims.specs.declared.claimed.Claimed.TheVariants as claim
 use Rattle.text_lines.specs.declared.fault.TextFault.TheVariants as text
 
 -- ---- what a run gives: of a schedule, of a queue, and of the words of a command

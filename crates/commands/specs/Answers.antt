@@ -20,8 +20,8 @@ use Rattle.recorder_core.specs.Names.{name_of}
 use Rattle.simulation.specs.declared.playing.Rejection.{Rejection}
 use Rattle.stress_run.specs.declared.faults.RunFault.{RunFault}
 use Rattle.stress_run.specs.Faults as run_names
-use Rattle.verdicts.specs.declared.verifying.Claimed.{Claimed}
-use Rattle.verdicts.specs.declared.verifying.Claimed.TheVariants as claim
+use Rattle.claims.specs.declared.claimed.Claimed.{Claimed}
+use Rattle.claims.specs.declared.claimed.Claimed.TheVariants as claim
 
 -- what a command answers
 pub data Reply : Type 0 where

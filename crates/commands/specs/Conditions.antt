@@ -12,11 +12,11 @@ use Rattle.conditions.specs.declared.producer.Producer.{Producer}
 use Rattle.history_merge.specs.Initial.{Contents, HistoryView}
 use Rattle.history_merge.specs.Operations.{operations_of}
 use Rattle.value_match.specs.declared.violation.Violation.{Violation}
-use Rattle.verdicts.specs.Claims.{IsTrueClaim}
+use Rattle.claims.specs.Claims.{IsTrueClaim}
 use Rattle.verdicts.specs.Decided.{IsDecided}
 use Rattle.verdicts.specs.Selection.{AreLinearizable, contents_of, IsMinimal}
-use Rattle.verdicts.specs.declared.verdict.Verdict.{Verdict}
-use Rattle.verdicts.specs.declared.verifying.Claimed.{Claimed}
+use Rattle.claims.specs.declared.verdict.Verdict.{Verdict}
+use Rattle.claims.specs.declared.claimed.Claimed.{Claimed}
 
 -- what empty dequeues promise
 abbrev pub emptiness_if : Bool → Emptiness

@@ -17,8 +17,8 @@ use Rattle.svg_picture.specs.Html.{html_picture}
 use Rattle.svg_picture.specs.Picture.{svg_picture}
 use Rattle.conditions.specs.Conditions.{without_empties}
 use Rattle.verdicts.specs.Selection.{ArePartOf, contents_of}
-use Rattle.verdicts.specs.declared.verifying.Claimed.{Claimed}
-use Rattle.verdicts.specs.declared.verifying.Claimed.TheVariants.{No, Yes}
+use Rattle.claims.specs.declared.claimed.Claimed.{Claimed}
+use Rattle.claims.specs.declared.claimed.Claimed.TheVariants.{No, Yes}
 use Rattle.commands.specs.Answers.{Reply, drawn, refused_orders, refused_size, verified}
 use Rattle.commands.specs.Completing.{FaultOrCompletion, completion_in}
 use Rattle.commands.specs.Inputs.{ClaimOnText, Drawable, alone, claim_on, history_in, with_claim}

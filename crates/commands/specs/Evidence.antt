@@ -9,10 +9,10 @@ use Rattle.history_text.specs.Verdicts.{verdict_text}
 use Rattle.history_text.specs.Histories.{HasHistoryText, history_text}
 use Rattle.history_text.specs.Versions.{HasText, HistoryText, text_of}
 use Rattle.history_text.specs.declared.version.Version.TheVariants.{Two}
-use Rattle.verdicts.specs.declared.verifying.ClaimLine.{ClaimLine}
-use Rattle.verdicts.specs.declared.verifying.Claimed.{Claimed}
-use Rattle.verdicts.specs.declared.verifying.Claimed.TheVariants as claim
-use Rattle.verdicts.specs.declared.verifying.ViolationKind.{ViolationKind}
+use Rattle.claims.specs.declared.claimed.ClaimLine.{ClaimLine}
+use Rattle.claims.specs.declared.claimed.Claimed.{Claimed}
+use Rattle.claims.specs.declared.claimed.Claimed.TheVariants as claim
+use Rattle.claims.specs.declared.claimed.ViolationKind.{ViolationKind}
 use Rattle.completions.specs.Pending.{CompletesLinearizably}
 use Rattle.history_text.specs.declared.pending_text.PendingText.{PendingText}
 use Rattle.command_words.specs.Commands.{check, shrink, verify, draw, convert, complete, stats, sim, Request}

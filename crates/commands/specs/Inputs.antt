@@ -1,6 +1,6 @@
 -- Inputs that should be one text, or one after another.
 use Rattle.std.specs.Prelude.{◌≡◌, ℕ, List, [], ◌++◌, ◌⊎◌, false, Option, Some, None}
-use Rattle.verdicts.specs.declared.verifying.Claimed.{Claimed}
+use Rattle.claims.specs.declared.claimed.Claimed.{Claimed}
 use Rattle.text_lines.specs.declared.fault.TextFault.{TextFault}
 use Rattle.text_lines.specs.Faults.{MemoryOr}
 use Rattle.history_text.specs.declared.schedule.Schedule.{Schedule}

@@ -17,9 +17,9 @@ use Rattle.recorder_core.specs.Setting.{Setting}
 use Rattle.recorder_core.specs.Schedule.{Attempt}
 use Rattle.recorder_core.specs.Laws.{IsDone, collected_lists}
 use Rattle.simulation.specs.Simulations.{schedule_of, rejections}
-use Rattle.verdicts.specs.declared.verifying.Claimed.{Claimed}
-use Rattle.verdicts.specs.declared.verdict.Verdict.{Verdict}
-use Rattle.verdicts.specs.Claiming.{claim_of}
+use Rattle.claims.specs.declared.claimed.Claimed.{Claimed}
+use Rattle.claims.specs.declared.verdict.Verdict.{Verdict}
+use Rattle.claims.specs.Claiming.{claim_of}
 use Rattle.value_match.specs.Outcome.{IsChosenViolation}
 use Rattle.verdicts.specs.Selection.{KeepsViolation, StaysChosen, IsMinimal, HasShortestCover, ArePartOf, contents_of}
 use Rattle.history_text.specs.Versions.{HistoryText, said_in}

@@ -10,7 +10,7 @@ use Rattle.history_merge.specs.Operations.{operations_of}
 use Rattle.completions.specs.declared.fault.CompletionFault.{CompletionFault}
 use Rattle.completions.specs.declared.fault.CompletionFault.TheVariants as completion
 use Rattle.stress_run.specs.Faults as run_names
-use Rattle.verdicts.specs.Claiming.{claim_of, IsWithin}
+use Rattle.claims.specs.Claiming.{claim_of, IsWithin}
 use Rattle.std.specs.declared.result.Result.{Result}
 use Rattle.commands.specs.declared.outcome.Report.{Report}
 use Rattle.commands.specs.declared.outcome.Report.TheVariants.{Judged, Shown, LeftOpen, Played, Verified, Converted, Completed, Counted}

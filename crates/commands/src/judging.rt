@@ -2,7 +2,7 @@
 ghost use Rattle.std.specs.Prelude.{◌≡◌, ◌↔◌, IfOk, IsTrue};
 ghost use Rattle.commands.specs.Conditions.{IsDecidedUnder, IsTrueUnder, emptiness_if};
 ghost use Rattle.history_merge.specs.Operations.{operations_of};
-ghost use Rattle.verdicts.specs.Claiming.{IsWithin};
+ghost use Rattle.claims.specs.Claiming.{IsWithin};
 
 use command_words::Condition;
 use conditions::{

@@ -8,7 +8,7 @@ ghost use Rattle.recorder_core.specs.Schedule.{Attempt};
 ghost use Rattle.recorder_core.specs.Laws.{IsDone};
 ghost use Rattle.recorder_core.specs.Replay.{IsHonest};
 ghost use Rattle.simulation.specs.Simulations.{rejections};
-ghost use Rattle.verdicts.specs.declared.verifying.Claimed.TheVariants.{Yes};
+ghost use Rattle.claims.specs.declared.claimed.Claimed.TheVariants.{Yes};
 ghost use Rattle.command_words.specs.declared.options.Condition.{Condition};
 ghost use Rattle.command_words.specs.declared.options.DrawOptions.{DrawOptions};
 ghost use Rattle.command_words.specs.Commands.{check, shrink, verify, draw, convert, complete, stats, sim};

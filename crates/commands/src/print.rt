@@ -2,7 +2,7 @@
 ghost use Rattle.std.specs.Prelude.{◌≡◌, ℕ, List, Option, OnOk, OnErr, is_err, false};
 ghost use Rattle.std.specs.Io.KnownBytes.{Appends};
 ghost use Rattle.history_merge.specs.declared.operation.Operation.{Operation};
-ghost use Rattle.verdicts.specs.Claiming.{claim_of};
+ghost use Rattle.claims.specs.Claiming.{claim_of};
 ghost use Rattle.text_lines.specs.Writing.{AppendsFront, IsWritten, IsRefused, Writes};
 ghost use Rattle.commands.specs.Answers.{answer_text, answer_status, claim_status, memory_fault, said_text, verdict_head};
 ghost use Rattle.commands.specs.Outcomes.{answer_of, NamesPlaces};

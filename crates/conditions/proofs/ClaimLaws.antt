@@ -12,15 +12,16 @@ use Rattle.history_merge.specs.Operations.{operations_of}
 use Rattle.value_match.specs.declared.violation.Violation.{Violation}
 use Rattle.history_merge.proofs.Distinct.{contains_cons, not_in_none}
 use Rattle.value_match.proofs.Lists.{mapped_to, passes_filter}
-use Rattle.verdicts.specs.Claiming.{operations_at}
+use Rattle.claims.specs.Claiming.{operations_at}
 use Rattle.verdicts.specs.Decided.{IsDecided}
 use Rattle.verdicts.specs.Selection.{AreLinearizable, contents_of, select, selects}
-use Rattle.verdicts.specs.declared.verdict.Verdict.{Verdict}
-use Rattle.verdicts.specs.declared.verdict.Verdict.TheVariants.{No, Yes}
-use Rattle.verdicts.specs.declared.verifying.Claimed.{Claimed}
-use Rattle.verdicts.specs.declared.verifying.Claimed.TheVariants as claimed
+use Rattle.claims.specs.declared.verdict.Verdict.{Verdict}
+use Rattle.claims.specs.declared.verdict.Verdict.TheVariants.{No, Yes}
+use Rattle.claims.specs.declared.claimed.Claimed.{Claimed}
+use Rattle.claims.specs.declared.claimed.Claimed.TheVariants as claimed
 use Rattle.verdicts.proofs.OneVerdict.{verdict_is_one}
-use Rattle.verdicts.proofs.Selections.{kept_is_complete_from, no_longer}
+use Rattle.history_merge.proofs.Lists.{no_longer}
+use Rattle.verdicts.proofs.Selections.{kept_is_complete_from}
 use Rattle.verdicts.proofs.TrueClaims.{operations_there, true_claim_decides}
 use Rattle.conditions.specs.declared.local.LocalOrder.{LocalOrder}
 use Rattle.conditions.specs.declared.local.LocalVerdict.TheVariants as local

@@ -10,10 +10,10 @@ use Rattle.history_merge.specs.declared.operation.Operation.{Operation}
 use Rattle.history_merge.specs.Initial.{Contents, HistoryView, IsCompleteFrom}
 use Rattle.history_merge.specs.Legal.{IsLegalOrder}
 use Rattle.verdicts.specs.Selection.{contents_of}
-use Rattle.verdicts.specs.declared.verifying.ClaimLine.{ClaimLine}
-use Rattle.verdicts.specs.declared.verifying.ViolationKind.{ViolationKind}
-use Rattle.verdicts.specs.declared.verifying.Claimed.{Claimed}
-use Rattle.verdicts.specs.declared.verifying.Claimed.TheVariants.{No}
+use Rattle.claims.specs.declared.claimed.ClaimLine.{ClaimLine}
+use Rattle.claims.specs.declared.claimed.ViolationKind.{ViolationKind}
+use Rattle.claims.specs.declared.claimed.Claimed.{Claimed}
+use Rattle.claims.specs.declared.claimed.Claimed.TheVariants.{No}
 use Rattle.conditions.specs.declared.producer.Emptiness.{Emptiness}
 use Rattle.conditions.specs.declared.producer.Producer.{Producer}
 use Rattle.conditions.specs.declared.producer.Producer.TheVariants.{Initial, Thread}

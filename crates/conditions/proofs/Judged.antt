@@ -20,8 +20,9 @@ use Rattle.history_merge.proofs.Distinct.{contains_at, found_first, traced}
 use Rattle.value_match.proofs.ToldPlaces.{mapped_option}
 use Rattle.value_match.specs.declared.violation.Violation.{Violation}
 use Rattle.verdicts.specs.Selection.{AreLinearizable, contents_of, select, selects, value_of}
-use Rattle.verdicts.specs.declared.verdict.Verdict.TheVariants.{No, Yes}
-use Rattle.verdicts.proofs.Selections.{events_kept, kept_is_complete_from, no_longer, operations_kept}
+use Rattle.claims.specs.declared.verdict.Verdict.TheVariants.{No, Yes}
+use Rattle.history_merge.proofs.Lists.{no_longer}
+use Rattle.verdicts.proofs.Selections.{events_kept, kept_is_complete_from, operations_kept}
 use Rattle.conditions.specs.declared.local.LocalOrder.{LocalOrder}
 use Rattle.conditions.specs.declared.producer.Emptiness.{Emptiness}
 use Rattle.conditions.specs.declared.producer.Emptiness.TheVariants.{Strict, Weak}

@@ -15,7 +15,8 @@ use Rattle.history_merge.specs.Operations.{enqueued_value, operations_of}
 use Rattle.value_match.proofs.Lists.{passed_filter}
 use Rattle.verdicts.specs.Selection.{AreLinearizable, contents_of, IsMinimal, IsValueClosed, select, selects, value_of}
 use Rattle.verdicts.proofs.NamedLines.{selects_as_call, selects_as_value}
-use Rattle.verdicts.proofs.Selections.{events_kept, kept_is_complete_from, no_longer, operations_kept}
+use Rattle.history_merge.proofs.Lists.{no_longer}
+use Rattle.verdicts.proofs.Selections.{events_kept, kept_is_complete_from, operations_kept}
 use Rattle.conditions.specs.declared.producer.Emptiness.{Emptiness}
 use Rattle.conditions.specs.declared.producer.Emptiness.TheVariants.{Strict, Weak}
 use Rattle.conditions.specs.declared.producer.Producer.{Producer}

@@ -15,7 +15,8 @@ use Rattle.history_merge.specs.Operations.{operations_of}
 use Rattle.value_match.proofs.Lists.{one_more}
 use Rattle.verdicts.specs.Inner.Selecting.{holds_ticket}
 use Rattle.verdicts.specs.Selection.{contents_of, select, selects}
-use Rattle.verdicts.proofs.Selections.{events_kept, kept_is_complete_from, no_longer, operations_kept}
+use Rattle.history_merge.proofs.Lists.{no_longer}
+use Rattle.verdicts.proofs.Selections.{events_kept, kept_is_complete_from, operations_kept}
 use Rattle.conditions.specs.Inner.Parts.{AreSelected, IsPart}
 use Rattle.history_merge.specs.Parts.{IsPartAt}
 use Rattle.conditions.specs.declared.part.Part.{Part}

@@ -18,18 +18,18 @@ use Rattle.value_match.specs.declared.violation.CoverStep.{CoverStep}
 use Rattle.value_match.specs.declared.violation.Violation.{Violation}
 use Rattle.value_match.specs.declared.violation.Violation.TheVariants.{Fresh, Order, Repeat, Witness}
 use Rattle.value_match.proofs.Lists.{mapped_from, one_deeper}
-use Rattle.verdicts.specs.Claiming.{IsPlaceWithin, IsWithin, line_at, lines_at, operations_at, verdict_places}
-use Rattle.verdicts.specs.Claiming.{violation_kind}
+use Rattle.claims.specs.Claiming.{IsPlaceWithin, IsWithin, line_at, lines_at, operations_at, verdict_places}
+use Rattle.claims.specs.Claiming.{violation_kind}
 use Rattle.verdicts.specs.Decided.{IsDecided}
 use Rattle.verdicts.specs.Selection.{contents_of, select}
-use Rattle.verdicts.specs.Shown.{maybe_place, place_of_source, places_of_step, violation_places}
-use Rattle.verdicts.specs.declared.shown.LinePlace.{LinePlace}
-use Rattle.verdicts.specs.declared.shown.LinePlace.TheVariants.{Initial, Op}
-use Rattle.verdicts.specs.declared.verdict.Verdict.{Verdict}
-use Rattle.verdicts.specs.declared.verdict.Verdict.TheVariants.{No, Yes}
-use Rattle.verdicts.specs.declared.verifying.ClaimLine.{ClaimLine}
-use Rattle.verdicts.specs.declared.verifying.ClaimLine.TheVariants as line
-use Rattle.verdicts.specs.declared.verifying.Claimed.TheVariants as claimed
+use Rattle.claims.specs.Shown.{maybe_place, place_of_source, places_of_step, violation_places}
+use Rattle.claims.specs.declared.shown.LinePlace.{LinePlace}
+use Rattle.claims.specs.declared.shown.LinePlace.TheVariants.{Initial, Op}
+use Rattle.claims.specs.declared.verdict.Verdict.{Verdict}
+use Rattle.claims.specs.declared.verdict.Verdict.TheVariants.{No, Yes}
+use Rattle.claims.specs.declared.claimed.ClaimLine.{ClaimLine}
+use Rattle.claims.specs.declared.claimed.ClaimLine.TheVariants as line
+use Rattle.claims.specs.declared.claimed.Claimed.TheVariants as claimed
 use Rattle.verdicts.proofs.TrueClaims.{operations_there}
 use Rattle.conditions.specs.Decided.{IsDecidedOf}
 use Rattle.conditions.specs.Inner.Parts.{IsPart}

@@ -7,13 +7,13 @@ use Rattle.history_merge.specs.declared.operation.OpKind.TheVariants.{Deq, Empty
 use Rattle.history_merge.specs.Initial.{Contents}
 use Rattle.history_merge.proofs.Distinct.{contains_at, place_of}
 use Rattle.value_match.proofs.Lists.{passed_filter, passes_filter}
-use Rattle.verdicts.specs.declared.verifying.ClaimLine.{ClaimLine}
-use Rattle.verdicts.specs.declared.verifying.ClaimLine.TheVariants.{Initial, Op}
-use Rattle.verdicts.specs.declared.verifying.ViolationKind.{ViolationKind}
-use Rattle.verdicts.specs.declared.verifying.ViolationKind.TheVariants.{VFresh, VOrd, VRepeat, VWit}
+use Rattle.claims.specs.declared.claimed.ClaimLine.{ClaimLine}
+use Rattle.claims.specs.declared.claimed.ClaimLine.TheVariants.{Initial, Op}
+use Rattle.claims.specs.declared.claimed.ViolationKind.{ViolationKind}
+use Rattle.claims.specs.declared.claimed.ViolationKind.TheVariants.{VFresh, VOrd, VRepeat, VWit}
 use Rattle.verdicts.specs.Selection.{select, selects, value_of}
-use Rattle.verdicts.specs.Showing.{EnqueuedBefore, LeavesAfter, LineDid, LinePrecedes, LinesCover, NoLineDid}
-use Rattle.verdicts.specs.Showing.{ShowsFresh, ShowsOrder, ShowsRepeat, ShowsWitness}
+use Rattle.claims.specs.Showing.{EnqueuedBefore, LeavesAfter, LineDid, LinePrecedes, LinesCover, NoLineDid}
+use Rattle.claims.specs.Showing.{ShowsFresh, ShowsOrder, ShowsRepeat, ShowsWitness}
 use Rattle.verdicts.proofs.NamedLines.{selects_as_value}
 use Rattle.conditions.specs.Laws.{ShowsIn, ViolationsAreOfTheWhole}
 

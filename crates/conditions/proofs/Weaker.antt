@@ -7,15 +7,16 @@ use Rattle.history_merge.specs.declared.operation.Operation.{Operation}
 use Rattle.history_merge.specs.Initial.{HistoryView, IsCompleteFrom}
 use Rattle.history_merge.specs.Legal.{IsLinearizable}
 use Rattle.history_merge.specs.Operations.{operations_of}
-use Rattle.verdicts.specs.Claiming.{lines_at, violation_kind}
+use Rattle.claims.specs.Claiming.{lines_at, violation_kind}
 use Rattle.verdicts.specs.Selection.{AreLinearizable, contents_of, selects}
-use Rattle.verdicts.specs.Showing.{Shows}
-use Rattle.verdicts.specs.Shown.{violation_places}
+use Rattle.claims.specs.Showing.{Shows}
+use Rattle.claims.specs.Shown.{violation_places}
 use Rattle.verdicts.specs.Verdicts.{IsEvidence}
-use Rattle.verdicts.specs.declared.verdict.Verdict.TheVariants.{No}
-use Rattle.verdicts.specs.declared.verifying.Claimed.TheVariants as claimed
+use Rattle.claims.specs.declared.verdict.Verdict.TheVariants.{No}
+use Rattle.claims.specs.declared.claimed.Claimed.TheVariants as claimed
 use Rattle.value_match.specs.declared.violation.Violation.{Violation}
-use Rattle.verdicts.proofs.Selections.{events_kept, kept_is_complete_from, no_longer, operations_kept}
+use Rattle.history_merge.proofs.Lists.{no_longer}
+use Rattle.verdicts.proofs.Selections.{events_kept, kept_is_complete_from, operations_kept}
 use Rattle.verdicts.proofs.TrueClaims.{linearizable_exactly, true_claim_decides}
 use Rattle.conditions.specs.Laws.{ConditionsAreWeaker, SelectionsStayLinearizable}
 use Rattle.conditions.specs.Conditions.{counts_for, judges_empties}

@@ -3,12 +3,12 @@ use Rattle.std.specs.Prelude.{◌≡◌, ◌≤◌, List, length}
 use Rattle.event_records.specs.declared.limits.TheConstants.{MAX_INITIAL}
 use Rattle.history_merge.specs.Initial.{Contents, HistoryView, IsCompleteFrom}
 use Rattle.value_match.specs.declared.violation.Violation.{Violation}
-use Rattle.verdicts.specs.declared.verdict.Verdict.{Verdict}
-use Rattle.verdicts.specs.declared.verifying.ClaimLine.{ClaimLine}
-use Rattle.verdicts.specs.declared.verifying.Claimed.{Claimed}
-use Rattle.verdicts.specs.declared.verifying.Claimed.TheVariants.{Yes, No}
-use Rattle.verdicts.specs.declared.verifying.ViolationKind.{ViolationKind}
-use Rattle.verdicts.specs.Claiming.{claim_of}
+use Rattle.claims.specs.declared.verdict.Verdict.{Verdict}
+use Rattle.claims.specs.declared.claimed.ClaimLine.{ClaimLine}
+use Rattle.claims.specs.declared.claimed.Claimed.{Claimed}
+use Rattle.claims.specs.declared.claimed.Claimed.TheVariants.{Yes, No}
+use Rattle.claims.specs.declared.claimed.ViolationKind.{ViolationKind}
+use Rattle.claims.specs.Claiming.{claim_of}
 use Rattle.verdicts.specs.Selection.{contents_of}
 use Rattle.conditions.specs.declared.local.LocalVerdict.{LocalVerdict}
 use Rattle.conditions.specs.declared.producer.Emptiness.{Emptiness}

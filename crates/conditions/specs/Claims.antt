@@ -3,11 +3,11 @@ use Rattle.std.specs.Prelude.{◌≡◌, List, [], ◌∷◌, ◌++◌, flat_map
 use Rattle.history_merge.specs.declared.operation.Operation.{Operation}
 use Rattle.history_merge.specs.Initial.{Contents}
 use Rattle.history_merge.specs.Legal.{IsLegalOrder}
-use Rattle.verdicts.specs.declared.verdict.Verdict.{Verdict}
-use Rattle.verdicts.specs.declared.verdict.Verdict.TheVariants as verdict
-use Rattle.verdicts.specs.declared.verifying.Claimed.{Claimed}
-use Rattle.verdicts.specs.declared.verifying.Claimed.TheVariants.{Yes, No}
-use Rattle.verdicts.specs.Claims.{IsTrueClaim}
+use Rattle.claims.specs.declared.verdict.Verdict.{Verdict}
+use Rattle.claims.specs.declared.verdict.Verdict.TheVariants as verdict
+use Rattle.claims.specs.declared.claimed.Claimed.{Claimed}
+use Rattle.claims.specs.declared.claimed.Claimed.TheVariants.{Yes, No}
+use Rattle.claims.specs.Claims.{IsTrueClaim}
 use Rattle.conditions.specs.declared.local.LocalVerdict.{LocalVerdict}
 use Rattle.conditions.specs.declared.local.LocalVerdict.TheVariants as local
 use Rattle.conditions.specs.declared.producer.Emptiness.{Emptiness}

@@ -4,12 +4,12 @@ use Rattle.history_merge.specs.declared.operation.Operation.{Operation}
 use Rattle.history_merge.specs.Initial.{Contents}
 use Rattle.history_merge.specs.Legal.{ArePlacesOf, IsLegalOrder}
 use Rattle.value_match.specs.declared.violation.Violation.{Violation}
-use Rattle.verdicts.specs.declared.verdict.Verdict.{Verdict}
-use Rattle.verdicts.specs.declared.verdict.Verdict.TheVariants.{Yes, No}
-use Rattle.verdicts.specs.Claiming.{IsWithin, claim_of, lines_at, violation_kind}
+use Rattle.claims.specs.declared.verdict.Verdict.{Verdict}
+use Rattle.claims.specs.declared.verdict.Verdict.TheVariants.{Yes, No}
+use Rattle.claims.specs.Claiming.{IsWithin, claim_of, lines_at, violation_kind}
 use Rattle.verdicts.specs.Decided.{IsDecided}
 use Rattle.verdicts.specs.Selection.{AreLinearizable}
-use Rattle.verdicts.specs.Shown.{violation_places}
+use Rattle.claims.specs.Shown.{violation_places}
 use Rattle.verdicts.specs.Verdicts.{IsEvidence, IsExact}
 use Rattle.conditions.specs.declared.local.LocalOrder.{LocalOrder}
 use Rattle.conditions.specs.declared.local.LocalVerdict.{LocalVerdict}

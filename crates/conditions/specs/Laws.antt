@@ -2,10 +2,10 @@
 use Rattle.std.specs.Prelude.{◌≢◌, ℕ, ◌≤◌, Bool, List, length}
 use Rattle.event_records.specs.declared.limits.TheConstants.{MAX_INITIAL}
 use Rattle.history_merge.specs.Initial.{Contents, HistoryView, IsCompleteFrom}
-use Rattle.verdicts.specs.declared.verifying.ClaimLine.{ClaimLine}
-use Rattle.verdicts.specs.declared.verifying.ViolationKind.{ViolationKind}
+use Rattle.claims.specs.declared.claimed.ClaimLine.{ClaimLine}
+use Rattle.claims.specs.declared.claimed.ViolationKind.{ViolationKind}
 use Rattle.verdicts.specs.Selection.{AreLinearizable, contents_of, IsMinimal, IsValueClosed, select}
-use Rattle.verdicts.specs.Showing.{Shows}
+use Rattle.claims.specs.Showing.{Shows}
 use Rattle.conditions.specs.declared.producer.Emptiness.{Emptiness}
 use Rattle.conditions.specs.declared.producer.Emptiness.TheVariants.{Strict, Weak}
 use Rattle.conditions.specs.declared.producer.Producer.{Producer}

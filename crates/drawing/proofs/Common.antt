@@ -22,10 +22,10 @@ pub use Rattle.history_merge.proofs.Distinct.{contains_at, contains_cons, found_
 pub use Rattle.history_merge.proofs.Distinct.{operation_within, operations_are_complete, pairs_at, returns_at_no_call}
 pub use Rattle.history_merge.proofs.Distinct.{same_call, traced}
 pub use Rattle.value_match.proofs.Lists.{one_deeper, passed_filter, passes_filter}
-pub use Rattle.verdicts.specs.declared.verifying.ClaimLine.{ClaimLine}
-pub use Rattle.verdicts.specs.declared.verifying.ClaimLine.TheVariants.{Op}
-pub use Rattle.verdicts.specs.declared.verifying.Claimed.{Claimed}
-pub use Rattle.verdicts.specs.declared.verifying.Claimed.TheVariants.{No, Yes}
+pub use Rattle.claims.specs.declared.claimed.ClaimLine.{ClaimLine}
+pub use Rattle.claims.specs.declared.claimed.ClaimLine.TheVariants.{Op}
+pub use Rattle.claims.specs.declared.claimed.Claimed.{Claimed}
+pub use Rattle.claims.specs.declared.claimed.Claimed.TheVariants.{No, Yes}
 pub use Rattle.drawing.specs.Drawn.{drawn_operations, events_before, is_near_any, operation_in, operations_in}
 pub use Rattle.drawing.specs.Drawn.{stand_near, standing_of}
 pub use Rattle.drawing.specs.Layout.{greatest_call, has_operations, is_under_way, point, stands_in, under_way}

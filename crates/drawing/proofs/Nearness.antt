@@ -15,13 +15,12 @@ use Rattle.std.proofs.lemmas.List.Folds.{Any-from_list_any, find_at, list_any-fr
 use Rattle.std.specs.List.Sorted.{IsPartitionedBy}
 use Rattle.drawing.specs.Pending.{is_added}
 use Rattle.event_records.specs.Turns.{TicketsRise}
-use Rattle.verdicts.specs.declared.verifying.ClaimLine.TheVariants.{Initial}
+use Rattle.claims.specs.declared.claimed.ClaimLine.TheVariants.{Initial}
 use Rattle.drawing.specs.Laws.{LastsTo, LinesAreOfHistory, LinesHaveNumbers, NoCallsAreAdded, NoOtherBars, NoOthersAreDrawn}
 use Rattle.drawing.specs.Laws.{NumbersAreOfLines}
 use Rattle.drawing.proofs.Below.{fewer, one_fewer}
 use Rattle.std.proofs.lemmas.List.Quantifiers.{position-Some}
-use Rattle.verdicts.proofs.ShownLines.{each_there}
-use Rattle.verdicts.proofs.ShrunkHistories.{operation_among, value_among}
+use Rattle.claims.proofs.Lines.{each_there, operation_among, value_among}
 use Rattle.history_merge.proofs.Lists.{into_flat_map}
 use Rattle.drawing.specs.declared.scene.Row.TheVariants as row
 

@@ -17,8 +17,8 @@ use Rattle.drawing.specs.Laws.{EffectRowsAreInBars, EffectRowsRise, EffectsAreIn
 use Rattle.drawing.specs.Laws.{Matters, values_in, ValuesAreCounted}
 use Rattle.drawing.specs.Claim.{order_of, shown_by}
 use Rattle.drawing.specs.Drawn.{drawn_initial, has_value, is_drawn_initial, is_initial}
-use Rattle.verdicts.proofs.Selections.{no_longer}
-use Rattle.verdicts.specs.declared.verifying.ClaimLine.TheVariants as line
+use Rattle.history_merge.proofs.Lists.{no_longer}
+use Rattle.claims.specs.declared.claimed.ClaimLine.TheVariants as line
 use Rattle.drawing.specs.declared.scene.Row.TheVariants.{Effect, Head, Initial, Ticket}
 use Rattle.drawing.proofs.Below.{fewer, one_fewer}
 use Rattle.drawing.proofs.Nearness.{any_of}

@@ -3,10 +3,10 @@ use Rattle.std.specs.Prelude.{ℕ, Option, Some, None, List, [], map, length}
 use Rattle.history_merge.specs.declared.operation.Operation.{Operation}
 use Rattle.history_merge.specs.declared.operation.OpKind.{OpKind}
 use Rattle.history_merge.specs.declared.operation.OpKind.TheVariants.{Enq}
-use Rattle.verdicts.specs.declared.verifying.ClaimLine.{ClaimLine}
-use Rattle.verdicts.specs.declared.verifying.ClaimLine.TheVariants.{Op, Initial}
-use Rattle.verdicts.specs.declared.verifying.Claimed.{Claimed}
-use Rattle.verdicts.specs.declared.verifying.Claimed.TheVariants.{Yes, No}
+use Rattle.claims.specs.declared.claimed.ClaimLine.{ClaimLine}
+use Rattle.claims.specs.declared.claimed.ClaimLine.TheVariants.{Op, Initial}
+use Rattle.claims.specs.declared.claimed.Claimed.{Claimed}
+use Rattle.claims.specs.declared.claimed.Claimed.TheVariants.{Yes, No}
 
 -- how many lines a claim has
 abbrev pub count_of_lines : Claimed → ℕ

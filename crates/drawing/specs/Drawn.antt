@@ -8,10 +8,10 @@ use Rattle.history_merge.specs.declared.operation.Operation.{Operation}
 use Rattle.history_merge.specs.declared.operation.OpKind.{OpKind}
 use Rattle.history_merge.specs.declared.operation.OpKind.TheVariants as kind
 use Rattle.history_merge.specs.Operations.{operations_of}
-use Rattle.verdicts.specs.declared.verifying.ClaimLine.{ClaimLine}
-use Rattle.verdicts.specs.declared.verifying.ClaimLine.TheVariants.{Op, Initial}
-use Rattle.verdicts.specs.declared.verifying.Claimed.{Claimed}
-use Rattle.verdicts.specs.declared.verifying.Claimed.TheVariants.{Yes, No}
+use Rattle.claims.specs.declared.claimed.ClaimLine.{ClaimLine}
+use Rattle.claims.specs.declared.claimed.ClaimLine.TheVariants.{Op, Initial}
+use Rattle.claims.specs.declared.claimed.Claimed.{Claimed}
+use Rattle.claims.specs.declared.claimed.Claimed.TheVariants.{Yes, No}
 use Rattle.drawing.specs.Claim.{shown_by}
 use Rattle.drawing.specs.declared.drawn.Standing.{Standing}
 

@@ -7,9 +7,9 @@ use Rattle.history_merge.specs.Initial.{HistoryView}
 use Rattle.history_merge.specs.declared.operation.Operation.{Operation}
 use Rattle.history_merge.specs.declared.operation.OpKind.{OpKind}
 use Rattle.history_merge.specs.declared.operation.OpKind.TheVariants as kind
-use Rattle.verdicts.specs.declared.verifying.Claimed.{Claimed}
-use Rattle.verdicts.specs.declared.verifying.Claimed.TheVariants.{No}
-use Rattle.verdicts.specs.declared.verifying.ViolationKind.TheVariants.{VRepeat}
+use Rattle.claims.specs.declared.claimed.Claimed.{Claimed}
+use Rattle.claims.specs.declared.claimed.Claimed.TheVariants.{No}
+use Rattle.claims.specs.declared.claimed.ViolationKind.TheVariants.{VRepeat}
 use Rattle.drawing.specs.Claim.{order_of, line_kind}
 use Rattle.drawing.specs.Drawn.{drawn_initial}
 use Rattle.drawing.specs.Layout.{threads_of, point, stands_in}

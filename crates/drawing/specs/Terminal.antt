@@ -4,8 +4,8 @@ use Rattle.std.specs.Prelude.{false, if◌then◌else◌, Option, Some, None, Li
 use Rattle.std.specs.Prelude.{length, codes, decimal, unwrap_or}
 use Rattle.std.specs.List.{flat_map, range_with_len, enumerate_from}
 use Rattle.history_merge.specs.declared.operation.Operation.{Operation}
-use Rattle.verdicts.specs.declared.verifying.Claimed.{Claimed}
-use Rattle.verdicts.specs.declared.verifying.Claimed.TheVariants.{Yes, No}
+use Rattle.claims.specs.declared.claimed.Claimed.{Claimed}
+use Rattle.claims.specs.declared.claimed.Claimed.TheVariants.{Yes, No}
 use Rattle.text_lines.specs.Lines.{line}
 use Rattle.drawing.specs.Claim.{count_of_lines, shown_by}
 use Rattle.drawing.specs.declared.columns.Columns.{Columns}

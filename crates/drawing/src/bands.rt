@@ -11,7 +11,7 @@ use crate::line::Added;
 use crate::names::push_value;
 use history_merge::OpKind;
 use std::alloc::{AllocError, Global};
-use verdicts::{ClaimLine, Claimed, ViolationKind};
+use claims::{ClaimLine, Claimed, ViolationKind};
 
 /// What stands above a band.
 #[derive(Clone, Copy)]

@@ -11,7 +11,7 @@ use crate::columns::MOST_DRAWN;
 use crate::line::{Added, push_moment, push_number};
 use crate::pending::is_pending;
 use history_merge::OpKind;
-use verdicts::{ClaimLine, Claimed, ViolationKind};
+use claims::{ClaimLine, Claimed, ViolationKind};
 
 /// The caption of a `YES`.
 pub(crate) const YES_CAPTION: &[u8] =

@@ -3,7 +3,7 @@ ghost use Rattle.std.specs.Prelude.{◌≡◌, ◌≤◌, length};
 ghost use Rattle.drawing.specs.Claim.{count_of_lines, order_of, shown_by, line_kind, line_call, line_return};
 
 use history_merge::{OpKind, Operation};
-use verdicts::{ClaimLine, Claimed};
+use claims::{ClaimLine, Claimed};
 
 /// How many lines a claim has.
 pub fn count_of_lines(claimed: &Claimed) -> usize

@@ -13,7 +13,7 @@ use event_records::{Event, MAX_THREAD, MAX_THREADS};
 use history_merge::{History, OpKind, Operation};
 use itoa::Buffer;
 use std::alloc::{AllocError, Global};
-use verdicts::Claimed;
+use claims::Claimed;
 
 /// The most operations of a history and the most lines of a claim that are drawn.
 pub const MOST_DRAWN: usize = 400;

@@ -10,7 +10,7 @@ use crate::columns::events_of;
 use event_records::Event;
 use history_merge::{History, OpKind, Operation, Operations};
 use std::alloc::{AllocError, Global};
-use verdicts::{ClaimLine, Claimed};
+use claims::{ClaimLine, Claimed};
 
 /// How many events come before the call of an operation, and before its return.
 #[derive(Clone, Copy)]

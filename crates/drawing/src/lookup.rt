@@ -7,7 +7,7 @@ ghost use Rattle.drawing.specs.Claim.{count_of_lines};
 use crate::pending::is_pending;
 use crate::scene::Row;
 use history_merge::Operation;
-use verdicts::{ClaimLine, Claimed};
+use claims::{ClaimLine, Claimed};
 
 /// Returns whether an operation is of this thread, has been called by this ticket and has not returned before it, or never did.
 fn is_under_way(added_from: Option<u64>, thread: u8, ticket: u64, operation: Operation) -> bool

@@ -15,7 +15,7 @@ use crate::sheet::Scene;
 use event_records::{Event, MAX_THREADS};
 use history_merge::{History, OpKind, Operation};
 use std::alloc::{AllocError, Global};
-use verdicts::{Claimed, ViolationKind};
+use claims::{Claimed, ViolationKind};
 
 /// A row of a picture.
 #[derive(Clone, Copy)]

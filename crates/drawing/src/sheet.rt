@@ -9,7 +9,7 @@ use crate::columns::Columns;
 use crate::scene::Row;
 use history_merge::Operation;
 use std::alloc::Global;
-use verdicts::Claimed;
+use claims::Claimed;
 
 /// What a picture shows of a history and a claim.
 #[derive(Drop)]

@@ -8,7 +8,7 @@ use crate::line::Added;
 use crate::pending::is_any_pending;
 use crate::sheet::Scene;
 use std::alloc::{AllocError, Global};
-use verdicts::{Claimed, ViolationKind};
+use claims::{Claimed, ViolationKind};
 
 /// A sign of a picture that has to be explained.
 #[derive(Clone, Copy)]

@@ -27,7 +27,7 @@ use crate::signs::{Sign, meaning, signs_of};
 use history_merge::{OpKind, Operation};
 use itoa::Buffer;
 use std::alloc::{AllocError, Global};
-use verdicts::Claimed;
+use claims::Claimed;
 
 /// What the forms in the lanes mean.
 pub(crate) const LANE_MEANINGS: &[u8] = b"[    call of an operation\n]    its return\n";

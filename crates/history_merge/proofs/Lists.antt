@@ -1,13 +1,14 @@
 -- What lists contain, what holds of all their elements or pairs, and what is made of them. Crates above cite these lemmas too.
 use Rattle.std.proofs.Common.{◌≡◌, ℕ, zero, suc, ◌+◌, ◌<◌, ◌≤◌, ◌⊎◌, inl, inr, Bool, true, List, [], ◌∷◌, ◌++◌, length, get_or, take, map}
 use Rattle.std.proofs.Common.{Option, Some, None, refl, ap, sym, subst, ◌∙◌, arith, length-append}
-use Rattle.std.specs.Prelude.{All, AllPairs, Contains, filter, filter_map, flat_map, slice_get}
+use Rattle.std.specs.Prelude.{All, AllPairs, Contains, filter, filter_map, flat_map, not, slice_get}
 use Rattle.std.specs.List.{AllZip, cons_option}
 use Rattle.std.specs.Option.{option_to_list}
 use Rattle.std.proofs.lemmas.List.{append-nil, get_or-map, get_or_append_left, length-map, take_more}
 use Rattle.std.proofs.lemmas.List.Elements.{All-append, All-contains, All-contains_itself, All-filter, All-map, All-tail, All-weaker}
 use Rattle.std.proofs.lemmas.List.Elements.{Contains-append_left, Contains-append_right, Contains-get_or}
 use Rattle.std.proofs.lemmas.List.Elements.{filter-append, filter_map-append, filter_passes}
+use Rattle.std.proofs.lemmas.List.Filters.{length-filter_both}
 use Rattle.std.proofs.lemmas.List.Kept.{AllPairs-cons}
 use Rattle.std.proofs.lemmas.Option.{slice_get-get_or}
 use Rattle.history_merge.proofs.Distinct.{contains_cons, cut_at, not_in_none, pairs_at, place_of}
@@ -170,3 +171,9 @@ module _ {X Y : Type 0} (find : X → Option Y) (xs : List X) (i : ℕ) (d : X) 
   -- nothing is found there
   pub found_none : find (get_or xs i d) ≡ None → before ≡ filter_map find (take (i + 1) xs)
   found_none is = sym (one_more ∙ ap (λ (r : Option Y). before ++ cons_option r []) is ∙ append-nil before)
+
+-- ---- what a filter keeps
+
+-- some elements of a list are no more than all
+pub no_longer : {X : Type 0} (p : X → Bool) (xs : List X) → length (filter p xs) ≤ length xs
+no_longer p xs = let parts = length-filter_both p (λ x. not (p x)) (λ x. refl) xs in omega arith

@@ -10,10 +10,6 @@ use Rattle.history_merge.specs.declared.operation.Operation.{Operation}
 use Rattle.history_stats.specs.Overtaking.{put}
 use Rattle.history_stats.specs.Inner.Overtaking.{AreEnqueueCalls, enqueue_call}
 
--- the call of an operation, if it put the value
-abbrev call_if : ℕ → Operation → Option ℕ
-call_if v o = cond (put v o.kind) (Some o.call) None
-
 -- one operation more
 pub calls_more : (operations : List Operation) (i : ℕ) (o : Operation) (old new : BTreeMap ℕ ℕ) → i < length operations → o ≡ get_or operations i o
     → ((v : ℕ) → get nat_cmp new v ≡ option_or (get nat_cmp old v) (cond (put v o.kind) (Some o.call) None))

@@ -38,10 +38,10 @@ pub use Rattle.history_merge.specs.declared.operation.OpKind.{OpKind}
 pub use Rattle.history_merge.specs.declared.operation.OpKind.TheVariants.{Deq, Empty, Enq, Not}
 pub use Rattle.history_merge.specs.declared.operation.Operation.{Operation}
 pub use Rattle.recorder_core.specs.declared.step.Step.{Step}
-pub use Rattle.verdicts.specs.Claiming.{line_at}
-pub use Rattle.verdicts.specs.declared.verifying.ClaimLine.{ClaimLine}
-pub use Rattle.verdicts.specs.declared.verifying.ClaimLine.TheVariants.{Initial, Op}
-pub use Rattle.verdicts.specs.declared.verifying.ViolationKind.{ViolationKind}
+pub use Rattle.claims.specs.Claiming.{line_at}
+pub use Rattle.claims.specs.declared.claimed.ClaimLine.{ClaimLine}
+pub use Rattle.claims.specs.declared.claimed.ClaimLine.TheVariants.{Initial, Op}
+pub use Rattle.claims.specs.declared.claimed.ViolationKind.{ViolationKind}
 pub use Rattle.history_text.specs.Claims.{claim_line_format, claim_line_in, ClaimFault, empty_operation, first_line}
 pub use Rattle.history_text.specs.Claims.{FirstLineFault, HasClaimLine, HasOperationLine, HasVerdictText, initial_form}
 pub use Rattle.history_text.specs.Claims.{initial_forms, initial_of, is_initial, IsKindInRange, IsVerdictTextFault}

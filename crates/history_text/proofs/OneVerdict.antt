@@ -6,9 +6,9 @@ use Rattle.history_text.proofs.Common.{Front, front_of, HasVerdictText, HaveLine
 use Rattle.history_text.proofs.Common.{Line, line, lines_of, List, None, Nothing, Ok, operation_format, Option, refl}
 use Rattle.history_text.proofs.Common.{Result, Some, subst, sym, TextFault, TooLong, Unfinished, verdict_text}
 use Rattle.history_text.proofs.Common.{ViolationKind, Whole, ℕ, ◌++◌, ◌+◌, ◌>>=◌, ◌∙◌, ◌∷◌, ◌≡◌}
-use Rattle.verdicts.specs.declared.verifying.ViolationKind.TheVariants.{VFresh, VRepeat, VOrd, VWit}
-use Rattle.verdicts.specs.declared.verifying.Claimed.{Claimed}
-use Rattle.verdicts.specs.declared.verifying.Claimed.TheVariants.{Yes, No}
+use Rattle.claims.specs.declared.claimed.ViolationKind.TheVariants.{VFresh, VRepeat, VOrd, VWit}
+use Rattle.claims.specs.declared.claimed.Claimed.{Claimed}
+use Rattle.claims.specs.declared.claimed.Claimed.TheVariants.{Yes, No}
 use Rattle.history_text.proofs.FormLines.{claim_line_front, IsReadBack, operation_front}
 use Rattle.history_text.proofs.FirstFaults as judging
 use Rattle.history_text.proofs.FirstFaults.{then_ok, then_err, first_at, first_read, none_with, items_in, all_read, fault_found, IsJudged, Stands}

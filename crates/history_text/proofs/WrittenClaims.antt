@@ -15,11 +15,11 @@ use Rattle.history_merge.specs.Operations.{operations_of}
 use Rattle.history_merge.proofs.Distinct.{contains_at}
 use Rattle.recorder_core.specs.Laws.{operation_call, operation_return, call_of_kind, return_of_kind}
 use Rattle.recorder_core.proofs.Ticketed.{operation_events}
-use Rattle.verdicts.specs.declared.verdict.Verdict.{Verdict}
-use Rattle.verdicts.specs.declared.verdict.Verdict.TheVariants as found
-use Rattle.verdicts.specs.declared.shown.LinePlace.{LinePlace}
+use Rattle.claims.specs.declared.verdict.Verdict.{Verdict}
+use Rattle.claims.specs.declared.verdict.Verdict.TheVariants as found
+use Rattle.claims.specs.declared.shown.LinePlace.{LinePlace}
 use Rattle.history_merge.proofs.Lists.{some_of}
-use Rattle.verdicts.specs.declared.shown.LinePlace.TheVariants as place
+use Rattle.claims.specs.declared.shown.LinePlace.TheVariants as place
 
 -- a complete history has a text
 pub complete_has_text : (events : List Event) → IsCompleteHistory events → All (λ e. HasValueInRange e.what) events → length events ≤ MAX_EVENTS

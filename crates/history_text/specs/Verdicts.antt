@@ -4,17 +4,17 @@ use Rattle.std.specs.List.{flat_map}
 use Rattle.history_merge.specs.declared.operation.Operation.{Operation}
 use Rattle.history_merge.specs.declared.operation.OpKind.{OpKind}
 use Rattle.history_merge.specs.declared.operation.OpKind.TheVariants.{Enq, Deq, Empty, Not}
-use Rattle.verdicts.specs.declared.verifying.ViolationKind.{ViolationKind}
-use Rattle.verdicts.specs.declared.verifying.ViolationKind.TheVariants.{VFresh, VRepeat, VOrd, VWit}
-use Rattle.verdicts.specs.declared.verifying.ClaimLine.{ClaimLine}
-use Rattle.verdicts.specs.declared.verifying.ClaimLine.TheVariants.{Op, Initial}
-use Rattle.verdicts.specs.declared.verifying.Claimed.{Claimed}
-use Rattle.verdicts.specs.declared.verifying.Claimed.TheVariants as claimed
+use Rattle.claims.specs.declared.claimed.ViolationKind.{ViolationKind}
+use Rattle.claims.specs.declared.claimed.ViolationKind.TheVariants.{VFresh, VRepeat, VOrd, VWit}
+use Rattle.claims.specs.declared.claimed.ClaimLine.{ClaimLine}
+use Rattle.claims.specs.declared.claimed.ClaimLine.TheVariants.{Op, Initial}
+use Rattle.claims.specs.declared.claimed.Claimed.{Claimed}
+use Rattle.claims.specs.declared.claimed.Claimed.TheVariants as claimed
 use Rattle.text_lines.specs.Lines.{line, spaced}
 -- the places of a violation's operations, and of a value's in its cover, in the order in which they are shown
-pub use Rattle.verdicts.specs.Shown.{maybe_place, places_of_step, violation_places}
+pub use Rattle.claims.specs.Shown.{maybe_place, places_of_step, violation_places}
 -- the places of a verdict's operations and initial values, and what it claims
-pub use Rattle.verdicts.specs.Claiming.{verdict_places, violation_kind, IsWithin, lines_at, operations_at, claim_of}
+pub use Rattle.claims.specs.Claiming.{verdict_places, violation_kind, IsWithin, lines_at, operations_at, claim_of}
 
 -- the words of what an operation did, with its value
 abbrev pub kind_fields : OpKind → List (List ℕ)

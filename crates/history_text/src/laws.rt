@@ -2,8 +2,8 @@
 ghost use Rattle.std.specs.Prelude.{◌≡◌, ◌≤◌, ◌++◌, ℕ, Bool, true, List, [], length};
 ghost use Rattle.event_records.specs.declared.limits.TheConstants.{MAX_CLAIM_LINES};
 ghost use Rattle.history_merge.specs.Operations.{operations_of};
-ghost use Rattle.verdicts.specs.declared.verifying.Claimed.{Claimed};
-ghost use Rattle.verdicts.specs.declared.verdict.Verdict.{Verdict};
+ghost use Rattle.claims.specs.declared.claimed.Claimed.{Claimed};
+ghost use Rattle.claims.specs.declared.verdict.Verdict.{Verdict};
 ghost use Rattle.text_lines.specs.declared.fault.TextFault.{TextFault};
 ghost use Rattle.history_text.specs.declared.schedule.Schedule.{Schedule};
 ghost use Rattle.history_text.specs.Verdicts.{claim_of, verdict_places, verdict_text};

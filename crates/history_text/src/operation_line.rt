@@ -12,7 +12,7 @@ use crate::item::Item;
 use event_records::{MAX_CLAIM_LINES, MAX_THREAD};
 use history_merge::{OpKind, Operation};
 use text_lines::{Field, NumberFields, TextFault, split_field};
-use verdicts::{ClaimLine, ViolationKind};
+use claims::{ClaimLine, ViolationKind};
 
 /// Returns what the first line of a verdict answers: no kind for a `YES`, the kind for a `NO`.
 pub(crate) fn answer_in(bytes: &[u8]) -> Option<Option<ViolationKind>>

@@ -2,7 +2,7 @@
 ghost use Rattle.std.specs.Prelude.{◌≡◌, ◌+◌, ◌<◌, ◌^◌, ◌≤◌, true, false, IfOk, IfErr, OnErr, OnOk, MatchResult, IfNone, IfSome};
 ghost use Rattle.std.specs.Prelude.{option_to_list, is_err, not, Err, Ok, length, List, []};
 ghost use Rattle.event_records.specs.declared.limits.TheConstants.{MAX_INITIAL};
-ghost use Rattle.verdicts.specs.declared.verifying.Claimed.{Claimed};
+ghost use Rattle.claims.specs.declared.claimed.Claimed.{Claimed};
 ghost use Rattle.history_text.specs.declared.schedule.Schedule.{Schedule};
 ghost use Rattle.text_lines.specs.Input.{EndOfInput, Failure};
 ghost use Rattle.text_lines.specs.Lines.{header_fault, line};
@@ -35,7 +35,7 @@ pub use pending::read_pending;
 use std::alloc::Global;
 use std::marker::Model;
 use text_lines::{LONGEST_LINE, Line, ReadFailed, TextFault, TextSource};
-use verdicts::{ClaimLines, Claimed, Lines, ViolationKind};
+use claims::{ClaimLines, Claimed, Lines, ViolationKind};
 
 /// A reader of texts, one after another, from one source.
 ///

@@ -8,7 +8,7 @@ ghost use Rattle.history_text.specs.Verdicts.{maybe_place, violation_places, pla
 ghost use Rattle.history_text.specs.Inner.Verdicts.{line_text, lines_text, word_of};
 ghost use Rattle.history_text.specs.declared.version.Version.TheVariants.{One};
 ghost use Rattle.history_text.specs.Versions.{said_in, text_of};
-ghost use Rattle.verdicts.specs.declared.shown.LinePlace.TheVariants as place;
+ghost use Rattle.claims.specs.declared.shown.LinePlace.TheVariants as place;
 ghost use Rattle.text_lines.specs.Writing.{Puts, Writes, PutsText};
 
 use crate::history_writer::write_history;
@@ -17,7 +17,7 @@ use crate::version::Version;
 use history_merge::{History, OpId, OpKind, Operation, Operations};
 use text_lines::{TextSink, WriteBuffer, WriteFault, write_piece};
 use value_match::{CoverStep, Violation};
-use verdicts::{ClaimLine, LinePlace, Verdict};
+use claims::{ClaimLine, LinePlace, Verdict};
 
 #[inline(always)]
 fn push_kind(kept: &mut WriteBuffer, kind: OpKind, word: &'static [u8; 4])

@@ -1,7 +1,7 @@
 //! What is answered of a history.
 ghost use Rattle.std.specs.Prelude.{IfOk};
 ghost use Rattle.history_merge.specs.Operations.{operations_of};
-ghost use Rattle.verdicts.specs.Claiming.{IsWithin};
+ghost use Rattle.claims.specs.Claiming.{IsWithin};
 ghost use Rattle.value_match.specs.Outcome.{IsChosenViolation};
 ghost use Rattle.verdicts.specs.Verdicts.{IsVerdict};
 

@@ -6,7 +6,7 @@ use Rattle.std.specs.Str.{bytes_eq}
 use Rattle.history_merge.specs.declared.operation.Operation.{Operation}
 use Rattle.history_merge.specs.Operations.{Precedes, operations_of}
 use Rattle.history_merge.specs.Initial.{HistoryView}
-use Rattle.verdicts.specs.declared.verifying.Claimed.{Claimed}
+use Rattle.claims.specs.declared.claimed.Claimed.{Claimed}
 use Rattle.drawing.specs.Pending.{is_added}
 use Rattle.drawing.specs.Scene.{SceneView, scene_of, stands_above}
 use Rattle.drawing.specs.declared.scene.Row.{Row}

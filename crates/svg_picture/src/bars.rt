@@ -17,7 +17,7 @@ use drawing::{
 use history_merge::{OpKind, Operation};
 use itoa::Buffer;
 use std::alloc::{AllocError, Global};
-use verdicts::Claimed;
+use claims::Claimed;
 
 /// How an operation or an initial value is marked.
 pub(crate) fn mark(claimed: &Claimed, away: bool, place: Option<usize>) -> &'static [u8]

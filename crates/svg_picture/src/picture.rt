@@ -24,7 +24,7 @@ use drawing::{
     signs_of, ticket_width,
 };
 use std::alloc::{AllocError, Global};
-use verdicts::Claimed;
+use claims::Claimed;
 
 fn caption_of(alloc: Global, scene: &Scene<'_>) -> Result<Vec<u8>, AllocError>
     requires { count_of_lines scene.now.claimed.now ≤ MOST_DRAWN }

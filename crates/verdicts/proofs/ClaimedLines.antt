@@ -14,7 +14,7 @@ use Rattle.value_match.proofs.Agreeing.{covers_of}
 use Rattle.std.proofs.lemmas.Cmp.{ranked}
 use Rattle.std.specs.Ordering.{ordering_index}
 use Rattle.verdicts.specs.Laws.{LinesTellViolation}
-use Rattle.verdicts.specs.Showing.{ComesBefore}
+use Rattle.claims.specs.Showing.{ComesBefore}
 
 -- ---- operations looked up by their calls
 

@@ -93,24 +93,24 @@ pub use Rattle.empty_witness.proofs.Covers.{chosen_cover, chosen_cover_is_shorte
 pub use Rattle.empty_witness.proofs.Covers.{violation_covers}
 pub use Rattle.linearizer.proofs.Elements.{one_place}
 pub use Rattle.linearizer.proofs.OneOrder.{chosen_order_exists, operations_rise}
-pub use Rattle.verdicts.specs.Claiming.{is_operation, IsPlaceWithin, line_at, lines_at, lines_of_history}
-pub use Rattle.verdicts.specs.Claiming.{operations_at, operations_named, verdict_places, violation_kind}
+pub use Rattle.claims.specs.Claiming.{is_operation, IsPlaceWithin, line_at, lines_at, lines_of_history}
+pub use Rattle.claims.specs.Claiming.{operations_at, operations_named, verdict_places, violation_kind, violation_lines}
 pub use Rattle.verdicts.specs.Decided.{IsDecided}
 pub use Rattle.verdicts.specs.Inner.Claims.{CallsRise, dequeued_by, enqueued_by, value_dequeued, value_enqueued}
-pub use Rattle.verdicts.specs.Showing.{EnqueuedBefore, LeavesAfter, LineDid, LinePrecedes, LinesCover, NoLineDid}
-pub use Rattle.verdicts.specs.Showing.{ReturnsFirst, Shows}
+pub use Rattle.claims.specs.Showing.{EnqueuedBefore, LeavesAfter, LineDid, LinePrecedes, LinesCover, NoLineDid}
+pub use Rattle.claims.specs.Showing.{ReturnsFirst, Shows}
 pub use Rattle.verdicts.specs.Inner.Selecting.{call_in, holds_ticket, SelectsNamed, value_in}
 pub use Rattle.verdicts.specs.Selection.{AreLinearizable, ArePartOf, contents_of, IsMinimal, IsShortestCover}
-pub use Rattle.verdicts.specs.Selection.{KeepsViolation, select, selects, StaysChosen, value_of, violation_lines}
-pub use Rattle.verdicts.specs.Shown.{maybe_place, place_of_source, places_of_step, violation_places}
+pub use Rattle.verdicts.specs.Selection.{KeepsViolation, select, selects, StaysChosen, value_of}
+pub use Rattle.claims.specs.Shown.{maybe_place, place_of_source, places_of_step, violation_places}
 pub use Rattle.verdicts.specs.Verdicts.{IsVerdict}
-pub use Rattle.verdicts.specs.declared.shown.LinePlace.{LinePlace}
-pub use Rattle.verdicts.specs.declared.verdict.Verdict.TheVariants.{No, Yes}
-pub use Rattle.verdicts.specs.declared.verifying.ClaimLine.{ClaimLine}
-pub use Rattle.verdicts.specs.declared.verifying.ViolationKind.{ViolationKind}
-pub use Rattle.verdicts.specs.declared.verifying.ViolationKind.TheVariants.{VFresh, VOrd, VRepeat, VWit}
+pub use Rattle.claims.specs.declared.shown.LinePlace.{LinePlace}
+pub use Rattle.claims.specs.declared.verdict.Verdict.TheVariants.{No, Yes}
+pub use Rattle.claims.specs.declared.claimed.ClaimLine.{ClaimLine}
+pub use Rattle.claims.specs.declared.claimed.ViolationKind.{ViolationKind}
+pub use Rattle.claims.specs.declared.claimed.ViolationKind.TheVariants.{VFresh, VOrd, VRepeat, VWit}
 pub use Rattle.history_merge.proofs.Formed.{all_formed}
 pub use Rattle.std.proofs.lemmas.Slice.Zip.{AllZip-long}
 pub use Rattle.value_match.proofs.Agreeing.{chosen_of}
-pub use Rattle.verdicts.specs.Claims.{kind_of}
+pub use Rattle.claims.specs.Claims.{kind_of}
 unfoldable pub use Rattle.std.specs.List.{IsDistinct}

@@ -27,7 +27,7 @@ use Rattle.std.proofs.Common.{count_by}
 use Rattle.verdicts.proofs.Retiming.{lifted, lifted_late, lifted_rises, retimed, start}
 use Rattle.history_merge.specs.Inner.Timeline.{earlier_by}
 use Rattle.linearizer.proofs.Elements.{none_twice-filter, NoneTwice, zip_joined}
-use Rattle.verdicts.specs.declared.shown.LinePlace.TheVariants.{Initial, Op}
+use Rattle.claims.specs.declared.shown.LinePlace.TheVariants.{Initial, Op}
 use Rattle.value_match.proofs.ToldPlaces.{call_told, dequeue_told, empty_told, fresh_dequeues, maybe_told, source_told}
 use Rattle.value_match.specs.Inner.Told.{told_place, told_source}
 use Rattle.order_violation.specs.Pairs.{IsChosenPair}
@@ -42,17 +42,17 @@ use Rattle.std.proofs.lemmas.List.Elements.{All-head, All-tail}
 use Rattle.std.proofs.lemmas.List.Sorted.{IsPermutation-remove}
 use Rattle.std.proofs.lemmas.List.Sums.{sum_by-cons}
 use Rattle.history_merge.proofs.Distinct.{each_timed}
-use Rattle.verdicts.specs.declared.verdict.Verdict.{Verdict}
+use Rattle.claims.specs.declared.verdict.Verdict.{Verdict}
 use Rattle.verdicts.proofs.CoverGaps.{all_stay, chosen_are_lives, handover, IsCalledInside}
 use Rattle.history_merge.proofs.Timelines.{length_timeline}
 use Rattle.verdicts.proofs.NamedLines.{cover_lines, line_of_a, line_of_b, lines_are_operations}
-use Rattle.verdicts.proofs.Selections.{no_longer}
+use Rattle.history_merge.proofs.Lists.{no_longer}
 use Rattle.linearizer.proofs.OneOrder.{none_twice_in_lives}
 use Rattle.value_match.specs.declared.life.Source.TheVariants as source
 use Rattle.value_match.specs.declared.violation.Violation.TheVariants as violation
-use Rattle.verdicts.specs.declared.verifying.ClaimLine.TheVariants as line
+use Rattle.claims.specs.declared.claimed.ClaimLine.TheVariants as line
 use Rattle.empty_witness.specs.declared.answer.WitnessAnswer.TheVariants as found
-use Rattle.verdicts.specs.declared.shown.LinePlace.TheVariants as place
+use Rattle.claims.specs.declared.shown.LinePlace.TheVariants as place
 
 -- the value of a successful enqueue
 abbrev pub accepted_value : OpKind → ℕ

@@ -23,7 +23,8 @@ use Rattle.verdicts.proofs.NamedLines.{line_of_b, lines_are_operations, order_li
 use Rattle.std.proofs.lemmas.Bool.{ltb_from_iff}
 use Rattle.verdicts.proofs.Chosen.{chosen_is_violation}
 use Rattle.verdicts.proofs.CoverGaps.{chosen_are_lives, left_by, match_then}
-use Rattle.verdicts.proofs.Selections.{Carries, life_carried, mapped_life, mapped_violation, no_longer}
+use Rattle.history_merge.proofs.Lists.{no_longer}
+use Rattle.verdicts.proofs.Selections.{Carries, life_carried, mapped_life, mapped_violation}
 use Rattle.verdicts.proofs.Selections.{violation_carried}
 
 -- the same operation at other times

@@ -11,7 +11,7 @@ use Rattle.verdicts.proofs.Common.{FullViolation, get_or, holds_ticket, inl, inr
 use Rattle.verdicts.proofs.Common.{IsCompleteFrom, IsCompleteHistory, IsLife, IsNamed, IsShortestCover, IsTrue}
 use Rattle.verdicts.proofs.Common.{IsViolationOf, IsWitnessViolation, keeps, kept, kind_of, length, Life, lines_of}
 use Rattle.verdicts.proofs.Common.{List, list_any-from_Any, map, map-append, MatchOption, MAX_INITIAL, MAX_THREAD}
-use Rattle.verdicts.proofs.Common.{MAX_TICKET, Names, nat_eq, nat_tests, NEVER, None, NoneDid, Not, not, not_in_none}
+use Rattle.verdicts.proofs.Common.{MAX_TICKET, Names, nat_eq, nat_tests, NEVER, None, NoneDid, Not, not_in_none}
 use Rattle.verdicts.proofs.Common.{on, one_at, one_deeper, Operation, operations_are_complete, operations_of}
 use Rattle.verdicts.proofs.Common.{operations_of_life, OpKind, Option, option_map, option_to_list, order}
 use Rattle.verdicts.proofs.Common.{passed_filter, passes_filter, Precedes, projection, refl, repeat, return_or_never}
@@ -24,7 +24,7 @@ use Rattle.history_merge.specs.Forming.{operation_so_far, operations_so_far}
 use Rattle.history_merge.specs.Inner.History.{next_of}
 use Rattle.history_merge.proofs.Turns.{answered_is_call}
 use Rattle.std.proofs.lemmas.Bool.Decides.{same_from_decides}
-use Rattle.std.proofs.lemmas.List.Filters.{length-filter_both}
+use Rattle.history_merge.proofs.Lists.{no_longer}
 use Rattle.value_match.specs.declared.violation.Violation.TheVariants as violation
 
 -- the operations of a life, each by its image
@@ -386,10 +386,6 @@ module _ (test : Operation → Bool) (events : List Event) (complete : IsComplet
   operations_of_selected =
       sym (all_formed (events_at_tickets_of (filter test (operations_of events)) events) selected_events_are_complete)
       ∙ kept_operations (holds_ticket (filter test (operations_of events))) test events keep_both ∙ ap (filter test) (all_formed events complete)
-
--- some elements of a list are no more than all
-pub no_longer : {X : Type 0} (p : X → Bool) (xs : List X) → length (filter p xs) ≤ length xs
-no_longer p xs = let parts = length-filter_both p (λ x. not (p x)) (λ x. refl) xs in omega arith
 
 -- some of the values before others that are among those that stood there
 distinct_kept : (p : ℕ → Bool) (initial calls fewer : List ℕ) → AreDistinct (initial ++ calls) → AreDistinct fewer

@@ -1,12 +1,12 @@
 -- Lines of a history stand for operations of its timeline, and show a violation if and only if these are one.
-use Rattle.verdicts.proofs.Common.{[], All-contains, All-from_recursion, AllByRecursion, AllZip, answers, ap}
+use Rattle.verdicts.proofs.Common.{[], AllZip, answers, ap}
 use Rattle.verdicts.proofs.Common.{AreComplete, arith, call_or_never, ClaimLine, Contains, Contains-append_left}
 use Rattle.verdicts.proofs.Common.{Contains-append_right, contains_at, CoversFrom, Deq, dequeue_call, dequeue_of}
 use Rattle.verdicts.proofs.Common.{dequeued_if_called, dequeues, Did, did_dequeue, Empty, Enq, enqueue_of}
 use Rattle.verdicts.proofs.Common.{enqueue_return, enqueue_stands, flat_map, fresh, FullViolation, initial_enqueue}
 use Rattle.verdicts.proofs.Common.{initial_enqueues, initial_time, inl, inr, IsLife, IsOrderViolation, IsViolationOf}
 use Rattle.verdicts.proofs.Common.{kind_of, later_by, LeavesAfter, length, Life, LineDid, LinePrecedes, lines_of}
-use Rattle.verdicts.proofs.Common.{lines_of_history, LinesCover, List, map, mapped_to, MatchOption, MAX_INITIAL, NEVER}
+use Rattle.verdicts.proofs.Common.{LinesCover, List, map, mapped_to, MatchOption, MAX_INITIAL, NEVER}
 use Rattle.verdicts.proofs.Common.{NoLineDid, None, NoneDid, Not, on, Operation, operations_of_life, OpKind, Option}
 use Rattle.verdicts.proofs.Common.{option_to_list, order, ORIGIN, place_of, refl, repeat, return_or_never}
 use Rattle.verdicts.proofs.Common.{ReturnsFirst, same_enqueue, Shows, slice_get, slice_get_within, Some, subst, sym}
@@ -14,7 +14,7 @@ use Rattle.verdicts.proofs.Common.{timeline, timeline_at, VFresh, ViolationKind,
 use Rattle.verdicts.proofs.Common.{◌+◌, ◌-◌, ◌<◌, ◌↔◌, ◌∙◌, ◌∷◌, ◌≡◌, ◌≤◌, ◌⊎◌}
 use Rattle.verdicts.proofs.NamedPlaces.{accepted_value, early_line, later_line, line_of}
 use Rattle.verdicts.proofs.Retiming.{times_in_range}
-use Rattle.verdicts.specs.declared.verifying.ClaimLine.TheVariants.{Initial, Op}
+use Rattle.claims.specs.declared.claimed.ClaimLine.TheVariants.{Initial, Op}
 
 -- the line is that of this operation of the timeline
 abbrev pub StandsFor : List ℕ → List Operation → ClaimLine → Operation → Type 0
@@ -410,39 +410,3 @@ module _ (initial : List ℕ) (operations : List Operation) (few : length initia
           violates = record { answers_empty = (at.0, is); covers = covers' };
         }
     shown_violation _ _ shows = absurd shows
-
--- ---- the lines of a violation are of the history
-
-module _ (initial : List ℕ) (operations : List Operation) where
-  abbrev IsThere : ClaimLine → Type 0
-  IsThere l = Contains (lines_of_history initial operations) l
-
-  line_there : (l : ClaimLine) (kind : OpKind) → LineDid initial operations l kind → IsThere l
-  line_there (Op o) kind did = Contains-append_right (map Initial initial) (map Op operations) (Op o) (mapped_to Op operations o did.0)
-  line_there (Initial v) kind did = Contains-append_left (map Initial initial) (map Op operations) (Initial v) (mapped_to Initial initial v did.0)
-
-  leaves_there : (line : ClaimLine) (v : ℕ) (lines : List ClaimLine) → LeavesAfter initial operations line v lines → AllByRecursion IsThere lines
-  leaves_there line v [] leaves = tt
-  leaves_there line v (l ∷ []) leaves = (line_there l (Deq v) leaves.0, tt)
-  leaves_there line v (l ∷ m ∷ lines) leaves = absurd leaves
-
-  cover_there : (empty line : ClaimLine) (lines : List ClaimLine) → LinesCover initial operations empty line lines → AllByRecursion IsThere lines
-  cover_there empty line [] covers = absurd covers
-  cover_there empty line (l ∷ []) (v, enters, leaves) = (line_there l (Enq v) enters.0, tt)
-  cover_there empty line (l ∷ m ∷ []) (v, enters, leaves) = (line_there l (Enq v) enters.0, leaves_there empty v (m ∷ []) leaves)
-  cover_there empty line (l ∷ m ∷ n ∷ lines) (v, enters, did, covers) =
-      (line_there l (Enq v) enters.0, (line_there m (Deq v) did, cover_there empty m (n ∷ lines) covers))
-
-  all_there : (kind : ViolationKind) (lines : List ClaimLine) → Shows initial operations kind lines → AllByRecursion IsThere lines
-  all_there VFresh (l ∷ []) (v, did, not_accepted, not_refused) = (line_there l (Deq v) did, tt)
-  all_there VFresh (l ∷ m ∷ []) (v, did, inl refused) = (line_there l (Deq v) did, (line_there m (Not v) refused, tt))
-  all_there VFresh (l ∷ m ∷ []) (v, did, inr late) = (line_there l (Deq v) did, (line_there m (Enq v) late.0, tt))
-  all_there VRepeat (l ∷ m ∷ n ∷ []) (v, put_in, taken, again, in_order) =
-      (line_there l (Enq v) put_in, (line_there m (Deq v) taken, (line_there n (Deq v) again, tt)))
-  all_there VOrd (l ∷ m ∷ n ∷ rest) (v, w, put_in, put_in', taken, before, leaves) =
-      (line_there l (Enq v) put_in, (line_there m (Enq w) put_in', (line_there n (Deq w) taken, leaves_there n v rest leaves)))
-  all_there VWit (l ∷ lines) (found, covers) = (line_there l Empty found, cover_there l l lines covers)
-  all_there _ _ shows = absurd shows
-
-  pub each_there : (kind : ViolationKind) (lines : List ClaimLine) → Shows initial operations kind lines → (l : ClaimLine) → Contains lines l → IsThere l
-  each_there kind lines shows l among = All-contains IsThere lines l (All-from_recursion IsThere lines (all_there kind lines shows)) among

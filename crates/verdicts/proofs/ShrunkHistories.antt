@@ -15,17 +15,19 @@ use Rattle.verdicts.proofs.Common.{◌≡◌, ◌≢◌, ◌≤◌, ◌⊎◌}
 use Rattle.value_match.proofs.ToldPlaces.{course_back}
 use Rattle.verdicts.proofs.Chosen.{chosen_is_violation}
 use Rattle.verdicts.proofs.Selections.{filters_swap, kept_is_complete_from, kept_timeline_are_complete, mapped_kind}
-use Rattle.verdicts.proofs.Selections.{mapped_lines, mapped_violation, no_longer, operations_kept}
+use Rattle.history_merge.proofs.Lists.{no_longer}
+use Rattle.verdicts.proofs.Selections.{mapped_lines, mapped_violation, operations_kept}
 use Rattle.verdicts.proofs.Exactly.{linearizable_without, violation_excludes_order}
 use Rattle.verdicts.proofs.Retiming.{all_or_one, back_there, chosen_back, lifted, lifted_late, lifted_rises, map_agree}
 use Rattle.verdicts.proofs.Retiming.{none_is_left, retimed, selected_of_timeline, selected_stands, StandsAs, start}
 use Rattle.verdicts.proofs.Retiming.{timeline_late, violation_back}
 use Rattle.verdicts.proofs.NamedLines.{AreFor, IsFor, lines_are_operations, selects_as_call, selects_as_value}
+use Rattle.claims.proofs.Lines.{operation_among, value_among}
 use Rattle.verdicts.proofs.NamedPlaces.{accepted_value, call_of_line, each_shown, early_line, late_line, line_of}
 use Rattle.verdicts.proofs.NamedPlaces.{line_of_call, line_there, same_line, shown_lines, value_of_line, violation_at}
 use Rattle.verdicts.proofs.TrueClaims.{same_kind}
-use Rattle.verdicts.specs.declared.verifying.ClaimLine.TheVariants.{Initial, Op}
-use Rattle.verdicts.specs.declared.verifying.Claimed.TheVariants as claimed
+use Rattle.claims.specs.declared.claimed.ClaimLine.TheVariants.{Initial}
+use Rattle.claims.specs.declared.claimed.Claimed.TheVariants as claimed
 
 -- the empty answers of a selection, by their calls on the timeline
 abbrev pub calls_behind : (ℕ → Bool) → ℕ → Bool
@@ -334,28 +336,6 @@ are_shrunk whole violation values calls small is_whole chosen named has_values h
 -- claims of a `NO` that are one have the same lines
 one_list_of_lines : (k l : ViolationKind) (xs ys : List ClaimLine) → claimed.No k xs ≡ claimed.No l ys → xs ≡ ys
 one_list_of_lines k l xs ys same = cc
-
--- a line of an initial value or an operation among those of a history is of one of its own
-pub value_among : (initial : List ℕ) (operations : List Operation) (v : ℕ) → Contains (lines_of_history initial operations) (Initial v) → Contains initial v
-value_among initial operations v among = elim (Contains-append_cases (map Initial initial) (map Op operations) (Initial v) among) [
-  | inl here ↦
-      let found = mapped_from Initial initial (Initial v) here in
-      let same : Initial found.0 ≡ Initial v = found.2 in
-      let one : found.0 ≡ v = cc in
-      subst (Contains initial) one found.1
-  | inr there ↦ let found = mapped_from Op operations (Initial v) there in let clash : Op found.0 ≡ Initial v = found.2 in cc
-]
-
-pub operation_among : (initial : List ℕ) (operations : List Operation) (o : Operation) → Contains (lines_of_history initial operations) (Op o)
-    → Contains operations o
-operation_among initial operations o among = elim (Contains-append_cases (map Initial initial) (map Op operations) (Op o) among) [
-  | inl here ↦ let found = mapped_from Initial initial (Op o) here in let clash : Initial found.0 ≡ Op o = found.2 in cc
-  | inr there ↦
-      let found = mapped_from Op operations (Op o) there in
-      let same : Op found.0 ≡ Op o = found.2 in
-      let one : found.0 ≡ o = cc in
-      subst (Contains operations) one found.1
-]
 
 -- a filter keeps all, or it doesn't
 same_or_not : {X : Type 0} (p : X → Bool) (xs : List X) → (filter p xs ≡ xs) ⊎ (filter p xs ≢ xs)

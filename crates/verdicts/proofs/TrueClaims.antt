@@ -17,8 +17,8 @@ use Rattle.verdicts.proofs.NamedLines.{lines_are_operations}
 use Rattle.verdicts.proofs.NamedPlaces.{all_within, each_shown, IsShownAt, line_of, shown_lines, violation_at}
 use Rattle.verdicts.specs.Laws.{EvidenceIsTrueClaim, LinearizableExactly, TrueClaimDecides, ViolationExcludesOrder}
 use Rattle.verdicts.specs.Verdicts.{IsEvidence}
-use Rattle.verdicts.specs.declared.verifying.Claimed.TheVariants as claimed
-use Rattle.verdicts.specs.declared.verdict.Verdict.TheVariants as found
+use Rattle.claims.specs.declared.claimed.Claimed.TheVariants as claimed
+use Rattle.claims.specs.declared.verdict.Verdict.TheVariants as found
 use Rattle.value_match.specs.declared.matching.Matched.TheVariants as matched
 
 -- a violation and the operations that it names are of one kind

@@ -1,8 +1,8 @@
 -- What is decided of a history.
 use Rattle.std.specs.Prelude.{ℕ, List}
 use Rattle.history_merge.specs.declared.operation.Operation.{Operation}
-use Rattle.verdicts.specs.declared.verdict.Verdict.{Verdict}
-use Rattle.verdicts.specs.Claiming.{IsWithin}
+use Rattle.claims.specs.declared.verdict.Verdict.{Verdict}
+use Rattle.claims.specs.Claiming.{IsWithin}
 use Rattle.verdicts.specs.Verdicts.{IsEvidence, IsExact, IsVerdict}
 
 -- the chosen verdict, which is evidence and exact, by places of initial values and operations

@@ -1,4 +1,3 @@
 -- Relations that serve the contracts of private functions: no public promise names one.
 pub mod Claims
 pub mod Selecting
-pub mod Shown

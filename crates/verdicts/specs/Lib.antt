@@ -1,9 +1,5 @@
 pub mod Verdicts
-pub mod Showing
-pub mod Claims
 pub mod Laws
 pub mod Selection
-pub mod Shown
-pub mod Claiming
 pub mod Decided
 pub mod Inner

@@ -12,10 +12,9 @@ use Rattle.value_match.specs.declared.violation.Violation.{Violation}
 use Rattle.value_match.specs.Lives.{Course, course}
 use Rattle.value_match.specs.Violations.{FullViolation, witness, IsWitnessViolation}
 use Rattle.value_match.specs.Outcome.{IsChosenViolation, Names}
-use Rattle.verdicts.specs.declared.verdict.Verdict.TheVariants.{No}
-use Rattle.verdicts.specs.declared.verifying.ClaimLine.{ClaimLine}
-use Rattle.verdicts.specs.Claiming.{claim_of, lines_at, lines_of_history}
-use Rattle.verdicts.specs.Shown.{violation_places}
+use Rattle.claims.specs.declared.verdict.Verdict.TheVariants.{No}
+use Rattle.claims.specs.declared.claimed.ClaimLine.{ClaimLine}
+use Rattle.claims.specs.Claiming.{claim_of, lines_of_history, violation_lines}
 
 -- the value of an operation; an empty answer has none
 abbrev pub value_of : OpKind → Option ℕ
@@ -47,10 +46,6 @@ AreLinearizable contents = IsLinearizable contents.initial contents.operations
 -- no selection but the whole fails to be linearizable
 abbrev pub IsMinimal : Contents → Type 0
 IsMinimal whole = ¬ (AreLinearizable whole) × ((selected : Contents) → IsValueClosed whole selected → selected ≢ whole → AreLinearizable selected)
-
--- the lines of a violation of a history
-abbrev pub violation_lines : HistoryView → Violation → List ClaimLine
-violation_lines history violation = lines_at history.initial (operations_of history.events) (violation_places violation)
 
 -- a selection that keeps each line of the violation
 abbrev pub KeepsViolation : HistoryView → Violation → HistoryView → Type 0

@@ -5,11 +5,11 @@ use Rattle.history_merge.specs.Legal.{IsLegalOrder, IsLinearizable, ArePlacesOf}
 use Rattle.value_match.specs.Lives.{course, timed}
 use Rattle.value_match.specs.Outcome.{IsChosenViolation}
 use Rattle.linearizer.specs.Order.{IsChosenOrder}
-use Rattle.verdicts.specs.declared.verdict.Verdict.{Verdict}
-use Rattle.verdicts.specs.declared.verdict.Verdict.TheVariants.{Yes, No}
-use Rattle.verdicts.specs.Claiming.{IsWithin, lines_at, violation_kind}
-use Rattle.verdicts.specs.Showing.{Shows}
-use Rattle.verdicts.specs.Shown.{violation_places}
+use Rattle.claims.specs.declared.verdict.Verdict.{Verdict}
+use Rattle.claims.specs.declared.verdict.Verdict.TheVariants.{Yes, No}
+use Rattle.claims.specs.Claiming.{IsWithin, lines_at, violation_kind}
+use Rattle.claims.specs.Showing.{Shows}
+use Rattle.claims.specs.Shown.{violation_places}
 
 -- yes with the chosen order, or no with the chosen violation
 abbrev pub IsVerdict : List ℕ → List Operation → Verdict → Type 0

@@ -2,11 +2,11 @@ ghost use Rattle.std.specs.Prelude.{◌≡◌, ◌↔◌, ◌⊎◌, ℕ, IsTrue
 ghost use Rattle.history_merge.specs.declared.operation.OpKind.TheVariants.{Deq, Enq, Not};
 ghost use Rattle.history_merge.specs.Operations.{operations_of};
 ghost use Rattle.verdicts.specs.Inner.Claims.{dequeued_by, enqueued_by};
-ghost use Rattle.verdicts.specs.Showing.{EnqueuedBefore, LeavesAfter, LineDid, LinePrecedes, LinesCover, NoLineDid, ReturnsFirst};
-ghost use Rattle.verdicts.specs.Showing.{Shows, ShowsFresh, ShowsOrder, ShowsRepeat, ShowsWitness};
+ghost use Rattle.claims.specs.Showing.{EnqueuedBefore, LeavesAfter, LineDid, LinePrecedes, LinesCover, NoLineDid, ReturnsFirst};
+ghost use Rattle.claims.specs.Showing.{Shows, ShowsFresh, ShowsOrder, ShowsRepeat, ShowsWitness};
 
 use crate::lookup::{line_did, line_precedes, no_line_did, returns_first};
-use crate::verifying::{ClaimLine, ViolationKind};
+use claims::{ClaimLine, ViolationKind};
 use history_merge::{History, OpKind};
 
 /// Whether the lines show a violation of this kind.

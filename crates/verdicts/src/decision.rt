@@ -7,7 +7,7 @@ ghost use Rattle.empty_witness.specs.Answers.{IsWitnessAnswer};
 ghost use Rattle.parallel_finders.specs.declared.TheConstants.{MAX_PIECES};
 ghost use Rattle.verdicts.specs.Decided.{IsDecided};
 
-use crate::verdict::{Order, Verdict};
+use claims::{Order, Verdict};
 use empty_witness::WitnessAnswer;
 use history_merge::History;
 use linearizer::{OrderFound, OrderedValues, linearize, order_values};

@@ -3,24 +3,21 @@
 
 mod claimed_order;
 mod claimed_violation;
-mod claiming;
 mod decision;
 mod laws;
 mod lookup;
 mod selection;
-mod shown;
 mod shrinking;
-mod verdict;
 mod verifying;
 
-pub use claiming::claim;
+pub use claims::{
+    ClaimLine, ClaimLines, Claimed, LinePlace, Lines, Order, Verdict, ViolationKind, claim,
+};
 pub use decision::{decide, decide_by, decide_par};
 pub use history_merge::{History, HistoryFault, OpId, OpKind, Operation, history};
 pub use laws::{
     a_true_claim_decides, a_verdict_has_few_lines, evidence_is_a_true_claim,
     lines_tell_a_violation, no_legal_order, one_finding, one_verdict, violations_are_all,
 };
-pub use shown::LinePlace;
 pub use shrinking::shrink;
-pub use verdict::{Order, Verdict};
-pub use verifying::{ClaimLine, ClaimLines, Claimed, Lines, ViolationKind, verify};
+pub use verifying::verify;

@@ -3,9 +3,9 @@ ghost use Rattle.std.specs.Prelude.{◌≡◌, ◌<◌, ◌↔◌, IsTrue, Conta
 ghost use Rattle.history_merge.specs.declared.operation.Operation.{Operation};
 ghost use Rattle.history_merge.specs.Operations.{NoneDid, operations_of};
 ghost use Rattle.verdicts.specs.Inner.Claims.{CallsRise};
-ghost use Rattle.verdicts.specs.Showing.{LineDid, LinePrecedes, NoLineDid, ReturnsFirst, ComesBefore};
+ghost use Rattle.claims.specs.Showing.{LineDid, LinePrecedes, NoLineDid, ReturnsFirst, ComesBefore};
 
-use crate::verifying::ClaimLine;
+use claims::ClaimLine;
 use event_records::MAX_TICKET;
 use history_merge::{History, OpKind, Operation, PackedOperation};
 

@@ -6,7 +6,7 @@ ghost use Rattle.history_merge.specs.Operations.{operations_of};
 ghost use Rattle.verdicts.specs.Selection.{value_of, selects};
 ghost use Rattle.verdicts.specs.Inner.Selecting.{call_in, holds_ticket, value_in, SelectsNamed};
 
-use crate::verifying::ClaimLine;
+use claims::ClaimLine;
 use event_records::{Event, MAX_EVENTS};
 use history_merge::{Events, History, OpKind, Operation, Operations};
 use std::alloc::{AllocError, Global};

@@ -5,7 +5,7 @@ ghost use Rattle.history_merge.specs.Operations.{operations_of};
 ghost use Rattle.verdicts.specs.Selection.{ArePartOf, HasShortestCover, IsMinimal, KeepsViolation, StaysChosen, contents_of};
 ghost use Rattle.value_match.specs.Outcome.{IsChosenViolation};
 
-use crate::claiming::violation_lines;
+use claims::violation_lines;
 use crate::selection::Selection;
 use event_records::Event;
 use history_merge::{History, history_from};

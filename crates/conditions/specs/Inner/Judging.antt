@@ -2,7 +2,7 @@
 use Rattle.std.specs.Prelude.{◌≡◌, ℕ, ◌<◌, List, All, filter, map, take}
 use Rattle.history_merge.specs.Initial.{Contents}
 use Rattle.verdicts.specs.Selection.{AreLinearizable}
-use Rattle.verdicts.specs.declared.verdict.Verdict.TheVariants.{Yes}
+use Rattle.claims.specs.declared.verdict.Verdict.TheVariants.{Yes}
 use Rattle.conditions.specs.declared.local.LocalOrder.{LocalOrder}
 use Rattle.conditions.specs.declared.producer.Emptiness.{Emptiness}
 use Rattle.conditions.specs.Conditions.{all_producers, has_values, selection_of}

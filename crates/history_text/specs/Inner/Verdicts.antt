@@ -5,8 +5,8 @@ use Rattle.std.specs.Option.{option_to_list}
 use Rattle.history_merge.specs.declared.operation.Operation.{Operation}
 use Rattle.history_merge.specs.declared.operation.OpKind.{OpKind}
 use Rattle.history_merge.specs.declared.operation.OpKind.TheVariants.{Enq, Deq}
-use Rattle.verdicts.specs.declared.shown.LinePlace.{LinePlace}
-use Rattle.verdicts.specs.Claiming.{line_at}
+use Rattle.claims.specs.declared.shown.LinePlace.{LinePlace}
+use Rattle.claims.specs.Claiming.{line_at}
 use Rattle.history_text.specs.Verdicts.{claim_line}
 
 -- the line at this place, if there is one

@@ -1,7 +1,7 @@
 //! Texts of histories and verdicts, read and written. What is wrong with other texts stands in extras/answers.
 ghost use Rattle.std.specs.Prelude.{◌≡◌, ◌∷◌, [], IfOk};
 ghost use Rattle.history_text.specs.declared.version.Version.TheVariants.{One};
-ghost use Rattle.verdicts.specs.declared.shown.LinePlace.TheVariants.{Op};
+ghost use Rattle.claims.specs.declared.shown.LinePlace.TheVariants.{Op};
 ghost use Rattle.history_text.specs.Verdicts.{verdict_places};
 
 use super::outcomes::{Outcome, assert_failures, known};

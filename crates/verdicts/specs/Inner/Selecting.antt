@@ -2,8 +2,8 @@
 use Rattle.std.specs.Prelude.{◌↔◌, ◌||◌, ℕ, Bool, IsTrue, List, Contains, filter_map, nat_eq, Option, Some, None}
 use Rattle.std.specs.List.{list_any}
 use Rattle.history_merge.specs.declared.operation.Operation.{Operation}
-use Rattle.verdicts.specs.declared.verifying.ClaimLine.{ClaimLine}
-use Rattle.verdicts.specs.declared.verifying.ClaimLine.TheVariants.{Op, Initial}
+use Rattle.claims.specs.declared.claimed.ClaimLine.{ClaimLine}
+use Rattle.claims.specs.declared.claimed.ClaimLine.TheVariants.{Op, Initial}
 use Rattle.verdicts.specs.Selection.{value_of}
 
 -- the value of a line

@@ -1,7 +1,7 @@
 use Rattle.std.proofs.Common.{subst, sym}
 use Rattle.std.proofs.lemmas.Result.{IfOk-weaker}
 use Rattle.commands.proofs.Conditions.{within_locally}
-use Rattle.verdicts.specs.Claiming.{IsWithin}
+use Rattle.claims.specs.Claiming.{IsWithin}
 use Rattle.verdicts.specs.Selection.{contents_of}
 use Rattle.commands.proofs.judging.decide_under.Goals as goal
 

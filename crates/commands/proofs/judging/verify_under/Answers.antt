@@ -4,7 +4,7 @@ use Rattle.commands.specs.Conditions.{emptiness_if, IsTrueBy}
 use Rattle.conditions.specs.Claims.{IsTrueLocalClaim}
 use Rattle.history_merge.specs.Initial.{Contents}
 use Rattle.verdicts.specs.Selection.{contents_of}
-use Rattle.verdicts.specs.declared.verifying.Claimed.{Claimed}
+use Rattle.claims.specs.declared.claimed.Claimed.{Claimed}
 use Rattle.commands.proofs.judging.verify_under.Goals as goal
 
 -- what is so with these flags is so with flags that are equal to them

@@ -4,7 +4,7 @@ use Rattle.conditions.specs.Conditions.{selection_of}
 use Rattle.conditions.specs.declared.local.LocalVerdict.TheVariants as local
 use Rattle.commands.proofs.Conditions.{within_locally}
 use Rattle.commands.proofs.Shrinking.{local_part}
-use Rattle.verdicts.specs.Claiming.{IsWithin}
+use Rattle.claims.specs.Claiming.{IsWithin}
 use Rattle.verdicts.specs.Selection.{contents_of}
 use Rattle.commands.proofs.shrink.shrink_locally.Goals as goal
 

@@ -1,7 +1,7 @@
 use Rattle.std.proofs.Common.{◌≡◌, ◌∙◌, ap, arith, inl, inr, refl, sym, subst, true, false}
 use Rattle.std.proofs.lemmas.Bool.{cases_lt}
 use Rattle.verdicts.specs.Selection.{contents_of}
-use Rattle.verdicts.specs.declared.verifying.Claimed.TheVariants.{No}
+use Rattle.claims.specs.declared.claimed.Claimed.TheVariants.{No}
 use Rattle.conditions.specs.Claims.{IsTrueLocalClaim, IsTrueOf}
 use Rattle.conditions.specs.Conditions.{has_values, selection_of}
 use Rattle.conditions.specs.Inner.Sharing.{ranked}

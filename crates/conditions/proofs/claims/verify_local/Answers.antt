@@ -1,7 +1,7 @@
 use Rattle.std.proofs.Common.{◌↔◌, ◌∙◌, ap, IsTrue, subst, sym}
 use Rattle.std.proofs.lemmas.Result.{IfOk-weaker}
 use Rattle.verdicts.specs.Selection.{contents_of}
-use Rattle.verdicts.specs.declared.verifying.Claimed.TheVariants.{Yes}
+use Rattle.claims.specs.declared.claimed.Claimed.TheVariants.{Yes}
 use Rattle.conditions.specs.Claims.{IsTrueLocalClaim}
 use Rattle.conditions.proofs.claims.verify_local.Goals as goal
 

@@ -1,5 +1,5 @@
 use Rattle.history_text.proofs.Common.{[], ◌∷◌, flat_map, line_text, places_of_step}
-use Rattle.verdicts.specs.declared.shown.LinePlace.TheVariants as place
+use Rattle.claims.specs.declared.shown.LinePlace.TheVariants as place
 use Rattle.history_text.proofs.WrittenClaims.{first_stops, lines_for_each, others_then}
 use Rattle.history_text.proofs.verdict_writer.put_violation.Goals as goal
 

@@ -1,6 +1,6 @@
 use Rattle.history_merge.specs.Operations.{operations_of}
 use Rattle.text_lines.proofs.Putting.{longer_front, refused_text, writes_then}
-use Rattle.verdicts.specs.Claiming.{claim_of}
+use Rattle.claims.specs.Claiming.{claim_of}
 use Rattle.history_text.specs.Verdicts.{verdict_text}
 use Rattle.history_text.specs.Versions.{said_in, text_of}
 use Rattle.history_text.proofs.verdict_writer.write_shown.Goals as goal

@@ -1,7 +1,8 @@
 use Rattle.verdicts.proofs.Common.{ap, arith, contains, Event, filter, holds_ticket, IfOk-weaker, length, nat_cmp}
 use Rattle.verdicts.proofs.Common.{operations_of, selects, SelectsNamed, subst, violation_lines}
 use Rattle.verdicts.proofs.Common.{◌∙◌, ◌≡◌}
-use Rattle.verdicts.proofs.Selections.{has_shortest_cover, no_longer}
+use Rattle.history_merge.proofs.Lists.{no_longer}
+use Rattle.verdicts.proofs.Selections.{has_shortest_cover}
 use Rattle.verdicts.proofs.ShrunkHistories.{are_complete, are_shrunk, IsShrunk, IsWhole}
 use Rattle.verdicts.proofs.shrinking.shrink.Goals as goal
 

@@ -1,9 +1,9 @@
 ghost use Rattle.std.specs.Prelude.{◌≡◌, ◌++◌, IfOk, OnOk, flat_map};
-ghost use Rattle.verdicts.specs.Claiming.{line_at};
-ghost use Rattle.verdicts.specs.Shown.{maybe_place, violation_places, places_of_step};
-ghost use Rattle.verdicts.specs.Inner.Shown.{first_places, later_places};
+ghost use Rattle.claims.specs.Claiming.{line_at};
+ghost use Rattle.claims.specs.Shown.{maybe_place, violation_places, places_of_step};
+ghost use Rattle.claims.specs.Inner.Shown.{first_places, later_places};
 
-use crate::verifying::ClaimLine;
+use crate::claimed::ClaimLine;
 use history_merge::{OpId, Operations};
 use std::alloc::{AllocError, Global};
 use value_match::{Cover, Source, Violation};
@@ -19,7 +19,7 @@ pub enum LinePlace {
 
 impl From<Source> for LinePlace {
     ghost use Rattle.std.specs.Prelude.{◌≡◌};
-    ghost use Rattle.verdicts.specs.Shown.{place_of_source};
+    ghost use Rattle.claims.specs.Shown.{place_of_source};
 
     ghost from_gives = { λ source place. place ≡ place_of_source source };
 

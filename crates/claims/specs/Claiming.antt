@@ -1,19 +1,21 @@
 -- The claim of a verdict: its kind, and the lines at its places.
 use Rattle.std.specs.Prelude.{ℕ, ◌<◌, ◌++◌, Bool, true, false, List, All, length, map, filter, filter_map, option_map, slice_get, Option}
 use Rattle.history_merge.specs.declared.operation.Operation.{Operation}
+use Rattle.history_merge.specs.Initial.{HistoryView}
+use Rattle.history_merge.specs.Operations.{operations_of}
 use Rattle.value_match.specs.declared.violation.Violation.{Violation}
 use Rattle.value_match.specs.declared.violation.Violation.TheVariants.{Fresh, Repeat, Order, Witness}
-use Rattle.verdicts.specs.declared.shown.LinePlace.{LinePlace}
-use Rattle.verdicts.specs.declared.shown.LinePlace.TheVariants as place
-use Rattle.verdicts.specs.declared.verifying.ClaimLine.{ClaimLine}
-use Rattle.verdicts.specs.declared.verifying.ClaimLine.TheVariants.{Op, Initial}
-use Rattle.verdicts.specs.declared.verifying.Claimed.{Claimed}
-use Rattle.verdicts.specs.declared.verifying.Claimed.TheVariants as claimed
-use Rattle.verdicts.specs.declared.verifying.ViolationKind.{ViolationKind}
-use Rattle.verdicts.specs.declared.verifying.ViolationKind.TheVariants.{VFresh, VRepeat, VOrd, VWit}
-use Rattle.verdicts.specs.declared.verdict.Verdict.{Verdict}
-use Rattle.verdicts.specs.declared.verdict.Verdict.TheVariants.{Yes, No}
-use Rattle.verdicts.specs.Shown.{violation_places}
+use Rattle.claims.specs.declared.shown.LinePlace.{LinePlace}
+use Rattle.claims.specs.declared.shown.LinePlace.TheVariants as place
+use Rattle.claims.specs.declared.claimed.ClaimLine.{ClaimLine}
+use Rattle.claims.specs.declared.claimed.ClaimLine.TheVariants.{Op, Initial}
+use Rattle.claims.specs.declared.claimed.Claimed.{Claimed}
+use Rattle.claims.specs.declared.claimed.Claimed.TheVariants as claimed
+use Rattle.claims.specs.declared.claimed.ViolationKind.{ViolationKind}
+use Rattle.claims.specs.declared.claimed.ViolationKind.TheVariants.{VFresh, VRepeat, VOrd, VWit}
+use Rattle.claims.specs.declared.verdict.Verdict.{Verdict}
+use Rattle.claims.specs.declared.verdict.Verdict.TheVariants.{Yes, No}
+use Rattle.claims.specs.Shown.{violation_places}
 
 -- the places of a verdict's operations and initial values, in the order in which they are shown
 abbrev pub verdict_places : Verdict → List LinePlace
@@ -66,3 +68,7 @@ operations_at operations places = filter_map (slice_get operations) places
 abbrev pub claim_of : List ℕ → List Operation → Verdict → Claimed
 claim_of initial operations (Yes places) = claimed.Yes (operations_at operations places)
 claim_of initial operations (No violation) = claimed.No (violation_kind violation) (lines_at initial operations (violation_places violation))
+
+-- the lines of a violation of a history
+abbrev pub violation_lines : HistoryView → Violation → List ClaimLine
+violation_lines history violation = lines_at history.initial (operations_of history.events) (violation_places violation)

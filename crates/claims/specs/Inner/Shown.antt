@@ -2,9 +2,9 @@
 use Rattle.std.specs.Prelude.{List, [], ◌∷◌, flat_map}
 use Rattle.value_match.specs.declared.violation.Violation.{Violation}
 use Rattle.value_match.specs.declared.violation.Violation.TheVariants.{Fresh, Repeat, Order, Witness}
-use Rattle.verdicts.specs.declared.shown.LinePlace.{LinePlace}
-use Rattle.verdicts.specs.declared.shown.LinePlace.TheVariants.{Op}
-use Rattle.verdicts.specs.Shown.{maybe_place, place_of_source, places_of_step}
+use Rattle.claims.specs.declared.shown.LinePlace.{LinePlace}
+use Rattle.claims.specs.declared.shown.LinePlace.TheVariants.{Op}
+use Rattle.claims.specs.Shown.{maybe_place, place_of_source, places_of_step}
 
 -- those that a violation of its kind always names
 abbrev pub first_places : Violation → List LinePlace

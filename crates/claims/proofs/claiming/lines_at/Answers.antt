@@ -1,7 +1,8 @@
-use Rattle.verdicts.proofs.Common.{ap, line_at, sym, ◌∙◌}
+use Rattle.std.proofs.Common.{ap, sym, ◌∙◌}
+use Rattle.claims.specs.Claiming.{line_at}
 use Rattle.history_merge.proofs.Lists.{found_none, found_one}
-use Rattle.verdicts.proofs.claiming.lines_at.Goals.{in-Some+in_ok-push, in_default}
-use Rattle.verdicts.proofs.claiming.lines_at.Goals as goal
+use Rattle.claims.proofs.claiming.lines_at.Goals.{in-Some+in_ok-push, in_default}
+use Rattle.claims.proofs.claiming.lines_at.Goals as goal
 
 pub loop-place-preserved : goal.loop-place-preserved
 loop-place-preserved c =

@@ -1,11 +1,10 @@
 ghost use Rattle.std.specs.Prelude.{◌≡◌, IfOk};
 ghost use Rattle.history_merge.specs.Operations.{operations_of};
-ghost use Rattle.verdicts.specs.Claiming.{IsWithin, claim_of, lines_at, operations_at, violation_kind};
-ghost use Rattle.verdicts.specs.Selection.{violation_lines};
+ghost use Rattle.claims.specs.Claiming.{IsWithin, claim_of, lines_at, operations_at, violation_kind, violation_lines};
 
+use crate::claimed::{ClaimLine, ClaimLines, Claimed, Lines, ViolationKind};
 use crate::shown::{LinePlace, violation_places};
 use crate::verdict::Verdict;
-use crate::verifying::{ClaimLine, ClaimLines, Claimed, Lines, ViolationKind};
 use history_merge::{History, OpId, Operation, Operations};
 use std::alloc::{AllocError, Global};
 use value_match::Violation;
@@ -48,8 +47,10 @@ fn operations_at(
     Ok(listed)
 }
 
-/// The lines of a violation, in the order in which they are shown.
-pub(crate) fn violation_lines(
+/// Returns the lines of a violation of this history, in the order in which they are shown: those of the places that it names.
+///
+/// Time and memory linear in the violation. `AllocError` comes only where a growth was refused.
+pub fn violation_lines(
     alloc: Global,
     history: &History,
     violation: &Violation,

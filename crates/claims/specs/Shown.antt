@@ -5,8 +5,8 @@ use Rattle.value_match.specs.declared.life.Source.{Source}
 use Rattle.value_match.specs.declared.life.Source.TheVariants as source
 use Rattle.value_match.specs.declared.violation.Violation.{Violation}
 use Rattle.value_match.specs.declared.violation.Violation.TheVariants.{Fresh, Repeat, Order, Witness}
-use Rattle.verdicts.specs.declared.shown.LinePlace.{LinePlace}
-use Rattle.verdicts.specs.declared.shown.LinePlace.TheVariants.{Op, Initial}
+use Rattle.claims.specs.declared.shown.LinePlace.{LinePlace}
+use Rattle.claims.specs.declared.shown.LinePlace.TheVariants.{Op, Initial}
 
 -- the place of a source: that of a successful enqueue, or of an initial value
 abbrev pub place_of_source : Source → LinePlace

@@ -1,7 +1,7 @@
-use Rattle.verdicts.proofs.Common.{ap, slice_get, sym, ◌∙◌}
+use Rattle.std.proofs.Common.{ap, slice_get, sym, ◌∙◌}
 use Rattle.history_merge.proofs.Lists.{found_none, found_one}
-use Rattle.verdicts.proofs.claiming.operations_at.Goals.{in-Some+in_ok-push, in_default}
-use Rattle.verdicts.proofs.claiming.operations_at.Goals as goal
+use Rattle.claims.proofs.claiming.operations_at.Goals.{in-Some+in_ok-push, in_default}
+use Rattle.claims.proofs.claiming.operations_at.Goals as goal
 
 pub loop-place-preserved : goal.loop-place-preserved
 loop-place-preserved c =
