@@ -2,7 +2,6 @@
 #![tactic(auto)]
 
 mod buckets;
-mod claims;
 mod laws;
 mod local;
 mod moved;
@@ -12,9 +11,9 @@ mod producers;
 mod ranks;
 mod selections;
 mod sharing;
+mod verifying;
 mod weak;
 
-pub use claims::{verify_local, verify_weakly_empty};
 pub use laws::{
     conditions_are_weaker, evidence_is_a_true_local_claim, one_verdict_under_a_condition,
     shrunk_selections_are_minimal, true_claims_decide_conditions, violations_are_of_the_whole,
@@ -24,6 +23,7 @@ pub use local::{
     selection,
 };
 pub use producer::{Emptiness, Producer};
+pub use verifying::{verify_local, verify_weakly_empty};
 pub use weak::{
     decide_weakly_empty, decide_weakly_empty_by, decide_weakly_empty_par, without_empties,
 };

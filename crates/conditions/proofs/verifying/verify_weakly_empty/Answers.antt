@@ -1,7 +1,7 @@
 use Rattle.std.proofs.Common.{◌↔◌, IsTrue, subst}
 use Rattle.std.proofs.lemmas.Result.{IfOk-weaker}
 use Rattle.conditions.specs.Claims.{IsTrueOf}
-use Rattle.conditions.proofs.claims.verify_weakly_empty.Goals as goal
+use Rattle.conditions.proofs.verifying.verify_weakly_empty.Goals as goal
 
 pub returns : goal.returns
 returns c = record {

@@ -3,7 +3,7 @@ use Rattle.std.proofs.lemmas.Result.{IfOk-weaker}
 use Rattle.verdicts.specs.Selection.{contents_of}
 use Rattle.claims.specs.declared.claimed.Claimed.TheVariants.{Yes}
 use Rattle.conditions.specs.Claims.{IsTrueLocalClaim}
-use Rattle.conditions.proofs.claims.verify_local.Goals as goal
+use Rattle.conditions.proofs.verifying.verify_local.Goals as goal
 
 pub returns-in-Yes : goal.returns-in-Yes
 returns-in-Yes c = record {
