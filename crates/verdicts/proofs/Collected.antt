@@ -1,4 +1,5 @@
--- What loops and `collect` gather: what is found at places, a set of numbers, the tickets of selected operations.
+-- Lists made by loops and `collect`: the elements found at places, a set of numbers, the tickets of selected
+-- operations.
 use Rattle.verdicts.proofs.Common.{[], ap, append-nil, arith, Bool, BTreeSet, cond, cons_option, Contains, contains}
 use Rattle.verdicts.proofs.Common.{false, filter, filter_map, filter_map-append, get_or, holds_ticket, IfOk}
 use Rattle.verdicts.proofs.Common.{IfOk-weaker, is_eq, IsFromIterResult, IsTrue, length, List, list_any-append}
@@ -17,21 +18,21 @@ module _ {X Y : Type 0} (find : X → Option Y) (xs : List X) (i : ℕ) (d : X) 
       ap (filter_map find) (take_more xs i d within) ∙ filter_map-append find (take i xs) (get_or xs i d ∷ [])
       ∙ ap (λ (ys : List Y). ys ++ cons_option (find (get_or xs i d)) []) (sym was)
 
-  -- something is found at the next place
+  -- an element is found at the next place
   pub found_one : (y : Y) (now : List Y) → find (get_or xs i d) ≡ Some y → now ≡ before ++ y ∷ [] → now ≡ filter_map find (take (i + 1) xs)
   found_one y now is pushed = pushed ∙ sym (one_more ∙ ap (λ (r : Option Y). before ++ cons_option r []) is)
 
-  -- nothing is found there
+  -- no element is found at the next place
   pub found_none : find (get_or xs i d) ≡ None → before ≡ filter_map find (take (i + 1) xs)
   found_none is = sym (one_more ∙ ap (λ (r : Option Y). before ++ cons_option r []) is ∙ append-nil before)
 
--- it holds the numbers of the list and no others
+-- the set has the numbers of the list and no others
 pub holds_found : {E : Type 0} (result : Result (BTreeSet ℕ) E) (found : List ℕ) → IfOk result (IsFromIterResult nat_cmp found)
     → IfOk result (λ set. (n : ℕ) → IsTrue (contains nat_cmp set n) ↔ Contains found n)
 holds_found result found =
     IfOk-weaker result (IsFromIterResult nat_cmp found) _ (btree_set_contains_from_list nat_cmp_total exact_unsigned found)
 
--- one more operation: its tickets are held where it is selected
+-- one more operation, whose tickets are held if it is selected
 held_with : (test : Operation → Bool) (seen : List Operation) (o : Operation) (t : ℕ) (passes : Bool) → test o ≡ passes
     → holds_ticket (filter test (seen ++ o ∷ [])) t ≡ (holds_ticket (filter test seen) t || holds_ticket (cond passes (o ∷ []) []) t)
 held_with test seen o t passes is =
@@ -44,7 +45,7 @@ pub held_same : (test : Operation → Bool) (seen : List Operation) (o : Operati
     → before ≡ holds_ticket (filter test seen) t → before ≡ holds_ticket (filter test (seen ++ o ∷ [])) t
 held_same test seen o t before is was = grind (arith, held_with test seen o t false is)
 
--- one more that is, whose tickets are put into the set
+-- one more operation that is selected; its tickets are put into the set
 pub held_more : (test : Operation → Bool) (seen : List Operation) (o : Operation) (t : ℕ) (before called now : Bool)
     → test o ≡ true → before ≡ holds_ticket (filter test seen) t
     → called ≡ cond (is_eq (nat_cmp o.call t)) true before

@@ -9,38 +9,38 @@ use event_records::OwnedSlice;
 use history_merge::{History, Operation};
 use std::alloc::{AllocError, Global};
 
-/// The operations of a `YES` as it lists them, seen as a list. Any operations may stand in it.
+/// The lines of a `YES`, seen as a list. Any operations may be listed.
 pub type Lines = OwnedSlice<Operation>;
 
-/// What a line of a `NO` shows.
+/// A line of a `NO`.
 #[derive(Clone, Copy, Debug, PartialEq, Eq)]
 pub enum ClaimLine {
     /// An operation.
     Op(Operation),
-    /// A value that the queue holds first. It stands where a successful enqueue of it would stand.
+    /// An initial value of the queue, in place of a successful enqueue of it.
     Initial(u64),
 }
 
-/// The lines of a `NO`, seen as a list. Any lines may stand in it.
+/// The lines of a `NO`, seen as a list. Any lines may be listed.
 pub type ClaimLines = OwnedSlice<ClaimLine>;
 
 /// The kinds of violation, by the names that verdicts print.
 #[derive(Clone, Copy, Debug, PartialEq, Eq)]
 pub enum ViolationKind {
-    /// A dequeue of a value that was not there.
+    /// A phantom dequeue: its value was not in the queue.
     VFresh,
     /// A value dequeued twice.
     VRepeat,
     /// Two values dequeued against the order of their enqueues.
     VOrd,
-    /// An empty answer while some value was in the queue all the time.
+    /// An empty dequeue while some value was in the queue all the time.
     VWit,
 }
 
-/// A verdict as somebody claims it. It need not be true, nor speak of operations that exist.
+/// A verdict that somebody claims. It may be false, and may name operations that don't exist.
 #[derive(Debug, Drop)]
 pub enum Claimed {
-    /// The operations in a linearization.
+    /// All operations, in the order of a linearization.
     Yes(Lines),
     /// The lines that show a violation of this kind, in this order, where the enqueue of an initial value is the line of
     /// that value:
@@ -53,13 +53,14 @@ pub enum Claimed {
     No(ViolationKind, ClaimLines),
 }
 
-/// Returns whether a claim is evidence in this history: a `YES` that lists a linearization (Herlihy and Wing 1990) for a
-/// queue that holds the initial values first, or a `NO` whose lines have the shape of their kind and show a violation. It
-/// need not be the linearization or the violation that `decide` chooses.
+/// Returns whether a claim is evidence in this history: a `YES` that lists a linearization (Herlihy and Wing 1990)
+/// for a queue that holds the initial values first, or a `NO` whose lines have the shape of their kind and show a
+/// violation. It need not be the linearization or the violation that `decide` chooses.
 ///
-/// It checks the claim by itself: it searches for nothing, and makes no order. Time O(n + m log n) for a history of n
-/// operations and a claim of m lines, and for a line of an initial value a walk over these. Memory for a `YES`: a copy of
-/// its lines, and the values in the queue; for a `NO` none, so memory doesn't run out.
+/// The claim is checked by itself, without a search for violations and without making an order. Takes O(n + m log n)
+/// time for a history of n operations and a claim of m lines, and a walk over the initial values for each line of
+/// one. For a `YES` it takes memory for a copy of its lines and for the values in the queue. For a `NO` it takes
+/// none, so it doesn't run out of memory.
 ///
 /// The `history` dequeues 7, which was never enqueued:
 ///
