@@ -1,4 +1,4 @@
--- The calls of enqueues that are kept for values, and the dequeues of these values.
+-- The calls of enqueues kept for values, and the dequeues of these values.
 use Rattle.std.proofs.Common.{◌≡◌, ℕ, ◌+◌, ◌<◌, ◌≤◌, ◌++◌, List, [], ◌∷◌, length, get_or, cond, refl, sym, ◌∙◌, ap, arith, Bool, true, false, take, Option, Some, None}
 use Rattle.std.specs.Prelude.{filter_map, find, option_map}
 use Rattle.std.specs.Option.{option_or}
@@ -14,11 +14,11 @@ use Rattle.history_stats.specs.Inner.Overtaking.{AreEnqueueCalls, enqueue_call}
 
 -- ---- calls of enqueues
 
--- the call of an operation, if it put the value
+-- the call of an operation, if it enqueued the value
 abbrev call_if : ℕ → Operation → Option ℕ
 call_if v o = cond (put v o.kind) (Some o.call) None
 
--- one operation more
+-- one more operation
 pub calls_more : (operations : List Operation) (i : ℕ) (o : Operation) (old new : BTreeMap ℕ ℕ) → i < length operations → o ≡ get_or operations i o
     → ((v : ℕ) → get nat_cmp new v ≡ option_or (get nat_cmp old v) (cond (put v o.kind) (Some o.call) None))
     → AreEnqueueCalls (take i operations) old → AreEnqueueCalls (take (i + 1) operations) new
@@ -42,7 +42,7 @@ pub calls_of_all : (operations : List Operation) (i : ℕ) (calls : BTreeMap ℕ
     → AreEnqueueCalls operations calls
 calls_of_all operations i calls all was v = was v ∙ ap (λ os. enqueue_call os v) (take_all i operations all)
 
--- ---- what is found of a list
+-- ---- elements that `filter_map` gives
 
 module _ {X Y : Type 0} (find : X → Option Y) (xs : List X) (i : ℕ) (d : X) (before : List Y) (within : i < length xs)
     (was : before ≡ filter_map find (take i xs)) where
@@ -51,10 +51,10 @@ module _ {X Y : Type 0} (find : X → Option Y) (xs : List X) (i : ℕ) (d : X) 
       ap (filter_map find) (take_more xs i d within) ∙ filter_map-append find (take i xs) (get_or xs i d ∷ [])
       ∙ ap (λ (ys : List Y). ys ++ cons_option (find (get_or xs i d)) []) (sym was)
 
-  -- something is found at the next place
+  -- an element is found at the next place
   pub found_one : (y : Y) (now : List Y) → find (get_or xs i d) ≡ Some y → now ≡ before ++ y ∷ [] → now ≡ filter_map find (take (i + 1) xs)
   found_one y now is pushed = pushed ∙ sym (one_more ∙ ap (λ (r : Option Y). before ++ cons_option r []) is)
 
-  -- nothing is found there
+  -- no element is found at the next place
   pub found_none : find (get_or xs i d) ≡ None → before ≡ filter_map find (take (i + 1) xs)
   found_none is = sym (one_more ∙ ap (λ (r : Option Y). before ++ cons_option r []) is ∙ append-nil before)
